@@ -1,0 +1,3 @@
+pub mod Rectangle
+pub mod Plane
+pub mod Distance

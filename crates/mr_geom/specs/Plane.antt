@@ -1,0 +1,26 @@
+-- Points of the plane, which of them a rectangle holds, and what two rectangles have in common.
+use Rattle.std.specs.Prelude.{◌≤ℤ◌}
+use Rattle.mr_geom.specs.Rectangle.{Rectangle, IsOrdered}
+use Rattle.mr_geom.specs.declared.point.Point.{Point}
+
+-- the rectangle holds the point, sides included
+pub record Holds (r : Rectangle) (p : Point) : Type 0 where
+  pub left : r.x0 ≤ℤ p.x
+  pub right : p.x ≤ℤ r.x1
+  pub low : r.y0 ≤ℤ p.y
+  pub high : p.y ≤ℤ r.y1
+
+-- the two share a point
+abbrev pub Meets : Rectangle → Rectangle → Type 0
+Meets a b = (p : Point) × Holds a p × Holds b p
+
+-- the first lies in the second: each of its points is one of the second
+abbrev pub Inside : Rectangle → Rectangle → Type 0
+Inside a b = (p : Point) → Holds a p → Holds b p
+
+-- `r` is the least rectangle round `a` and `b`: both lie in it, and it lies in each other rectangle in which both lie
+pub record IsLeastRound (a b r : Rectangle) : Type 0 where
+  pub ordered : IsOrdered r
+  pub first : Inside a r
+  pub second : Inside b r
+  pub least : (c : Rectangle) → IsOrdered c → Inside a c → Inside b c → Inside r c

@@ -1,0 +1,5 @@
+pub mod formers
+pub mod Files
+pub mod Faults
+pub mod Told
+pub mod Memory

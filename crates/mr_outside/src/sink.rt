@@ -1,0 +1,44 @@
+ghost use Rattle.std.specs.Prelude.{◌≡◌, ◌<◌, ◌≤◌, ℕ, List, Option, length, take, IfOk, OnOk, OnErr, IsErrOf};
+ghost use Rattle.mr_outside.specs.Faults.{Rose};
+ghost use Rattle.mr_outside.specs.Told.{Takes, TakesFront};
+
+use std::alloc::AllocError;
+use thiserror::Error;
+
+/// Why a sink refuses.
+#[derive(Clone, Copy, Debug, Error)]
+pub enum SinkErr {
+    /// The sink failed; its count of faults says so.
+    #[error("the output failed")]
+    Fault,
+    #[error("out of memory")]
+    NoMemory,
+}
+
+impl From<AllocError> for SinkErr {
+    ghost use Rattle.mr_outside.specs.declared.sink.SinkErr.TheVariants.{NoMemory};
+
+    ghost from_gives = { λ _ e. e ≡ NoMemory };
+
+    fn from(_error: AllocError) -> SinkErr {
+        SinkErr::NoMemory
+    }
+}
+
+/// What takes the bytes that the program gives out, in their order.
+pub trait Sink {
+    /// All bytes taken so far, where they are told.
+    ghost taken: { Self → Option (List ℕ) };
+
+    /// How many faults there were.
+    ghost faults: { Self → ℕ };
+
+    /// Takes a front of the bytes and answers its length, which is 0 only where there are none.
+    fn write(&mut self, bytes: &[u8]) -> Result<usize, SinkErr>
+        ensures within { IfOk result (λ n. n ≤ length bytes.now) }
+        ensures progress { IfOk result (λ n. 0 < length bytes.now → 0 < n) }
+        ensures front { IfOk result (λ n. Takes (taken self.old) (taken self.new) (take n bytes.now)) }
+        ensures refused { OnErr result (taken self.new ≡ taken self.old) }
+        ensures fault { IsErrOf result SinkErr.Fault → Rose (faults self.old) (faults self.new) }
+        ensures faults { faults self.old ≤ faults self.new };
+}

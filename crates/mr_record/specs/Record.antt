@@ -1,0 +1,37 @@
+-- A record, what makes four fields one, and its bytes.
+use Rattle.std.specs.Prelude.{ℕ, ℤ, ◌^◌, ◌<◌, ◌≤◌, List, ◌++◌, ◌∷◌, length, FitsSigned}
+use Rattle.std.specs.Int.{w32, w64, cast_unsigned, to_be_bytes}
+use Rattle.mr_geom.specs.Rectangle.{Rectangle, IsOrdered}
+use Rattle.mr_record.specs.Bytes.{AreBytes}
+use Rattle.mr_record.specs.declared.record.Record.{Record}
+
+-- the most bytes of a payload
+abbrev pub payload_limit : ℕ
+payload_limit = 200
+
+-- the coordinates fit their four bytes
+pub record FitsWords (r : Rectangle) : Type 0 where
+  pub x0 : FitsSigned w32 r.x0
+  pub y0 : FitsSigned w32 r.y0
+  pub x1 : FitsSigned w32 r.x1
+  pub y1 : FitsSigned w32 r.y1
+
+-- a number, a rectangle and a payload, each within its range
+pub record IsRecord (r : Record) : Type 0 where
+  pub number : r.number < 2 ^ 64
+  pub ordered : IsOrdered r.rect
+  pub words : FitsWords r.rect
+  pub payload : length r.payload ≤ payload_limit
+  pub bytes : AreBytes r.payload
+
+-- a coordinate, a whole number in two's complement
+abbrev pub coordinate_bytes : ℤ → List ℕ
+coordinate_bytes z = to_be_bytes w32 (cast_unsigned w32 z)
+
+-- x0, y0, x1, y1
+unfoldable pub rectangle_bytes : Rectangle → List ℕ
+rectangle_bytes r = coordinate_bytes r.x0 ++ coordinate_bytes r.y0 ++ coordinate_bytes r.x1 ++ coordinate_bytes r.y1
+
+-- number, rectangle, payload length, payload
+unfoldable pub record_bytes : Record → List ℕ
+record_bytes r = to_be_bytes w64 r.number ++ rectangle_bytes r.rect ++ length r.payload ∷ r.payload

@@ -1,0 +1,126 @@
+-- The texts of records: `number x0 y0 x1 y1 payload` on a line, and lines with different numbers.
+-- A fault has the least faulty line, and on it the first rule of the list of `TextRule` that the line breaks.
+use Rattle.std.specs.Prelude.{◌≢◌, ℕ, ℤ, ◌+◌, ◌^◌, ◌≤◌, ◌==◌, ◌&&◌, ◌||◌, not, nat_le, int_le, Bool, if◌then◌else◌, List, [], ◌∷◌, ◌++◌, length, All, AllPairs, Option, Some, None, Result, Ok, Err, ok_or, flat_map, bytes_eq, decimal}
+use Rattle.std.specs.List.{list_any, list_all}
+use Rattle.std.specs.Fmt.{signed_decimal}
+use Rattle.hex.specs.Hex.{encode_lower, decode_of}
+use Rattle.hex.specs.declared.error.FromHexError.{FromHexError}
+use Rattle.mr_geom.specs.Rectangle.{Rectangle}
+use Rattle.mr_record.specs.declared.record.Record.{Record}
+use Rattle.mr_record.specs.declared.text_fault.TextRule.{TextRule}
+use Rattle.mr_record.specs.declared.text_fault.TextRule.TheVariants.{TooMany, NoEnd, Form, Number, Coordinate, Order, Payload, Repeat}
+use Rattle.mr_record.specs.declared.text_fault.TextFault.{TextFault}
+use Rattle.mr_record.specs.Decimal.{u64_of, i32_of}
+use Rattle.mr_record.specs.Lines.{Line, lines_of, fields_of}
+use Rattle.mr_record.specs.Record.{IsRecord}
+
+-- the second step, if the first gave a value
+infixl 10 ◌>>=◌
+abbrev pub ◌>>=◌ : {A B E : Type 0} → Result A E → (A → Result B E) → Result B E
+Ok x >>= f = f x
+Err e >>= f = Err e
+
+-- ---- the one spelling of a record
+
+-- `-` for an empty payload, else two lower-case hexadecimal digits for each byte
+abbrev pub payload_text : List ℕ → List ℕ
+payload_text [] = 45 ∷ []
+payload_text (b ∷ bytes) = encode_lower (b ∷ bytes)
+
+-- the line of a record, without its line feed
+unfoldable pub line_of : Record → List ℕ
+line_of r =
+    decimal r.number ++ 32 ∷ (signed_decimal r.rect.x0 ++ 32 ∷ (signed_decimal r.rect.y0 ++ 32 ∷ (signed_decimal r.rect.x1
+    ++ 32 ∷ (signed_decimal r.rect.y1 ++ 32 ∷ payload_text r.payload))))
+
+-- the lines of the records, each with its line feed
+unfoldable pub text_of : List Record → List ℕ
+text_of records = flat_map (λ r. line_of r ++ 10 ∷ []) records
+
+-- the most lines of a record text
+abbrev pub line_limit : ℕ
+line_limit = 2 ^ 20
+
+-- records that one text may hold
+pub record IsRecordList (records : List Record) : Type 0 where
+  pub each : All IsRecord records
+  pub apart : AllPairs (λ a b. a.number ≢ b.number) records
+  pub count : length records ≤ line_limit
+
+-- ---- what a line spells
+
+-- `0` to `9` and `a` to `f`
+abbrev pub is_lower_digit : ℕ → Bool
+is_lower_digit c = (nat_le 48 c && nat_le c 57) || (nat_le 97 c && nat_le c 102)
+
+-- the bytes, if there are any
+abbrev pub ok_bytes : Result (List ℕ) FromHexError → Option (List ℕ)
+ok_bytes (Ok bytes) = Some bytes
+ok_bytes (Err e) = None
+
+-- the bytes of lower-case hexadecimal of 1 to 200 bytes
+abbrev pub hex_bytes : List ℕ → Option (List ℕ)
+hex_bytes text = if nat_le 2 (length text) && nat_le (length text) 400 && list_all is_lower_digit text then ok_bytes (decode_of text) else None
+
+-- the payload that a field spells
+unfoldable pub payload_of : List ℕ → Option (List ℕ)
+payload_of text = if bytes_eq text (45 ∷ []) then Some [] else hex_bytes text
+
+-- the rectangle, if its sides are in order
+abbrev pub rectangle_of : ℤ → ℤ → ℤ → ℤ → Option Rectangle
+rectangle_of x0 y0 x1 y1 = if int_le x0 x1 && int_le y0 y1 then Some (record { x0 = x0; y0 = y0; x1 = x1; y1 = y1 }) else None
+
+-- the rectangle that four fields spell, else the first rule that they break
+unfoldable pub rectangle_of_fields : List ℕ → List ℕ → List ℕ → List ℕ → Result Rectangle TextRule
+rectangle_of_fields x0 y0 x1 y1 = do
+  left ← ok_or (i32_of x0) Coordinate
+  low ← ok_or (i32_of y0) Coordinate
+  right ← ok_or (i32_of x1) Coordinate
+  high ← ok_or (i32_of y1) Coordinate
+  ok_or (rectangle_of left low right high) Order
+
+-- the record that six fields spell, else the first rule that they break
+unfoldable pub record_of_fields : List (List ℕ) → Result Record TextRule
+record_of_fields (number ∷ x0 ∷ y0 ∷ x1 ∷ y1 ∷ payload ∷ []) = do
+  n ← ok_or (u64_of number) Number
+  rect ← rectangle_of_fields x0 y0 x1 y1
+  bytes ← ok_or (payload_of payload) Payload
+  Ok (record { number = n; rect = rect; payload = bytes })
+record_of_fields _ = Err Form
+
+-- the record that a line without its line feed spells, else the first rule that it breaks
+abbrev pub record_of_line : List ℕ → Result Record TextRule
+record_of_line line = record_of_fields (fields_of line)
+
+-- ---- what a text spells
+
+-- some of the records has the number
+abbrev pub has_number : ℕ → List Record → Bool
+has_number n records = list_any (λ r. r.number == n) records
+
+-- the record, unless one of the earlier records has its number
+abbrev pub if_new : List Record → Record → Result Record TextRule
+if_new earlier r = if has_number r.number earlier then Err Repeat else Ok r
+
+-- the record of a line behind the lines of the earlier records, else the first rule that it breaks
+unfoldable pub record_after : List Record → Line → Result Record TextRule
+record_after earlier line =
+    if nat_le line_limit (length earlier) then Err TooMany
+    else if not line.ended then Err NoEnd
+    else record_of_line line.bytes >>= if_new earlier
+
+-- the rule broken on a line, as a fault
+abbrev pub on_line : {A : Type 0} → ℕ → Result A TextRule → Result A TextFault
+on_line n (Ok x) = Ok x
+on_line n (Err rule) = Err (record { line = n; rule = rule })
+
+-- the records of the lines behind the earlier records, each of which had a line of its own, else the first fault
+unfoldable pub records_after : List Record → List Line → Result (List Record) TextFault
+records_after earlier [] = Ok earlier
+records_after earlier (line ∷ lines) = do
+  one ← on_line (length earlier + 1) (record_after earlier line)
+  records_after (earlier ++ one ∷ []) lines
+
+-- the records of a text in order, else its fault
+abbrev pub records_of_text : List ℕ → Result (List Record) TextFault
+records_of_text text = records_after [] (lines_of text)

@@ -1,0 +1,75 @@
+-- The preimages and digests of nodes and maps, for any hash function from byte lists to 32 bytes.
+use Rattle.std.specs.Prelude.{ℕ, ◌==◌, if◌then◌else◌, List, [], ◌∷◌, ◌++◌, Option, Some, None, map, length}
+use Rattle.std.specs.List.{flat_map}
+use Rattle.std.specs.Int.{w64, to_be_bytes}
+use Rattle.mr_geom.specs.Rectangle.{Rectangle}
+use Rattle.mr_record.specs.Record.{record_bytes, rectangle_bytes}
+use Rattle.mr_tree.specs.Tree.{level, rect, records, level_step, rect_step}
+use Rattle.mr_tree.specs.declared.tree.Tree.{Tree}
+use Rattle.mr_tree.specs.declared.tree.Tree.TheOpen.{Tree-F, Empty, Leaf, Inner}
+use Rattle.mr_tree.specs.declared.tree.Tree.TheViews.{out-Tree}
+use Rattle.mr_tree.specs.declared.tree.Tree.TheFolds.{fold-Tree, map-Tree}
+
+-- what an inner node knows of a child
+pub record Entry : Type 0 where
+  pub level : ℕ
+  pub rect : Option Rectangle
+  pub digest : List ℕ
+
+-- the bytes of a rectangle that is there
+abbrev pub rect_bytes : Option Rectangle → List ℕ
+rect_bytes None = []
+rect_bytes (Some r) = rectangle_bytes r
+
+-- the bytes of a child in its parent's preimage: its rectangle and its digest
+abbrev pub entry_bytes : Entry → List ℕ
+entry_bytes e = rect_bytes e.rect ++ e.digest
+
+-- the level of a node whose children have these entries
+abbrev pub level_over : List Entry → ℕ
+level_over entries = level_step (Inner (map (λ (e : Entry). e.level) entries))
+
+-- the bytes that a node's digest is of; the first byte tells a leaf `L` from an inner node `N`
+abbrev pub node_preimage : Tree-F Entry → List ℕ
+node_preimage Empty = []
+node_preimage (Leaf records) = 0x4c ∷ length records ∷ flat_map record_bytes records
+node_preimage (Inner entries) = 0x4e ∷ level_over entries ∷ length entries ∷ flat_map entry_bytes entries
+
+-- a node's entry, from those of its children
+abbrev pub entry_step : (List ℕ → List ℕ) → Tree-F Entry → Entry
+entry_step hash Empty = record { level = 0; rect = None; digest = hash [] }
+entry_step hash (Leaf records) = record {
+  level = 0;
+  rect = rect_step (Leaf records);
+  digest = hash (node_preimage (Leaf records));
+}
+entry_step hash (Inner entries) = record {
+  level = level_over entries;
+  rect = rect_step (Inner (map (λ (e : Entry). e.rect) entries));
+  digest = hash (node_preimage (Inner entries));
+}
+
+abbrev pub entry : (List ℕ → List ℕ) → Tree → Entry
+entry hash = fold-Tree Entry (entry_step hash)
+
+-- the bytes that the tree's digest is of
+abbrev pub preimage : (List ℕ → List ℕ) → Tree → List ℕ
+preimage hash t = node_preimage (map-Tree Tree Entry (entry hash) (out-Tree t))
+
+abbrev pub digest : (List ℕ → List ℕ) → Tree → List ℕ
+digest hash t = (entry hash t).digest
+
+-- the version byte of the formats
+abbrev pub version : ℕ
+version = 1
+
+-- the bytes that the root digest of a map is of: `E` for a map without records, else `R`
+abbrev pub root_preimage : (batch count : ℕ) → Entry → List ℕ
+root_preimage batch count e =
+    if count == 0 then 0x45 ∷ version ∷ to_be_bytes w64 batch
+    else 0x52 ∷ version ∷ (to_be_bytes w64 batch ++ to_be_bytes w64 count ++ e.level ∷ (rect_bytes e.rect ++ e.digest))
+
+-- the root digest of a map: of its tree and its batch
+abbrev pub root : (List ℕ → List ℕ) → Tree → ℕ → List ℕ
+root hash t batch =
+    hash (root_preimage batch (length (records t)) (record { level = level t; rect = rect t; digest = digest hash t }))
