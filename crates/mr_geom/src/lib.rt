@@ -1,9 +1,14 @@
 //! Rectangles, points and regions over whole numbers.
+//!
+//! Coordinates are in map units, and areas and squared distances in squared map units. All arithmetic is exact up to the
+//! ends of `i32`, and no call takes memory.
 #![tactic(auto)]
 
 mod point;
 mod rect;
 mod region;
+#[cfg(test)]
+mod tests;
 
 pub use point::Point;
 pub use rect::Rect;

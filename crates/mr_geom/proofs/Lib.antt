@@ -1,0 +1,3 @@
+pub mod Rectangles
+pub mod Planes
+pub mod Distances
