@@ -1,10 +1,26 @@
-//! What the program is given from outside: files and an output; and a list that a tree may hold.
+//! What the program is given from outside: files, an output, a gate for workers; and a list that a tree may hold.
 #![tactic(auto)]
 
+mod calls;
+mod gate;
 mod items;
+mod mem_shelf;
+mod mem_sink;
+mod reading;
 mod shelf;
 mod sink;
+mod std_shelf;
+mod std_sink;
 
+pub use gate::{Gate, NoGate};
 pub use items::Items;
+pub use mem_shelf::MemShelf;
+pub use mem_sink::MemSink;
+pub use reading::read_all;
 pub use shelf::{Shelf, ShelfErr};
-pub use sink::{Sink, SinkErr};
+pub use sink::{Sink, SinkErr, write_all};
+pub use std_shelf::StdShelf;
+pub use std_sink::StdSink;
+
+#[cfg(test)]
+mod tests;

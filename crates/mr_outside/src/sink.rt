@@ -42,3 +42,18 @@ pub trait Sink {
         ensures fault { IsErrOf result SinkErr.Fault → Rose (faults self.old) (faults self.new) }
         ensures faults { faults self.old ≤ faults self.new };
 }
+
+/// Gives all the bytes to the sink. After a refusal some front of them was taken.
+pub fn write_all<W: Sink>(out: &mut W, bytes: &[u8]) -> Result<(), SinkErr>
+    ensures whole { OnOk result (Takes (W.taken out.old) (W.taken out.new) bytes.now) }
+    ensures front { TakesFront (W.taken out.old) (W.taken out.new) bytes.now }
+    ensures fault { IsErrOf result SinkErr.Fault → Rose (W.faults out.old) (W.faults out.new) }
+    ensures faults { W.faults out.old ≤ W.faults out.new }
+{
+    let mut done = 0;
+    while done < bytes.len() {
+        let (_taken, rest) = bytes.split_at(done);
+        done += out.write(rest)?;
+    }
+    Ok(())
+}

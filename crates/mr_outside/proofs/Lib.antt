@@ -1,0 +1,5 @@
+pub mod Rises
+pub mod Taking
+pub mod Pieces
+pub mod NamedFiles
+pub mod InPlace
