@@ -1,7 +1,7 @@
 -- A record, what makes four fields one, and its bytes.
-use Rattle.std.specs.Prelude.{ℕ, ℤ, ◌^◌, ◌<◌, ◌≤◌, List, ◌++◌, ◌∷◌, length, FitsSigned}
+use Rattle.std.specs.Prelude.{ℕ, ℤ, ◌^◌, ◌<◌, ◌≤◌, List, ◌++◌, ◌∷◌, length}
 use Rattle.std.specs.Int.{w32, w64, cast_unsigned, to_be_bytes}
-use Rattle.mr_geom.specs.Rectangle.{Rectangle, IsOrdered}
+use Rattle.mr_geom.specs.Rectangle.{Rectangle, IsOrdered, FitsMap}
 use Rattle.mr_record.specs.Bytes.{AreBytes}
 use Rattle.mr_record.specs.declared.record.Record.{Record}
 
@@ -9,18 +9,11 @@ use Rattle.mr_record.specs.declared.record.Record.{Record}
 abbrev pub payload_limit : ℕ
 payload_limit = 200
 
--- the coordinates fit their four bytes
-pub record FitsWords (r : Rectangle) : Type 0 where
-  pub x0 : FitsSigned w32 r.x0
-  pub y0 : FitsSigned w32 r.y0
-  pub x1 : FitsSigned w32 r.x1
-  pub y1 : FitsSigned w32 r.y1
-
 -- a number, a rectangle and a payload, each within its range
 pub record IsRecord (r : Record) : Type 0 where
   pub number : r.number < 2 ^ 64
   pub ordered : IsOrdered r.rect
-  pub words : FitsWords r.rect
+  pub coordinates : FitsMap r.rect
   pub payload : length r.payload ≤ payload_limit
   pub bytes : AreBytes r.payload
 

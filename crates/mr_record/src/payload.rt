@@ -1,3 +1,6 @@
+ghost use Rattle.std.specs.Prelude.{◌≡◌, ◌≤◌, ◌++◌, length, take, drop, SomeIff};
+ghost use Rattle.mr_record.specs.Bytes.{AreBytes};
+
 use std::marker::Model;
 
 /// Up to 200 bytes, kept inline. Contracts see the list of its bytes.
@@ -23,4 +26,46 @@ impl Model for Payload {
       len = length_of_front p.len p.bytes h i;
       bytes = front_and_zeros p.len p.bytes h i;
     } };
+}
+
+fn write_front(into: &mut [u8], bytes: &[u8])
+    requires { length bytes.now ≤ length into.old }
+    ensures { into.new ≡ bytes.now ++ drop (length bytes.now) into.old }
+{
+    let (front, _) = into.split_at_mut(bytes.len());
+    front.copy_from_slice(bytes);
+}
+
+fn front(places: &[u8], count: usize) -> &[u8]
+    requires { count ≤ length places.now }
+    ensures value { result.now ≡ take count places.now }
+    ensures bytes { AreBytes result.now }
+{
+    &places[..count]
+}
+
+impl Payload {
+    /// The bytes, unless there are more than 200.
+    pub fn new(bytes: &[u8]) -> Option<Payload>
+        ensures { SomeIff result (length bytes.now ≤ 200) bytes.now }
+    {
+        if bytes.len() > 200 {
+            return None;
+        }
+        let mut all = [0; 200];
+        write_front(&mut all, bytes);
+        Some(Payload {
+            len: bytes.len() as u8,
+            bytes: all,
+        })
+    }
+
+    /// The bytes, in no more than 200 places.
+    pub fn bytes(&self) -> &[u8]
+        ensures value { result.now ≡ self.now }
+        ensures within { length self.now ≤ 200 }
+        ensures bytes { AreBytes self.now }
+    {
+        front(&self.bytes, usize::from(self.len))
+    }
 }
