@@ -1,3 +1,6 @@
+ghost use Rattle.std.specs.Prelude.{◌≡◌};
+ghost use Rattle.mr_tool.specs.Status.{code_of};
+
 /// How a run ended.
 #[derive(Clone, Copy, Debug, PartialEq, Eq)]
 pub enum Status {
@@ -21,4 +24,24 @@ pub enum Status {
     NoMemory,
     /// The input is larger than this version takes.
     NotYet,
+}
+
+impl Status {
+    /// The exit status of the program, 0 to 9 in the order of the variants.
+    pub fn code(self) -> u8
+        ensures { result ≡ code_of self }
+    {
+        match self {
+            Status::Done => 0,
+            Status::BadWords => 1,
+            Status::Refused => 2,
+            Status::BadText => 3,
+            Status::BadMap => 4,
+            Status::BadBatch => 5,
+            Status::Collision => 6,
+            Status::Outside => 7,
+            Status::NoMemory => 8,
+            Status::NotYet => 9,
+        }
+    }
 }

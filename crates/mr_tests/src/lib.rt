@@ -1,0 +1,7 @@
+//! Tests that cross crates: the program's top call on whole inputs, with values from outside.
+#![tactic(auto)]
+
+#[cfg(test)]
+mod bench;
+#[cfg(test)]
+mod root;

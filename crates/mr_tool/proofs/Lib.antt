@@ -1,0 +1,4 @@
+pub mod Answering
+pub mod Leaves
+pub mod LineFeeds
+pub mod Placing
