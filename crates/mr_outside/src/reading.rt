@@ -11,7 +11,7 @@ const PIECE: usize = 65_536;
 /// The bytes of a file, read in pieces up to the length that `size` answers.
 ///
 /// A read that gives fewer bytes than were asked for ends it. Room is taken as bytes come, so a
-/// great length that no bytes follow takes none.
+/// great length that no bytes follow takes one piece.
 pub fn read_all<S: Shelf>(alloc: Global, shelf: &mut S, name: &str) -> Result<Vec<u8>, ShelfErr>
     ensures bytes { IfOk result (λ v. OfFile (S.files shelf.old) name.now ⊥ (λ bytes. v.items ≡ bytes)) }
     ensures missing { IsErrOf result ShelfErr.Missing → MayMiss (S.files shelf.old) name.now (S.faults shelf.old) (S.faults shelf.new) }

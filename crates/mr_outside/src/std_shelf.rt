@@ -1,10 +1,13 @@
-ghost use Rattle.std.specs.Prelude.{◌≡◌, ◌<◌, ◌≤◌, length, take, drop, IfOk};
+ghost use Rattle.std.specs.Prelude.{◌≡◌, ◌<◌, ◌≤◌, ◌++◌, ◌-◌, min, length, take, drop, IfOk, OnOk, OnErr, IsErrOf, None, Option};
+ghost use Rattle.mr_outside.specs.Files.{Files};
+ghost use Rattle.mr_outside.specs.Faults.{Rose, next_count};
+ghost use Rattle.mr_outside.specs.Told.{OfFile, MayMiss};
 ghost use Rattle.std.specs.Io.KnownBytes.{Consumes, IsAtEnd};
 
 use crate::{Shelf, ShelfErr};
 use std::fs::{self, OpenFile};
 use std::io::{self, Read, Seek, SeekFrom};
-use std::rt::Files;
+use std::rt;
 
 /// The bytes that one call of the system is asked for.
 const CHUNK: usize = 4096;
@@ -18,7 +21,7 @@ pub struct StdShelf<'a, R> {
     reads: u64,
 }
 
-impl<'a, R: Files> StdShelf<'a, R> {
+impl<'a, R: rt::Files> StdShelf<'a, R> {
     /// No fault and no read are counted yet.
     pub fn new(rt: &'a R) -> StdShelf<'a, R>
         ensures faults { result.faults ≡ 0 }
@@ -32,7 +35,7 @@ impl<'a, R: Files> StdShelf<'a, R> {
     }
 }
 
-impl<R: Files> Shelf for StdShelf<'_, R> {
+impl<R: rt::Files> Shelf for StdShelf<'_, R> {
     ghost use Rattle.std.specs.Prelude.{None};
 
     ghost files = { λ _. None };
@@ -41,7 +44,17 @@ impl<R: Files> Shelf for StdShelf<'_, R> {
 
     ghost reads = { λ s. s.reads };
 
-    fn size(&mut self, name: &str) -> Result<u64, ShelfErr> {
+    // A fault is counted just where the call is refused.
+    fn size(&mut self, name: &str) -> Result<u64, ShelfErr>
+        ensures counted { OnErr result (self.new.faults ≡ next_count self.old.faults) }
+        ensures quiet { OnOk result (self.new.faults ≡ self.old.faults) }
+        ensures length { IfOk result (λ n. OfFile None name.now ⊥ (λ bytes. n ≡ length bytes)) }
+        ensures missing { IsErrOf result ShelfErr.Missing → MayMiss None name.now self.old.faults self.new.faults }
+        ensures fault { IsErrOf result ShelfErr.Fault → Rose self.old.faults self.new.faults }
+        ensures files { let told : Option Files = None in told ≡ told }
+        ensures faults { self.old.faults ≤ self.new.faults }
+        ensures reads { self.new.reads ≡ self.old.reads }
+    {
         let answer = length_of(self.rt, name);
         if answer.is_err() {
             self.faults = self.faults.saturating_add(1);
@@ -49,7 +62,21 @@ impl<R: Files> Shelf for StdShelf<'_, R> {
         answer
     }
 
-    fn read_at(&mut self, name: &str, at: u64, into: &mut [u8]) -> Result<usize, ShelfErr> {
+    // A fault is counted just where the call is refused, and a read just where it is not.
+    fn read_at(&mut self, name: &str, at: u64, into: &mut [u8]) -> Result<usize, ShelfErr>
+        ensures counted { OnErr result (self.new.faults ≡ next_count self.old.faults) }
+        ensures quiet { OnOk result (self.new.faults ≡ self.old.faults) }
+        ensures within { IfOk result (λ n. n ≤ length into.old) }
+        ensures count { IfOk result (λ n. OfFile None name.now ⊥ (λ bytes. n ≡ min (length into.old) (length bytes - at))) }
+        ensures bytes { IfOk result (λ n. OfFile None name.now ⊥ (λ bytes. into.new ≡ take n (drop at bytes) ++ drop n into.old)) }
+        ensures rest { IfOk result (λ n. drop n into.new ≡ drop n into.old) }
+        ensures missing { IsErrOf result ShelfErr.Missing → MayMiss None name.now self.old.faults self.new.faults }
+        ensures fault { IsErrOf result ShelfErr.Fault → Rose self.old.faults self.new.faults }
+        ensures files { let told : Option Files = None in told ≡ told }
+        ensures faults { self.old.faults ≤ self.new.faults }
+        ensures reads { OnOk result (self.new.reads ≡ next_count self.old.reads) }
+        ensures unread { OnErr result (self.new.reads ≡ self.old.reads) }
+    {
         let answer = read_from(self.rt, name, at, into);
         if answer.is_ok() {
             self.reads = self.reads.saturating_add(1);
@@ -69,7 +96,7 @@ fn refusal(error: io::Error) -> ShelfErr {
 }
 
 /// The length of a regular file.
-fn length_of<R: Files>(rt: &R, name: &str) -> Result<u64, ShelfErr> {
+fn length_of<R: rt::Files>(rt: &R, name: &str) -> Result<u64, ShelfErr> {
     if name.is_empty() {
         return Err(ShelfErr::Fault);
     }
@@ -81,7 +108,7 @@ fn length_of<R: Files>(rt: &R, name: &str) -> Result<u64, ShelfErr> {
     }
 }
 
-fn read_from<R: Files>(rt: &R, name: &str, at: u64, into: &mut [u8]) -> Result<usize, ShelfErr>
+fn read_from<R: rt::Files>(rt: &R, name: &str, at: u64, into: &mut [u8]) -> Result<usize, ShelfErr>
     ensures within { IfOk result (λ n. n ≤ length into.old) }
     ensures rest { IfOk result (λ n. drop n into.new ≡ drop n into.old) }
 {

@@ -1,4 +1,6 @@
-ghost use Rattle.std.specs.Prelude.{◌≡◌};
+ghost use Rattle.std.specs.Prelude.{◌≡◌, ◌<◌, ◌≤◌, None, IfOk, OnOk, OnErr, IsErrOf, length, take};
+ghost use Rattle.mr_outside.specs.Faults.{Rose, next_count};
+ghost use Rattle.mr_outside.specs.Told.{Takes};
 
 use crate::{Sink, SinkErr};
 
@@ -26,7 +28,17 @@ impl<R: Print> Sink for StdSink<'_, R> {
 
     ghost faults = { λ s. s.faults };
 
-    fn write(&mut self, bytes: &[u8]) -> Result<usize, SinkErr> {
+    // A fault is counted just where the write is refused.
+    fn write(&mut self, bytes: &[u8]) -> Result<usize, SinkErr>
+        ensures counted { OnErr result (self.new.faults ≡ next_count self.old.faults) }
+        ensures quiet { OnOk result (self.new.faults ≡ self.old.faults) }
+        ensures within { IfOk result (λ n. n ≤ length bytes.now) }
+        ensures progress { IfOk result (λ n. 0 < length bytes.now → 0 < n) }
+        ensures front { IfOk result (λ n. Takes None None (take n bytes.now)) }
+        ensures refused { OnErr result (Takes None None bytes.now) }
+        ensures fault { IsErrOf result SinkErr.Fault → Rose self.old.faults self.new.faults }
+        ensures faults { self.old.faults ≤ self.new.faults }
+    {
         if bytes.is_empty() {
             return Ok(0);
         }
