@@ -5,3 +5,4 @@ pub mod Fields
 pub mod Payloads
 pub mod RecordLines
 pub mod Texts
+pub mod Printed

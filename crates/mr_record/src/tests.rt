@@ -1,4 +1,6 @@
 use super::*;
+use mr_geom::Rect;
+use mr_outside::{MemSink, SinkErr};
 use std::test::Fail;
 
 #[test]
@@ -102,5 +104,51 @@ fn a_line_past_the_limit(rt: HostRuntime) -> Result<(), Fail> {
         rule: TextRule::TooMany,
     }));
     assert_eq!(rt; read_lines(rt.alloc(), text.as_bytes()).err(), want);
+    Ok(())
+}
+
+#[test]
+fn writes_one_line_of_a_record(rt: HostRuntime) -> Result<(), Fail> {
+    let alloc = rt.alloc();
+    let longest: Vec<u8> = (0..200).collect(alloc)?;
+    for (number, (x0, y0, x1, y1), bytes, line) in [
+        (0, (0, 0, 0, 0), [].as_slice(), "0 0 0 0 0 -\n"),
+        (10, (-9, -10, 9, 10), [0].as_slice(), "10 -9 -10 9 10 00\n"),
+        (
+            u64::MAX,
+            (i32::MIN, i32::MIN, i32::MAX, i32::MAX),
+            longest.as_slice(),
+            "18446744073709551615 -2147483648 -2147483648 2147483647 2147483647 \
+             000102030405060708090a0b0c0d0e0f101112131415161718191a1b1c1d1e1f2021222324252627\
+             28292a2b2c2d2e2f303132333435363738393a3b3c3d3e3f404142434445464748494a4b4c4d4e4f\
+             505152535455565758595a5b5c5d5e5f606162636465666768696a6b6c6d6e6f7071727374757677\
+             78797a7b7c7d7e7f808182838485868788898a8b8c8d8e8f909192939495969798999a9b9c9d9e9f\
+             a0a1a2a3a4a5a6a7a8a9aaabacadaeafb0b1b2b3b4b5b6b7b8b9babbbcbdbebfc0c1c2c3c4c5c6c7\n",
+        ),
+    ] {
+        let rect = Rect::new(x0, y0, x1, y1).ok_or("sides in order")?;
+        let payload = Payload::new(bytes).ok_or("at most 200 bytes")?;
+        let record = Record {
+            number,
+            rect,
+            payload,
+        };
+        let mut out = MemSink::new(alloc, vec![in alloc]?);
+        assert!(rt; write_line(&mut out, &record).is_ok(), "at {line}");
+        assert!(rt; out.bytes() == line.as_bytes(), "at {line}");
+    }
+    Ok(())
+}
+
+#[test]
+fn writes_each_line_at_once_or_not_at_all(rt: HostRuntime) -> Result<(), Fail> {
+    let alloc = rt.alloc();
+    let record = read_line(b"7 0 -1 0 1 -").ok().ok_or("a record")?;
+    let mut out = MemSink::new(alloc, vec![in alloc; 2]?);
+    assert!(rt; write_line(&mut out, &record).is_ok());
+    assert!(rt; matches!(write_line(&mut out, &record), Err(SinkErr::Fault)));
+    assert!(rt; out.bytes() == b"7 0 -1 0 1 -\n".as_slice());
+    assert!(rt; write_line(&mut out, &record).is_ok());
+    assert!(rt; out.bytes() == b"7 0 -1 0 1 -\n7 0 -1 0 1 -\n".as_slice());
     Ok(())
 }

@@ -12,7 +12,7 @@ pub enum TextRule {
     TooMany,
     /// The line has no line feed.
     NoEnd,
-    /// The first line of a batch text is not `batch N`.
+    /// The first line of a batch text is not `batch N`, or there is none.
     Head,
     /// The fields are not as many as the line wants, between single spaces.
     Form,

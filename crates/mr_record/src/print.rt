@@ -1,0 +1,125 @@
+//! One record as a line of text, written to a sink.
+
+ghost use Rattle.std.specs.Prelude.{◌≡◌, ◌+◌, ◌*◌, ◌≤◌, ◌++◌, ◌∷◌, [], length, drop, decimal, OnOk, IsErrOf};
+ghost use Rattle.std.specs.Fmt.{signed_decimal};
+ghost use Rattle.hex.specs.Hex.{encode_lower};
+ghost use Rattle.mr_outside.specs.Faults.{Rose};
+ghost use Rattle.mr_outside.specs.Told.{Takes, TakesFront};
+ghost use Rattle.mr_record.specs.RecordText.{payload_text, line_of};
+
+use crate::buffer::LineBuffer;
+use crate::{Payload, Record};
+use mr_geom::Rect;
+use mr_outside::{Sink, SinkErr, write_all};
+
+/// Writes the digits of the number into the last places, and answers where they begin.
+fn write_digits(places: &mut [u8; 20], number: u64) -> usize
+    ensures within { result ≤ 20 }
+    ensures digits { drop result places.new ≡ decimal number }
+{
+    let mut rest = number;
+    let mut at = 19;
+    while rest >= 10 {
+        places[at] = b'0' + (rest % 10) as u8;
+        rest /= 10;
+        at -= 1;
+    }
+    places[at] = b'0' + rest as u8;
+    at
+}
+
+fn put_number(line: &mut LineBuffer, number: u64)
+    requires { length line.old + 20 ≤ 512 }
+    ensures put { line.new ≡ line.old ++ decimal number }
+    ensures within { length line.new ≤ length line.old + 20 }
+{
+    let mut places = [0; 20];
+    let at = write_digits(&mut places, number);
+    let (_, digits) = places.split_at(at);
+    line.put(digits);
+}
+
+fn put_coordinate(line: &mut LineBuffer, coordinate: i32)
+    requires { length line.old + 21 ≤ 512 }
+    ensures put { line.new ≡ line.old ++ signed_decimal coordinate }
+    ensures within { length line.new ≤ length line.old + 21 }
+{
+    if coordinate < 0 {
+        line.put(b"-");
+    }
+    put_number(line, u64::from(coordinate.unsigned_abs()));
+}
+
+/// Puts two lower-case hexadecimal digits for each byte.
+fn put_hex(line: &mut LineBuffer, bytes: &[u8])
+    requires short { length bytes.now ≤ 200 }
+    requires room { length line.old + 400 ≤ 512 }
+    ensures put { line.new ≡ line.old ++ encode_lower bytes.now }
+    ensures within { length line.new ≤ length line.old + 400 }
+{
+    let mut places = [0; 400];
+    let (digits, _) = places.split_at_mut(2 * bytes.len());
+    match hex::encode_to_slice(bytes, digits) {
+        Ok(()) => line.put(digits),
+        Err(_) => unreachable!(),
+    }
+}
+
+/// Puts `-` for no bytes, or lower-case hexadecimal.
+fn put_payload(line: &mut LineBuffer, payload: &Payload)
+    requires { length line.old + 400 ≤ 512 }
+    ensures put { line.new ≡ line.old ++ payload_text payload.now }
+    ensures within { length line.new ≤ length line.old + 400 }
+{
+    match payload.bytes() {
+        [] => line.put(b"-"),
+        bytes => put_hex(line, bytes),
+    }
+}
+
+fn put_coordinate_and_space(line: &mut LineBuffer, coordinate: i32)
+    requires { length line.old + 22 ≤ 512 }
+    ensures put { line.new ≡ line.old ++ signed_decimal coordinate ++ 32 ∷ [] }
+    ensures within { length line.new ≤ length line.old + 22 }
+{
+    put_coordinate(line, coordinate);
+    line.put(b" ");
+}
+
+/// Puts the four coordinates, each with a space behind it.
+fn put_rect(line: &mut LineBuffer, rect: &Rect)
+    requires { length line.old + 88 ≤ 512 }
+    ensures put { line.new ≡ line.old ++ signed_decimal rect.now.x0 ++ 32 ∷ [] ++ signed_decimal rect.now.y0 ++ 32 ∷ [] ++ signed_decimal rect.now.x1 ++ 32 ∷ [] ++ signed_decimal rect.now.y1 ++ 32 ∷ [] }
+    ensures within { length line.new ≤ length line.old + 88 }
+{
+    let (x0, y0, x1, y1) = rect.corners();
+    put_coordinate_and_space(line, x0);
+    put_coordinate_and_space(line, y0);
+    put_coordinate_and_space(line, x1);
+    put_coordinate_and_space(line, y1);
+}
+
+/// The line of the record, with its line feed.
+fn printed_line(one: &Record) -> LineBuffer
+    ensures { result ≡ line_of one.now ++ 10 ∷ [] }
+{
+    let mut line = LineBuffer::new();
+    put_number(&mut line, one.number);
+    line.put(b" ");
+    put_rect(&mut line, &one.rect);
+    put_payload(&mut line, &one.payload);
+    line.put(b"\n");
+    line
+}
+
+/// Writes one line with its line feed: `number x0 y0 x1 y1 payload`, with single spaces between. After
+/// a refusal some front of the line was taken.
+pub fn write_line<W: Sink>(out: &mut W, one: &Record) -> Result<(), SinkErr>
+    ensures whole { OnOk result (Takes (W.taken out.old) (W.taken out.new) (line_of one.now ++ 10 ∷ [])) }
+    ensures front { TakesFront (W.taken out.old) (W.taken out.new) (line_of one.now ++ 10 ∷ []) }
+    ensures fault { IsErrOf result SinkErr.Fault → Rose (W.faults out.old) (W.faults out.new) }
+    ensures faults { W.faults out.old ≤ W.faults out.new }
+{
+    let line = printed_line(one);
+    write_all(out, line.bytes())
+}
