@@ -36,8 +36,8 @@ fn feed_child<H: Hashes>(hasher: &mut H, rect: Option<Rect>, digest: &[u8; 32])
     hasher.update(digest);
 }
 
-// The digest of a leaf.
-fn leaf_digest<H: Hashes>(records: &[Record]) -> [u8; 32]
+/// The digest of a leaf with these records.
+pub fn leaf_digest<H: Hashes>(records: &[Record]) -> [u8; 32]
     requires { length records.now ≤ 16 }
     ensures { result ≡ H.of (0x4c ∷ length records.now ∷ flat_map record_bytes records.now) }
 {
@@ -101,8 +101,9 @@ fn filled_root<H: Hashes>(
     hasher.finish()
 }
 
-// The root digest of a map, from what its head says and from its root node.
-fn map_root<H: Hashes>(
+/// The root digest of a map, from its batch, the count of its records and its root node's level, rectangle and digest,
+/// which do not matter where there are no records.
+pub fn map_root<H: Hashes>(
     batch: u64,
     count: u64,
     level: u8,
@@ -136,7 +137,8 @@ fn count(tree: &Tree) -> u64
     }
 }
 
-/// The digest of a tree that is not empty.
+/// The digest of a tree that is not empty: that of its root node, over the rectangles and digests of the nodes below, as in the Merkle
+/// R-tree of Yang, Papadopoulos, Papadias and Kollios (2009).
 pub fn digest_of<H: Hash32>(tree: &Tree) -> [u8; 32]
     requires well_formed { WellFormed tree.now }
     requires filled { tree.now ≢ variants.Empty }

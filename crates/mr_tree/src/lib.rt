@@ -3,8 +3,10 @@
 
 mod digest;
 mod hash;
+mod records;
 mod tree;
 
-pub use digest::{digest_of, root_of};
+pub use digest::{digest_of, leaf_digest, map_root, root_of};
 pub use hash::{Hash32, Hashes, Sha, XorHash};
-pub use tree::{Tree, level_of, rect_of};
+pub use records::records_of;
+pub use tree::{Tree, bounds_of, level_of, rect_of};

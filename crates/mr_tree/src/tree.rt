@@ -8,7 +8,8 @@ use mr_geom::Rect;
 use mr_outside::Items;
 use mr_record::Record;
 
-/// An R-tree over records. A leaf holds 1 to 16 records and an inner node 1 to 64 nodes of the level below.
+/// An R-tree over records (Guttman 1984). In a well-formed one a leaf holds 6 to 16 records and an inner node 24 to 64 nodes of the
+/// level below; as the root a leaf holds 1 to 16 and an inner node 2 to 64.
 #[derive(Drop)]
 pub enum Tree {
     /// The map without records.
@@ -44,8 +45,8 @@ fn joined(all: Option<Rect>, more: Option<Rect>) -> Option<Rect>
     }
 }
 
-// The rectangle round some records.
-fn bounds_of(records: &[Record]) -> Option<Rect>
+/// The least rectangle round some records.
+pub fn bounds_of(records: &[Record]) -> Option<Rect>
     ensures { result ≡ union_of (map (λ (r : Record). Some r.rect) records.now) }
 {
     let mut all = None;
