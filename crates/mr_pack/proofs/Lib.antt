@@ -1,0 +1,12 @@
+pub mod Cuts
+pub mod Least
+pub mod Levels
+pub mod Natural
+pub mod Numbers
+pub mod Orders
+pub mod Repeats
+pub mod Roots
+pub mod Sorting
+pub mod Groups
+pub mod Standing
+pub mod Contents

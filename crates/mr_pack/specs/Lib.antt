@@ -1,0 +1,9 @@
+pub mod Cuts
+pub mod Entries
+pub mod HalfFull
+pub mod Least
+pub mod Pack
+pub mod Repeats
+pub mod Sorting
+pub mod Twice
+pub mod Views

@@ -1,0 +1,163 @@
+ghost use Rattle.std.specs.Prelude.{◌≡◌, ◌≤◌, ◌<◌, ◌^◌, length, map, OnOk, IfOk, Some};
+ghost use Rattle.std.specs.Global.{Vec as list};
+ghost use Rattle.std.specs.Borrow.{Bor};
+ghost use Rattle.mr_record.specs.declared.record.Record as types;
+ghost use Rattle.mr_tree.specs.Tree.{rect, join, union_of};
+ghost use Rattle.mr_tree.specs.declared.tree.Tree.TheVariants as variants;
+ghost use Rattle.mr_pack.specs.Pack.{leaves_of, level_above, record_entry, node_entries};
+ghost use Rattle.mr_pack.specs.declared.node.Node.{Node as node};
+ghost use Rattle.mr_pack.specs.Views.{seen, with_tree};
+
+use crate::entry::{Entry, place};
+use crate::grouping::group;
+use crate::node::Node;
+use mr_geom::Rect;
+use mr_outside::Items;
+use mr_record::Record;
+use mr_tree::Tree;
+use std::alloc::{AllocError, Global};
+
+// The most records of a leaf.
+const LEAF_CAPACITY: usize = 16;
+
+// The most children of an inner node.
+const INNER_CAPACITY: usize = 64;
+
+// The rectangle round two, where there is one.
+fn joined(all: Option<Rect>, more: Option<Rect>) -> Option<Rect>
+    ensures { result ≡ join all more }
+{
+    match (all, more) {
+        (None, more) => more,
+        (Some(all), None) => Some(all),
+        (Some(all), Some(more)) => Some(all.union(&more)),
+    }
+}
+
+// The rectangle round some records.
+fn bounds_of(records: &[Record]) -> Option<Rect>
+    ensures { result ≡ union_of (map (λ (r : types.Record). Some r.rect) records.now) }
+{
+    let mut all = None;
+    for record in records {
+        all = joined(all, Some(record.rect));
+    }
+    all
+}
+
+// Copies of some records.
+fn copies(alloc: Global, records: &[&Record]) -> Result<Vec<Record>, AllocError>
+    ensures { IfOk result (λ v. v.items ≡ map (λ r. r.now) records.now) }
+{
+    records.iter().map(|record| **record).collect(alloc)
+}
+
+// A leaf with copies of some records.
+fn leaf(alloc: Global, group: &[&Record]) -> Result<Node, AllocError>
+    ensures { IfOk result (λ n. n.tree ≡ variants.Leaf (map (λ r. r.now) group.now)) }
+{
+    let records = copies(alloc, group)?;
+    let bounds = bounds_of(&records);
+    Ok(Node {
+        bounds,
+        tree: Tree::Leaf(Items::of(records)),
+    })
+}
+
+// The rectangle round some nodes.
+fn bounds_of_nodes(nodes: &[Node]) -> Option<Rect>
+    ensures { result ≡ union_of (map rect (map (λ (n : node). n.tree) nodes.now)) }
+{
+    let mut all = None;
+    for node in nodes {
+        all = joined(all, node.bounds);
+    }
+    all
+}
+
+// The trees of some nodes.
+fn trees_of(alloc: Global, nodes: Vec<Node>) -> Result<Vec<Tree>, AllocError>
+    ensures { IfOk result (λ v. v.items ≡ map (λ (n : node). n.tree) nodes.items) }
+{
+    nodes.into_iter().map(|node| node.tree).collect(alloc)
+}
+
+// An inner node over some nodes.
+fn inner(alloc: Global, nodes: Vec<Node>) -> Result<Node, AllocError>
+    ensures { IfOk result (λ (n : node). n.tree ≡ variants.Inner (map (λ (n : node). n.tree) nodes.items)) }
+{
+    let bounds = bounds_of_nodes(&nodes);
+    let trees = trees_of(alloc, nodes)?;
+    Ok(Node {
+        bounds,
+        tree: Tree::Inner(Items::of(trees)),
+    })
+}
+
+// The entries of some records.
+fn record_entries(alloc: Global, records: &[Record]) -> Result<Vec<Entry<&Record>>, AllocError>
+    ensures { IfOk result (λ v. map seen v.items ≡ map record_entry records.now) }
+{
+    let mut entries = Vec::with_capacity(alloc, records.len())?;
+    for record in records {
+        entries.push(place(Some(record.rect), record.number, record))?;
+    }
+    Ok(entries)
+}
+
+// A leaf of each group.
+fn leaves_of_groups(alloc: Global, groups: &[Vec<&Record>]) -> Result<Vec<Node>, AllocError>
+    ensures { IfOk result (λ v. map (λ (n : node). n.tree) v.items
+        ≡ map (λ rs. variants.Leaf rs) (map (map (λ (r : Bor types.Record). r.now)) (map (λ (g : list (Bor types.Record)). g.items) groups.now))) }
+{
+    let mut leaves = Vec::with_capacity(alloc, groups.len())?;
+    for group in groups {
+        leaves.push(leaf(alloc, group)?)?;
+    }
+    Ok(leaves)
+}
+
+// The leaves over some records.
+pub(crate) fn leaves(alloc: Global, records: &[Record]) -> Result<Vec<Node>, AllocError>
+    requires { length records.now ≤ 2 ^ 20 }
+    ensures { IfOk result (λ v. map (λ (n : node). n.tree) v.items ≡ leaves_of records.now) }
+{
+    let entries = record_entries(alloc, records)?;
+    let groups = group(alloc, entries, LEAF_CAPACITY)?;
+    leaves_of_groups(alloc, &groups)
+}
+
+// The entries of some nodes.
+fn entries_of_nodes(alloc: Global, nodes: Vec<Node>) -> Result<Vec<Entry<Node>>, AllocError>
+    ensures value { IfOk result (λ v. map with_tree v.items ≡ node_entries 0 (map (λ (n : node). n.tree) nodes.items)) }
+    ensures len { IfOk result (λ v. length v.items ≡ length nodes.items) }
+{
+    let mut entries = Vec::with_capacity(alloc, nodes.len())?;
+    for node in nodes {
+        let position = entries.len() as u64;
+        entries.push(place(node.bounds, position, node))?;
+    }
+    Ok(entries)
+}
+
+// An inner node over each group.
+fn inner_nodes(alloc: Global, groups: Vec<Vec<Node>>) -> Result<Vec<Node>, AllocError>
+    ensures { IfOk result (λ v. map (λ (n : node). n.tree) v.items
+        ≡ map (λ ts. variants.Inner ts) (map (map (λ (n : node). n.tree)) (map (λ (g : list node). g.items) groups.items))) }
+{
+    let mut level = Vec::with_capacity(alloc, groups.len())?;
+    for group in groups {
+        level.push(inner(alloc, group)?)?;
+    }
+    Ok(level)
+}
+
+// The level above some nodes.
+pub(crate) fn above(alloc: Global, nodes: Vec<Node>) -> Result<Vec<Node>, AllocError>
+    requires { length nodes.items ≤ 2 ^ 20 }
+    ensures { IfOk result (λ v. map (λ (n : node). n.tree) v.items ≡ level_above (map (λ (n : node). n.tree) nodes.items)) }
+{
+    let entries = entries_of_nodes(alloc, nodes)?;
+    let groups = group(alloc, entries, INNER_CAPACITY)?;
+    inner_nodes(alloc, groups)
+}
