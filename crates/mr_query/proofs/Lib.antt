@@ -1,0 +1,5 @@
+pub mod Parts
+pub mod Scans
+pub mod Sorting
+pub mod Windows
+pub mod Words

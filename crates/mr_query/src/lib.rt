@@ -1,0 +1,13 @@
+//! Queries: their words, the part of the map that they ask for, and what a scan answers.
+#![tactic(auto)]
+
+mod comma;
+mod query;
+#[cfg(test)]
+mod tests;
+mod window;
+mod word;
+
+pub use query::{Query, QueryFault};
+pub use window::Window;
+pub use word::read_query;

@@ -1,0 +1,25 @@
+ghost use Rattle.std.specs.Prelude.{◌≡◌, ◌↔◌, IsTrue};
+ghost use Rattle.mr_geom.specs.Plane.{Meets};
+ghost use Rattle.mr_query.specs.Region.{touches};
+
+use mr_geom::{Rect, Region};
+
+/// The points of a rectangle, sides included.
+#[derive(Clone, Copy, Debug, PartialEq, Eq)]
+pub struct Window {
+    pub rect: Rect,
+}
+
+impl Region for Window {
+    ghost reached = { λ s r. Meets s.rect r };
+
+    fn meets(&self, r: &Rect) -> bool
+        ensures reached { IsTrue result ↔ Meets self.now.rect r.now }
+        ensures test { result ≡ touches self.now.rect r.now }
+    {
+        let _ordered = (self.rect.corners(), r.corners());
+        self.rect.meets(r)
+    }
+
+    ghost monotone = { λ s a b ordered inside met. (met.0, met.1, inside met.0 met.2) };
+}
