@@ -1,0 +1,9 @@
+pub mod Forms
+pub mod Loop
+pub mod Pieces
+pub mod Whole
+pub mod Layouts
+pub mod Fields
+pub mod Taken
+pub mod Again
+pub mod Halves
