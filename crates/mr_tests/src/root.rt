@@ -96,46 +96,69 @@ fn roots_of_several_records(rt: HostRuntime) -> Result<(), Fail> {
 #[test]
 fn texts_that_break_a_rule(rt: HostRuntime) -> Result<(), Fail> {
     let alloc = rt.alloc();
-    let texts: [&[u8]; 16] = [
-        b"+5 0 0 0 0 -\n",
-        b"05 0 0 0 0 -\n",
-        b"7 0 0 0 0 -",
-        b"7 1 0 0 0 -\n",
-        b"7 0 0 0 0 -\n7 0 0 0 0 -\n",
-        b"7 0 0 0 0\n",
-        b"7 0 0 0 0 - \n",
-        b"7  0 0 0 -\n",
-        b"7 0 0 0 2147483648 -\n",
-        b"7 0 0 0 -0 -\n",
-        b"7 0 0 0 0 0\n",
-        b"7 0 0 0 0 AB\n",
-        b"\n",
-        b"\n\n\n",
-        b"\0\xff\xfe\n",
-        b"7 0 0 0 0 -\r\n",
+    let texts: [(&[u8], &[u8]); 17] = [
+        (b"+5 0 0 0 0 -\n", b"bad text line 1 Number\n"),
+        (b"05 0 0 0 0 -\n", b"bad text line 1 Number\n"),
+        (b"7 0 0 0 0 -", b"bad text line 1 NoEnd\n"),
+        (b"7 1 0 0 0 -\n", b"bad text line 1 Order\n"),
+        (b"7 0 0 0 0 -\n7 0 0 0 0 -\n", b"bad text line 2 Repeat\n"),
+        (b"7 0 0 0 0\n", b"bad text line 1 Form\n"),
+        (b"7 0 0 0 0 - \n", b"bad text line 1 Form\n"),
+        (b"7  0 0 0 -\n", b"bad text line 1 Coordinate\n"),
+        (b"7 0 0 0 2147483648 -\n", b"bad text line 1 Coordinate\n"),
+        (b"7 0 0 0 -0 -\n", b"bad text line 1 Coordinate\n"),
+        (b"7 0 0 0 0 0\n", b"bad text line 1 Payload\n"),
+        (b"7 0 0 0 0 AB\n", b"bad text line 1 Payload\n"),
+        (b"\n", b"bad text line 1 Form\n"),
+        (b"7 0 0 0 0 -\n\n\n", b"bad text line 2 Form\n"),
+        (b"\0\xff\xfe\n", b"bad text line 1 Form\n"),
+        (b"7 0 0 0 0 -\r\n", b"bad text line 1 Payload\n"),
+        (
+            b"8 0 0 0 0 -\n7 0 0 0 0 -\n8 1 0 0 0 00f\n",
+            b"bad text line 3 Order\n",
+        ),
     ];
-    for text in texts {
+    for (text, line) in texts {
         let ended = root_of::<XorHash, _>(&rt, alloc, text)?;
-        assert!(rt; ended.is(Status::BadText, b""), "{text:?}");
+        assert!(rt; ended.is(Status::BadText, line), "{text:?}");
     }
     Ok(())
 }
 
-#[test]
-fn more_than_sixteen_line_feeds_are_not_taken_yet(rt: HostRuntime) -> Result<(), Fail> {
-    let alloc = rt.alloc();
-    let mut text = Vec::new(alloc);
-    for number in 1..=17u8 {
-        text.push(b'0' + number / 10)?;
-        text.push(b'0' + number % 10)?;
-        text.extend_from_slice(b" 0 0 0 0 -\n")?;
+// A text of records at (I,0), from I = 1, without payloads.
+fn row(alloc: Global, records: u64) -> Result<String, AllocError> {
+    let mut text = String::new(alloc);
+    for i in 1..records + 1 {
+        text.push_str(format!(in alloc; "{i} {i} 0 {i} 0 -\n")?.as_str())?;
     }
-    let ended = root_of::<XorHash, _>(&rt, alloc, text.as_slice())?;
-    assert!(rt; ended.is(Status::NotYet, b""));
-    let feeds = root_of::<XorHash, _>(&rt, alloc, &[b'\n'; 17])?;
-    assert!(rt; feeds.is(Status::NotYet, b""));
-    let sixteen = root_of::<XorHash, _>(&rt, alloc, &[b'\n'; 16])?;
-    assert!(rt; sixteen.is(Status::BadText, b""));
+    Ok(text)
+}
+
+// Roots that a program of another language computed.
+#[test]
+fn maps_of_several_leaves(rt: HostRuntime) -> Result<(), Fail> {
+    let alloc = rt.alloc();
+    let two_leaves = row(alloc, 17)?;
+    let small = root_of::<XorHash, _>(&rt, alloc, two_leaves.as_bytes())?;
+    assert!(rt; small.is(Status::Done, small_digest(alloc, b"0f")?.as_slice()));
+    let table: [(u64, &[u8]); 3] = [
+        (
+            17,
+            b"fca9bc9b6913b889be0ca77137347077fd3728352e16c0e58283d2175d1eb0bf\n",
+        ),
+        (
+            1024,
+            b"2b3c93efccf62f130f7b6a8da814b2d508ac00422f210f40e9d3f64c7166e2e1\n",
+        ),
+        (
+            1025,
+            b"0a1f58ba200fb9fbf1ec601962e66d4f61fca5ce3dd5b1fbc2a96141ab87d843\n",
+        ),
+    ];
+    for (records, line) in table {
+        let ended = root_of::<Sha, _>(&rt, alloc, row(alloc, records)?.as_bytes())?;
+        assert!(rt; ended.is(Status::Done, line), "{records}");
+    }
     Ok(())
 }
 
@@ -155,7 +178,10 @@ fn words_that_spell_no_command(rt: HostRuntime) -> Result<(), Fail> {
         let mut shelf = MemShelf::new(alloc, Vec::new(alloc));
         shelf.put("r", b"7 0 0 0 0 -\n")?;
         match over::<XorHash, _, _>(&rt, alloc, line, shelf, Vec::new(alloc)) {
-            Ok((ended, _shelf)) => assert!(rt; ended.is(Status::BadWords, b""), "{line:?}"),
+            Ok((ended, _shelf)) => assert!(rt;
+                ended.is(Status::BadWords, b"bad words\n"),
+                "{line:?}"
+            ),
             Err((_error, _shelf)) => assert!(rt; false),
         }
     }
@@ -167,13 +193,13 @@ fn what_fails_outside_ends_the_run(rt: HostRuntime) -> Result<(), Fail> {
     let alloc = rt.alloc();
     let shelf = MemShelf::new(alloc, Vec::new(alloc));
     match over::<XorHash, _, _>(&rt, alloc, &["root", "none"], shelf, Vec::new(alloc)) {
-        Ok((ended, _shelf)) => assert!(rt; ended.is(Status::Outside, b"")),
+        Ok((ended, _shelf)) => assert!(rt; ended.is(Status::Outside, b"missing none\n")),
         Err((_error, _shelf)) => assert!(rt; false),
     }
     let size = run_with_faults(&rt, alloc, vec![in alloc; 1]?, Vec::new(alloc))?;
-    assert!(rt; size.is(Status::Outside, b""));
+    assert!(rt; size.is(Status::Outside, b"shelf fault\n"));
     let read = run_with_faults(&rt, alloc, vec![in alloc; 2]?, Vec::new(alloc))?;
-    assert!(rt; read.is(Status::Outside, b""));
+    assert!(rt; read.is(Status::Outside, b"shelf fault\n"));
     let print = run_with_faults(&rt, alloc, Vec::new(alloc), vec![in alloc; 1]?)?;
     assert!(rt; print.is(Status::Outside, b""));
     // With ample memory and nothing that fails, the run is done.
@@ -185,7 +211,13 @@ fn what_fails_outside_ends_the_run(rt: HostRuntime) -> Result<(), Fail> {
 #[test]
 fn the_real_file_system_without_the_file(rt: HostRuntime) -> Result<(), Fail> {
     let alloc = rt.alloc();
-    for name in [".", "/", "no/such/file", "a\0b"] {
+    let names: [(&str, &[u8]); 4] = [
+        (".", b"shelf fault\n"),
+        ("/", b"shelf fault\n"),
+        ("no/such/file", b"missing no/such/file\n"),
+        ("a\0b", b"shelf fault\n"),
+    ];
+    for (name, said) in names {
         let mut line = Vec::new(alloc);
         line.push(String::from_str(alloc, "root")?)?;
         line.push(String::from_str(alloc, name)?)?;
@@ -199,7 +231,7 @@ fn the_real_file_system_without_the_file(rt: HostRuntime) -> Result<(), Fail> {
             &NoGate,
         );
         assert!(rt; status == Status::Outside, "{name:?}");
-        assert!(rt; out.bytes().is_empty());
+        assert!(rt; out.bytes() == said, "{name:?}");
     }
     Ok(())
 }

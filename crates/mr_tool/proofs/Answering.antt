@@ -1,6 +1,6 @@
 -- How an answer is put together from what was read and what was printed.
-use Rattle.std.proofs.Common.{◌≡◌, ℕ, List, [], Bool, true, false, cond, refl, sym, ap, subst, ◌∙◌, inl, inr}
-use Rattle.std.specs.Prelude.{Option, Some, None, Result, Ok, Err, option_map, MatchOption, ◌⊎◌, nat_lt}
+use Rattle.std.proofs.Common.{append-nil, ◌≡◌, ℕ, List, [], true, cond, refl, sym, ap, subst, ◌∙◌, inl, inr}
+use Rattle.std.specs.Prelude.{Option, Some, None, MatchOption, ◌⊎◌}
 use Rattle.std.specs.Ordering.{nat_cmp, eq_by_cmp}
 use Rattle.std.specs.Cmp.{eq_by_cmp_equiv}
 use Rattle.std.specs.Cmp.Lexicographic.{slice_cmp, nat_list_cmp_total}
@@ -8,20 +8,13 @@ use Rattle.std.specs.FinMap as map
 use Rattle.mr_outside.specs.Files.{Files, file}
 use Rattle.mr_outside.specs.Told.{OfFiles, OfFile, MayMiss, Takes}
 use Rattle.mr_outside.proofs.Taking.{Takes-none}
-use Rattle.mr_record.specs.declared.record.Record.{Record}
-use Rattle.mr_record.specs.declared.text_fault.TextFault.{TextFault}
-use Rattle.mr_record.specs.Lines.{line_feeds}
-use Rattle.mr_record.specs.RecordText.{records_of_text}
-use Rattle.mr_tool.specs.Answer.{World, IsWhole, IsStopped, IsAnswer, Prints, HasStopped}
+use Rattle.mr_tool.specs.Answer.{World, IsWhole, IsStopped, IsAnswer, Prints, ShelfFailed}
 use Rattle.mr_tool.specs.Command.{Spoken}
-use Rattle.mr_tool.specs.Outcome.{Outcome, Nothing, files_after, MayLeave}
-use Rattle.mr_tool.specs.Say.{declines, say, say_root, say_root_file, say_root_text, say_root_of}
+use Rattle.mr_tool.specs.Outcome.{Outcome, Nothing, IsLeft, MayLeave}
+use Rattle.mr_tool.specs.Lines.{shelf_fault_line}
+use Rattle.mr_tool.specs.Say.{ends, says_missing, say}
 use Rattle.mr_tool.specs.declared.status.Status.{Status}
-use Rattle.mr_tool.specs.declared.status.Status.TheVariants.{NotYet, Outside}
-
-same_files : (told : Option Files) → told ≡ option_map (files_after Nothing) told
-same_files None = refl
-same_files (Some files) = refl
+use Rattle.mr_tool.specs.declared.status.Status.TheVariants.{Outside, NoMemory}
 
 -- a command that writes no file is whole or stopped as its print is
 pub from_prints : (said : Outcome) (before after : World) (ended : Status) → said.written ≡ Nothing → after.files ≡ before.files
@@ -29,7 +22,7 @@ pub from_prints : (said : Outcome) (before after : World) (ended : Status) → s
 from_prints said before after ended writes same (inl whole) = inl (record {
   status = whole.0;
   printed = whole.1;
-  files = same ∙ same_files before.files ∙ ap (λ w. option_map (files_after w) before.files) (sym writes);
+  files = subst (λ w. IsLeft w before.files after.files) (sym writes) same;
 })
 from_prints said before after ended writes same (inr stop) = inr (record {
   stopped = elim stop.0 [ inl e ↦ inl e | inr e ↦ inr (e.0, inr e.1) ];
@@ -40,21 +33,17 @@ from_prints said before after ended writes same (inr stop) = inr (record {
   files = subst (λ w. MayLeave w before.files after.files) (sym writes) same;
 })
 
--- `root` writes no file
-root_of_writes : (hash : List ℕ → List ℕ) (read : Result (List Record) TextFault) → (say_root_of hash read).written ≡ Nothing
-root_of_writes hash (Ok records) = refl
-root_of_writes hash (Err fault) = refl
+-- what a command says of the one file that it reads: of its bytes, where it is there
+abbrev pub OfOneFile : Type 0
+OfOneFile = Option (List ℕ) → Outcome
 
-chosen_writes : (b : Bool) (x y : Outcome) → x.written ≡ Nothing → y.written ≡ Nothing → (cond b x y).written ≡ Nothing
-chosen_writes true x y p q = p
-chosen_writes false x y p q = q
+-- the same of all files
+abbrev pub said_of : OfOneFile → List ℕ → Files → Outcome
+said_of said name files = said (file files name)
 
-root_text_writes : (hash : List ℕ → List ℕ) (text : List ℕ) → (say_root_text hash text).written ≡ Nothing
-root_text_writes hash text = chosen_writes (nat_lt 16 (line_feeds text)) (declines NotYet) (say_root_of hash (records_of_text text)) refl (root_of_writes hash (records_of_text text))
-
-pub root_file_writes : (hash : List ℕ → List ℕ) (found : Option (List ℕ)) → (say_root_file hash found).written ≡ Nothing
-root_file_writes hash None = refl
-root_file_writes hash (Some text) = root_text_writes hash text
+-- such a command writes no file
+abbrev pub WritesNothing : OfOneFile → Type 0
+WritesNothing said = (found : Option (List ℕ)) → (said found).written ≡ Nothing
 
 -- the files that a run is said of: those told, or one file with the bytes that were read
 pub record SeenFile (files : Option Files) (name bytes : List ℕ) : Type 0 where
@@ -80,16 +69,16 @@ seen_file None name bytes h =
 seen_file (Some files) name bytes h = record { held = files; told = refl; found = found_in (file files name) bytes h }
 
 -- a file that was read whole
-pub root_answer : (hash : List ℕ → List ℕ) (name bytes : List ℕ) (before after : World) (ended : Status)
+pub read_answer : (said : OfOneFile) (name bytes : List ℕ) (before after : World) (ended : Status) → WritesNothing said
     → OfFile before.files name ⊥ (λ held. bytes ≡ held) → after.files ≡ before.files
-    → Prints (say_root_text hash bytes) before.taken after.taken before.sink_faults after.sink_faults ended → IsAnswer (say_root hash name) before after ended
-root_answer hash name bytes before after ended held same printed =
+    → Prints (said (Some bytes)) before.taken after.taken before.sink_faults after.sink_faults ended → IsAnswer (said_of said name) before after ended
+read_answer said name bytes before after ended writes held same printed =
     let seen = seen_file before.files name bytes held in
-    let P : Outcome → Type 0 = λ said. IsWhole said before after ended ⊎ IsStopped said before after ended in
+    let P : Outcome → Type 0 = λ outcome. IsWhole outcome before after ended ⊎ IsStopped outcome before after ended in
     record {
       files = seen.held;
       told = seen.told;
-      answer = subst P (sym (ap (say_root_file hash) seen.found)) (from_prints (say_root_text hash bytes) before after ended (root_text_writes hash bytes) same printed);
+      answer = subst P (sym (ap said seen.found)) (from_prints (said (Some bytes)) before after ended (writes (Some bytes)) same printed);
     }
 
 -- some files, those told where they are
@@ -97,59 +86,91 @@ any_files : (told : Option Files) → (files : Files) × OfFiles told (λ t. t �
 any_files None = (map.empty, tt)
 any_files (Some files) = (files, refl)
 
--- nothing was printed, and the run stopped
-pub stopped_before_printing : (hash : List ℕ → List ℕ) (name : List ℕ) (before after : World) (ended : Status)
-    → HasStopped before after ended → after.files ≡ before.files → after.taken ≡ before.taken → IsAnswer (say_root hash name) before after ended
-stopped_before_printing hash name before after ended stopped same quiet =
+-- nothing was printed, and memory ran out
+pub spent_before_printing : (said : OfOneFile) (name : List ℕ) (before after : World) → WritesNothing said
+    → after.files ≡ before.files → after.taken ≡ before.taken → IsAnswer (said_of said name) before after NoMemory
+spent_before_printing said name before after writes same quiet =
     let files = any_files before.files in
     let nothing : Takes before.taken after.taken [] = quiet ∙ Takes-none before.taken in
+    let text = (said (file files.0 name)).printed in
     record {
       files = files.0;
       told = files.1;
       answer = inr (record {
-        stopped = stopped;
-        text = [];
-        line = inr refl;
-        printed = record { front = []; rest = []; whole = refl; takes = nothing };
-        whole_line = λ outside calm. (refl, nothing);
-        files = subst (λ w. MayLeave w before.files after.files) (sym (root_file_writes hash (file files.0 name))) same;
+        stopped = inl refl;
+        text = text;
+        line = inl refl;
+        printed = record { front = []; rest = text; whole = refl; takes = nothing };
+        whole_line = λ outside calm. cc;
+        files = subst (λ w. MayLeave w before.files after.files) (sym (writes (file files.0 name))) same;
       });
     }
 
+-- files without this one: those told, or none at all
+pub record LackingFile (files : Option Files) (name : List ℕ) : Type 0 where
+  pub held : Files
+  pub told : OfFiles files (λ t. t ≡ held)
+  pub absent : file held name ≡ None
+
+lacking_file : (told : Option Files) (name : List ℕ) (before after : ℕ) → MayMiss told name before after → LackingFile told name
+lacking_file None name before after rose = record { held = map.empty; told = tt; absent = map.get-empty (slice_cmp nat_cmp) name }
+lacking_file (Some files) name before after absent = record { held = files; told = refl; absent = absent }
+
 -- the file is told to be absent, or the shelf failed
-miss : (told : Option Files) (hash : List ℕ → List ℕ) (name : List ℕ) (before after : World) → told ≡ before.files
-    → MayMiss told name before.shelf_faults after.shelf_faults → after.files ≡ before.files → after.taken ≡ before.taken → IsAnswer (say_root hash name) before after Outside
-miss None hash name before after here rose same quiet = stopped_before_printing hash name before after Outside (inr (refl, inl rose)) same quiet
-miss (Some files) hash name before after here absent same quiet =
-    let P : Outcome → Type 0 = λ said. IsWhole said before after Outside ⊎ IsStopped said before after Outside in
+pub missing_answer : (said : OfOneFile) (name : List ℕ) (before after : World) (ended : Status) → said None ≡ says_missing name
+    → MayMiss before.files name before.shelf_faults after.shelf_faults → after.files ≡ before.files
+    → Prints (says_missing name) before.taken after.taken before.sink_faults after.sink_faults ended → IsAnswer (said_of said name) before after ended
+missing_answer said name before after ended none missed same printed =
+    let lacking = lacking_file before.files name before.shelf_faults after.shelf_faults missed in
+    let P : Outcome → Type 0 = λ outcome. IsWhole outcome before after ended ⊎ IsStopped outcome before after ended in
     record {
-      files = files;
-      told = subst (λ told. OfFiles told (λ t. t ≡ files)) here refl;
-      answer = subst P (sym (ap (say_root_file hash) absent)) (inl (record {
-        status = refl;
-        printed = quiet ∙ Takes-none before.taken;
-        files = same ∙ same_files before.files;
-      }));
+      files = lacking.held;
+      told = lacking.told;
+      answer = subst P (sym (ap said lacking.absent ∙ none)) (from_prints (says_missing name) before after ended refl same printed);
     }
 
-pub missing_answer : (hash : List ℕ → List ℕ) (name : List ℕ) (before after : World)
-    → MayMiss before.files name before.shelf_faults after.shelf_faults → after.files ≡ before.files → after.taken ≡ before.taken → IsAnswer (say_root hash name) before after Outside
-missing_answer hash name before after = miss before.files hash name before after refl
+-- the line on the shelf that failed was printed, or a front of it
+shelf_fault : (said : Outcome) (before after : World) (ended : Status) → said.written ≡ Nothing → ShelfFailed before after → after.files ≡ before.files
+    → Prints (ends Outside shelf_fault_line) before.taken after.taken before.sink_faults after.sink_faults ended → IsStopped said before after ended
+shelf_fault said before after ended writes failed same (inl whole) = record {
+  stopped = inr (whole.0, inl failed);
+  text = shelf_fault_line;
+  line = inr (failed, refl);
+  printed = record { front = shelf_fault_line; rest = []; whole = sym (append-nil shelf_fault_line); takes = whole.1 };
+  whole_line = λ outside calm. (refl, whole.1);
+  files = subst (λ w. MayLeave w before.files after.files) (sym writes) same;
+}
+shelf_fault said before after ended writes failed same (inr stop) = record {
+  stopped = elim stop.0 [ inl e ↦ inl e | inr e ↦ inr (e.0, inr e.1) ];
+  text = shelf_fault_line;
+  line = inr (failed, refl);
+  printed = stop.1;
+  whole_line = λ outside calm. elim stop.0 [ inl e ↦ cc | inr e ↦ absurd (calm e.1) ];
+  files = subst (λ w. MayLeave w before.files after.files) (sym writes) same;
+}
 
--- nothing was done, whatever the files are
-pub declined : (said : Files → Outcome) (ended : Status) (before after : World) → ((files : Files) → said files ≡ declines ended)
-    → after.files ≡ before.files → after.taken ≡ before.taken → IsAnswer said before after ended
-declined said ended before after declines_all same quiet =
+pub shelf_fault_answer : (said : OfOneFile) (name : List ℕ) (before after : World) (ended : Status) → WritesNothing said
+    → ShelfFailed before after → after.files ≡ before.files
+    → Prints (ends Outside shelf_fault_line) before.taken after.taken before.sink_faults after.sink_faults ended → IsAnswer (said_of said name) before after ended
+shelf_fault_answer said name before after ended writes failed same printed =
+    let files = any_files before.files in
+    record {
+      files = files.0;
+      told = files.1;
+      answer = inr (shelf_fault (said (file files.0 name)) before after ended (writes (file files.0 name)) failed same printed);
+    }
+
+-- the same is said of all files
+pub said_always : (said : Files → Outcome) (what : Outcome) (before after : World) (ended : Status) → ((files : Files) → said files ≡ what)
+    → what.written ≡ Nothing → after.files ≡ before.files
+    → Prints what before.taken after.taken before.sink_faults after.sink_faults ended → IsAnswer said before after ended
+said_always said what before after ended says writes same printed =
     let files = any_files before.files in
     let P : Outcome → Type 0 = λ outcome. IsWhole outcome before after ended ⊎ IsStopped outcome before after ended in
     record {
       files = files.0;
       told = files.1;
-      answer = subst P (sym (declines_all files.0)) (inl (record {
-        status = refl;
-        printed = quiet ∙ Takes-none before.taken;
-        files = same ∙ same_files before.files;
-      }));
+      answer = subst P (sym (says files.0)) (from_prints what before after ended writes same printed);
     }
 
 -- two spellings of one command have one answer

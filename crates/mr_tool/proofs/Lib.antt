@@ -1,4 +1,6 @@
 pub mod Answering
-pub mod Leaves
-pub mod LineFeeds
-pub mod Placing
+pub mod Apart
+pub mod CheckSays
+pub mod RecordLines
+pub mod RootSays
+pub mod Verdicts

@@ -1,10 +1,11 @@
 -- When a run of the program is right: what it may answer, and what it may leave.
-use Rattle.std.specs.Prelude.{◌≡◌, ◌⊎◌, ℕ, ◌≤◌, List, [], Option, option_map}
+use Rattle.std.specs.Prelude.{◌≡◌, ◌⊎◌, ℕ, ◌≤◌, List, Option}
 use Rattle.mr_outside.specs.Files.{Files}
 use Rattle.mr_outside.specs.Faults.{Rose}
 use Rattle.mr_outside.specs.Told.{OfFiles, Takes, TakesFront}
 use Rattle.mr_tool.specs.Command.{Spoken, LacksInput}
-use Rattle.mr_tool.specs.Outcome.{Outcome, files_after, MayLeave}
+use Rattle.mr_tool.specs.Lines.{shelf_fault_line}
+use Rattle.mr_tool.specs.Outcome.{Outcome, IsLeft, MayLeave}
 use Rattle.mr_tool.specs.declared.status.Status.{Status}
 use Rattle.mr_tool.specs.declared.status.Status.TheVariants.{Outside, NoMemory}
 
@@ -40,11 +41,11 @@ HasOutsideCause command before after = ShelfFailed before after ⊎ SinkFailed b
 pub record IsWhole (said : Outcome) (before after : World) (ended : Status) : Type 0 where
   pub status : ended ≡ said.status
   pub printed : Takes before.taken after.taken said.printed
-  pub files : after.files ≡ option_map (files_after said.written) before.files
+  pub files : IsLeft said.written before.files after.files
 
--- what is printed where a file is missing or the shelf failed: nothing yet
+-- what is printed where the shelf failed
 abbrev pub IsStopLine : List ℕ → Type 0
-IsStopLine line = line ≡ []
+IsStopLine line = line ≡ shelf_fault_line
 
 -- want of memory, or something outside that failed
 abbrev pub HasStopped : World → World → Status → Type 0
@@ -55,7 +56,7 @@ HasStopped before after status =
 pub record IsStopped (said : Outcome) (before after : World) (status : Status) : Type 0 where
   pub stopped : HasStopped before after status
   pub text : List ℕ
-  pub line : (text ≡ said.printed) ⊎ IsStopLine text
+  pub line : (text ≡ said.printed) ⊎ (ShelfFailed before after × IsStopLine text)
   pub printed : TakesFront before.taken after.taken text
   -- where the sink did not fail, the line on what failed stands there whole
   pub whole_line : status ≡ Outside → (SinkFailed before after → ⊥) → IsStopLine text × Takes before.taken after.taken text

@@ -1,6 +1,7 @@
 pub mod Answer
 pub mod Command
-pub mod Leaf
+pub mod Lines
 pub mod Outcome
+pub mod Refusal
 pub mod Say
 pub mod Status

@@ -12,9 +12,9 @@ pub record Outcome : Type 0 where
   pub printed : List ℕ
   pub written : Written
 
--- the files once all is written
-abbrev pub files_after : Written → Files → Files
-files_after Nothing files = files
+-- what the files are once all is written
+abbrev pub IsLeft : Written → Option Files → Option Files → Type 0
+IsLeft Nothing before after = after ≡ before
 
 -- what the files may be where the command stopped before its end
 abbrev pub MayLeave : Written → Option Files → Option Files → Type 0

@@ -1,9 +1,10 @@
 //! The program's commands, from the words to what is printed.
 #![tactic(auto)]
 
-mod leaf;
+mod checking;
 mod print;
 mod program;
+mod refusal;
 mod root;
 mod status;
 mod words;

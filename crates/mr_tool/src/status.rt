@@ -22,7 +22,7 @@ pub enum Status {
     Outside,
     /// There was no memory.
     NoMemory,
-    /// The input is larger than this version takes.
+    /// The proof is of a map with inner nodes, which this version does not take.
     NotYet,
 }
 
