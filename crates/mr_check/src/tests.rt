@@ -1,4 +1,4 @@
-use crate::proof::{Fault, Rule};
+use crate::proof::{Fault, Field, Rule, Want, read_field};
 use crate::{CheckErr, check};
 use mr_geom::Rect;
 use mr_query::Query;
@@ -201,4 +201,25 @@ fn every_change_of_one_byte_is_refused(rt: HostRuntime) -> Result<(), Fail> {
         }
     }
     Ok(())
+}
+
+#[test]
+fn each_field_has_its_value_or_its_rule(rt: HostRuntime) {
+    assert_eq!(rt; Want::Flag.size(), 1);
+    assert!(rt; matches!(read_field(&Want::Flag, &[1]), Ok(Field::Num(1))));
+    assert!(rt; matches!(read_field(&Want::Flag, &[2]), Err(Rule::BadFlag)));
+    assert_eq!(rt; Want::Radius.size(), 16);
+    let mut radius = [0, 0, 0, 0, 0, 0, 0, 1, 0xff, 0xff, 0xff, 0xfc, 0, 0, 0, 2];
+    let greatest = 36_893_488_130_239_234_050;
+    assert!(rt; matches!(read_field(&Want::Radius, &radius), Ok(Field::Wide(r)) if r == greatest));
+    radius[15] = 3;
+    assert!(rt; matches!(read_field(&Want::Radius, &radius), Err(Rule::BadRadius)));
+    assert!(rt; matches!(read_field(&Want::InnerCount, &[0]), Err(Rule::BadEntries)));
+    assert!(rt; matches!(read_field(&Want::InnerCount, &[64]), Ok(Field::Num(64))));
+    assert!(rt; matches!(read_field(&Want::InnerCount, &[65]), Err(Rule::BadEntries)));
+    assert!(rt; matches!(read_field(&Want::Tag(0), b"N"), Err(Rule::BadTag)));
+    assert!(rt; matches!(read_field(&Want::Tag(1), b"N"), Ok(Field::Tag(b'N'))));
+    assert!(rt; matches!(read_field(&Want::Tag(1), b"L"), Err(Rule::BadTag)));
+    assert!(rt; matches!(read_field(&Want::Length, &[200]), Ok(Field::Num(200))));
+    assert!(rt; matches!(read_field(&Want::Length, &[201]), Err(Rule::BadLength)));
 }

@@ -1,5 +1,5 @@
 -- A text as lines, and a line as fields. This file names nothing of the source.
-use Rattle.std.specs.Prelude.{◌≡◌, ℕ, ◌==◌, Bool, true, false, if◌then◌else◌, List, [], ◌∷◌, ◌++◌, All, count_by}
+use Rattle.std.specs.Prelude.{◌≡◌, ℕ, ◌==◌, Bool, true, false, if◌then◌else◌, List, [], ◌∷◌, ◌++◌, All}
 use Rattle.std.specs.List.{slice_split}
 
 -- a line without its line feed, and whether it has one
@@ -25,10 +25,6 @@ Lacks c text = All (λ b. (b == c) ≡ false) text
 pub record IsCutAt (c : ℕ) (text front back : List ℕ) : Type 0 where
   pub parts : text ≡ front ++ c ∷ back
   pub first : Lacks c front
-
--- how many line feeds the text has
-abbrev pub line_feeds : List ℕ → ℕ
-line_feeds text = count_by (λ b. b == 10) text
 
 -- The line cut at each space. Between two spaces side by side, before a space in front and behind a space at the end stands
 -- an empty field.

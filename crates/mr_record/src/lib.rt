@@ -18,7 +18,7 @@ pub use line::read_line;
 pub use payload::Payload;
 pub use print::write_line;
 pub use record::Record;
-pub use text::{count_line_feeds, read_lines};
+pub use text::read_lines;
 pub use text_fault::{TextErr, TextFault, TextRule};
 
 #[cfg(test)]

@@ -3,7 +3,7 @@
 ghost use Rattle.std.specs.Prelude.{◌≡◌, ◌+◌, ◌<◌, ◌∷◌, [], ◌++◌, length, List, IfOk, IfErr, OnOk, Ok, Err};
 ghost use Rattle.mr_record.specs.declared.record.Record as types;
 ghost use Rattle.mr_record.specs.declared.text_fault.TextErr.TheVariants as errors;
-ghost use Rattle.mr_record.specs.Lines.{lines_of, line_feeds};
+ghost use Rattle.mr_record.specs.Lines.{lines_of};
 ghost use Rattle.mr_record.specs.RecordText.{IsRecordList, text_of, record_after, records_of_text, records_after};
 ghost use Rattle.mr_record.specs.Answer.{Answers, Refuses, IsRefusal};
 ghost use Rattle.mr_record.specs.Numbers.{Knows};
@@ -15,13 +15,6 @@ use std::collections::BTreeSet;
 
 /// The most lines of a record text.
 const LINE_LIMIT: usize = 1 << 20;
-
-/// How many line feeds the text has.
-pub fn count_line_feeds(text: &[u8]) -> usize
-    ensures { result ≡ line_feeds text.now }
-{
-    text.iter().filter(|b| **b == b'\n').count()
-}
 
 /// The first line without its line feed, whether it has one, and the text behind it.
 #[tactic(auto, using(crate::proofs::Fields::lines_cut, crate::proofs::Fields::lines_last))]

@@ -128,7 +128,7 @@ fn texts_that_break_a_rule(rt: HostRuntime) -> Result<(), Fail> {
 // A text of records at (I,0), from I = 1, without payloads.
 fn row(alloc: Global, records: u64) -> Result<String, AllocError> {
     let mut text = String::new(alloc);
-    for i in 1..records + 1 {
+    for i in 1..=records {
         text.push_str(format!(in alloc; "{i} {i} 0 {i} 0 -\n")?.as_str())?;
     }
     Ok(text)
