@@ -78,6 +78,7 @@ impl Shelf for MemShelf {
         ensures fault { IsErrOf result ShelfErr.Fault → Rose self.old.calls.faults self.new.calls.faults }
         ensures files { Some self.new.files ≡ Some self.old.files }
         ensures faults { self.old.calls.faults ≤ self.new.calls.faults }
+        ensures quiet { OnOk result (self.new.calls.faults ≡ self.old.calls.faults) }
         ensures reads { self.new.reads ≡ self.old.reads }
     {
         if self.calls.next_fails() {
@@ -103,6 +104,7 @@ impl Shelf for MemShelf {
         ensures fault { IsErrOf result ShelfErr.Fault → Rose self.old.calls.faults self.new.calls.faults }
         ensures files { Some self.new.files ≡ Some self.old.files }
         ensures faults { self.old.calls.faults ≤ self.new.calls.faults }
+        ensures quiet { OnOk result (self.new.calls.faults ≡ self.old.calls.faults) }
         ensures reads { OnOk result (self.new.reads ≡ next_count self.old.reads) }
         ensures unread { OnErr result (self.new.reads ≡ self.old.reads) }
     {

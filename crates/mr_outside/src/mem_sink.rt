@@ -1,4 +1,4 @@
-ghost use Rattle.std.specs.Prelude.{◌≡◌, ◌<◌, ◌≤◌, ◌++◌, ◌↔◌, [], IsTrue, IfOk, OnErr, IsErrOf, length, take};
+ghost use Rattle.std.specs.Prelude.{◌≡◌, ◌<◌, ◌≤◌, ◌++◌, ◌↔◌, [], IsTrue, IfOk, OnOk, OnErr, IsErrOf, length, take};
 ghost use Rattle.mr_outside.specs.Faults.{Rose};
 ghost use Rattle.mr_outside.specs.Memory.{no_calls, next_fails, called};
 
@@ -61,6 +61,7 @@ impl Sink for MemSink {
         ensures refused { OnErr result (self.new.bytes ≡ self.old.bytes) }
         ensures fault { IsErrOf result SinkErr.Fault → Rose self.old.calls.faults self.new.calls.faults }
         ensures faults { self.old.calls.faults ≤ self.new.calls.faults }
+        ensures quiet { OnOk result (self.new.calls.faults ≡ self.old.calls.faults) }
     {
         if self.calls.next_fails() {
             return Err(SinkErr::Fault);

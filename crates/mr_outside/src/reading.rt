@@ -1,4 +1,4 @@
-ghost use Rattle.std.specs.Prelude.{◌≡◌, ◌+◌, ◌-◌, ◌≤◌, ◌<◌, ◌++◌, length, min, take, drop, vec_len, IfOk, IsErrOf};
+ghost use Rattle.std.specs.Prelude.{◌≡◌, ◌+◌, ◌-◌, ◌≤◌, ◌<◌, ◌++◌, length, min, take, drop, vec_len, IfOk, OnOk, IsErrOf};
 ghost use Rattle.mr_outside.specs.Faults.{Rose};
 ghost use Rattle.mr_outside.specs.Told.{OfFile, MayMiss};
 
@@ -18,6 +18,7 @@ pub fn read_all<S: Shelf>(alloc: Global, shelf: &mut S, name: &str) -> Result<Ve
     ensures fault { IsErrOf result ShelfErr.Fault → Rose (S.faults shelf.old) (S.faults shelf.new) }
     ensures files { S.files shelf.new ≡ S.files shelf.old }
     ensures faults { S.faults shelf.old ≤ S.faults shelf.new }
+    ensures quiet { OnOk result (S.faults shelf.new ≡ S.faults shelf.old) }
     ensures reads { S.reads shelf.old ≤ S.reads shelf.new }
 {
     let size = shelf.size(name)?;
@@ -46,6 +47,7 @@ fn read_up_to<S: Shelf>(
     ensures fault { IsErrOf result ShelfErr.Fault → Rose (S.faults shelf.old) (S.faults shelf.new) }
     ensures files { S.files shelf.new ≡ S.files shelf.old }
     ensures faults { S.faults shelf.old ≤ S.faults shelf.new }
+    ensures quiet { OnOk result (S.faults shelf.new ≡ S.faults shelf.old) }
     ensures reads { S.reads shelf.old ≤ S.reads shelf.new }
 {
     let mut bytes = Vec::new(alloc);
@@ -76,6 +78,7 @@ fn read_piece<S: Shelf>(
     ensures fault { IsErrOf result ShelfErr.Fault → Rose (S.faults shelf.old) (S.faults shelf.new) }
     ensures files { S.files shelf.new ≡ S.files shelf.old }
     ensures faults { S.faults shelf.old ≤ S.faults shelf.new }
+    ensures quiet { OnOk result (S.faults shelf.new ≡ S.faults shelf.old) }
     ensures reads { S.reads shelf.old ≤ S.reads shelf.new }
 {
     let count = shelf.read_at(name, bytes.len() as u64, piece)?;

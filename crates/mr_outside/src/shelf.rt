@@ -50,6 +50,7 @@ pub trait Shelf {
         ensures fault { IsErrOf result ShelfErr.Fault → Rose (faults self.old) (faults self.new) }
         ensures files { files self.new ≡ files self.old }
         ensures faults { faults self.old ≤ faults self.new }
+        ensures quiet { OnOk result (faults self.new ≡ faults self.old) }
         ensures reads { reads self.new ≡ reads self.old };
 
     /// Copies bytes of the file, from the place `at` on, to the front of `into`, and answers how many:
@@ -65,6 +66,7 @@ pub trait Shelf {
         ensures fault { IsErrOf result ShelfErr.Fault → Rose (faults self.old) (faults self.new) }
         ensures files { files self.new ≡ files self.old }
         ensures faults { faults self.old ≤ faults self.new }
+        ensures quiet { OnOk result (faults self.new ≡ faults self.old) }
         ensures reads { OnOk result (reads self.new ≡ next_count (reads self.old)) }
         ensures unread { OnErr result (reads self.new ≡ reads self.old) };
 }

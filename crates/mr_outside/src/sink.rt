@@ -40,7 +40,8 @@ pub trait Sink {
         ensures front { IfOk result (λ n. Takes (taken self.old) (taken self.new) (take n bytes.now)) }
         ensures refused { OnErr result (taken self.new ≡ taken self.old) }
         ensures fault { IsErrOf result SinkErr.Fault → Rose (faults self.old) (faults self.new) }
-        ensures faults { faults self.old ≤ faults self.new };
+        ensures faults { faults self.old ≤ faults self.new }
+        ensures quiet { OnOk result (faults self.new ≡ faults self.old) };
 }
 
 /// Gives all the bytes to the sink. After a refusal some front of them was taken.
@@ -49,6 +50,7 @@ pub fn write_all<W: Sink>(out: &mut W, bytes: &[u8]) -> Result<(), SinkErr>
     ensures front { TakesFront (W.taken out.old) (W.taken out.new) bytes.now }
     ensures fault { IsErrOf result SinkErr.Fault → Rose (W.faults out.old) (W.faults out.new) }
     ensures faults { W.faults out.old ≤ W.faults out.new }
+    ensures quiet { OnOk result (W.faults out.new ≡ W.faults out.old) }
 {
     let mut done = 0;
     while done < bytes.len() {

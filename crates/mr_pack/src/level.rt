@@ -14,7 +14,7 @@ use crate::node::Node;
 use mr_geom::Rect;
 use mr_outside::Items;
 use mr_record::Record;
-use mr_tree::Tree;
+use mr_tree::{Tree, bounds_of};
 use std::alloc::{AllocError, Global};
 
 // The most records of a leaf.
@@ -32,17 +32,6 @@ fn joined(all: Option<Rect>, more: Option<Rect>) -> Option<Rect>
         (Some(all), None) => Some(all),
         (Some(all), Some(more)) => Some(all.union(&more)),
     }
-}
-
-// The rectangle round some records.
-fn bounds_of(records: &[Record]) -> Option<Rect>
-    ensures { result ≡ union_of (map (λ (r : types.Record). Some r.rect) records.now) }
-{
-    let mut all = None;
-    for record in records {
-        all = joined(all, Some(record.rect));
-    }
-    all
 }
 
 // Copies of some records.

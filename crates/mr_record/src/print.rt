@@ -119,6 +119,7 @@ pub fn write_line<W: Sink>(out: &mut W, one: &Record) -> Result<(), SinkErr>
     ensures front { TakesFront (W.taken out.old) (W.taken out.new) (line_of one.now ++ 10 ∷ []) }
     ensures fault { IsErrOf result SinkErr.Fault → Rose (W.faults out.old) (W.faults out.new) }
     ensures faults { W.faults out.old ≤ W.faults out.new }
+    ensures quiet { OnOk result (W.faults out.new ≡ W.faults out.old) }
 {
     let line = printed_line(one);
     write_all(out, line.bytes())

@@ -7,3 +7,5 @@ mod bench;
 mod check;
 #[cfg(test)]
 mod root;
+#[cfg(test)]
+mod tree;

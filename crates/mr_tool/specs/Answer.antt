@@ -33,6 +33,14 @@ ShelfFailed before after = Rose before.shelf_faults after.shelf_faults
 abbrev pub SinkFailed : World → World → Type 0
 SinkFailed before after = Rose before.sink_faults after.sink_faults
 
+-- neither something outside nor want of memory ended it
+abbrev pub IsSettled : Status → Type 0
+IsSettled status = (status ≡ Outside → ⊥) × (status ≡ NoMemory → ⊥)
+
+-- a run that neither ended had no fault outside
+abbrev pub IsQuiet : Status → World → World → Type 0
+IsQuiet status before after = IsSettled status → (after.shelf_faults ≡ before.shelf_faults) × (after.sink_faults ≡ before.sink_faults)
+
 -- why a run may end for something outside: the shelf or the sink failed, or an input is told to be absent
 abbrev pub HasOutsideCause : Option Spoken → World → World → Type 0
 HasOutsideCause command before after = ShelfFailed before after ⊎ SinkFailed before after ⊎ LacksInput command before.files

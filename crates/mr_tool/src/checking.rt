@@ -1,7 +1,7 @@
 ghost use Rattle.std.specs.Prelude.{◌≡◌, ◌≤◌, Some};
 ghost use Rattle.mr_outside.specs.Faults.{Rose};
 ghost use Rattle.mr_check.specs.declared.proof.rule.Fault.{Fault};
-ghost use Rattle.mr_tool.specs.Answer.{Counts, HasOutsideCause, IsAnswer, Prints, world};
+ghost use Rattle.mr_tool.specs.Answer.{Counts, HasOutsideCause, IsAnswer, IsQuiet, IsSettled, Prints, world};
 ghost use Rattle.mr_tool.specs.Command as spoken;
 ghost use Rattle.mr_tool.specs.Refusal.{refused_line as line_of};
 ghost use Rattle.mr_tool.specs.Say.{ends, say_check, say_check_bytes};
@@ -21,6 +21,7 @@ fn print_refusal<W: Sink>(alloc: Global, fault: &Fault, out: &mut W) -> Status
     ensures answer { Prints (ends Status.Refused (line_of fault.now)) (W.taken out.old) (W.taken out.new) (W.faults out.old) (W.faults out.new) result }
     ensures outside { result ≡ Status.Outside → Rose (W.faults out.old) (W.faults out.new) }
     ensures counts { W.faults out.old ≤ W.faults out.new }
+    ensures quiet { IsSettled result → W.faults out.new ≡ W.faults out.old }
 {
     match refused_line(alloc, fault) {
         Ok(line) => print(out, line.as_bytes(), Status::Refused),
@@ -39,6 +40,7 @@ fn check_bytes<H: Hash32, W: Sink>(
     ensures answer { Prints (say_check_bytes H.of root.now query.now bytes.now) (W.taken out.old) (W.taken out.new) (W.faults out.old) (W.faults out.new) result }
     ensures outside { result ≡ Status.Outside → Rose (W.faults out.old) (W.faults out.new) }
     ensures counts { W.faults out.old ≤ W.faults out.new }
+    ensures quiet { IsSettled result → W.faults out.new ≡ W.faults out.old }
 {
     match check::<H>(alloc, root, query, bytes) {
         Ok(records) => print_records(out, &records),
@@ -66,6 +68,9 @@ pub(crate) fn check_proof<H: Hash32, S: Shelf, W: Sink>(
     ensures counts { let before = world (S.files shelf.old) (S.faults shelf.old) (S.reads shelf.old) (W.taken out.old) (W.faults out.old) in
         let after = world (S.files shelf.new) (S.faults shelf.new) (S.reads shelf.new) (W.taken out.new) (W.faults out.new) in
         Counts before after }
+    ensures quiet { let before = world (S.files shelf.old) (S.faults shelf.old) (S.reads shelf.old) (W.taken out.old) (W.faults out.old) in
+        let after = world (S.files shelf.new) (S.faults shelf.new) (S.reads shelf.new) (W.taken out.new) (W.faults out.new) in
+        IsQuiet result before after }
 {
     match read_all(alloc, shelf, name) {
         Ok(bytes) => check_bytes::<H, W>(alloc, root, query, &bytes, out),

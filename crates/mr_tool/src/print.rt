@@ -3,7 +3,7 @@ ghost use Rattle.std.specs.String.{string_bytes};
 ghost use Rattle.mr_outside.specs.Faults.{Rose};
 ghost use Rattle.mr_outside.specs.Told.{Takes, TakesFront};
 ghost use Rattle.mr_record.specs.RecordText.{text_of};
-ghost use Rattle.mr_tool.specs.Answer.{Prints};
+ghost use Rattle.mr_tool.specs.Answer.{IsSettled, Prints};
 ghost use Rattle.mr_tool.specs.Lines.{shelf_fault_line};
 ghost use Rattle.mr_tool.specs.Say.{ends, prints, says_missing, digest_line};
 
@@ -18,6 +18,8 @@ pub(crate) fn print<W: Sink>(out: &mut W, text: &[u8], ended: Status) -> Status
     ensures answer { Prints (ends ended text.now) (W.taken out.old) (W.taken out.new) (W.faults out.old) (W.faults out.new) result }
     ensures outside { result ≡ Status.Outside → (ended ≡ Status.Outside) ⊎ Rose (W.faults out.old) (W.faults out.new) }
     ensures counts { W.faults out.old ≤ W.faults out.new }
+    ensures quiet { IsSettled result → W.faults out.new ≡ W.faults out.old }
+    ensures ended { (result ≡ ended) ⊎ ((result ≡ Status.Outside) ⊎ (result ≡ Status.NoMemory)) }
 {
     match write_all(out, text) {
         Ok(()) => ended,
@@ -30,6 +32,8 @@ pub(crate) fn print<W: Sink>(out: &mut W, text: &[u8], ended: Status) -> Status
 pub(crate) fn print_missing<W: Sink>(alloc: Global, name: &str, out: &mut W) -> Status
     ensures answer { Prints (says_missing name.now) (W.taken out.old) (W.taken out.new) (W.faults out.old) (W.faults out.new) result }
     ensures counts { W.faults out.old ≤ W.faults out.new }
+    ensures quiet { IsSettled result → W.faults out.new ≡ W.faults out.old }
+    ensures ended { (result ≡ Status.Outside) ⊎ (result ≡ Status.NoMemory) }
 {
     match missing_line(alloc, name) {
         Ok(line) => print(out, line.as_bytes(), Status::Outside),
@@ -41,6 +45,8 @@ pub(crate) fn print_missing<W: Sink>(alloc: Global, name: &str, out: &mut W) -> 
 pub(crate) fn print_shelf_fault<W: Sink>(out: &mut W) -> Status
     ensures answer { Prints (ends Status.Outside shelf_fault_line) (W.taken out.old) (W.taken out.new) (W.faults out.old) (W.faults out.new) result }
     ensures counts { W.faults out.old ≤ W.faults out.new }
+    ensures quiet { IsSettled result → W.faults out.new ≡ W.faults out.old }
+    ensures ended { (result ≡ Status.Outside) ⊎ (result ≡ Status.NoMemory) }
 {
     print(out, b"shelf fault\n", Status::Outside)
 }
@@ -51,6 +57,7 @@ fn write_lines<W: Sink>(out: &mut W, records: &[Record]) -> Result<(), SinkErr>
     ensures front { TakesFront (W.taken out.old) (W.taken out.new) (text_of records.now) }
     ensures fault { IsErrOf result SinkErr.Fault → Rose (W.faults out.old) (W.faults out.new) }
     ensures faults { W.faults out.old ≤ W.faults out.new }
+    ensures quiet { OnOk result (W.faults out.new ≡ W.faults out.old) }
 {
     for one in records {
         write_line(out, one)?;
@@ -63,6 +70,7 @@ pub(crate) fn print_records<W: Sink>(out: &mut W, records: &[Record]) -> Status
     ensures answer { Prints (prints (text_of records.now)) (W.taken out.old) (W.taken out.new) (W.faults out.old) (W.faults out.new) result }
     ensures outside { result ≡ Status.Outside → Rose (W.faults out.old) (W.faults out.new) }
     ensures counts { W.faults out.old ≤ W.faults out.new }
+    ensures quiet { IsSettled result → W.faults out.new ≡ W.faults out.old }
 {
     match write_lines(out, records) {
         Ok(()) => Status::Done,

@@ -1,6 +1,6 @@
 ghost use Rattle.std.specs.Prelude.{◌≡◌, Some, None, map};
 ghost use Rattle.std.specs.String.{string_bytes};
-ghost use Rattle.mr_tool.specs.Answer.{Counts, HasOutsideCause, IsAnswer, world};
+ghost use Rattle.mr_tool.specs.Answer.{Counts, HasOutsideCause, IsAnswer, IsQuiet, world};
 ghost use Rattle.mr_tool.specs.Command.{command_of, spoken_of};
 ghost use Rattle.mr_tool.specs.Say.{say};
 
@@ -29,6 +29,9 @@ fn carry_out<H: Hash32, S: Shelf, W: Sink>(
     ensures counts { let before = world (S.files shelf.old) (S.faults shelf.old) (S.reads shelf.old) (W.taken out.old) (W.faults out.old) in
         let after = world (S.files shelf.new) (S.faults shelf.new) (S.reads shelf.new) (W.taken out.new) (W.faults out.new) in
         Counts before after }
+    ensures quiet { let before = world (S.files shelf.old) (S.faults shelf.old) (S.reads shelf.old) (W.taken out.old) (W.faults out.old) in
+        let after = world (S.files shelf.new) (S.faults shelf.new) (S.reads shelf.new) (W.taken out.new) (W.faults out.new) in
+        IsQuiet result before after }
 {
     match command {
         Command::Root(records) => root::<H, S, W>(alloc, records, shelf, out),
@@ -54,6 +57,9 @@ fn obey<H: Hash32, S: Shelf, W: Sink>(
     ensures counts { let before = world (S.files shelf.old) (S.faults shelf.old) (S.reads shelf.old) (W.taken out.old) (W.faults out.old) in
         let after = world (S.files shelf.new) (S.faults shelf.new) (S.reads shelf.new) (W.taken out.new) (W.faults out.new) in
         Counts before after }
+    ensures quiet { let before = world (S.files shelf.old) (S.faults shelf.old) (S.reads shelf.old) (W.taken out.old) (W.faults out.old) in
+        let after = world (S.files shelf.new) (S.faults shelf.new) (S.reads shelf.new) (W.taken out.new) (W.faults out.new) in
+        IsQuiet result before after }
     ensures unspoken { command_of (map string_bytes words.now) ≡ None → shelf.new ≡ shelf.old }
 {
     match read_words(words) {
@@ -84,6 +90,10 @@ pub fn run<H: Hash32, S: Shelf, W: Sink, G: Gate, R: Threads + Sync>(
     ensures counts { let before = world (S.files shelf) (S.faults shelf) (S.reads shelf) (W.taken out.old) (W.faults out.old) in
         let after = world (S.files result.1) (S.faults result.1) (S.reads result.1) (W.taken out.new) (W.faults out.new) in
         Counts before after }
+    // Where it blames nothing outside and no want of memory, nothing outside failed.
+    ensures quiet { let before = world (S.files shelf) (S.faults shelf) (S.reads shelf) (W.taken out.old) (W.faults out.old) in
+        let after = world (S.files result.1) (S.faults result.1) (S.reads result.1) (W.taken out.new) (W.faults out.new) in
+        IsQuiet result.0 before after }
     // Words that spell no command leave the shelf alone.
     ensures unspoken { command_of (map string_bytes words.now) ≡ None → result.1 ≡ shelf }
 {

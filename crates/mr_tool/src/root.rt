@@ -5,7 +5,7 @@ ghost use Rattle.mr_tree.specs.Digest.{root};
 ghost use Rattle.mr_tree.specs.WellFormed.{WellFormed};
 ghost use Rattle.mr_outside.specs.Faults.{Rose};
 ghost use Rattle.mr_pack.specs.Pack.{pack as tree_of};
-ghost use Rattle.mr_tool.specs.Answer.{Counts, HasOutsideCause, IsAnswer, Prints, world};
+ghost use Rattle.mr_tool.specs.Answer.{Counts, HasOutsideCause, IsAnswer, IsQuiet, IsSettled, Prints, world};
 ghost use Rattle.mr_tool.specs.Command as spoken;
 ghost use Rattle.mr_tool.specs.Lines.{bad_text_line as fault_line};
 ghost use Rattle.mr_tool.specs.Say.{ends, prints, digest_line as line_of, say_root, say_root_of};
@@ -36,6 +36,7 @@ fn print_digest<W: Sink>(alloc: Global, digest: &[u8; 32], out: &mut W) -> Statu
     ensures answer { Prints (prints (line_of digest.now)) (W.taken out.old) (W.taken out.new) (W.faults out.old) (W.faults out.new) result }
     ensures outside { result ≡ Status.Outside → Rose (W.faults out.old) (W.faults out.new) }
     ensures counts { W.faults out.old ≤ W.faults out.new }
+    ensures quiet { IsSettled result → W.faults out.new ≡ W.faults out.old }
 {
     match digest_line(alloc, digest) {
         Ok(line) => print(out, line.as_bytes(), Status::Done),
@@ -50,6 +51,7 @@ fn root_of_records<H: Hash32, W: Sink>(alloc: Global, records: Vec<Record>, out:
         (W.taken out.old) (W.taken out.new) (W.faults out.old) (W.faults out.new) result }
     ensures outside { result ≡ Status.Outside → Rose (W.faults out.old) (W.faults out.new) }
     ensures counts { W.faults out.old ≤ W.faults out.new }
+    ensures quiet { IsSettled result → W.faults out.new ≡ W.faults out.old }
 {
     match packed(alloc, records) {
         Some(tree) => print_digest(alloc, &root_of::<H>(&tree, 0), out),
@@ -62,6 +64,7 @@ fn print_fault<W: Sink>(alloc: Global, fault: &TextFault, out: &mut W) -> Status
     ensures answer { Prints (ends Status.BadText (fault_line fault.now)) (W.taken out.old) (W.taken out.new) (W.faults out.old) (W.faults out.new) result }
     ensures outside { result ≡ Status.Outside → Rose (W.faults out.old) (W.faults out.new) }
     ensures counts { W.faults out.old ≤ W.faults out.new }
+    ensures quiet { IsSettled result → W.faults out.new ≡ W.faults out.old }
 {
     match bad_text_line(alloc, fault) {
         Ok(line) => print(out, line.as_bytes(), Status::BadText),
@@ -75,6 +78,7 @@ fn root_of_text<H: Hash32, W: Sink>(alloc: Global, text: &[u8], out: &mut W) -> 
         (W.taken out.old) (W.taken out.new) (W.faults out.old) (W.faults out.new) result }
     ensures outside { result ≡ Status.Outside → Rose (W.faults out.old) (W.faults out.new) }
     ensures counts { W.faults out.old ≤ W.faults out.new }
+    ensures quiet { IsSettled result → W.faults out.new ≡ W.faults out.old }
 {
     match read_lines(alloc, text) {
         Ok(records) => root_of_records::<H, W>(alloc, records, out),
@@ -99,6 +103,9 @@ pub(crate) fn root<H: Hash32, S: Shelf, W: Sink>(
     ensures counts { let before = world (S.files shelf.old) (S.faults shelf.old) (S.reads shelf.old) (W.taken out.old) (W.faults out.old) in
         let after = world (S.files shelf.new) (S.faults shelf.new) (S.reads shelf.new) (W.taken out.new) (W.faults out.new) in
         Counts before after }
+    ensures quiet { let before = world (S.files shelf.old) (S.faults shelf.old) (S.reads shelf.old) (W.taken out.old) (W.faults out.old) in
+        let after = world (S.files shelf.new) (S.faults shelf.new) (S.reads shelf.new) (W.taken out.new) (W.faults out.new) in
+        IsQuiet result before after }
 {
     match read_all(alloc, shelf, name) {
         Ok(text) => root_of_text::<H, W>(alloc, &text, out),

@@ -8,6 +8,6 @@ loop-bytes-preserved g c = record {
   front = FrontOfFile-more _ _ _ _ _ _ _ c.loop-bytes.invariant.front
       (rw c.loop-bytes.invariant.files at c.in_ok-read_piece.ensures.count)
       (rw c.loop-bytes.invariant.files at c.in_ok-read_piece.ensures.bytes);
-  faults = omega (arith, c.in_ok-read_piece.ensures.faults);
+  faults = c.in_ok-read_piece.ensures.quiet ∙ c.loop-bytes.invariant.faults;
   reads = omega (arith, c.in_ok-read_piece.ensures.reads);
 }

@@ -7,7 +7,7 @@ use Rattle.mr_outside.proofs.reading.read_up_to.Given as goal
 pub record ReadsOn (told now : Option Files) (name : List ℕ) (size : ℕ) (so_far : List ℕ) (faults_before faults_now reads_before reads_now : ℕ) : Type 0 where
   pub files : now ≡ told
   pub front : FrontOfFile told name size so_far
-  pub faults : faults_before ≤ faults_now
+  pub faults : faults_now ≡ faults_before
   pub reads : reads_before ≤ reads_now
 
 abbrev pub invariant-loop-bytes : goal.invariant-loop-bytes

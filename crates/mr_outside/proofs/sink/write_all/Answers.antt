@@ -1,4 +1,4 @@
-use Rattle.std.proofs.Common.{arith}
+use Rattle.std.proofs.Common.{arith, ◌∙◌}
 use Rattle.mr_outside.proofs.Taking.{Takes-more}
 use Rattle.mr_outside.proofs.sink.write_all.Goals as goal
 
@@ -7,5 +7,5 @@ loop-done-preserved g c = record {
   within = omega (arith, c.in_ok-done.ensures.within);
   takes = Takes-more _ _ _ c.args.bytes.now c.loop-done.done _ c.loop-done.invariant.takes
       (rw (← c.split_at.ensures.back) c.in_ok-done.ensures.front);
-  faults = omega (arith, c.in_ok-done.ensures.faults);
+  faults = c.in_ok-done.ensures.quiet ∙ c.loop-done.invariant.faults;
 }

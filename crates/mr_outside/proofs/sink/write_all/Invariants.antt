@@ -1,4 +1,4 @@
-use Rattle.std.proofs.Common.{length, ◌-◌, ◌≤◌, ℕ, List, Option, take}
+use Rattle.std.proofs.Common.{◌≡◌, length, ◌-◌, ◌≤◌, ℕ, List, Option, take}
 use Rattle.mr_outside.specs.Told.{Takes}
 use Rattle.mr_outside.proofs.sink.write_all.Given as goal
 
@@ -6,7 +6,7 @@ use Rattle.mr_outside.proofs.sink.write_all.Given as goal
 pub record HasTaken (old now : Option (List ℕ)) (before since : ℕ) (bytes : List ℕ) (done : ℕ) : Type 0 where
   pub within : done ≤ length bytes
   pub takes : Takes old now (take done bytes)
-  pub faults : before ≤ since
+  pub faults : since ≡ before
 
 abbrev pub invariant-loop-done : goal.invariant-loop-done
 invariant-loop-done g l = HasTaken (g.W.Sink.taken l.initial.out) (g.W.Sink.taken l.out) (g.W.Sink.faults l.initial.out) (g.W.Sink.faults l.out) l.bytes l.done
