@@ -1,9 +1,4 @@
-pub mod Forms
-pub mod Loop
-pub mod Pieces
-pub mod Whole
-pub mod Layouts
-pub mod Fields
-pub mod Taken
-pub mod Again
-pub mod Halves
+pub mod Several
+pub mod Nodes
+pub mod Judged
+pub mod Checks

@@ -1,11 +1,2 @@
-pub mod ProofField
-pub mod ProofCut
-pub mod ProofGrammar
-pub mod ProofLayout
-pub mod ProofSpelling
-pub mod ProofTight
-pub mod ProofVerdict
-pub mod ProofReading
-pub mod ProofHalves
-pub mod Reading
+pub mod Steps
 pub mod Answers

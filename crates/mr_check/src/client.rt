@@ -1,93 +1,115 @@
 //! The check of a whole proof.
 
-ghost use Rattle.std.specs.Prelude.{◌≡◌, IfOk, IfSome, Err, option_map};
-ghost use Rattle.mr_check.specs.ProofVerdict.{said, opened_records, Proves, IsRefused};
-ghost use Rattle.mr_check.specs.declared.proof.rule.Fault.{Fault};
+ghost use Rattle.std.specs.Prelude.{◌≡◌, IfOk, Err, None};
+ghost use Rattle.mr_proof.specs.declared.rule.Fault.{Fault};
+ghost use Rattle.mr_proof.specs.Tight.{asks};
+ghost use Rattle.mr_proof.specs.Accepted.{Proves};
+ghost use Rattle.mr_proof.specs.Refused.{IsRefused};
+ghost use Rattle.mr_proof.specs.Reading.{verdict};
+ghost use Rattle.mr_proof.specs.Halves.{AcceptsJust, RefusesJust, OneHalf, SpellsOne, StaysRefused, AcceptsHonest};
+ghost use Rattle.mr_proof.specs.Headline.{Headline, AcceptedIsHonest, OthersFail};
 ghost use Rattle.mr_check.specs.declared.error.CheckErr.TheVariants as errors;
-ghost use Rattle.mr_check.specs.ProofReading.{ending, verdict, head_read};
-ghost use Rattle.mr_check.specs.ProofHalves.{AcceptsJust, RefusesJust, OneHalf};
-ghost use Rattle.mr_check.specs.Answers.{stand, cut_of, IsSmall, Judges, Checks};
+ghost use Rattle.mr_check.specs.Answers.{Checks};
+ghost use Rattle.mr_check.specs.Steps.{TookRootOr, Ends, stand};
 
 use crate::CheckErr;
-use crate::answer::answer;
 use crate::cursor::{Cursor, fault_at, front};
-use crate::digest::found_root;
-use crate::part::Part;
-use crate::proof::{Head, Rule};
-use crate::reading::{read_head, read_part};
-use mr_query::Query;
+use crate::entry::Entry;
+use crate::head::read_head;
+use crate::item::read_item;
+use mr_proof::{Fault, Head, Rule, accepted_is_honest, honest_is_accepted};
+use mr_query::{Query, answer};
 use mr_record::Record;
-use mr_tree::{Hash32, Hashes};
+use mr_tree::{Hash32, Hashes, root_digest};
 use std::alloc::Global;
 
-// The opened records.
-fn opened_records(alloc: Global, part: Option<Part>) -> Vec<Record>
-    ensures { result.items ≡ opened_records (option_map cut_of part) }
+// What is known of the root node, if there is one.
+fn root_node<H: Hashes>(
+    alloc: Global,
+    q: &Query,
+    head: &Head,
+    from: &mut Cursor<'_>,
+    kept: &mut Vec<Record>,
+) -> Result<Entry, CheckErr>
+    requires { head.now.radius ≡ None }
+    ensures { TookRootOr H.of q.now head.now result
+        (stand from.old) from.new kept.old.items kept.new.items }
 {
-    match part {
-        Some(Part::Opened(records)) => records,
-        Some(Part::LeftOut(_, _)) | None => Vec::new(alloc),
+    if head.count == 0 {
+        return Ok(Entry {
+            rect: None,
+            digest: [0; 32],
+        });
     }
+    read_item::<H>(alloc, q, head.level, from, kept)
 }
 
 // What is found behind the last field.
-#[tactic(auto, unfolding(crate::specs::ProofReading::ending))]
+#[tactic(auto, unfolding(mr_proof::specs::Reading::ending), using(crate::proofs::Judged::no_other_radius))]
 fn end<H: Hashes>(
-    alloc: Global,
     root: &[u8; 32],
     q: &Query,
     head: &Head,
-    part: Option<Part>,
+    node: &Entry,
     behind: &Cursor<'_>,
-) -> Result<Vec<Record>, CheckErr>
-    requires { IfSome part IsSmall }
-    ensures { Judges result (ending H.of root.now q.now (said head.now (option_map cut_of part)) (stand behind.now)) }
+) -> Result<(), Fault>
+    ensures { Ends H.of root.now q.now head.now node.now result (stand behind.now) }
 {
     if !behind.rest.is_empty() {
-        return Err(CheckErr::Fault(fault_at(Rule::Trailing, behind.at)));
+        return Err(fault_at(Rule::Trailing, behind.at));
     }
-    let found = found_root::<H>(head, &part);
+    let found = root_digest::<H>(head.batch, head.count, head.level, node.rect, &node.digest);
     if found.as_slice() != root.as_slice() {
-        return Err(CheckErr::Fault(fault_at(Rule::WrongRoot { found }, behind.at)));
+        return Err(fault_at(Rule::WrongRoot { found }, behind.at));
     }
-    Ok(answer(opened_records(alloc, part), q)?)
+    Ok(())
 }
 
-// What is answered for a proof, whose root node is read where it has level 0.
+// What is answered for a proof.
 fn judge<H: Hashes>(
     alloc: Global,
     root: &[u8; 32],
     q: &Query,
     proof: &[u8],
 ) -> Result<Vec<Record>, CheckErr>
-    ensures { Checks result (head_read q.now proof.now) (verdict H.of root.now q.now proof.now) }
+    ensures { Checks result (verdict H.of root.now q.now proof.now) }
 {
     let mut cursor = front(proof);
     let head = read_head(&mut cursor)?;
-    if head.level > 0 {
-        return Err(CheckErr::NotYet);
-    }
-    let part = read_part(alloc, q, head.count, &mut cursor)?;
-    end::<H>(alloc, root, q, &head, part, &cursor)
+    let mut kept = Vec::new(alloc);
+    let node = root_node::<H>(alloc, q, &head, &mut cursor, &mut kept)?;
+    end::<H>(root, q, &head, &node, &cursor)?;
+    Ok(answer(kept, q)?)
 }
 
-/// The records that the proof proves to be the answer to the query on the map with this root digest: those of a window in
-/// rising number.
+/// The records that the proof proves to be the answer to the query on the map with this root
+/// digest: those of a window in rising number.
 ///
-/// A proof that proves nothing is refused with the first rule that it breaks. A proof of a map with inner nodes is not read
-/// yet. The work is in proportion to the proof's length, and that of a sort of the answer.
+/// A proof that proves nothing is refused with the first rule that it breaks. The proof is read
+/// once, from the front; kept are the answer, a hasher and a rectangle for each of at most eight
+/// levels, and the records of one leaf. The work is in proportion to the proof's length, and that
+/// of a sort of the answer.
 pub fn check<H: Hash32>(
     alloc: Global,
     root: &[u8; 32],
     q: &Query,
     proof: &[u8],
 ) -> Result<Vec<Record>, CheckErr>
-    ensures exact { Checks result (head_read q.now proof.now) (verdict H.of root.now q.now proof.now) }
-    ensures proved { IfOk result (λ v. Proves H.of root.now q.now proof.now v.items) }
-    ensures broken { (f : Fault) → result ≡ Err (errors.Fault f) → IsRefused H.of root.now q.now proof.now f }
+    ensures exact { Checks result (verdict H.of root.now q.now proof.now) }
+    ensures proved { IfOk result (λ v. Proves H.of root.now (asks q.now) proof.now v.items) }
+    ensures broken { (f : Fault) → result ≡ Err (errors.Fault f)
+        → IsRefused H.of root.now q.now proof.now f }
     ensures accepts { AcceptsJust H.of root.now q.now proof.now }
     ensures refuses { RefusesJust H.of root.now q.now proof.now }
     ensures one_half { OneHalf H.of root.now q.now proof.now }
+    ensures one_pair { SpellsOne proof.now }
+    ensures longer { StaysRefused H.of root.now q.now proof.now }
+    ensures complete { AcceptsHonest H.of q.now }
+    ensures headline { Headline H.of q.now proof.now }
+    ensures accepted { AcceptedIsHonest H.of q.now proof.now }
+    ensures other_strings { OthersFail H.of q.now proof.now }
 {
+    honest_is_accepted::<H>(q);
+    accepted_is_honest::<H>(q, proof);
     judge::<H>(alloc, root, q, proof)
 }

@@ -1,14 +1,12 @@
 ghost use Rattle.std.specs.Prelude.{◌≡◌, IfOk};
-ghost use Rattle.mr_check.specs.ProofField.{FitsPayload, HasForm};
-ghost use Rattle.mr_check.specs.ProofLayout.{start, field_at};
-ghost use Rattle.mr_check.specs.Answers.{Reads, stand};
+ghost use Rattle.mr_proof.specs.Fields.{FitsPayload, HasForm};
+ghost use Rattle.mr_proof.specs.Layout.{start, field_at};
+ghost use Rattle.mr_check.specs.Steps.{Reads, stand};
 
-use crate::proof::{Fault, Field, Rule, Want, read_field};
+use mr_proof::{Fault, Field, PLACE_LIMIT, Rule, Want, read_field};
 
-// No field of a proof ends past this place.
-const PLACE_LIMIT: usize = 1 << 30;
-
-// Where a reader of a proof stands: the place of the next field, that of the last one, and the bytes from the next field on.
+// Where a reader of a proof stands: the place of the next field, that of the last one, and the
+// bytes from the next field on.
 #[derive(Clone, Copy)]
 pub(crate) struct Cursor<'a> {
     pub(crate) at: usize,
@@ -36,8 +34,9 @@ pub(crate) fn fault_at(rule: Rule, at: usize) -> Fault
     }
 }
 
-// The field that stands next, if it is whole and breaks no rule of its own; the cursor then stands behind it.
-#[tactic(auto, unfolding(crate::specs::ProofLayout::field_at))]
+// The field that stands next, if it is whole and breaks no rule of its own; the cursor then stands
+// behind it.
+#[tactic(auto, unfolding(mr_proof::specs::Layout::field_at))]
 pub(crate) fn next_field(want: &Want, from: &mut Cursor<'_>) -> Result<Field, Fault>
     requires { FitsPayload want.now }
     ensures read { Reads (λ x. x) result from.new (field_at want.now (stand from.old)) }

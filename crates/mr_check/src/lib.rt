@@ -1,15 +1,14 @@
 //! The client: whether a proof answers a query against a held root digest, and with which records.
 #![tactic(auto)]
 
-mod answer;
 mod client;
 mod cursor;
-mod digest;
+mod entry;
 mod error;
-mod part;
-pub mod proof;
-mod reading;
-mod region;
+mod fields;
+mod head;
+mod item;
+mod record;
 #[cfg(test)]
 mod tests;
 

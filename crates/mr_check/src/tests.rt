@@ -1,6 +1,6 @@
-use crate::proof::{Fault, Field, Rule, Want, read_field};
 use crate::{CheckErr, check};
 use mr_geom::Rect;
+use mr_proof::{Fault, Field, Rule, Want, read_field};
 use mr_query::Query;
 use mr_tree::{Sha, XorHash};
 use std::process::Abort;
@@ -11,7 +11,8 @@ const LEAF: [u8; 27] = [
     0x4c, 1, 0, 0, 0, 0, 0, 0, 0, 7, 0, 0, 0, 0, 0, 0, 0, 0, 0, 0, 0, 0, 0, 0, 0, 0, 0,
 ];
 
-// A proof for a window on a map of one record at batch 0, which opens that leaf: the head, then the leaf.
+// A proof for a window on a map of one record at batch 0, which opens that leaf: the head, then the
+// leaf.
 const OPENED: [u8; 50] = [
     0x4d, 0x52, 0x56, 0x4f, 1, 0x57, 0, 0, 0, 0, 0, 0, 0, 0, 0, 0, 0, 0, 0, 0, 0, 1, 0, 0x4c, 1, 0,
     0, 0, 0, 0, 0, 0, 7, 0, 0, 0, 0, 0, 0, 0, 0, 0, 0, 0, 0, 0, 0, 0, 0, 0,
@@ -23,8 +24,9 @@ const LONGER: [u8; 51] = [
     0, 0, 0, 0, 0, 0, 7, 0, 0, 0, 0, 0, 0, 0, 0, 0, 0, 0, 0, 0, 0, 0, 0, 0, 0,
 ];
 
-// A proof that leaves the leaf out: the head, then its rectangle, the point (0, 0), and its digest, which ends in 4a.
-const LEFT_OUT: [u8; 72] = [
+// A proof that prunes the leaf: the head, then its rectangle, the point (0, 0), and its digest,
+// which ends in 4a.
+const PRUNED: [u8; 72] = [
     0x4d, 0x52, 0x56, 0x4f, 1, 0x57, 0, 0, 0, 0, 0, 0, 0, 0, 0, 0, 0, 0, 0, 0, 0, 1, 0, 0x50, 0, 0,
     0, 0, 0, 0, 0, 0, 0, 0, 0, 0, 0, 0, 0, 0, 0, 0, 0, 0, 0, 0, 0, 0, 0, 0, 0, 0, 0, 0, 0, 0, 0, 0,
     0, 0, 0, 0, 0, 0, 0, 0, 0, 0, 0, 0, 0, 0x4a,
@@ -74,9 +76,9 @@ fn an_opened_record_in_the_window_is_the_answer(rt: HostRuntime) -> Result<(), F
 }
 
 #[test]
-fn a_root_that_misses_the_window_is_left_out(rt: HostRuntime) -> Result<(), Fail> {
+fn a_root_that_misses_the_window_is_pruned(rt: HostRuntime) -> Result<(), Fail> {
     let q = window(1, 1, 2, 2)?;
-    let answer = check::<XorHash>(rt.alloc(), &digest(0x18), &q, &LEFT_OUT)
+    let answer = check::<XorHash>(rt.alloc(), &digest(0x18), &q, &PRUNED)
         .ok()
         .ok_or("the proof is right")?;
     assert_eq!(rt; answer.len(), 0);
@@ -127,7 +129,7 @@ fn a_proof_is_for_its_window_and_root_alone(rt: HostRuntime) -> Result<(), Fail>
     );
     refused(
         &rt,
-        check::<XorHash>(rt.alloc(), &root, &here, &LEFT_OUT),
+        check::<XorHash>(rt.alloc(), &root, &here, &PRUNED),
         Rule::Hidden,
         24,
     );
@@ -152,24 +154,50 @@ fn the_empty_map_answers_nothing(rt: HostRuntime) -> Result<(), Fail> {
     Ok(())
 }
 
+// A proof for a window on a map of level 1, which opens the root and its second child, that leaf,
+// and prunes its first.
+const INNER: [u8; 101] = [
+    0x4d, 0x52, 0x56, 0x4f, 1, 0x57, 0, 0, 0, 0, 0, 0, 0, 0, 0, 0, 0, 0, 0, 0, 0, 2, 1, 0x4e, 2,
+    0x50, 0, 0, 0, 5, 0, 0, 0, 5, 0, 0, 0, 6, 0, 0, 0, 6, 0, 0, 0, 0, 0, 0, 0, 0, 0, 0, 0, 0, 0, 0,
+    0, 0, 0, 0, 0, 0, 0, 0, 0, 0, 0, 0, 0, 0, 0, 0, 0, 0x11, 0x4c, 1, 0, 0, 0, 0, 0, 0, 0, 7, 0, 0,
+    0, 0, 0, 0, 0, 0, 0, 0, 0, 0, 0, 0, 0, 0, 0,
+];
+
 #[test]
-fn inner_nodes_are_not_read_yet(rt: HostRuntime) -> Result<(), Fail> {
-    let mut proof = OPENED;
-    let q = window(0, 0, 0, 0)?;
-    proof[22] = 1;
-    let outcome = check::<XorHash>(rt.alloc(), &digest(0), &q, &proof);
-    assert_eq!(rt; outcome.err(), Some(CheckErr::NotYet));
-    proof[22] = 8;
+fn a_node_above_a_leaf_is_read(rt: HostRuntime) -> Result<(), Fail> {
+    let root = digest(0x46);
+    let here = window(0, 0, 0, 0)?;
+    let answer = check::<XorHash>(rt.alloc(), &root, &here, &INNER)
+        .ok()
+        .ok_or("the proof is right")?;
+    assert_eq!(rt; answer.len(), 1);
+    let pruned = window(6, 6, 7, 7)?;
     refused(
         &rt,
-        check::<XorHash>(rt.alloc(), &digest(0), &q, &proof),
+        check::<XorHash>(rt.alloc(), &root, &pruned, &INNER),
+        Rule::Hidden,
+        26,
+    );
+    let between = window(2, 2, 3, 3)?;
+    refused(
+        &rt,
+        check::<XorHash>(rt.alloc(), &root, &between, &INNER),
+        Rule::Needless,
+        100,
+    );
+    let mut higher = INNER;
+    higher[22] = 8;
+    refused(
+        &rt,
+        check::<XorHash>(rt.alloc(), &root, &here, &higher),
         Rule::BadLevel,
         22,
     );
     Ok(())
 }
 
-// The root digest of the map, by SHA-256: that of its 67 bytes, which end in the digest of the leaf's 27 bytes.
+// The root digest of the map, by SHA-256: that of its 67 bytes, which end in the digest of the
+// leaf's 27 bytes.
 fn sha_root() -> [u8; 32] {
     let leaf = sha(&LEAF);
     let mut bytes = [0; 67];

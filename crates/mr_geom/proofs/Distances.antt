@@ -14,7 +14,8 @@ clamped_left low high at = omega (arith, ints, clamps)
 clamped_right : (low high at : ℤ) → low ≤ℤ high → int_max low (int_min at high) ≤ℤ high
 clamped_right low high at h = omega (arith, ints, clamps)
 
-clamped_nearest : (low high at other : ℤ) → low ≤ℤ other → other ≤ℤ high → unsigned_abs (at -ℤ int_max low (int_min at high)) ≤ unsigned_abs (at -ℤ other)
+clamped_nearest : (low high at other : ℤ) → low ≤ℤ other → other ≤ℤ high →
+    unsigned_abs (at -ℤ int_max low (int_min at high)) ≤ unsigned_abs (at -ℤ other)
 clamped_nearest low high at other h k = omega (arith, ints, clamps)
 
 square-≤ : (m n : ℕ) → m ≤ n → square m ≤ square n
@@ -45,7 +46,8 @@ nearest r p q h =
     square-≤ _ _ (clamped_nearest r.y0 r.y1 p.y q.y h.low h.high) in
     sum-≤ _ _ _ _ along across
 
-pub IsLeastDistance-least_squared_distance : (r : Rectangle) (p : Point) → IsOrdered r → IsLeastDistance r p (least_squared_distance r p)
+pub IsLeastDistance-least_squared_distance : (r : Rectangle) (p : Point) → IsOrdered r →
+    IsLeastDistance r p (least_squared_distance r p)
 unfolding least_squared_distance
 IsLeastDistance-least_squared_distance r p o = record {
   reached = (nearest_point r p, Holds-nearest_point r p o, refl);
@@ -53,15 +55,18 @@ IsLeastDistance-least_squared_distance r p o = record {
 }
 
 -- what contains a rectangle is at most as far away
-pub least_squared_distance-Inside : (a b : Rectangle) (p : Point) → IsOrdered a → Inside a b → least_squared_distance b p ≤ least_squared_distance a p
+pub least_squared_distance-Inside : (a b : Rectangle) (p : Point) → IsOrdered a → Inside a b →
+    least_squared_distance b p ≤ least_squared_distance a p
 unfolding least_squared_distance
-least_squared_distance-Inside a b p o h = nearest b p (nearest_point a p) (h (nearest_point a p) (Holds-nearest_point a p o))
+least_squared_distance-Inside a b p o h =
+    nearest b p (nearest_point a p) (h (nearest_point a p) (Holds-nearest_point a p o))
 
 square-0 : (n : ℕ) → square n ≡ 0 → n ≡ 0
 square-0 zero h = refl
 square-0 (suc n) h = absurd (omega arith)
 
-clamped_same : (low high at : ℤ) → low ≤ℤ high → unsigned_abs (at -ℤ int_max low (int_min at high)) ≡ 0 → (low ≤ℤ at) × (at ≤ℤ high)
+clamped_same : (low high at : ℤ) → low ≤ℤ high → unsigned_abs (at -ℤ int_max low (int_min at high)) ≡ 0 →
+    (low ≤ℤ at) × (at ≤ℤ high)
 clamped_same low high at o h = (omega (arith, ints, clamps), omega (arith, ints, clamps))
 
 clamped_within : (low high at : ℤ) → low ≤ℤ at → at ≤ℤ high → unsigned_abs (at -ℤ int_max low (int_min at high)) ≡ 0
@@ -81,11 +86,14 @@ least_squared_distance-0 r p o = (
 )
 
 -- the square sums that the sides and the point give
-pub least_squared_distance-parts : (r : Rectangle) (p : Point) (m n : ℕ) → m ≡ square (unsigned_abs (p.x -ℤ int_max r.x0 (int_min p.x r.x1))) → n ≡ square (unsigned_abs (p.y -ℤ int_max r.y0 (int_min p.y r.y1))) → m + n ≡ least_squared_distance r p
+pub least_squared_distance-parts : (r : Rectangle) (p : Point) (m n : ℕ) →
+    m ≡ square (unsigned_abs (p.x -ℤ int_max r.x0 (int_min p.x r.x1))) →
+    n ≡ square (unsigned_abs (p.y -ℤ int_max r.y0 (int_min p.y r.y1))) → m + n ≡ least_squared_distance r p
 unfolding least_squared_distance
 least_squared_distance-parts r p m n h k = cc
 
-clamped_bound : (low high at : ℤ) → FitsSigned w32 low → FitsSigned w32 high → FitsSigned w32 at → unsigned_abs (at -ℤ int_max low (int_min at high)) ≤ 2 ^ 32 - 1
+clamped_bound : (low high at : ℤ) → FitsSigned w32 low → FitsSigned w32 high → FitsSigned w32 at →
+    unsigned_abs (at -ℤ int_max low (int_min at high)) ≤ 2 ^ 32 - 1
 clamped_bound low high at p q r = omega (arith, ints, clamps)
 
 square_bound : (m n : ℕ) → m ≤ 2 ^ 32 - 1 → n ≤ 2 ^ 32 - 1 → square m + square n ≤ 2 * ((2 ^ 32 - 1) * (2 ^ 32 - 1))
@@ -94,7 +102,8 @@ square_bound m n p q =
     let second : square n ≤ square (2 ^ 32 - 1) = square-≤ n (2 ^ 32 - 1) q in
     omega arith
 
-pub least_squared_distance_bound : (r : Rectangle) (p : Point) → FitsMap r → FitsSigned w32 p.x → FitsSigned w32 p.y → least_squared_distance r p ≤ 2 * ((2 ^ 32 - 1) * (2 ^ 32 - 1))
+pub least_squared_distance_bound : (r : Rectangle) (p : Point) → FitsMap r → FitsSigned w32 p.x → FitsSigned w32 p.y →
+    least_squared_distance r p ≤ 2 * ((2 ^ 32 - 1) * (2 ^ 32 - 1))
 unfolding least_squared_distance
 least_squared_distance_bound r p f x y =
     square_bound _ _ (clamped_bound r.x0 r.x1 p.x f.x0 f.x1 x) (clamped_bound r.y0 r.y1 p.y f.y0 f.y1 y)

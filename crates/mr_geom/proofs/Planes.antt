@@ -1,10 +1,13 @@
 -- Facts on the points of rectangles: what meets, what lies in what, and the least rectangle round two.
-use Rattle.std.proofs.Common.{◌≡◌, ℤ, ◌≤ℤ◌, Bool, false, IsTrue, ◌↔◌, arith}
+use Rattle.std.proofs.Common.{◌≡◌, ℤ, ◌≤ℤ◌, Bool, true, false, T, IsTrue, ◌↔◌, refl, sym, inl, inr, arith}
+use Rattle.std.specs.Prelude.{int_le, ◌&&◌}
+use Rattle.std.proofs.lemmas.Float.{T_from_true}
+use Rattle.std.proofs.lemmas.Bool.{and_parts, cases_Bool, false≢true}
 use Rattle.std.specs.Int.{int_min, int_max}
 use Rattle.std.proofs.lemmas.Int.{ints, clamps}
 use Rattle.mr_geom.specs.Rectangle.{Rectangle, IsOrdered, union, area}
-use Rattle.mr_geom.specs.Plane.{Holds, Meets, Inside, IsLeastRound}
-use Rattle.mr_geom.proofs.Rectangles.{IsOrdered-union, area-≤}
+use Rattle.mr_geom.specs.Plane.{Holds, Meets, touches, Inside, IsLeastRound}
+use Rattle.mr_geom.proofs.Rectangles.{IsOrdered-union, area-≤, true_from_T}
 
 -- neither lies wholly to one side of the other
 pub record SidesMeet (a b : Rectangle) : Type 0 where
@@ -140,27 +143,70 @@ IsLeastRound-union a b o q = record {
 }
 
 -- where the two share numbers along x, a test of the other axis says whether they meet
-pub meets_across : (a b : Rectangle) (t : Bool) → IsOrdered a → IsOrdered b → a.x0 ≤ℤ b.x1 → b.x0 ≤ℤ a.x1 → (IsTrue t ↔ ((a.y0 ≤ℤ b.y1) × (b.y0 ≤ℤ a.y1))) → IsTrue t ↔ Meets a b
+pub meets_across : (a b : Rectangle) (t : Bool) → IsOrdered a → IsOrdered b → a.x0 ≤ℤ b.x1 → b.x0 ≤ℤ a.x1 →
+    (IsTrue t ↔ ((a.y0 ≤ℤ b.y1) × (b.y0 ≤ℤ a.y1))) → IsTrue t ↔ Meets a b
 meets_across a b t o q left right h = (
   λ yes. Meets-SidesMeet a b o q (record { left = left; right = right; low = (h.0 yes).0; high = (h.0 yes).1 }),
   λ met. let s = SidesMeet-Meets a b met in h.1 (s.low, s.high),
 )
 
 -- where the two share no number along x, they do not meet
-pub misses_along : (a b : Rectangle) (t : Bool) → t ≡ false → (((a.x0 ≤ℤ b.x1) × (b.x0 ≤ℤ a.x1)) → IsTrue t) → IsTrue t ↔ Meets a b
+pub misses_along : (a b : Rectangle) (t : Bool) → t ≡ false → (((a.x0 ≤ℤ b.x1) × (b.x0 ≤ℤ a.x1)) → IsTrue t) →
+    IsTrue t ↔ Meets a b
 misses_along a b t fails h = (λ yes. cc, λ met. let s = SidesMeet-Meets a b met in h (s.left, s.right))
 
 -- where the first lies in the second along x, a test of the other axis says whether it lies in it
-pub inside_across : (a b : Rectangle) (t : Bool) → IsOrdered a → b.x0 ≤ℤ a.x0 → a.x1 ≤ℤ b.x1 → (IsTrue t ↔ ((b.y0 ≤ℤ a.y0) × (a.y1 ≤ℤ b.y1))) → IsTrue t ↔ Inside a b
+pub inside_across : (a b : Rectangle) (t : Bool) → IsOrdered a → b.x0 ≤ℤ a.x0 → a.x1 ≤ℤ b.x1 →
+    (IsTrue t ↔ ((b.y0 ≤ℤ a.y0) × (a.y1 ≤ℤ b.y1))) → IsTrue t ↔ Inside a b
 inside_across a b t o left right h = (
   λ yes. Inside-SidesInside a b (record { left = left; right = right; low = (h.0 yes).0; high = (h.0 yes).1 }),
   λ inside. let s = SidesInside-Inside a b o inside in h.1 (s.low, s.high),
 )
 
 -- where the first does not lie in the second along x, it does not lie in it
-pub outside_along : (a b : Rectangle) (t : Bool) → IsOrdered a → t ≡ false → (((b.x0 ≤ℤ a.x0) × (a.x1 ≤ℤ b.x1)) → IsTrue t) → IsTrue t ↔ Inside a b
+pub outside_along : (a b : Rectangle) (t : Bool) → IsOrdered a → t ≡ false →
+    (((b.x0 ≤ℤ a.x0) × (a.x1 ≤ℤ b.x1)) → IsTrue t) → IsTrue t ↔ Inside a b
 outside_along a b t o fails h = (λ yes. cc, λ inside. let s = SidesInside-Inside a b o inside in h (s.left, s.right))
 
 -- what lies in a rectangle has at most its area
 pub area-Inside : (a b : Rectangle) → IsOrdered a → Inside a b → area a ≤ℤ area b
 area-Inside a b o h = let s = SidesInside-Inside a b o h in area-≤ a b o s.left s.right s.low s.high
+
+-- ---- whether two rectangles share a point, as a test
+
+pub touches-sides : (a b : Rectangle) → SidesMeet a b → touches a b ≡ true
+touches-sides a b s =
+    rw (
+      true_from_T (int_le a.x0 b.x1) s.left.le,
+      true_from_T (int_le b.x0 a.x1) s.right.le,
+      true_from_T
+          (int_le a.y0 b.y1) s.low.le,
+      true_from_T (int_le b.y0 a.y1) s.high.le,
+    ) refl
+
+pub sides-touches : (a b : Rectangle) → touches a b ≡ true → SidesMeet a b
+sides-touches a b t =
+    let both = and_parts (int_le a.x0 b.x1 && int_le b.x0 a.x1) (int_le a.y0 b.y1 && int_le b.y0 a.y1) t in
+    let across = and_parts (int_le a.x0 b.x1) (int_le b.x0 a.x1) both.0 in
+    let along = and_parts (int_le a.y0 b.y1) (int_le b.y0 a.y1) both.1 in
+    record {
+      left = record { le = T_from_true _ across.0 };
+      right = record { le = T_from_true _ across.1 };
+      low = record { le = T_from_true _ along.0 };
+      high = record { le = T_from_true _ along.1 };
+    }
+
+-- a test that is true exactly where the two share a point is the test on the sides
+pub touches_is : (a b : Rectangle) (r : Bool) → IsOrdered a → IsOrdered b → (IsTrue r ↔ Meets a b) → r ≡ touches a b
+touches_is a b true o q e = sym (touches-sides a b (SidesMeet-Meets a b (e.0 refl)))
+touches_is a b false o q e = elim (cases_Bool (touches a b)) [
+  | inl t ↦ absurd (false≢true (e.1 (Meets-SidesMeet a b o q (sides-touches a b t))))
+  | inr f ↦ sym f
+]
+
+-- the same, the other way round
+pub touches-meets : (a b : Rectangle) → IsOrdered a → IsOrdered b → (touches a b ≡ true) ↔ Meets a b
+touches-meets a b o q = (
+  λ t. Meets-SidesMeet a b o q (sides-touches a b t),
+  λ met. touches-sides a b (SidesMeet-Meets a b met),
+)

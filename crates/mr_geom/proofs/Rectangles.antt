@@ -1,9 +1,13 @@
 -- Facts on rectangles as four numbers: equality, unions, areas.
-use Rattle.std.proofs.Common.{◌≡◌, ℕ, ◌-◌, ◌*◌, ◌^◌, ◌≤◌, ℤ, pos, negsuc, ◌≤ℤ◌, ◌-ℤ◌, ◌*ℤ◌, FitsSigned, arith}
+use Rattle.std.proofs.Common.{◌≡◌, ℕ, cond, ◌-◌, ◌*◌, ◌^◌, ◌≤◌, ℤ, pos, negsuc, ◌≤ℤ◌, ◌-ℤ◌, ◌*ℤ◌, FitsSigned, arith, Bool, true, false, T, List, [], ◌∷◌, ◌++◌, refl, sym, ap, ◌∙◌, inl, inr}
+use Rattle.std.specs.Prelude.{int_le, fold, Option, Some, None, SomeIff}
+use Rattle.std.proofs.lemmas.Float.{T_from_true}
+use Rattle.std.proofs.lemmas.Bool.{and_parts, cases_Bool}
+use Rattle.std.proofs.lemmas.List.Sums.{fold-append}
 use Rattle.std.proofs.lemmas.Nat.{mul-le}
 use Rattle.std.specs.Int.{int_min, int_max, w32}
 use Rattle.std.proofs.lemmas.Int.{ints, clamps}
-use Rattle.mr_geom.specs.Rectangle.{Rectangle, IsOrdered, FitsMap, union, area}
+use Rattle.mr_geom.specs.Rectangle.{Rectangle, IsOrdered, FitsMap, in_order, if_ordered, rectangle_of, union, join, union_of, area}
 
 -- two rectangles with the same sides are one
 pub same_rectangle : (a b : Rectangle) → a.x0 ≡ b.x0 → a.y0 ≡ b.y0 → a.x1 ≡ b.x1 → a.y1 ≡ b.y1 → a ≡ b
@@ -29,11 +33,13 @@ int_max_same a = omega (arith, ints, clamps)
 
 pub union_comm : (a b : Rectangle) → union a b ≡ union b a
 union_comm a b =
-    same_rectangle _ _ (int_min_comm a.x0 b.x0) (int_min_comm a.y0 b.y0) (int_max_comm a.x1 b.x1) (int_max_comm a.y1 b.y1)
+    same_rectangle _ _ (int_min_comm a.x0 b.x0) (int_min_comm a.y0 b.y0) (int_max_comm a.x1 b.x1)
+    (int_max_comm a.y1 b.y1)
 
 pub union_assoc : (a b c : Rectangle) → union (union a b) c ≡ union a (union b c)
 union_assoc a b c =
-    same_rectangle _ _ (int_min_assoc a.x0 b.x0 c.x0) (int_min_assoc a.y0 b.y0 c.y0) (int_max_assoc a.x1 b.x1 c.x1) (int_max_assoc a.y1 b.y1 c.y1)
+    same_rectangle _ _ (int_min_assoc a.x0 b.x0 c.x0) (int_min_assoc a.y0 b.y0 c.y0) (int_max_assoc a.x1 b.x1 c.x1)
+    (int_max_assoc a.y1 b.y1 c.y1)
 
 pub union_same : (a : Rectangle) → union a a ≡ a
 union_same a = same_rectangle _ _ (int_min_same a.x0) (int_min_same a.y0) (int_max_same a.x1) (int_max_same a.y1)
@@ -73,7 +79,8 @@ side-≤ : (a b c d : ℤ) → c ≤ℤ a → b ≤ℤ d → (b -ℤ a) ≤ℤ (
 side-≤ a b c d p q = omega (arith, ints)
 
 -- the further apart the sides, the greater the area
-pub area-≤ : (a b : Rectangle) → IsOrdered a → b.x0 ≤ℤ a.x0 → a.x1 ≤ℤ b.x1 → b.y0 ≤ℤ a.y0 → a.y1 ≤ℤ b.y1 → area a ≤ℤ area b
+pub area-≤ : (a b : Rectangle) → IsOrdered a → b.x0 ≤ℤ a.x0 → a.x1 ≤ℤ b.x1 → b.y0 ≤ℤ a.y0 → a.y1 ≤ℤ b.y1 →
+    area a ≤ℤ area b
 area-≤ a b o left right low high =
     product-≤ (a.x1 -ℤ a.x0) (a.y1 -ℤ a.y0) (b.x1 -ℤ b.x0) (b.y1 -ℤ b.y0)
     (side-0 a.x0 a.x1 o.x)
@@ -118,3 +125,59 @@ area-union a b o =
 -- what is left of one natural number after another, as a difference of whole numbers
 pub pos-minus : (m n : ℕ) (a b : ℤ) → pos m ≡ a → pos n ≡ b → b ≤ℤ a → (n ≤ m) × (pos (m - n) ≡ a -ℤ b)
 pos-minus m n a b p q h = (omega (arith, ints), omega (arith, ints))
+
+-- ---- sides in order, as a test
+
+pub true_from_T : (b : Bool) → T b → b ≡ true
+true_from_T true t = refl
+true_from_T false t = absurd t
+
+pub in_order_is : (r : Rectangle) → in_order r ≡ true → IsOrdered r
+in_order_is r t =
+    let both = and_parts (int_le r.x0 r.x1) (int_le r.y0 r.y1) t in
+    record { x = record { le = T_from_true _ both.0 }; y = record { le = T_from_true _ both.1 } }
+
+pub is_in_order : (r : Rectangle) → IsOrdered r → in_order r ≡ true
+is_in_order r o = rw (true_from_T (int_le r.x0 r.x1) o.x.le, true_from_T (int_le r.y0 r.y1) o.y.le) refl
+
+-- what is a rectangle just where its sides are in order is the rectangle of its four numbers
+pub if_ordered_is : (r : Rectangle) (o : Option Rectangle) → SomeIff o (IsOrdered r) r → o ≡ if_ordered r
+if_ordered_is r (Some q) h = ap Some h.1 ∙ rw (is_in_order r h.0) refl
+if_ordered_is r None h = elim (cases_Bool (in_order r)) [
+  | inl t ↦ absurd (h (in_order_is r t))
+  | inr f ↦ rw f refl
+]
+
+some_same : (r s : Rectangle) → ◌≡◌ {A = Option Rectangle} (Some r) (Some s) → r ≡ s
+some_same r s e = cc
+
+guard_some : (b : Bool) (x y : Rectangle) → cond b (Some x) None ≡ Some y → (b ≡ true) × (x ≡ y)
+guard_some true x y e = (refl, some_same x y e)
+guard_some false x y e = absurd cc
+
+-- a rectangle of four numbers has these sides, in order
+pub rectangle_of_some : (a b c d : ℤ) (r : Rectangle) → rectangle_of a b c d ≡ Some r →
+    IsOrdered (record { x0 = a; y0 = b; x1 = c; y1 = d }) × (record { x0 = a; y0 = b; x1 = c; y1 = d } ≡ r)
+rectangle_of_some a b c d r e =
+    let made : Rectangle = record { x0 = a; y0 = b; x1 = c; y1 = d } in
+    let guard = guard_some (in_order made) made r e in
+    (in_order_is made guard.0, guard.1)
+
+-- ---- the rectangle round two that may be missing
+
+pub join_assoc : (a b c : Option Rectangle) → join (join a b) c ≡ join a (join b c)
+join_assoc None b c = refl
+join_assoc (Some a) None c = refl
+join_assoc (Some a) (Some b) None = refl
+join_assoc (Some a) (Some b) (Some c) = ap Some (union_assoc a b c)
+
+pub join_none : (a : Option Rectangle) → join a None ≡ a
+join_none None = refl
+join_none (Some a) = refl
+
+pub fold_join : (a : Option Rectangle) (xs : List (Option Rectangle)) → fold join a xs ≡ join a (union_of xs)
+fold_join a [] = sym (join_none a)
+fold_join a (x ∷ xs) = fold_join (join a x) xs ∙ join_assoc a x (union_of xs) ∙ ap (join a) (sym (fold_join x xs))
+
+pub union_of-append : (xs ys : List (Option Rectangle)) → union_of (xs ++ ys) ≡ join (union_of xs) (union_of ys)
+union_of-append xs ys = fold-append join None xs ys ∙ fold_join (union_of xs) ys

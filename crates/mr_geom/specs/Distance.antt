@@ -17,9 +17,13 @@ pub record IsLeastDistance (r : Rectangle) (p : Point) (n : ℕ) : Type 0 where
   pub reached : (q : Point) × Holds r q × (squared_distance p q ≡ n)
   pub least : (q : Point) → Holds r q → n ≤ squared_distance p q
 
--- the point of an ordered rectangle that is nearest to `p`, which is `p` itself where the rectangle holds it
+-- the point of an ordered rectangle that is nearest to `p`, which is `p` itself where the rectangle
+-- holds it
 abbrev pub nearest_point : Rectangle → Point → Point
-nearest_point r p = record { x = int_max r.x0 (int_min p.x r.x1); y = int_max r.y0 (int_min p.y r.y1) }
+nearest_point r p = record {
+  x = int_max r.x0 (int_min p.x r.x1);
+  y = int_max r.y0 (int_min p.y r.y1);
+}
 
 -- of a point to the nearest point of an ordered rectangle
 unfoldable pub least_squared_distance : Rectangle → Point → ℕ

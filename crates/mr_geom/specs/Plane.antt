@@ -1,5 +1,5 @@
 -- Points of the plane, which of them a rectangle holds, and what two rectangles have in common.
-use Rattle.std.specs.Prelude.{◌≤ℤ◌}
+use Rattle.std.specs.Prelude.{◌≤ℤ◌, int_le, Bool, ◌&&◌}
 use Rattle.mr_geom.specs.Rectangle.{Rectangle, IsOrdered}
 use Rattle.mr_geom.specs.declared.point.Point.{Point}
 
@@ -14,11 +14,16 @@ pub record Holds (r : Rectangle) (p : Point) : Type 0 where
 abbrev pub Meets : Rectangle → Rectangle → Type 0
 Meets a b = (p : Point) × Holds a p × Holds b p
 
+-- whether two ordered rectangles share a point: neither lies wholly to one side of the other
+abbrev pub touches : Rectangle → Rectangle → Bool
+touches a b = (int_le a.x0 b.x1 && int_le b.x0 a.x1) && (int_le a.y0 b.y1 && int_le b.y0 a.y1)
+
 -- the first lies in the second: each of its points is one of the second
 abbrev pub Inside : Rectangle → Rectangle → Type 0
 Inside a b = (p : Point) → Holds a p → Holds b p
 
--- `r` is the least rectangle round `a` and `b`: both lie in it, and it lies in each other rectangle in which both lie
+-- `r` is the least rectangle round `a` and `b`: both lie in it, and it lies in each other rectangle
+-- in which both lie
 pub record IsLeastRound (a b r : Rectangle) : Type 0 where
   pub ordered : IsOrdered r
   pub first : Inside a r

@@ -1,14 +1,14 @@
 ghost use Rattle.std.specs.Prelude.{◌≡◌, ℕ, ◌+◌, ◌-◌, ◌*◌, ◌^◌, ◌<◌, ◌≤◌, ℤ, pos, ◌-ℤ◌, ◌≤ℤ◌, ◌↔◌, IsTrue, IsSome, IfSome, SomeIff, unsigned_abs};
 ghost use Rattle.std.specs.Int.{int_min, int_max};
-ghost use Rattle.mr_geom.specs.Rectangle.{Rectangle, IsOrdered, FitsMap, union, area};
-ghost use Rattle.mr_geom.specs.Plane.{Holds, Meets, Inside, IsLeastRound};
+ghost use Rattle.mr_geom.specs.Rectangle.{Rectangle, IsOrdered, FitsMap, rectangle_of, union, join, area};
+ghost use Rattle.mr_geom.specs.Plane.{Holds, Meets, touches, Inside, IsLeastRound};
 ghost use Rattle.mr_geom.specs.Distance.{square, IsLeastDistance, least_squared_distance};
 
 use crate::Point;
 use std::marker::Model;
 
-/// A rectangle with sides along the axes, in map units. All sides are closed: a rectangle holds the points on its border,
-/// and may be a single line or a single point.
+/// A rectangle with sides along the axes, in map units. All sides are closed: a rectangle holds the
+/// points on its border, and may be a single line or a single point.
 #[derive(Clone, Copy, Debug, PartialEq, Eq)]
 pub struct Rect {
     x0: i32,
@@ -30,10 +30,12 @@ impl Model for Rect {
 }
 
 impl Rect {
-    /// The rectangle from (`x0`, `y0`) to (`x1`, `y1`); `None` where `x0` is above `x1` or `y0` above `y1`.
+    /// The rectangle from (`x0`, `y0`) to (`x1`, `y1`); `None` where `x0` is above `x1` or `y0`
+    /// above `y1`.
     pub fn new(x0: i32, y0: i32, x1: i32, y1: i32) -> Option<Rect>
-        ensures { let r : Rectangle = record { x0 = x0; y0 = y0; x1 = x1; y1 = y1 } in
+        ensures ordered { let r : Rectangle = record { x0 = x0; y0 = y0; x1 = x1; y1 = y1 } in
             SomeIff result (IsOrdered r) r }
+        ensures exact { result ≡ rectangle_of x0 y0 x1 y1 }
     {
         if x0 > x1 || y0 > y1 {
             return None;
@@ -52,7 +54,8 @@ impl Rect {
 
     /// Whether the two share a point, be it on the border of both.
     pub fn meets(&self, other: &Rect) -> bool
-        ensures { IsTrue result ↔ Meets self.now other.now }
+        ensures shared { IsTrue result ↔ Meets self.now other.now }
+        ensures test { result ≡ touches self.now other.now }
     {
         ranges_meet(self.x0, self.x1, other.x0, other.x1)
             && ranges_meet(self.y0, self.y1, other.y0, other.y1)
@@ -88,7 +91,8 @@ impl Rect {
         span(self.x0, self.x1) * span(self.y0, self.y1)
     }
 
-    /// By how much the area grows where the rectangle is enlarged to hold the other one too, in squared map units.
+    /// By how much the area grows where the rectangle is enlarged to hold the other one too, in
+    /// squared map units.
     pub fn growth(&self, other: &Rect) -> u64
         ensures value { pos result ≡ area (union self.now other.now) -ℤ area self.now }
         ensures bound { result ≤ (2 ^ 32 - 1) * (2 ^ 32 - 1) }
@@ -96,8 +100,8 @@ impl Rect {
         self.union(other).area() - self.area()
     }
 
-    /// The squared distance of the point to the nearest point of the rectangle, in squared map units: 0 where the
-    /// rectangle holds the point.
+    /// The squared distance of the point to the nearest point of the rectangle, in squared map
+    /// units: 0 where the rectangle holds the point.
     pub fn dist2(&self, p: &Point) -> u128
         ensures value { result ≡ least_squared_distance self.now p.now }
         ensures least { IsLeastDistance self.now p.now result }
@@ -105,6 +109,18 @@ impl Rect {
         ensures bound { result ≤ 2 * ((2 ^ 32 - 1) * (2 ^ 32 - 1)) }
     {
         squared(gap(self.x0, self.x1, p.x)) + squared(gap(self.y0, self.y1, p.y))
+    }
+}
+
+/// The least rectangle round two of which one or both may be missing: the one that is there, or
+/// none.
+pub fn joined(first: Option<Rect>, second: Option<Rect>) -> Option<Rect>
+    ensures { result ≡ join first second }
+{
+    match (first, second) {
+        (None, second) => second,
+        (Some(first), None) => Some(first),
+        (Some(first), Some(second)) => Some(first.union(&second)),
     }
 }
 

@@ -6,7 +6,8 @@ use crate::Rect;
 
 /// A part of the plane, as far as it tells which rectangles it meets.
 ///
-/// A rectangle that it does not meet has none in it that it meets, so a search may leave out all that lies there.
+/// A rectangle that it does not meet has none in it that it meets, so a search may leave out all
+/// that lies there.
 pub trait Region {
     // The rectangles that the region meets.
     ghost reached: { Self → Rectangle → Type 0 };
@@ -16,5 +17,6 @@ pub trait Region {
         ensures { IsTrue result ↔ reached self.now r.now };
 
     // A region that meets a rectangle meets each rectangle that contains it.
-    ghost monotone: { (s : Self) (a b : Rectangle) → IsOrdered a → Inside a b → reached s a → reached s b };
+    ghost monotone: { (s : Self) (a b : Rectangle) → IsOrdered a → Inside a b
+        → reached s a → reached s b };
 }

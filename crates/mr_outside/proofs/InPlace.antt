@@ -10,20 +10,24 @@ after_front : (front ys : List ℕ) (a n : ℕ) → length front ≡ a → take 
 after_front front ys a n e = ap (λ k. take (k + n) (front ++ ys)) (sym e) ∙ take-append-add front ys n
 
 -- what stands in front after the part from a on was written
-pub take-put_mid_within : (a k n : ℕ) (xs ys : List ℕ) → a ≤ length xs → n ≤ length ys → take (a + n) (put_mid a k xs ys) ≡ take a xs ++ take n ys
+pub take-put_mid_within : (a k n : ℕ) (xs ys : List ℕ) → a ≤ length xs → n ≤ length ys
+    → take (a + n) (put_mid a k xs ys) ≡ take a xs ++ take n ys
 take-put_mid_within a k n xs ys within fits =
     sym (take-take (a + n) (a + length ys) (put_mid a k xs ys) (omega (arith, fits)))
     ∙ ap (take (a + n)) (take-put_mid a k xs ys (a + length ys) refl within)
     ∙ after_front (take a xs) ys a n (length-take-le a xs within)
 
-after_part : (a k n : ℕ) (xs ys : List ℕ) → a ≤ length xs → n ≤ length ys → drop (a + n) (put_mid a k xs ys) ≡ drop n ys ++ post_of a k xs
+after_part : (a k n : ℕ) (xs ys : List ℕ) → a ≤ length xs → n ≤ length ys
+    → drop (a + n) (put_mid a k xs ys) ≡ drop n ys ++ post_of a k xs
 after_part a k n xs ys within fits =
     sym (drop-drop n a (put_mid a k xs ys))
     ∙ ap (drop n) (drop_at (take a xs) (ys ++ post_of a k xs) a (length-take-le a xs within))
     ∙ drop-append-le n ys (post_of a k xs) fits
 
 -- what stands behind it
-pub drop-put_mid_within : (a k n : ℕ) (xs ys : List ℕ) → a ≤ length xs → n ≤ length ys → length ys ≡ length (mid_of a k xs) → drop n ys ≡ drop n (mid_of a k xs) → drop (a + n) (put_mid a k xs ys) ≡ drop (a + n) xs
+pub drop-put_mid_within : (a k n : ℕ) (xs ys : List ℕ) → a ≤ length xs → n ≤ length ys
+    → length ys ≡ length (mid_of a k xs) → drop n ys ≡ drop n (mid_of a k xs)
+    → drop (a + n) (put_mid a k xs ys) ≡ drop (a + n) xs
 drop-put_mid_within a k n xs ys within fits long same =
     after_part a k n xs ys within fits
     ∙ ap (λ zs. zs ++ post_of a k xs) same

@@ -1,5 +1,6 @@
 pub mod Rises
 pub mod Taking
 pub mod Pieces
+pub mod Changes
 pub mod NamedFiles
 pub mod InPlace

@@ -1,20 +1,40 @@
 -- What a sink took in one call and in the next.
-use Rattle.std.proofs.Common.{ℕ, List, [], ◌++◌, Option, Some, None, refl, sym, ap, append_assoc, append-nil, ◌+◌, take, drop, take-append-drop}
+use Rattle.std.proofs.Common.{ℕ, List, [], ◌++◌, Option, Some, None, option_map, ◌≡◌, refl, sym, ap, ◌∙◌, append_assoc, append-nil, ◌+◌, take, drop, take-append-drop}
 use Rattle.std.proofs.Math.Seq.{take-add}
+use Rattle.mr_outside.specs.State.{Sunk}
 use Rattle.mr_outside.specs.Told.{Takes, TakesFront}
 
-pub Takes-none : (old : Option (List ℕ)) → Takes old old []
-Takes-none None = refl
-Takes-none (Some taken) = ap Some (sym (append-nil taken))
+added_none : (taken : Option (List ℕ)) → taken ≡ option_map (λ xs. xs ++ []) taken
+added_none None = refl
+added_none (Some taken) = ap Some (sym (append-nil taken))
 
-pub Takes-append : (old between new : Option (List ℕ)) (first second : List ℕ) → Takes old between first → Takes between new second → Takes old new (first ++ second)
-Takes-append None between new first second e f = simp e at f
-Takes-append (Some taken) between new first second e f = simp (e, append_assoc) at f
+pub Takes-none : (s : Sunk) → Takes s s []
+Takes-none s = added_none s.taken
+
+added_twice : (taken : Option (List ℕ)) (first second : List ℕ)
+    → option_map (λ xs. xs ++ second) (option_map (λ xs. xs ++ first) taken)
+    ≡ option_map (λ xs. xs ++ (first ++ second)) taken
+added_twice None first second = refl
+added_twice (Some taken) first second = ap Some (append_assoc taken first second)
+
+pub Takes-append : (before between after : Sunk) (first second : List ℕ) → Takes before between first
+    → Takes between after second → Takes before after (first ++ second)
+Takes-append before between after first second e f =
+    f ∙ ap (option_map (λ xs. xs ++ second)) e ∙ added_twice before.taken first second
 
 -- one piece more of a list that is taken from the front
-pub Takes-more : (old between new : Option (List ℕ)) (bytes : List ℕ) (done n : ℕ) → Takes old between (take done bytes) → Takes between new (take n (drop done bytes)) → Takes old new (take (done + n) bytes)
-Takes-more old between new bytes done n e f = rw (take-add done n bytes) (Takes-append old between new _ _ e f)
+pub Takes-more : (before between after : Sunk) (bytes : List ℕ) (done n : ℕ) → Takes before between (take done bytes)
+    → Takes between after (take n (drop done bytes)) → Takes before after (take (done + n) bytes)
+Takes-more before between after bytes done n e f =
+    rw (take-add done n bytes) (Takes-append before between after _ _ e f)
+
+-- a refusal takes nothing
+pub Takes-refused : (before between after : Sunk) (bytes : List ℕ) → Takes before between bytes
+    → after.taken ≡ between.taken → Takes before after bytes
+Takes-refused before between after bytes e f = f ∙ e
 
 -- a front by its length
-pub TakesFront-take : (old new : Option (List ℕ)) (bytes : List ℕ) (done : ℕ) → Takes old new (take done bytes) → TakesFront old new bytes
-TakesFront-take old new bytes done e = record { front = take done bytes; rest = drop done bytes; whole = sym (take-append-drop done bytes); takes = e }
+pub TakesFront-take : (before after : Sunk) (bytes : List ℕ) (done : ℕ) → Takes before after (take done bytes)
+    → TakesFront before after bytes
+TakesFront-take before after bytes done e =
+    record { front = take done bytes; rest = drop done bytes; whole = sym (take-append-drop done bytes); takes = e }

@@ -1,4 +1,5 @@
--- Counts of what went wrong, and of reads. They never fall, and stand once they are at their last value.
+-- Counts of what went wrong, and of reads. They never fall, and stand once they are at their last
+-- value.
 use Rattle.std.specs.Prelude.{ℕ, ◌+◌, ◌-◌, ◌^◌, ◌≤◌, min, max}
 
 abbrev pub last_count : ℕ

@@ -1,5 +1,10 @@
 pub mod formers
 pub mod Files
 pub mod Faults
+pub mod State
 pub mod Told
+pub mod Causes
+pub mod Reading
+pub mod Writing
 pub mod Memory
+pub mod Edge

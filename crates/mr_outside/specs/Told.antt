@@ -1,7 +1,9 @@
--- What is known of an object outside: all that it holds where it tells, and nothing where it does not.
+-- What is known of an object outside: all that it holds where it tells, and nothing where it does
+-- not.
 use Rattle.std.specs.Prelude.{◌≡◌, ℕ, List, ◌++◌, Option, Some, None, option_map, MatchOption, ⊤}
 use Rattle.mr_outside.specs.Files.{Files, file}
 use Rattle.mr_outside.specs.Faults.{Rose}
+use Rattle.mr_outside.specs.State.{Sunk}
 
 -- P of the files, where they are told
 abbrev pub OfFiles : Option Files → (Files → Type 0) → Type 0
@@ -12,18 +14,19 @@ OfFiles (Some files) P = P files
 abbrev pub OfFile : Option Files → List ℕ → Type 0 → (List ℕ → Type 0) → Type 0
 OfFile told name P Q = OfFiles told (λ files. MatchOption (file files name) P Q)
 
--- why a call on this name may answer that there is no such file: it is told and absent, or a fault was counted
+-- why a call on this name may answer that there is no such file: it is told and absent, or a fault
+-- was counted
 abbrev pub MayMiss : Option Files → List ℕ → ℕ → ℕ → Type 0
 MayMiss None name before now = Rose before now
 MayMiss (Some files) name before now = file files name ≡ None
 
 -- these bytes went to the end of what was taken, where that is told; and it is told after as before
-abbrev pub Takes : Option (List ℕ) → Option (List ℕ) → List ℕ → Type 0
-Takes old new bytes = new ≡ option_map (λ taken. taken ++ bytes) old
+abbrev pub Takes : Sunk → Sunk → List ℕ → Type 0
+Takes before after bytes = after.taken ≡ option_map (λ taken. taken ++ bytes) before.taken
 
 -- some front of these bytes was taken, possibly all or none
-pub record TakesFront (old new : Option (List ℕ)) (bytes : List ℕ) : Type 0 where
+pub record TakesFront (before after : Sunk) (bytes : List ℕ) : Type 0 where
   pub front : List ℕ
   pub rest : List ℕ
   pub whole : bytes ≡ front ++ rest
-  pub takes : Takes old new front
+  pub takes : Takes before after front

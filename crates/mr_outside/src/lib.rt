@@ -1,4 +1,5 @@
-//! What the program is given from outside: files, an output, a gate for workers; and a list that a tree may hold.
+//! What the program is given from outside: files, an output, a gate for workers; and a list that a
+//! tree may hold.
 #![tactic(auto)]
 
 mod calls;

@@ -1,8 +1,10 @@
-ghost use Rattle.std.specs.Prelude.{◌≡◌, ◌+◌, ◌-◌, ◌≤◌, ◌++◌, ◌↔◌, Some, None, IsTrue, IfOk, OnOk, OnErr, IsErrOf, option_map, length, min, take, drop};
-ghost use Rattle.mr_outside.specs.Files.{file};
-ghost use Rattle.mr_outside.specs.Faults.{Rose, next_count};
-ghost use Rattle.mr_outside.specs.Told.{OfFile, MayMiss};
-ghost use Rattle.mr_outside.specs.Memory.{no_calls, next_fails, called, files_of};
+ghost use Rattle.std.specs.Prelude.{◌≡◌, ◌+◌, ◌-◌, ◌≤◌, ◌++◌, ◌↔◌, ◌⊎◌, [], ⊤, Some, None, IsTrue, IfOk, OnOk, OnErr, IsErrOf, option_map, length, min, take, drop};
+ghost use Rattle.mr_outside.specs.Files.{file, with_file, grown, replaced, overwritten};
+ghost use Rattle.mr_outside.specs.Told.{OfFile};
+ghost use Rattle.mr_outside.specs.Causes.{ShelfCauses, CountsRead};
+ghost use Rattle.mr_outside.specs.Reading.{FillsFront, GivesFrom};
+ghost use Rattle.mr_outside.specs.Writing.{IsThere, Writes};
+ghost use Rattle.mr_outside.specs.Memory.{no_calls, next_fails, called, half_of, shelved, files_of};
 ghost use Rattle.std.specs.FinMap as finite;
 
 use crate::calls::Calls;
@@ -11,8 +13,8 @@ use std::alloc::{AllocError, Global};
 use std::collections::BTreeMap;
 use std::marker::Model;
 
-/// Files in memory, which a shelf tells. Its calls are numbered from 1, and exactly those whose number
-/// is in a list fail.
+/// Files in memory, which a shelf tells. Its calls are numbered from 1, and exactly those whose
+/// number is in a list fail.
 #[derive(Drop)]
 pub struct MemShelf {
     alloc: Global,
@@ -46,7 +48,8 @@ impl MemShelf {
 
     /// Sets a file, whether or not it was there. This is no call of the trait, and has no number.
     pub fn put(&mut self, name: &str, bytes: &[u8]) -> Result<(), AllocError>
-        ensures ok { OnOk result (self.new ≡ record self.old { files = finite.insert self.old.files name.now bytes.now }) }
+        ensures ok { let files = finite.insert self.old.files name.now bytes.now in
+            OnOk result (self.new ≡ record self.old { files = files }) }
         ensures err { OnErr result (self.new ≡ self.old) }
     {
         set_file(self.alloc, &mut self.files, name, bytes)
@@ -61,25 +64,17 @@ impl MemShelf {
 }
 
 impl Shelf for MemShelf {
-    ghost use Rattle.std.specs.Prelude.{Some};
+    ghost use Rattle.mr_outside.specs.Memory.{shelved};
 
-    ghost files = { λ s. Some s.files };
-
-    ghost faults = { λ s. s.calls.faults };
-
-    ghost reads = { λ s. s.reads };
+    ghost state = { shelved };
 
     fn size(&mut self, name: &str) -> Result<u64, ShelfErr>
         ensures after { self.new ≡ record self.old { calls = called self.old.calls } }
         ensures fails { IsErrOf result ShelfErr.Fault ↔ IsTrue (next_fails self.old.calls) }
         ensures memory { ¬ IsErrOf result ShelfErr.NoMemory }
-        ensures length { IfOk result (λ n. OfFile (Some self.old.files) name.now ⊥ (λ bytes. n ≡ length bytes)) }
-        ensures missing { IsErrOf result ShelfErr.Missing → MayMiss (Some self.old.files) name.now self.old.calls.faults self.new.calls.faults }
-        ensures fault { IsErrOf result ShelfErr.Fault → Rose self.old.calls.faults self.new.calls.faults }
-        ensures files { Some self.new.files ≡ Some self.old.files }
-        ensures faults { self.old.calls.faults ≤ self.new.calls.faults }
-        ensures quiet { OnOk result (self.new.calls.faults ≡ self.old.calls.faults) }
-        ensures reads { self.new.reads ≡ self.old.reads }
+        ensures length { IfOk result (λ n. OfFile (Some self.old.files) name.now ⊥
+            (λ bytes. n ≡ length bytes)) }
+        ensures causes { ShelfCauses name.now (shelved self.old) (shelved self.new) result }
     {
         if self.calls.next_fails() {
             return Err(ShelfErr::Fault);
@@ -94,19 +89,12 @@ impl Shelf for MemShelf {
         ensures numbered { self.new.calls ≡ called self.old.calls }
         ensures fails { IsErrOf result ShelfErr.Fault ↔ IsTrue (next_fails self.old.calls) }
         ensures memory { ¬ IsErrOf result ShelfErr.NoMemory }
-        ensures within { IfOk result (λ n. n ≤ length into.old) }
-        ensures count { IfOk result (λ n. OfFile (Some self.old.files) name.now ⊥
-            (λ bytes. n ≡ min (length into.old) (length bytes - at))) }
-        ensures bytes { IfOk result (λ n. OfFile (Some self.old.files) name.now ⊥
-            (λ bytes. into.new ≡ take n (drop at bytes) ++ drop n into.old)) }
-        ensures rest { IfOk result (λ n. drop n into.new ≡ drop n into.old) }
-        ensures missing { IsErrOf result ShelfErr.Missing → MayMiss (Some self.old.files) name.now self.old.calls.faults self.new.calls.faults }
-        ensures fault { IsErrOf result ShelfErr.Fault → Rose self.old.calls.faults self.new.calls.faults }
-        ensures files { Some self.new.files ≡ Some self.old.files }
-        ensures faults { self.old.calls.faults ≤ self.new.calls.faults }
-        ensures quiet { OnOk result (self.new.calls.faults ≡ self.old.calls.faults) }
-        ensures reads { OnOk result (self.new.reads ≡ next_count self.old.reads) }
-        ensures unread { OnErr result (self.new.reads ≡ self.old.reads) }
+        ensures fills { IfOk result (λ n. FillsFront into.old into.new n) }
+        ensures gives { IfOk result (λ n. OfFile (Some self.old.files) name.now ⊥
+            (GivesFrom at into.old into.new n)) }
+        ensures causes { ShelfCauses name.now (shelved self.old) (shelved self.new) result }
+        ensures files { self.new.files ≡ self.old.files }
+        ensures reads { CountsRead (shelved self.old) (shelved self.new) result }
     {
         if self.calls.next_fails() {
             return Err(ShelfErr::Fault);
@@ -117,6 +105,85 @@ impl Shelf for MemShelf {
         let count = copy_from(bytes, at, into);
         self.reads = self.reads.saturating_add(1);
         Ok(count)
+    }
+
+    fn create(&mut self, name: &str) -> Result<(), ShelfErr>
+        ensures done { let files = with_file name.now [] self.old.files in
+            let done = record self.old { files = files; calls = called self.old.calls } in
+            OnOk result (self.new ≡ done) }
+        ensures not { OnErr result (self.new ≡ record self.old { calls = called self.old.calls }) }
+        ensures fails { IsErrOf result ShelfErr.Fault ↔ IsTrue (next_fails self.old.calls) }
+        ensures never { ¬ IsErrOf result ShelfErr.Missing }
+        ensures causes { ShelfCauses name.now (shelved self.old) (shelved self.new) result }
+    {
+        if self.calls.next_fails() {
+            return Err(ShelfErr::Fault);
+        }
+        set_file(self.alloc, &mut self.files, name, b"")?;
+        Ok(())
+    }
+
+    fn append(&mut self, name: &str, bytes: &[u8]) -> Result<(), ShelfErr>
+        ensures numbered { self.new.calls ≡ called self.old.calls }
+        ensures done { OnOk result (self.new.files ≡ grown name.now bytes.now self.old.files) }
+        ensures half { IsErrOf result ShelfErr.Fault
+            → self.new.files ≡ grown name.now (half_of bytes.now) self.old.files }
+        ensures memory { IsErrOf result ShelfErr.NoMemory → self.new.files ≡ self.old.files }
+        ensures fails { IsErrOf result ShelfErr.Fault → IsTrue (next_fails self.old.calls) }
+        ensures failing { IsTrue (next_fails self.old.calls)
+            → IsErrOf result ShelfErr.Fault ⊎ IsErrOf result ShelfErr.NoMemory }
+        ensures there { OnOk result (IsThere (Some self.old.files) name.now) }
+        ensures writes { Writes (grown name.now) bytes.now
+            (shelved self.old) (shelved self.new) result }
+        ensures causes { ShelfCauses name.now (shelved self.old) (shelved self.new) result }
+    {
+        if !self.calls.next_fails() {
+            return grow(&mut self.files, name, bytes);
+        }
+        let (half, _) = bytes.split_at(bytes.len() / 2);
+        if let Err(ShelfErr::NoMemory) = grow(&mut self.files, name, half) {
+            return Err(ShelfErr::NoMemory);
+        }
+        Err(ShelfErr::Fault)
+    }
+
+    fn write_at(&mut self, name: &str, at: u64, bytes: &[u8]) -> Result<(), ShelfErr>
+        requires { OfFile (Some self.old.files) name.now ⊤
+            (λ held. at + length bytes.now ≤ length held) }
+        ensures numbered { self.new.calls ≡ called self.old.calls }
+        ensures done { OnOk result
+            (self.new.files ≡ overwritten name.now at bytes.now self.old.files) }
+        ensures half { IsErrOf result ShelfErr.Fault
+            → self.new.files ≡ overwritten name.now at (half_of bytes.now) self.old.files }
+        ensures fails { IsErrOf result ShelfErr.Fault ↔ IsTrue (next_fails self.old.calls) }
+        ensures memory { ¬ IsErrOf result ShelfErr.NoMemory }
+        ensures there { OnOk result (IsThere (Some self.old.files) name.now) }
+        ensures writes { Writes (overwritten name.now at) bytes.now
+            (shelved self.old) (shelved self.new) result }
+        ensures causes { ShelfCauses name.now (shelved self.old) (shelved self.new) result }
+    {
+        if !self.calls.next_fails() {
+            return overwrite(&mut self.files, name, at, bytes);
+        }
+        let (half, _) = bytes.split_at(bytes.len() / 2);
+        let _ = overwrite(&mut self.files, name, at, half);
+        Err(ShelfErr::Fault)
+    }
+
+    fn sync(&mut self, name: &str) -> Result<(), ShelfErr>
+        ensures after { self.new ≡ record self.old { calls = called self.old.calls } }
+        ensures fails { IsErrOf result ShelfErr.Fault ↔ IsTrue (next_fails self.old.calls) }
+        ensures memory { ¬ IsErrOf result ShelfErr.NoMemory }
+        ensures there { OnOk result (IsThere (Some self.old.files) name.now) }
+        ensures causes { ShelfCauses name.now (shelved self.old) (shelved self.new) result }
+    {
+        if self.calls.next_fails() {
+            return Err(ShelfErr::Fault);
+        }
+        match bytes_of(&self.files, name) {
+            Some(_) => Ok(()),
+            None => Err(ShelfErr::Missing),
+        }
     }
 }
 
@@ -135,13 +202,66 @@ fn set_file(
     name: &str,
     bytes: &[u8],
 ) -> Result<(), AllocError>
-    ensures ok { OnOk result (files_of files.new ≡ finite.insert (files_of files.old) name.now bytes.now) }
+    ensures ok { let put = finite.insert (files_of files.old) name.now bytes.now in
+        OnOk result (files_of files.new ≡ put) }
     ensures err { OnErr result (files_of files.new ≡ files_of files.old) }
 {
     let name = String::from_str(alloc, name)?;
     let bytes = Vec::from_slice(alloc, bytes)?;
     files.insert(name, bytes)?;
     Ok(())
+}
+
+/// Puts the bytes to the end of the named file.
+fn grow(files: &mut BTreeMap<String, Vec<u8>>, name: &str, bytes: &[u8]) -> Result<(), ShelfErr>
+    ensures grown { OnOk result
+        (files_of files.new ≡ grown name.now bytes.now (files_of files.old)) }
+    ensures there { OnOk result (IsThere (Some (files_of files.old)) name.now) }
+    ensures missing { IsErrOf result ShelfErr.Missing → file (files_of files.old) name.now ≡ None }
+    ensures never { ¬ IsErrOf result ShelfErr.Fault }
+    ensures refused { OnErr result (files_of files.new ≡ files_of files.old) }
+{
+    match files.get_mut(name) {
+        Some(held) => {
+            held.extend_from_slice(bytes)?;
+            Ok(())
+        }
+        None => Err(ShelfErr::Missing),
+    }
+}
+
+/// Replaces the bytes of the named file from a place on.
+fn overwrite(
+    files: &mut BTreeMap<String, Vec<u8>>,
+    name: &str,
+    at: u64,
+    bytes: &[u8],
+) -> Result<(), ShelfErr>
+    requires { OfFile (Some (files_of files.old)) name.now ⊤
+        (λ held. at + length bytes.now ≤ length held) }
+    ensures done { OnOk result
+        (files_of files.new ≡ overwritten name.now at bytes.now (files_of files.old)) }
+    ensures there { OnOk result (IsThere (Some (files_of files.old)) name.now) }
+    ensures missing { OnErr result (file (files_of files.old) name.now ≡ None) }
+    ensures error { OnErr result (IsErrOf result ShelfErr.Missing) }
+    ensures refused { OnErr result (files_of files.new ≡ files_of files.old) }
+{
+    match files.get_mut(name) {
+        Some(held) => {
+            replace(held.as_mut_slice(), at as usize, bytes);
+            Ok(())
+        }
+        None => Err(ShelfErr::Missing),
+    }
+}
+
+fn replace(held: &mut [u8], at: usize, bytes: &[u8])
+    requires { at + length bytes.now ≤ length held.old }
+    ensures { held.new ≡ replaced at bytes.now held.old }
+{
+    let (_, behind) = held.split_at_mut(at);
+    let (place, _) = behind.split_at_mut(bytes.len());
+    place.copy_from_slice(bytes);
 }
 
 /// Copies what stands from a place on to the front of `into`, as far as both go.

@@ -1,6 +1,6 @@
-ghost use Rattle.std.specs.Prelude.{◌≡◌, ◌<◌, ◌≤◌, ◌++◌, ◌↔◌, [], IsTrue, IfOk, OnOk, OnErr, IsErrOf, length, take};
-ghost use Rattle.mr_outside.specs.Faults.{Rose};
-ghost use Rattle.mr_outside.specs.Memory.{no_calls, next_fails, called};
+ghost use Rattle.std.specs.Prelude.{◌≡◌, ◌<◌, ◌≤◌, ◌++◌, ◌↔◌, [], IsTrue, IfOk, OnErr, IsErrOf, length, take};
+ghost use Rattle.mr_outside.specs.Causes.{SinkCauses};
+ghost use Rattle.mr_outside.specs.Memory.{no_calls, next_fails, called, sunk};
 
 use crate::calls::Calls;
 use crate::{Sink, SinkErr};
@@ -45,11 +45,9 @@ impl MemSink {
 }
 
 impl Sink for MemSink {
-    ghost use Rattle.std.specs.Prelude.{Some};
+    ghost use Rattle.mr_outside.specs.Memory.{sunk};
 
-    ghost taken = { λ s. Some s.bytes };
-
-    ghost faults = { λ s. s.calls.faults };
+    ghost state = { sunk };
 
     fn write(&mut self, bytes: &[u8]) -> Result<usize, SinkErr>
         ensures whole { IfOk result (λ n. n ≡ length bytes.now) }
@@ -59,9 +57,7 @@ impl Sink for MemSink {
         ensures progress { IfOk result (λ n. 0 < length bytes.now → 0 < n) }
         ensures front { IfOk result (λ n. self.new.bytes ≡ self.old.bytes ++ take n bytes.now) }
         ensures refused { OnErr result (self.new.bytes ≡ self.old.bytes) }
-        ensures fault { IsErrOf result SinkErr.Fault → Rose self.old.calls.faults self.new.calls.faults }
-        ensures faults { self.old.calls.faults ≤ self.new.calls.faults }
-        ensures quiet { OnOk result (self.new.calls.faults ≡ self.old.calls.faults) }
+        ensures causes { SinkCauses (sunk self.old) (sunk self.new) result }
     {
         if self.calls.next_fails() {
             return Err(SinkErr::Fault);

@@ -1,6 +1,7 @@
-ghost use Rattle.std.specs.Prelude.{◌≡◌, ◌+◌, ◌-◌, ◌≤◌, ◌<◌, ◌++◌, length, min, take, drop, vec_len, IfOk, OnOk, IsErrOf};
-ghost use Rattle.mr_outside.specs.Faults.{Rose};
-ghost use Rattle.mr_outside.specs.Told.{OfFile, MayMiss};
+ghost use Rattle.std.specs.Prelude.{◌≡◌, ◌+◌, ◌-◌, ◌≤◌, ◌++◌, length, min, take, drop, vec_len, IfOk};
+ghost use Rattle.mr_outside.specs.Told.{OfFile};
+ghost use Rattle.mr_outside.specs.Causes.{ShelfCauses};
+ghost use Rattle.mr_outside.specs.Reading.{piece_count};
 
 use crate::{Shelf, ShelfErr};
 use std::alloc::{AllocError, Global};
@@ -13,13 +14,15 @@ const PIECE: usize = 65_536;
 /// A read that gives fewer bytes than were asked for ends it. Room is taken as bytes come, so a
 /// great length that no bytes follow takes one piece.
 pub fn read_all<S: Shelf>(alloc: Global, shelf: &mut S, name: &str) -> Result<Vec<u8>, ShelfErr>
-    ensures bytes { IfOk result (λ v. OfFile (S.files shelf.old) name.now ⊥ (λ bytes. v.items ≡ bytes)) }
-    ensures missing { IsErrOf result ShelfErr.Missing → MayMiss (S.files shelf.old) name.now (S.faults shelf.old) (S.faults shelf.new) }
-    ensures fault { IsErrOf result ShelfErr.Fault → Rose (S.faults shelf.old) (S.faults shelf.new) }
-    ensures files { S.files shelf.new ≡ S.files shelf.old }
-    ensures faults { S.faults shelf.old ≤ S.faults shelf.new }
-    ensures quiet { OnOk result (S.faults shelf.new ≡ S.faults shelf.old) }
-    ensures reads { S.reads shelf.old ≤ S.reads shelf.new }
+    ensures bytes { IfOk result (λ v. OfFile (S.state shelf.old).files name.now ⊥
+        (λ bytes. v.items ≡ bytes)) }
+    ensures causes { ShelfCauses name.now (S.state shelf.old) (S.state shelf.new) result }
+    ensures files { (S.state shelf.new).files ≡ (S.state shelf.old).files }
+    ensures reads { (S.state shelf.old).reads ≤ (S.state shelf.new).reads }
+    ensures pieces { let before = (S.state shelf.old).reads in
+        let after = (S.state shelf.new).reads in
+        OfFile (S.state shelf.old).files name.now (after ≡ before)
+        (λ bytes. after ≤ before + piece_count (length bytes)) }
 {
     let size = shelf.size(name)?;
     let mut piece = buffer(alloc, PIECE)?;
@@ -40,15 +43,14 @@ fn read_up_to<S: Shelf>(
     size: u64,
     piece: &mut [u8],
 ) -> Result<Vec<u8>, ShelfErr>
-    requires room { 0 < length piece.old }
-    requires size { OfFile (S.files shelf.old) name.now ⊥ (λ bytes. size ≡ length bytes) }
-    ensures bytes { IfOk result (λ v. OfFile (S.files shelf.old) name.now ⊥ (λ bytes. v.items ≡ bytes)) }
-    ensures missing { IsErrOf result ShelfErr.Missing → MayMiss (S.files shelf.old) name.now (S.faults shelf.old) (S.faults shelf.new) }
-    ensures fault { IsErrOf result ShelfErr.Fault → Rose (S.faults shelf.old) (S.faults shelf.new) }
-    ensures files { S.files shelf.new ≡ S.files shelf.old }
-    ensures faults { S.faults shelf.old ≤ S.faults shelf.new }
-    ensures quiet { OnOk result (S.faults shelf.new ≡ S.faults shelf.old) }
-    ensures reads { S.reads shelf.old ≤ S.reads shelf.new }
+    requires room { length piece.old ≡ 65536 }
+    requires size { OfFile (S.state shelf.old).files name.now ⊥ (λ bytes. size ≡ length bytes) }
+    ensures bytes { IfOk result (λ v. OfFile (S.state shelf.old).files name.now ⊥
+        (λ bytes. v.items ≡ bytes)) }
+    ensures causes { ShelfCauses name.now (S.state shelf.old) (S.state shelf.new) result }
+    ensures files { (S.state shelf.new).files ≡ (S.state shelf.old).files }
+    ensures reads { (S.state shelf.old).reads ≤ (S.state shelf.new).reads }
+    ensures pieces { (S.state shelf.new).reads ≤ (S.state shelf.old).reads + piece_count size }
 {
     let mut bytes = Vec::new(alloc);
     while (bytes.len() as u64) < size {
@@ -69,17 +71,16 @@ fn read_piece<S: Shelf>(
     bytes: &mut Vec<u8>,
 ) -> Result<usize, ShelfErr>
     ensures grown { IfOk result (λ n. vec_len bytes.new ≡ vec_len bytes.old + n) }
-    ensures count { IfOk result (λ n. OfFile (S.files shelf.old) name.now ⊥
+    ensures count { IfOk result (λ n. OfFile (S.state shelf.old).files name.now ⊥
         (λ file. n ≡ min (length piece.old) (length file - length bytes.old.items))) }
-    ensures bytes { IfOk result (λ n. OfFile (S.files shelf.old) name.now ⊥
-        (λ file. bytes.new.items ≡ bytes.old.items ++ take n (drop (length bytes.old.items) file))) }
+    ensures bytes { IfOk result (λ n. OfFile (S.state shelf.old).files name.now ⊥
+        (λ file. let come = take n (drop (length bytes.old.items) file) in
+        bytes.new.items ≡ bytes.old.items ++ come)) }
     ensures within { IfOk result (λ n. n ≤ length piece.old) }
-    ensures missing { IsErrOf result ShelfErr.Missing → MayMiss (S.files shelf.old) name.now (S.faults shelf.old) (S.faults shelf.new) }
-    ensures fault { IsErrOf result ShelfErr.Fault → Rose (S.faults shelf.old) (S.faults shelf.new) }
-    ensures files { S.files shelf.new ≡ S.files shelf.old }
-    ensures faults { S.faults shelf.old ≤ S.faults shelf.new }
-    ensures quiet { OnOk result (S.faults shelf.new ≡ S.faults shelf.old) }
-    ensures reads { S.reads shelf.old ≤ S.reads shelf.new }
+    ensures causes { ShelfCauses name.now (S.state shelf.old) (S.state shelf.new) result }
+    ensures files { (S.state shelf.new).files ≡ (S.state shelf.old).files }
+    ensures reads { (S.state shelf.old).reads ≤ (S.state shelf.new).reads }
+    ensures one { (S.state shelf.new).reads ≤ (S.state shelf.old).reads + 1 }
 {
     let count = shelf.read_at(name, bytes.len() as u64, piece)?;
     bytes.extend_from_slice(&piece[..count])?;

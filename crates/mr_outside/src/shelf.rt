@@ -1,7 +1,10 @@
-ghost use Rattle.std.specs.Prelude.{◌≡◌, ◌+◌, ◌-◌, ◌≤◌, ◌++◌, ℕ, Option, min, length, take, drop, IfOk, OnOk, OnErr, IsErrOf};
-ghost use Rattle.mr_outside.specs.Files.{Files};
-ghost use Rattle.mr_outside.specs.Faults.{Rose, next_count};
-ghost use Rattle.mr_outside.specs.Told.{OfFile, MayMiss};
+ghost use Rattle.std.specs.Prelude.{◌≡◌, ◌+◌, ◌≤◌, [], length, None, IfOk, OnOk, OnErr, IsErrOf, ⊤};
+ghost use Rattle.mr_outside.specs.Files.{with_file, grown, overwritten};
+ghost use Rattle.mr_outside.specs.State.{Shelved};
+ghost use Rattle.mr_outside.specs.Told.{OfFile};
+ghost use Rattle.mr_outside.specs.Causes.{ShelfCauses, CountsRead};
+ghost use Rattle.mr_outside.specs.Reading.{FillsFront, GivesFrom};
+ghost use Rattle.mr_outside.specs.Writing.{IsThere, IsChanged, Writes};
 
 use std::alloc::AllocError;
 use thiserror::Error;
@@ -34,39 +37,57 @@ impl From<AllocError> for ShelfErr {
 /// Any text may be a name. A shelf over memory tells its files to contracts; one over the real file
 /// system tells nothing.
 pub trait Shelf {
-    /// The files, where they are told.
-    ghost files: { Self → Option Files };
-
-    /// How many faults there were.
-    ghost faults: { Self → ℕ };
-
-    /// How many calls of `read_at` answered `Ok`.
-    ghost reads: { Self → ℕ };
+    /// The files where they are told, and the counts.
+    ghost state: { Self → Shelved };
 
     /// The length of the file in bytes.
     fn size(&mut self, name: &str) -> Result<u64, ShelfErr>
-        ensures length { IfOk result (λ n. OfFile (files self.old) name.now ⊥ (λ bytes. n ≡ length bytes)) }
-        ensures missing { IsErrOf result ShelfErr.Missing → MayMiss (files self.old) name.now (faults self.old) (faults self.new) }
-        ensures fault { IsErrOf result ShelfErr.Fault → Rose (faults self.old) (faults self.new) }
-        ensures files { files self.new ≡ files self.old }
-        ensures faults { faults self.old ≤ faults self.new }
-        ensures quiet { OnOk result (faults self.new ≡ faults self.old) }
-        ensures reads { reads self.new ≡ reads self.old };
+        ensures length { IfOk result (λ n. OfFile (state self.old).files name.now ⊥
+            (λ bytes. n ≡ length bytes)) }
+        ensures causes { ShelfCauses name.now (state self.old) (state self.new) result }
+        ensures files { (state self.new).files ≡ (state self.old).files }
+        ensures reads { (state self.new).reads ≡ (state self.old).reads };
 
-    /// Copies bytes of the file, from the place `at` on, to the front of `into`, and answers how many:
-    /// as many as there are and as `into` has room for, so none at or past the end of the file.
+    /// Copies bytes of the file, from the place `at` on, to the front of `into`, and answers how
+    /// many: as many as there are and as `into` has room for, so none at or past the file's end.
     fn read_at(&mut self, name: &str, at: u64, into: &mut [u8]) -> Result<usize, ShelfErr>
-        ensures within { IfOk result (λ n. n ≤ length into.old) }
-        ensures count { IfOk result (λ n. OfFile (files self.old) name.now ⊥
-            (λ bytes. n ≡ min (length into.old) (length bytes - at))) }
-        ensures bytes { IfOk result (λ n. OfFile (files self.old) name.now ⊥
-            (λ bytes. into.new ≡ take n (drop at bytes) ++ drop n into.old)) }
-        ensures rest { IfOk result (λ n. drop n into.new ≡ drop n into.old) }
-        ensures missing { IsErrOf result ShelfErr.Missing → MayMiss (files self.old) name.now (faults self.old) (faults self.new) }
-        ensures fault { IsErrOf result ShelfErr.Fault → Rose (faults self.old) (faults self.new) }
-        ensures files { files self.new ≡ files self.old }
-        ensures faults { faults self.old ≤ faults self.new }
-        ensures quiet { OnOk result (faults self.new ≡ faults self.old) }
-        ensures reads { OnOk result (reads self.new ≡ next_count (reads self.old)) }
-        ensures unread { OnErr result (reads self.new ≡ reads self.old) };
+        ensures fills { IfOk result (λ n. FillsFront into.old into.new n) }
+        ensures gives { IfOk result (λ n. OfFile (state self.old).files name.now ⊥
+            (GivesFrom at into.old into.new n)) }
+        ensures causes { ShelfCauses name.now (state self.old) (state self.new) result }
+        ensures files { (state self.new).files ≡ (state self.old).files }
+        ensures reads { CountsRead (state self.old) (state self.new) result };
+
+    /// Leaves the file empty, whether or not it was there. After a refusal it is as before.
+    fn create(&mut self, name: &str) -> Result<(), ShelfErr>
+        ensures made { OnOk result
+            (IsChanged (with_file name.now) [] (state self.old).files (state self.new).files) }
+        ensures refused { OnErr result ((state self.new).files ≡ (state self.old).files) }
+        ensures never { IsErrOf result ShelfErr.Missing → (state self.old).files ≡ None }
+        ensures causes { ShelfCauses name.now (state self.old) (state self.new) result }
+        ensures reads { (state self.new).reads ≡ (state self.old).reads };
+
+    /// Puts the bytes to the end of the file. After a refusal it has grown by some front of them.
+    fn append(&mut self, name: &str, bytes: &[u8]) -> Result<(), ShelfErr>
+        ensures there { OnOk result (IsThere (state self.old).files name.now) }
+        ensures writes { Writes (grown name.now) bytes.now
+            (state self.old) (state self.new) result }
+        ensures causes { ShelfCauses name.now (state self.old) (state self.new) result };
+
+    /// Replaces the bytes of the file from the place `at` on. After a refusal some front of these
+    /// bytes stands there.
+    fn write_at(&mut self, name: &str, at: u64, bytes: &[u8]) -> Result<(), ShelfErr>
+        requires { OfFile (state self.old).files name.now ⊤
+            (λ held. at + length bytes.now ≤ length held) }
+        ensures there { OnOk result (IsThere (state self.old).files name.now) }
+        ensures writes { Writes (overwritten name.now at) bytes.now
+            (state self.old) (state self.new) result }
+        ensures causes { ShelfCauses name.now (state self.old) (state self.new) result };
+
+    /// Waits until all that was written to the file stands where it outlives the machine's power.
+    fn sync(&mut self, name: &str) -> Result<(), ShelfErr>
+        ensures there { OnOk result (IsThere (state self.old).files name.now) }
+        ensures causes { ShelfCauses name.now (state self.old) (state self.new) result }
+        ensures files { (state self.new).files ≡ (state self.old).files }
+        ensures reads { (state self.new).reads ≡ (state self.old).reads };
 }

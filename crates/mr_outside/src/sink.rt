@@ -1,6 +1,7 @@
-ghost use Rattle.std.specs.Prelude.{◌≡◌, ◌<◌, ◌≤◌, ℕ, List, Option, length, take, IfOk, OnOk, OnErr, IsErrOf};
-ghost use Rattle.mr_outside.specs.Faults.{Rose};
+ghost use Rattle.std.specs.Prelude.{◌≡◌, ◌<◌, ◌≤◌, length, take, IfOk, OnOk, OnErr};
+ghost use Rattle.mr_outside.specs.State.{Sunk};
 ghost use Rattle.mr_outside.specs.Told.{Takes, TakesFront};
+ghost use Rattle.mr_outside.specs.Causes.{SinkCauses};
 
 use std::alloc::AllocError;
 use thiserror::Error;
@@ -27,30 +28,24 @@ impl From<AllocError> for SinkErr {
 
 /// What takes the bytes that the program gives out, in their order.
 pub trait Sink {
-    /// All bytes taken so far, where they are told.
-    ghost taken: { Self → Option (List ℕ) };
-
-    /// How many faults there were.
-    ghost faults: { Self → ℕ };
+    /// All bytes taken so far where they are told, and the count of faults.
+    ghost state: { Self → Sunk };
 
     /// Takes a front of the bytes and answers its length, which is 0 only where there are none.
     fn write(&mut self, bytes: &[u8]) -> Result<usize, SinkErr>
         ensures within { IfOk result (λ n. n ≤ length bytes.now) }
         ensures progress { IfOk result (λ n. 0 < length bytes.now → 0 < n) }
-        ensures front { IfOk result (λ n. Takes (taken self.old) (taken self.new) (take n bytes.now)) }
-        ensures refused { OnErr result (taken self.new ≡ taken self.old) }
-        ensures fault { IsErrOf result SinkErr.Fault → Rose (faults self.old) (faults self.new) }
-        ensures faults { faults self.old ≤ faults self.new }
-        ensures quiet { OnOk result (faults self.new ≡ faults self.old) };
+        ensures front { IfOk result (λ n.
+            Takes (state self.old) (state self.new) (take n bytes.now)) }
+        ensures refused { OnErr result ((state self.new).taken ≡ (state self.old).taken) }
+        ensures causes { SinkCauses (state self.old) (state self.new) result };
 }
 
 /// Gives all the bytes to the sink. After a refusal some front of them was taken.
 pub fn write_all<W: Sink>(out: &mut W, bytes: &[u8]) -> Result<(), SinkErr>
-    ensures whole { OnOk result (Takes (W.taken out.old) (W.taken out.new) bytes.now) }
-    ensures front { TakesFront (W.taken out.old) (W.taken out.new) bytes.now }
-    ensures fault { IsErrOf result SinkErr.Fault → Rose (W.faults out.old) (W.faults out.new) }
-    ensures faults { W.faults out.old ≤ W.faults out.new }
-    ensures quiet { OnOk result (W.faults out.new ≡ W.faults out.old) }
+    ensures whole { OnOk result (Takes (W.state out.old) (W.state out.new) bytes.now) }
+    ensures front { TakesFront (W.state out.old) (W.state out.new) bytes.now }
+    ensures causes { SinkCauses (W.state out.old) (W.state out.new) result }
 {
     let mut done = 0;
     while done < bytes.len() {

@@ -1,34 +1,63 @@
-ghost use Rattle.std.specs.Prelude.{◌≡◌, ◌<◌, ◌≤◌, ◌++◌, ◌-◌, min, length, take, drop, IfOk, OnOk, OnErr, IsErrOf, None, Option};
-ghost use Rattle.mr_outside.specs.Files.{Files};
-ghost use Rattle.mr_outside.specs.Faults.{Rose, next_count};
-ghost use Rattle.mr_outside.specs.Told.{OfFile, MayMiss};
+ghost use Rattle.std.specs.Prelude.{◌≡◌, ◌<◌, ◌≤◌, vec_len, length, take, drop, None, [], IfOk, IfSome, OnOk, OnErr};
+ghost use Rattle.mr_outside.specs.Faults.{next_count};
+ghost use Rattle.mr_outside.specs.Told.{OfFile};
+ghost use Rattle.mr_outside.specs.Causes.{ShelfCauses, CountsRead};
+ghost use Rattle.mr_outside.specs.Reading.{FillsFront, GivesFrom};
+ghost use Rattle.mr_outside.specs.Files.{with_file, grown, overwritten};
+ghost use Rattle.mr_outside.specs.Writing.{IsThere, IsChanged, Writes};
+ghost use Rattle.mr_outside.specs.Edge.{untold_shelf};
 ghost use Rattle.std.specs.Io.KnownBytes.{Consumes, IsAtEnd};
 
 use crate::{Shelf, ShelfErr};
-use std::fs::{self, OpenFile};
-use std::io::{self, Read, Seek, SeekFrom};
+use std::alloc::Global;
+use std::fs::{self, OpenFile, OpenOptions};
+use std::io::{self, Read, Seek, SeekFrom, Write};
 use std::rt;
 
 /// The bytes that one call of the system is asked for.
 const CHUNK: usize = 4096;
 
-/// The real file system. It tells nothing, and counts a fault at each refusal, also where there is no
-/// such file. A folder and a name that the system cannot use are faults.
+/// What a file is opened for.
+#[derive(Clone, Copy)]
+enum Access {
+    Read,
+    Write,
+    /// To write it from its beginning, whether or not it was there.
+    Create,
+}
+
+/// An open file, the name that it was opened by, and whether it may be written.
 #[derive(Drop)]
-pub struct StdShelf<'a, R> {
+struct Opened<F> {
+    name: String,
+    file: F,
+    writes: bool,
+}
+
+/// The real file system. It tells nothing, and counts a fault at each refusal, also where there is
+/// no such file. A folder and a name that the system cannot use are faults.
+///
+/// Each file that was opened is kept open: calls that read go to the file that had this name at the
+/// first of them, or at the first call after it that wrote.
+#[derive(Drop)]
+pub struct StdShelf<'a, R: rt::Files> {
     rt: &'a R,
+    alloc: Global,
+    opened: Vec<Opened<R::File>>,
     faults: u64,
     reads: u64,
 }
 
 impl<'a, R: rt::Files> StdShelf<'a, R> {
-    /// No fault and no read are counted yet.
-    pub fn new(rt: &'a R) -> StdShelf<'a, R>
+    /// No fault and no read are counted yet, and no file is open.
+    pub fn new(rt: &'a R, alloc: Global) -> StdShelf<'a, R>
         ensures faults { result.faults ≡ 0 }
         ensures reads { result.reads ≡ 0 }
     {
         StdShelf {
             rt,
+            alloc,
+            opened: Vec::new(alloc),
             faults: 0,
             reads: 0,
         }
@@ -36,26 +65,20 @@ impl<'a, R: rt::Files> StdShelf<'a, R> {
 }
 
 impl<R: rt::Files> Shelf for StdShelf<'_, R> {
-    ghost use Rattle.std.specs.Prelude.{None};
+    ghost use Rattle.mr_outside.specs.Edge.{untold_shelf};
 
-    ghost files = { λ _. None };
-
-    ghost faults = { λ s. s.faults };
-
-    ghost reads = { λ s. s.reads };
+    ghost state = { λ s. untold_shelf s.faults s.reads };
 
     // A fault is counted just where the call is refused.
     fn size(&mut self, name: &str) -> Result<u64, ShelfErr>
         ensures counted { OnErr result (self.new.faults ≡ next_count self.old.faults) }
-        ensures quiet { OnOk result (self.new.faults ≡ self.old.faults) }
         ensures length { IfOk result (λ n. OfFile None name.now ⊥ (λ bytes. n ≡ length bytes)) }
-        ensures missing { IsErrOf result ShelfErr.Missing → MayMiss None name.now self.old.faults self.new.faults }
-        ensures fault { IsErrOf result ShelfErr.Fault → Rose self.old.faults self.new.faults }
-        ensures files { let told : Option Files = None in told ≡ told }
-        ensures faults { self.old.faults ≤ self.new.faults }
+        ensures causes { let before = untold_shelf self.old.faults self.old.reads in
+            let after = untold_shelf self.new.faults self.new.reads in
+            ShelfCauses name.now before after result }
         ensures reads { self.new.reads ≡ self.old.reads }
     {
-        let answer = length_of(self.rt, name);
+        let answer = length_by_name(self.rt, self.alloc, &mut self.opened, name);
         if answer.is_err() {
             self.faults = self.faults.saturating_add(1);
         }
@@ -65,25 +88,94 @@ impl<R: rt::Files> Shelf for StdShelf<'_, R> {
     // A fault is counted just where the call is refused, and a read just where it is not.
     fn read_at(&mut self, name: &str, at: u64, into: &mut [u8]) -> Result<usize, ShelfErr>
         ensures counted { OnErr result (self.new.faults ≡ next_count self.old.faults) }
-        ensures quiet { OnOk result (self.new.faults ≡ self.old.faults) }
-        ensures within { IfOk result (λ n. n ≤ length into.old) }
-        ensures count { IfOk result (λ n. OfFile None name.now ⊥ (λ bytes. n ≡ min (length into.old) (length bytes - at))) }
-        ensures bytes { IfOk result (λ n. OfFile None name.now ⊥ (λ bytes. into.new ≡ take n (drop at bytes) ++ drop n into.old)) }
-        ensures rest { IfOk result (λ n. drop n into.new ≡ drop n into.old) }
-        ensures missing { IsErrOf result ShelfErr.Missing → MayMiss None name.now self.old.faults self.new.faults }
-        ensures fault { IsErrOf result ShelfErr.Fault → Rose self.old.faults self.new.faults }
-        ensures files { let told : Option Files = None in told ≡ told }
-        ensures faults { self.old.faults ≤ self.new.faults }
-        ensures reads { OnOk result (self.new.reads ≡ next_count self.old.reads) }
-        ensures unread { OnErr result (self.new.reads ≡ self.old.reads) }
+        ensures fills { IfOk result (λ n. FillsFront into.old into.new n) }
+        ensures gives { IfOk result (λ n. OfFile None name.now ⊥
+            (GivesFrom at into.old into.new n)) }
+        ensures causes { let before = untold_shelf self.old.faults self.old.reads in
+            let after = untold_shelf self.new.faults self.new.reads in
+            ShelfCauses name.now before after result }
+        ensures reads { let before = untold_shelf self.old.faults self.old.reads in
+            let after = untold_shelf self.new.faults self.new.reads in
+            CountsRead before after result }
     {
-        let answer = read_from(self.rt, name, at, into);
+        let answer = read_by_name(self.rt, self.alloc, &mut self.opened, name, at, into);
         if answer.is_ok() {
             self.reads = self.reads.saturating_add(1);
         } else {
             self.faults = self.faults.saturating_add(1);
         }
         answer
+    }
+
+    fn create(&mut self, name: &str) -> Result<(), ShelfErr>
+        ensures counted { OnErr result (self.new.faults ≡ next_count self.old.faults) }
+        ensures made { let before = untold_shelf self.old.faults self.old.reads in
+            let after = untold_shelf self.new.faults self.new.reads in
+            OnOk result (IsChanged (with_file name.now) [] before.files after.files) }
+        ensures refused { let before = untold_shelf self.old.faults self.old.reads in
+            let after = untold_shelf self.new.faults self.new.reads in
+            OnErr result (after.files ≡ before.files) }
+        ensures causes { let before = untold_shelf self.old.faults self.old.reads in
+            let after = untold_shelf self.new.faults self.new.reads in
+            ShelfCauses name.now before after result }
+        ensures reads { self.new.reads ≡ self.old.reads }
+    {
+        let answer = create_by_name(self.rt, self.alloc, &mut self.opened, name);
+        count_refusal(&mut self.faults, &answer);
+        answer
+    }
+
+    fn append(&mut self, name: &str, bytes: &[u8]) -> Result<(), ShelfErr>
+        ensures counted { OnErr result (self.new.faults ≡ next_count self.old.faults) }
+        ensures there { OnOk result (IsThere None name.now) }
+        ensures writes { let before = untold_shelf self.old.faults self.old.reads in
+            let after = untold_shelf self.new.faults self.new.reads in
+            Writes (grown name.now) bytes.now before after result }
+        ensures causes { let before = untold_shelf self.old.faults self.old.reads in
+            let after = untold_shelf self.new.faults self.new.reads in
+            ShelfCauses name.now before after result }
+    {
+        let answer = append_by_name(self.rt, self.alloc, &mut self.opened, name, bytes);
+        count_refusal(&mut self.faults, &answer);
+        answer
+    }
+
+    fn write_at(&mut self, name: &str, at: u64, bytes: &[u8]) -> Result<(), ShelfErr>
+        ensures counted { OnErr result (self.new.faults ≡ next_count self.old.faults) }
+        ensures there { OnOk result (IsThere None name.now) }
+        ensures writes { let before = untold_shelf self.old.faults self.old.reads in
+            let after = untold_shelf self.new.faults self.new.reads in
+            Writes (overwritten name.now at) bytes.now before after result }
+        ensures causes { let before = untold_shelf self.old.faults self.old.reads in
+            let after = untold_shelf self.new.faults self.new.reads in
+            ShelfCauses name.now before after result }
+    {
+        let answer = write_by_name(self.rt, self.alloc, &mut self.opened, name, at, bytes);
+        count_refusal(&mut self.faults, &answer);
+        answer
+    }
+
+    fn sync(&mut self, name: &str) -> Result<(), ShelfErr>
+        ensures counted { OnErr result (self.new.faults ≡ next_count self.old.faults) }
+        ensures there { OnOk result (IsThere None name.now) }
+        ensures causes { let before = untold_shelf self.old.faults self.old.reads in
+            let after = untold_shelf self.new.faults self.new.reads in
+            ShelfCauses name.now before after result }
+        ensures reads { self.new.reads ≡ self.old.reads }
+    {
+        let answer = sync_by_name(self.rt, self.alloc, &mut self.opened, name);
+        count_refusal(&mut self.faults, &answer);
+        answer
+    }
+}
+
+/// Counts a fault just where the call is refused.
+fn count_refusal(faults: &mut u64, answer: &Result<(), ShelfErr>)
+    ensures refused { OnErr answer.now (faults.new ≡ next_count faults.old) }
+    ensures quiet { OnOk answer.now (faults.new ≡ faults.old) }
+{
+    if answer.is_err() {
+        *faults = faults.saturating_add(1);
     }
 }
 
@@ -95,37 +187,205 @@ fn refusal(error: io::Error) -> ShelfErr {
     }
 }
 
-/// The length of a regular file.
-fn length_of<R: rt::Files>(rt: &R, name: &str) -> Result<u64, ShelfErr> {
+/// Refuses what stands by this name and is no regular file. To open a pipe would wait for its other
+/// end, so this is asked before a file is opened.
+fn check_regular<R: rt::Files>(rt: &R, name: &str, access: Access) -> Result<(), ShelfErr> {
     if name.is_empty() {
         return Err(ShelfErr::Fault);
     }
-    let about = fs::metadata(rt, name).map_err(refusal)?;
-    if about.is_file() {
-        Ok(about.len())
-    } else {
-        Err(ShelfErr::Fault)
+    match (fs::metadata(rt, name).map_err(refusal), access) {
+        (Ok(about), _) if about.is_file() => Ok(()),
+        (Ok(_), _) => Err(ShelfErr::Fault),
+        (Err(ShelfErr::Missing), Access::Create) => Ok(()),
+        (Err(error), _) => Err(error),
     }
 }
 
-fn read_from<R: rt::Files>(rt: &R, name: &str, at: u64, into: &mut [u8]) -> Result<usize, ShelfErr>
-    ensures within { IfOk result (λ n. n ≤ length into.old) }
-    ensures rest { IfOk result (λ n. drop n into.new ≡ drop n into.old) }
+/// Opens a regular file.
+fn open_file<R: rt::Files>(rt: &R, name: &str, access: Access) -> Result<R::File, ShelfErr> {
+    check_regular(rt, name, access)?;
+    let mut how = OpenOptions::new();
+    how.read(true);
+    if !matches!(access, Access::Read) {
+        how.write(true);
+    }
+    if matches!(access, Access::Create) {
+        how.create(true);
+        how.truncate(true);
+    }
+    let file = how.open(rt, name).map_err(refusal)?;
+    if !file.metadata().map_err(refusal)?.is_file() {
+        return Err(ShelfErr::Fault);
+    }
+    Ok(file)
+}
+
+/// Keeps a file, in place of another of the same name, and answers its place.
+fn keep<F: Drop>(opened: &mut Vec<Opened<F>>, one: Opened<F>) -> Result<usize, ShelfErr>
+    ensures { IfOk result (λ place. place < vec_len opened.new) }
 {
-    if at >= length_of(rt, name)? {
+    if let Some(place) = place_of(opened, one.name.as_str()) {
+        opened[place] = one;
+        return Ok(place);
+    }
+    match opened.push(one) {
+        Ok(()) => Ok(opened.len() - 1),
+        Err(_) => Err(ShelfErr::NoMemory),
+    }
+}
+
+/// The place of the named file among those that are open.
+fn place_of<F>(opened: &[Opened<F>], name: &str) -> Option<usize>
+    ensures { IfSome result (λ place. place < length opened.now) }
+{
+    opened.iter().position(|one| one.name.as_str() == name)
+}
+
+/// Opens a file and keeps it. Memory comes first, so that no file is made or emptied in vain.
+fn open_kept<R: rt::Files>(
+    rt: &R,
+    alloc: Global,
+    opened: &mut Vec<Opened<R::File>>,
+    name: &str,
+    access: Access,
+) -> Result<usize, ShelfErr>
+    ensures { IfOk result (λ place. place < vec_len opened.new) }
+{
+    let text = String::from_str(alloc, name)?;
+    opened.reserve(1)?;
+    let file = open_file(rt, name, access)?;
+    let writes = !matches!(access, Access::Read);
+    keep(
+        opened,
+        Opened {
+            name: text,
+            file,
+            writes,
+        },
+    )
+}
+
+/// The place of the named file, which is opened if it is not open.
+fn place_to_read<R: rt::Files>(
+    rt: &R,
+    alloc: Global,
+    opened: &mut Vec<Opened<R::File>>,
+    name: &str,
+) -> Result<usize, ShelfErr>
+    ensures { IfOk result (λ place. place < vec_len opened.new) }
+{
+    match place_of(opened, name) {
+        Some(place) => Ok(place),
+        None => open_kept(rt, alloc, opened, name, Access::Read),
+    }
+}
+
+/// The place of the named file, which is opened if it is not open for writing.
+fn place_to_write<R: rt::Files>(
+    rt: &R,
+    alloc: Global,
+    opened: &mut Vec<Opened<R::File>>,
+    name: &str,
+) -> Result<usize, ShelfErr>
+    ensures { IfOk result (λ place. place < vec_len opened.new) }
+{
+    match place_of(opened, name) {
+        Some(place) if opened[place].writes => Ok(place),
+        _ => open_kept(rt, alloc, opened, name, Access::Write),
+    }
+}
+
+fn length_by_name<R: rt::Files>(
+    rt: &R,
+    alloc: Global,
+    opened: &mut Vec<Opened<R::File>>,
+    name: &str,
+) -> Result<u64, ShelfErr> {
+    let place = place_to_read(rt, alloc, opened, name)?;
+    let about = opened[place].file.metadata().map_err(refusal)?;
+    Ok(about.len())
+}
+
+fn read_by_name<R: rt::Files>(
+    rt: &R,
+    alloc: Global,
+    opened: &mut Vec<Opened<R::File>>,
+    name: &str,
+    at: u64,
+    into: &mut [u8],
+) -> Result<usize, ShelfErr>
+    ensures { IfOk result (λ n. FillsFront into.old into.new n) }
+{
+    let place = place_to_read(rt, alloc, opened, name)?;
+    read_from(&mut opened[place].file, at, into).map_err(refusal)
+}
+
+fn create_by_name<R: rt::Files>(
+    rt: &R,
+    alloc: Global,
+    opened: &mut Vec<Opened<R::File>>,
+    name: &str,
+) -> Result<(), ShelfErr> {
+    open_kept(rt, alloc, opened, name, Access::Create)?;
+    Ok(())
+}
+
+fn append_by_name<R: rt::Files>(
+    rt: &R,
+    alloc: Global,
+    opened: &mut Vec<Opened<R::File>>,
+    name: &str,
+    bytes: &[u8],
+) -> Result<(), ShelfErr> {
+    let place = place_to_write(rt, alloc, opened, name)?;
+    write_to(&mut opened[place].file, SeekFrom::End(0), bytes).map_err(refusal)
+}
+
+fn write_by_name<R: rt::Files>(
+    rt: &R,
+    alloc: Global,
+    opened: &mut Vec<Opened<R::File>>,
+    name: &str,
+    at: u64,
+    bytes: &[u8],
+) -> Result<(), ShelfErr> {
+    let place = place_to_write(rt, alloc, opened, name)?;
+    write_to(&mut opened[place].file, SeekFrom::Start(at), bytes).map_err(refusal)
+}
+
+fn sync_by_name<R: rt::Files>(
+    rt: &R,
+    alloc: Global,
+    opened: &mut Vec<Opened<R::File>>,
+    name: &str,
+) -> Result<(), ShelfErr> {
+    let place = place_to_read(rt, alloc, opened, name)?;
+    opened[place].file.sync_data().map_err(refusal)
+}
+
+fn write_to<F: Write + Seek>(file: &mut F, to: SeekFrom, bytes: &[u8]) -> io::Result<()> {
+    file.seek(to)?;
+    file.write_all(bytes)
+}
+
+/// Reads from a place on, which may stand behind the end of the file.
+fn read_from<F: Read + Seek + OpenFile>(file: &mut F, at: u64, into: &mut [u8]) -> io::Result<usize>
+    ensures { IfOk result (λ n. FillsFront into.old into.new n) }
+{
+    if at >= file.metadata()?.len() {
         return Ok(0);
     }
-    let mut file = fs::open(rt, name).map_err(refusal)?;
-    file.seek(SeekFrom::Start(at)).map_err(refusal)?;
+    file.seek(SeekFrom::Start(at))?;
     let mut chunk = [0u8; CHUNK];
-    fill(&mut file, &mut chunk, into).map_err(refusal)
+    fill(file, &mut chunk, into)
 }
 
 /// Reads to the end of `into` or of the file, through a buffer.
 fn fill<F: Read>(file: &mut F, chunk: &mut [u8], into: &mut [u8]) -> io::Result<usize>
     requires { 0 < length chunk.old }
     ensures within { IfOk result (λ n. n ≤ length into.old) }
-    ensures bytes { IfOk result (λ n. Consumes (F.remaining file.old) (F.remaining file.new) (take n into.new)) }
+    ensures bytes { IfOk result (λ n.
+        Consumes (F.remaining file.old) (F.remaining file.new) (take n into.new)) }
     ensures whole { IfOk result (λ n. n < length into.old → IsAtEnd (F.remaining file.new)) }
     ensures rest { IfOk result (λ n. drop n into.new ≡ drop n into.old) }
 {
@@ -145,7 +405,8 @@ fn read_chunk<F: Read>(file: &mut F, chunk: &mut [u8], into: &mut [u8]) -> io::R
     requires room { 0 < length chunk.old }
     requires wanted { 0 < length into.old }
     ensures within { IfOk result (λ n. n ≤ length into.old) }
-    ensures bytes { IfOk result (λ n. Consumes (F.remaining file.old) (F.remaining file.new) (take n into.new)) }
+    ensures bytes { IfOk result (λ n.
+        Consumes (F.remaining file.old) (F.remaining file.new) (take n into.new)) }
     ensures end { IfOk result (λ n. n ≡ 0 → IsAtEnd (F.remaining file.new)) }
     ensures rest { IfOk result (λ n. drop n into.new ≡ drop n into.old) }
 {

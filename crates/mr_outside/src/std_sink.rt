@@ -1,6 +1,8 @@
-ghost use Rattle.std.specs.Prelude.{◌≡◌, ◌<◌, ◌≤◌, None, IfOk, OnOk, OnErr, IsErrOf, length, take};
-ghost use Rattle.mr_outside.specs.Faults.{Rose, next_count};
+ghost use Rattle.std.specs.Prelude.{◌≡◌, ◌<◌, ◌≤◌, IfOk, OnErr, length, take};
+ghost use Rattle.mr_outside.specs.Faults.{next_count};
 ghost use Rattle.mr_outside.specs.Told.{Takes};
+ghost use Rattle.mr_outside.specs.Causes.{SinkCauses};
+ghost use Rattle.mr_outside.specs.Edge.{untold_sink};
 
 use crate::{Sink, SinkErr};
 
@@ -22,22 +24,22 @@ impl<'a, R: Print> StdSink<'a, R> {
 }
 
 impl<R: Print> Sink for StdSink<'_, R> {
-    ghost use Rattle.std.specs.Prelude.{None};
+    ghost use Rattle.mr_outside.specs.Edge.{untold_sink};
 
-    ghost taken = { λ _. None };
-
-    ghost faults = { λ s. s.faults };
+    ghost state = { λ s. untold_sink s.faults };
 
     // A fault is counted just where the write is refused.
     fn write(&mut self, bytes: &[u8]) -> Result<usize, SinkErr>
         ensures counted { OnErr result (self.new.faults ≡ next_count self.old.faults) }
-        ensures quiet { OnOk result (self.new.faults ≡ self.old.faults) }
         ensures within { IfOk result (λ n. n ≤ length bytes.now) }
         ensures progress { IfOk result (λ n. 0 < length bytes.now → 0 < n) }
-        ensures front { IfOk result (λ n. Takes None None (take n bytes.now)) }
-        ensures refused { OnErr result (Takes None None bytes.now) }
-        ensures fault { IsErrOf result SinkErr.Fault → Rose self.old.faults self.new.faults }
-        ensures faults { self.old.faults ≤ self.new.faults }
+        ensures front { let before = untold_sink self.old.faults in
+            let after = untold_sink self.new.faults in
+            IfOk result (λ n. Takes before after (take n bytes.now)) }
+        ensures refused { let before = untold_sink self.old.faults in
+            let after = untold_sink self.new.faults in OnErr result (after.taken ≡ before.taken) }
+        ensures causes { let before = untold_sink self.old.faults in
+            let after = untold_sink self.new.faults in SinkCauses before after result }
     {
         if bytes.is_empty() {
             return Ok(0);

@@ -18,17 +18,18 @@ use Rattle.mr_tree.specs.declared.tree.Tree.TheVariants as tree
 use Rattle.mr_tree.proofs.Equations.{records-Inner, records-Leaf, records-Empty}
 use Rattle.mr_pack.specs.Cuts.{group_count}
 use Rattle.mr_pack.specs.Entries.{in_groups, arranged}
-use Rattle.mr_pack.specs.Pack.{record_entry, node_entries, leaves_of, level_above, root_above, pack}
+use Rattle.mr_pack.specs.Pack.{placed_record, placed_nodes, leaves_of, level_above, root_above, pack}
 use Rattle.mr_pack.specs.Repeats.{occurrences}
 use Rattle.mr_pack.specs.Twice.{numbers_of}
-use Rattle.mr_pack.specs.declared.entry.Entry.{Entry}
+use Rattle.mr_pack.specs.declared.placed.Placed.{Placed}
 use Rattle.mr_pack.proofs.Groups.{arranged_mixes, items, items_mixed, groups_together}
 use Rattle.mr_pack.proofs.Numbers.{some_groups}
 use Rattle.mr_pack.proofs.Repeats.{tells_of_mixed, same_more, other_more}
 use Rattle.mr_pack.proofs.Roots.{root_of_none, root_of_one, root_of_more, fewer_above}
 use Rattle.mr_pack.proofs.Standing.{items_of_nodes, tree_stands}
 
-of_images : {A B C : Type 0} (f : B → List C) (g : A → B) (xs : List A) → flat_map f (map g xs) ≡ flat_map (λ x. f (g x)) xs
+of_images : {A B C : Type 0} (f : B → List C) (g : A → B) (xs : List A) →
+    flat_map f (map g xs) ≡ flat_map (λ x. f (g x)) xs
 of_images f g [] = refl
 of_images f g (x ∷ xs) = ap (λ ys. f (g x) ++ ys) (of_images f g xs)
 
@@ -36,20 +37,21 @@ records_of_leaves : (gs : List (List Record)) → flat_map records (map (λ rs. 
 records_of_leaves [] = refl
 records_of_leaves (g ∷ gs) = λ i. records-Leaf g i ++ records_of_leaves gs i
 
-records_of_inner : (gs : List (List Tree)) → flat_map records (map (λ ts. tree.Inner ts) gs) ≡ flat_map records (flat_map (λ g. g) gs)
+records_of_inner : (gs : List (List Tree)) →
+    flat_map records (map (λ ts. tree.Inner ts) gs) ≡ flat_map records (flat_map (λ g. g) gs)
 records_of_inner [] = refl
 records_of_inner (g ∷ gs) =
     (λ i. (records-Inner g ∙ of_images (λ list. list) records g) i ++ records_of_inner gs i)
     ∙ sym (flat_map-append records g (flat_map (λ h. h) gs))
 
-items_of_records : (rs : List Record) → items (map record_entry rs) ≡ rs
+items_of_records : (rs : List Record) → items (map placed_record rs) ≡ rs
 items_of_records [] = refl
 items_of_records (r ∷ rs) = ap (λ us. r ∷ us) (items_of_records rs)
 
 leaves_mix : (rs : List Record) → IsPermutation rs (flat_map records (leaves_of rs))
 unfolding leaves_of
 leaves_mix rs =
-    let es = map record_entry rs in
+    let es = map placed_record rs in
     let p = group_count (length es) 16 in
     let some : 0 < length es → 0 < p = some_groups (length es) 16 (omega arith) in
     subst (IsPermutation rs) (sym (records_of_leaves (in_groups p es) ∙ groups_together p es some))
@@ -58,18 +60,21 @@ leaves_mix rs =
 above_mix : (ts : List Tree) → IsPermutation (flat_map records ts) (flat_map records (level_above ts))
 unfolding level_above
 above_mix ts =
-    let es = node_entries 0 ts in
+    let es = placed_nodes 0 ts in
     let p = group_count (length es) 64 in
     let some : 0 < length es → 0 < p = some_groups (length es) 64 (omega arith) in
-    let of_entry : Entry Tree → List Record = λ e. records e.item in
-    let before : flat_map of_entry es ≡ flat_map records ts = sym (of_images records (λ (e : Entry Tree). e.item) es) ∙ ap (flat_map records) (items_of_nodes 0 ts) in
+    let of_entry : Placed Tree → List Record = λ e. records e.item in
+    let before : flat_map of_entry es ≡ flat_map records ts = sym (of_images records (λ (e : Placed Tree). e.item) es)
+    ∙ ap (flat_map records) (items_of_nodes 0 ts) in
     let after : flat_map records (map (λ us. tree.Inner us) (in_groups p es)) ≡ flat_map of_entry (arranged p es) =
-    records_of_inner (in_groups p es) ∙ ap (flat_map records) (groups_together p es some) ∙ of_images records (λ (e : Entry Tree). e.item) (arranged p es) in
+    records_of_inner (in_groups p es) ∙ ap (flat_map records) (groups_together p es some)
+    ∙ of_images records (λ (e : Placed Tree). e.item) (arranged p es) in
     subst (IsPermutation (flat_map records ts)) (sym after)
     (subst (λ us. IsPermutation us (flat_map of_entry (arranged p es))) before (arranged_mixes of_entry p es some))
 
 root_mix : (m : ℕ) (ts : List Tree) → length ts ≤ m → IsPermutation (flat_map records ts) (records (root_above m ts))
-root_mix m [] enough = subst (IsPermutation []) (sym (ap records (root_of_none m) ∙ records-Empty)) (IsPermutation-refl [])
+root_mix m [] enough =
+    subst (IsPermutation []) (sym (ap records (root_of_none m) ∙ records-Empty)) (IsPermutation-refl [])
 root_mix m (t ∷ []) enough =
     subst (λ us. IsPermutation us (records (root_above m (t ∷ [])))) (sym (append-nil (records t)))
     (subst (IsPermutation (records t)) (sym (ap records (root_of_one m t))) (IsPermutation-refl (records t)))
@@ -77,13 +82,15 @@ root_mix zero (t ∷ u ∷ ts) enough = absurd (omega (arith, enough))
 root_mix (suc m) (t ∷ u ∷ ts) enough =
     let us = t ∷ u ∷ ts in
     subst (IsPermutation (flat_map records us)) (sym (ap records (root_of_more m t u ts)))
-    (IsPermutation-trans (flat_map records us) (flat_map records (level_above us)) (records (root_above m (level_above us))) (above_mix us)
+    (IsPermutation-trans (flat_map records us) (flat_map records (level_above us))
+    (records (root_above m (level_above us))) (above_mix us)
     (root_mix m (level_above us) (omega (arith, fewer_above us (omega arith), enough))))
 
 pub tree_mixes : (rs : List Record) → IsPermutation rs (records (pack rs))
 unfolding pack
 tree_mixes rs =
-    IsPermutation-trans rs (flat_map records (leaves_of rs)) (records (root_above (length (leaves_of rs)) (leaves_of rs))) (leaves_mix rs)
+    IsPermutation-trans rs (flat_map records (leaves_of rs))
+    (records (root_above (length (leaves_of rs)) (leaves_of rs))) (leaves_mix rs)
     (root_mix (length (leaves_of rs)) (leaves_of rs) (omega arith))
 
 -- ---- numbers that stand once differ
@@ -102,21 +109,25 @@ none_has n (r ∷ rs) none =
     rest true e = absurd (omega (arith, none, same_more n r.number (numbers_of rs) e))
     rest false e = omega (arith, none, other_more n r.number (numbers_of rs) e)
 
-fewer_in_rest : (r : Record) (rs : List Record) → ((n : ℕ) → occurrences n (numbers_of (r ∷ rs)) ≤ 1) → (n : ℕ) → occurrences n (numbers_of rs) ≤ 1
+fewer_in_rest : (r : Record) (rs : List Record) → ((n : ℕ) → occurrences n (numbers_of (r ∷ rs)) ≤ 1) → (n : ℕ) →
+    occurrences n (numbers_of rs) ≤ 1
 fewer_in_rest r rs few n = at (r.number == n) refl
   where
     at : (b : Bool) → (r.number == n) ≡ b → occurrences n (numbers_of rs) ≤ 1
     at true e = omega (arith, few n, same_more n r.number (numbers_of rs) e)
     at false e = omega (arith, few n, other_more n r.number (numbers_of rs) e)
 
-pub numbers_differ : (rs : List Record) → ((n : ℕ) → occurrences n (numbers_of rs) ≤ 1) → AllPairs (λ (a b : Record). a.number ≢ b.number) rs
+pub numbers_differ : (rs : List Record) → ((n : ℕ) → occurrences n (numbers_of rs) ≤ 1) →
+    AllPairs (λ (a b : Record). a.number ≢ b.number) rs
 numbers_differ [] few = λ i j d low high. absurd (omega (arith, low, high))
 numbers_differ (r ∷ rs) few =
     let none : occurrences r.number (numbers_of rs) ≡ 0 =
     omega (arith, few r.number, same_more r.number r.number (numbers_of rs) (eq-eqb r.number r.number refl)) in
-    AllPairs-cons (λ (a b : Record). a.number ≢ b.number) r rs (none_has r.number rs none) (numbers_differ rs (fewer_in_rest r rs few))
+    AllPairs-cons (λ (a b : Record). a.number ≢ b.number) r rs (none_has r.number rs none)
+    (numbers_differ rs (fewer_in_rest r rs few))
 
-pub tree_well_formed : (rs : List Record) → length rs ≤ 2 ^ 20 → All IsRecord rs → ((n : ℕ) → occurrences n (numbers_of rs) ≤ 1) → WellFormed (pack rs)
+pub tree_well_formed : (rs : List Record) → length rs ≤ 2 ^ 20 → All IsRecord rs →
+    ((n : ℕ) → occurrences n (numbers_of rs) ≤ 1) → WellFormed (pack rs)
 tree_well_formed rs small each few =
     let root = tree_stands rs small in
     let mixed = tree_mixes rs in
@@ -126,7 +137,8 @@ tree_well_formed rs small each few =
       shallow = root.shallow;
       filled = root.filled;
       distinct = numbers_differ (records (pack rs))
-          (tells_of_mixed None (numbers_of (records (pack rs))) (numbers_of rs) (IsPermutation-sym (numbers_of rs) (numbers_of (records (pack rs))) numbers) few);
+          (tells_of_mixed None (numbers_of (records (pack rs))) (numbers_of rs)
+          (IsPermutation-sym (numbers_of rs) (numbers_of (records (pack rs))) numbers) few);
       each = All-permutation IsRecord rs (records (pack rs)) mixed each;
       few = omega (arith, length_permutation rs (records (pack rs)) mixed, small);
     }

@@ -6,7 +6,8 @@ use Rattle.mr_pack.specs.Least.{least}
 pub least_within : (p : ℕ → Bool) (n : ℕ) → least p n ≤ n
 least_within p zero = omega arith
 least_within p (suc n) =
-    elim (p (least p n)) as (λ b. cond b (least p n) (suc n) ≤ suc n) [ true ↦ omega (arith, least_within p n) | false ↦ omega arith ]
+    elim (p (least p n)) as (λ b. cond b (least p n) (suc n) ≤ suc n)
+    [ true ↦ omega (arith, least_within p n) | false ↦ omega arith ]
 
 equal_or_below : (k n : ℕ) → k ≤ suc n → (k ≡ suc n) ⊎ (k ≤ n)
 equal_or_below k n h = grind arith

@@ -6,7 +6,7 @@ pub mod Numbers
 pub mod Orders
 pub mod Repeats
 pub mod Roots
-pub mod Sorting
 pub mod Groups
 pub mod Standing
 pub mod Contents
+pub mod Apart

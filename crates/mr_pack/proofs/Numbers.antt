@@ -14,22 +14,26 @@ times_sum q h p = grind arith
 
 -- a quotient grows by at least h where the dividend grows by h times the divisor
 pub quotient_more : (a n h p : ℕ) → 0 < p → h * p ≤ n → a / p + h ≤ (a + n) / p
-quotient_more a n h p some more = le-div (a / p + h) (a + n) p some (omega (arith, times_sum (a / p) h p, div-mul-le_self a p))
+quotient_more a n h p some more =
+    le-div (a / p + h) (a + n) p some (omega (arith, times_sum (a / p) h p, div-mul-le_self a p))
 
 -- and by at most h where the dividend grows by no more
 pub quotient_less : (a n h p : ℕ) → 0 < p → n ≤ h * p → (a + n) / p ≤ a / p + h
 quotient_less a n h p some less =
-    let below : a + n < (a / p + h + 1) * p = omega (arith, times_sum (a / p) (h + 1) p, times_sum h 1 p, lt-div-mul-add {a = a} {b = p} some) in
+    let below : a + n < (a / p + h + 1) * p = omega
+    (arith, times_sum (a / p) (h + 1) p, times_sum h 1 p, lt-div-mul-add {a = a} {b = p} some) in
     omega (arith, div_below (a + n) p (a / p + h + 1) some below)
 
 times_next : (i n : ℕ) → (i + 1) * n ≡ i * n + n
 times_next i n = grind arith
 
 pub start_grows : (n p i h : ℕ) → 0 < p → h * p ≤ n → group_start n p i + h ≤ group_start n p (i + 1)
-start_grows n p i h some more = subst (λ a. i * n / p + h ≤ a / p) (sym (times_next i n)) (quotient_more (i * n) n h p some more)
+start_grows n p i h some more =
+    subst (λ a. i * n / p + h ≤ a / p) (sym (times_next i n)) (quotient_more (i * n) n h p some more)
 
 pub start_bounded : (n p i h : ℕ) → 0 < p → n ≤ h * p → group_start n p (i + 1) ≤ group_start n p i + h
-start_bounded n p i h some less = subst (λ a. a / p ≤ i * n / p + h) (sym (times_next i n)) (quotient_less (i * n) n h p some less)
+start_bounded n p i h some less =
+    subst (λ a. a / p ≤ i * n / p + h) (sym (times_next i n)) (quotient_less (i * n) n h p some less)
 
 pub start_rises : (n p i : ℕ) → 0 < p → group_start n p i ≤ group_start n p (i + 1)
 start_rises n p i some = omega (arith, start_grows n p i 0 some (omega arith))
@@ -68,7 +72,8 @@ slice_within n p s j some slices within = start_within n p (j * p / s) some (sta
 
 pub slice_reaches : (n p s : ℕ) → (0 < n → 0 < p) → (0 < p → 0 < s) → n ≤ slice_start n p s s
 slice_reaches zero p s some slices = omega arith
-slice_reaches (suc n) p s some slices = omega (arith, slice_last (suc n) p s (some (omega arith)) (slices (some (omega arith))))
+slice_reaches (suc n) p s some slices =
+    omega (arith, slice_last (suc n) p s (some (omega arith)) (slices (some (omega arith))))
 
 -- ---- how many groups
 
@@ -82,7 +87,8 @@ at_least : (n c : ℕ) → 0 < c → n ≤ n * c
 at_least n c some = le-mul_of_pos_right n some
 
 no_more : (n c m : ℕ) → 0 < c → m * c < n + c → m ≤ n
-no_more n c m some h = elim (either m n) [ inl low ↦ low | inr high ↦ absurd (omega (arith, times_more n m c high, at_least n c some, h)) ]
+no_more n c m some h =
+    elim (either m n) [ inl low ↦ low | inr high ↦ absurd (omega (arith, times_more n m c high, at_least n c some, h)) ]
   where
     either : (m n : ℕ) → (m ≤ n) ⊎ (n < m)
     either m n = grind arith
@@ -91,12 +97,14 @@ pub rounded_up_is : (n c : ℕ) → 0 < c → div_ceil n c ≡ group_count n c
 unfolding group_count
 rounded_up_is n c some =
     let times = div_ceil_times n c some in
-    sym (least_is (λ p. nat_le n (p * c)) n (div_ceil n c) (no_more n c (div_ceil n c) some times.1) (le-leb n (div_ceil n c * c) times.0)
+    sym (least_is (λ p. nat_le n (p * c)) n (div_ceil n c) (no_more n c (div_ceil n c) some times.1)
+    (le-leb n (div_ceil n c * c) times.0)
     (λ k h. lt-leb n (k * c) (omega (arith, times_more k (div_ceil n c) c h, times.1))))
 
 pub groups_hold : (n c : ℕ) → 0 < c → n ≤ group_count n c * c
 unfolding group_count
-groups_hold n c some = leb-true n (group_count n c * c) (least_passes (λ p. nat_le n (p * c)) n (le-leb n (n * c) (at_least n c some)))
+groups_hold n c some =
+    leb-true n (group_count n c * c) (least_passes (λ p. nat_le n (p * c)) n (le-leb n (n * c) (at_least n c some)))
 
 pub groups_within : (n c : ℕ) → group_count n c ≤ n
 unfolding group_count
@@ -132,7 +140,8 @@ positive (suc s) p some h = omega arith
 pub some_slices : (p : ℕ) → 0 < p → 0 < slice_count p
 unfolding slice_count
 some_slices p some =
-    let enough = leb-true p (slice_count p * slice_count p) (least_passes (λ k. nat_le p (k * k)) p (le-leb p (p * p) (le-mul_of_pos_right p some))) in
+    let enough = leb-true p (slice_count p * slice_count p)
+    (least_passes (λ k. nat_le p (k * k)) p (le-leb p (p * p) (le-mul_of_pos_right p some))) in
     positive (slice_count p) p some enough
 
 pub some_groups : (n c : ℕ) → 0 < c → 0 < n → 0 < group_count n c
@@ -156,7 +165,8 @@ groups_fewer (suc k) c two more =
 
 pub groups_few : (n c m : ℕ) → n ≤ m * c → group_count n c ≤ m
 groups_few n c m enough =
-    elim (either (group_count n c) m) [ inl low ↦ low | inr high ↦ absurd (omega (arith, groups_needed n c m high, enough)) ]
+    elim (either (group_count n c) m)
+    [ inl low ↦ low | inr high ↦ absurd (omega (arith, groups_needed n c m high, enough)) ]
   where
     either : (m n : ℕ) → (m ≤ n) ⊎ (n < m)
     either m n = grind arith

@@ -29,7 +29,9 @@ pub same_more : (k n : ℕ) (ns : List ℕ) → (n == k) ≡ true → occurrence
 same_more k n ns e = occurrences-cons k n ns ∙ ap (λ b. cond b 1 0 + occurrences k ns) e
 
 pub other_more : (k n : ℕ) (ns : List ℕ) → (n == k) ≡ false → occurrences k (n ∷ ns) ≡ occurrences k ns
-other_more k n ns e = let zero_more : 0 + occurrences k ns ≡ occurrences k ns = omega arith in occurrences-cons k n ns ∙ ap (λ b. cond b 1 0 + occurrences k ns) e ∙ zero_more
+other_more k n ns e =
+    let zero_more : 0 + occurrences k ns ≡ occurrences k ns = omega arith in
+    occurrences-cons k n ns ∙ ap (λ b. cond b 1 0 + occurrences k ns) e ∙ zero_more
 
 none_of : (k : ℕ) (ns : List ℕ) → AllByRecursion (λ m. k < m) ns → occurrences k ns ≡ 0
 none_of k [] all = refl
@@ -44,11 +46,17 @@ all_above k n [] low all = tt
 all_above k n (m ∷ ms) low all = (omega (arith, all.0), all_above k n ms low all.1)
 
 -- one more in front that is below all others
-once_more : (m n : ℕ) (rest : List ℕ) → AllByRecursion (λ k. n < k) rest → occurrences m rest ≤ 1 → occurrences m (n ∷ rest) ≤ 1
+once_more : (m n : ℕ) (rest : List ℕ) → AllByRecursion (λ k. n < k) rest → occurrences m rest ≤ 1 →
+    occurrences m (n ∷ rest) ≤ 1
 once_more m n rest below few = at (n == m) refl
   where
     at : (b : Bool) → (n == m) ≡ b → occurrences m (n ∷ rest) ≤ 1
-    at true e = omega (arith, same_more m n rest e, subst (λ k. occurrences k rest ≡ 0) (eqb-true n m e) (none_of n rest below))
+    at true e = omega (
+      arith,
+      same_more m n rest e,
+      subst (λ k. occurrences k rest ≡ 0) (eqb-true n m e)
+          (none_of n rest below),
+    )
     at false e = omega (arith, other_more m n rest e)
 
 more : (k n : ℕ) (rest : List ℕ) → occurrences k rest ≤ occurrences k (n ∷ rest)
@@ -75,7 +83,8 @@ repeat_tells n (m ∷ ms) up = at (repeat_tells m ms up.1) (m == n) refl
     twice_here : (m == n) ≡ true → 2 ≤ occurrences n (n ∷ m ∷ ms)
     twice_here e = omega (arith, same_more n n (m ∷ ms) itself, same_more n m ms e)
 
-    at : Tells (repeat_after m ms) (m ∷ ms) → (b : Bool) → (m == n) ≡ b → Tells (cond b (Some n) (repeat_after m ms)) (n ∷ m ∷ ms)
+    at : Tells (repeat_after m ms) (m ∷ ms) → (b : Bool) → (m == n) ≡ b →
+        Tells (cond b (Some n) (repeat_after m ms)) (n ∷ m ∷ ms)
     at later true e = record {
       twice = twice_here e;
       least = λ k low. omega (arith, none_of k (n ∷ m ∷ ms) (low, all_above k n (m ∷ ms) low up.0));
@@ -85,13 +94,16 @@ repeat_tells n (m ∷ ms) up = at (repeat_tells m ms up.1) (m == n) refl
         lifted (repeat_after m ms) n (m ∷ ms) (apart, all_above n m ms apart up.1.0) later
 
 -- of a rising list
-pub tells_of_rising : (first : ℕ) (others ns : List ℕ) (r : Option ℕ) → IsNonDecreasing ns → ns ≡ first ∷ others → r ≡ repeat_after first others → Tells r ns
+pub tells_of_rising : (first : ℕ) (others ns : List ℕ) (r : Option ℕ) → IsNonDecreasing ns → ns ≡ first ∷ others →
+    r ≡ repeat_after first others → Tells r ns
 tells_of_rising first others ns r up is same =
-    subst (λ ms. Tells r ms) (sym is) (subst (λ q. Tells q (first ∷ others)) (sym same) (repeat_tells first others (subst Grows is (grows_from ns up))))
+    subst (λ ms. Tells r ms) (sym is)
+    (subst (λ q. Tells q (first ∷ others)) (sym same) (repeat_tells first others (subst Grows is (grows_from ns up))))
 
 -- a list with the same numbers tells the same
 pub tells_of_mixed : (r : Option ℕ) (ns ms : List ℕ) → IsPermutation ns ms → Tells r ms → Tells r ns
-tells_of_mixed None ns ms mixed tells = λ n. subst (λ k. k ≤ 1) (sum_by-IsPermutation (λ m. cond (m == n) 1 0) ns ms mixed) (tells n)
+tells_of_mixed None ns ms mixed tells =
+    λ n. subst (λ k. k ≤ 1) (sum_by-IsPermutation (λ m. cond (m == n) 1 0) ns ms mixed) (tells n)
 tells_of_mixed (Some k) ns ms mixed tells = record {
   twice = subst (λ n. 2 ≤ n) (sum_by-IsPermutation (λ m. cond (m == k) 1 0) ns ms mixed) tells.twice;
   least = λ n low. subst (λ q. q ≤ 1) (sum_by-IsPermutation (λ m. cond (m == n) 1 0) ns ms mixed) (tells.least n low);

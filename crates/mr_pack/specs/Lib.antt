@@ -4,6 +4,5 @@ pub mod HalfFull
 pub mod Least
 pub mod Pack
 pub mod Repeats
-pub mod Sorting
 pub mod Twice
 pub mod Views

@@ -2,9 +2,9 @@ ghost use Rattle.std.specs.Prelude.{◌≡◌, ◌≤◌, ◌<◌, ◌^◌, leng
 ghost use Rattle.std.specs.Global.{Vec as list};
 ghost use Rattle.mr_pack.specs.Cuts.{group_count as count_of_groups, slice_count as count_of_slices, group_start as start_of_group, slice_start as start_of_slice, parts};
 ghost use Rattle.mr_pack.specs.Entries.{is_left, is_below, arranged, in_groups, grouped};
-ghost use Rattle.mr_pack.specs.Sorting.{sorted_by};
+ghost use Rattle.mr_record.specs.Sorting.{sorted_by};
 
-use crate::entry::Entry;
+use crate::placed::Placed;
 use std::alloc::{AllocError, Global};
 
 // How many groups `count` entries need, of at most `capacity` each.
@@ -57,21 +57,21 @@ fn slice_start(count: usize, groups: usize, slices: usize, slice: usize) -> usiz
 }
 
 // Sorts entries from left to right.
-fn sort_by_x<T>(alloc: Global, entries: &mut [Entry<T>]) -> Result<(), AllocError>
+fn sort_by_x<T>(alloc: Global, entries: &mut [Placed<T>]) -> Result<(), AllocError>
     ensures { OnOk result (entries.new ≡ sorted_by is_left entries.old) }
 {
     entries.sort_by_key(alloc, |entry| (entry.x, entry.tie))
 }
 
 // Sorts entries from below to above.
-fn sort_by_y<T>(alloc: Global, entries: &mut [Entry<T>]) -> Result<(), AllocError>
+fn sort_by_y<T>(alloc: Global, entries: &mut [Placed<T>]) -> Result<(), AllocError>
     ensures { OnOk result (entries.new ≡ sorted_by is_below entries.old) }
 {
     entries.sort_by_key(alloc, |entry| (entry.y, entry.tie))
 }
 
 // Puts entries into slices from left to right, each from below to above.
-fn arrange<T>(alloc: Global, entries: &mut [Entry<T>], groups: usize) -> Result<(), AllocError>
+fn arrange<T>(alloc: Global, entries: &mut [Placed<T>], groups: usize) -> Result<(), AllocError>
     requires few { length entries.old ≤ 2 ^ 20 }
     requires groups { groups ≤ length entries.old }
     requires some { 0 < length entries.old → 0 < groups }
@@ -93,7 +93,8 @@ fn cut<T: Drop>(alloc: Global, mut items: Vec<T>, groups: usize) -> Result<Vec<V
     requires few { length items.items ≤ 2 ^ 20 }
     requires groups { groups ≤ length items.items }
     requires some { 0 < length items.items → 0 < groups }
-    ensures { IfOk result (λ v. map (λ (g : list T). g.items) v.items ≡ parts (start_of_group (length items.items) groups) groups items.items) }
+    ensures { IfOk result (λ v. map (λ (g : list T). g.items) v.items
+        ≡ parts (start_of_group (length items.items) groups) groups items.items) }
 {
     let count = items.len();
     let mut cut = Vec::with_capacity(alloc, groups)?;
@@ -106,7 +107,7 @@ fn cut<T: Drop>(alloc: Global, mut items: Vec<T>, groups: usize) -> Result<Vec<V
 }
 
 // The items of the entries.
-fn items_of<T: Drop>(alloc: Global, entries: Vec<Entry<T>>) -> Result<Vec<T>, AllocError>
+fn items_of<T: Drop>(alloc: Global, entries: Vec<Placed<T>>) -> Result<Vec<T>, AllocError>
     ensures value { IfOk result (λ v. v.items ≡ map (λ e. e.item) entries.items) }
     ensures len { IfOk result (λ v. length v.items ≡ length entries.items) }
 {
@@ -116,7 +117,7 @@ fn items_of<T: Drop>(alloc: Global, entries: Vec<Entry<T>>) -> Result<Vec<T>, Al
 // The items of entries that are put into slices.
 fn arranged_items<T: Drop>(
     alloc: Global,
-    mut entries: Vec<Entry<T>>,
+    mut entries: Vec<Placed<T>>,
     groups: usize,
 ) -> Result<Vec<T>, AllocError>
     requires few { length entries.items ≤ 2 ^ 20 }
@@ -129,15 +130,17 @@ fn arranged_items<T: Drop>(
     items_of(alloc, entries)
 }
 
-// Puts entries into as few even groups as the capacity allows, each with entries whose middles are near each other.
+// Puts entries into as few even groups as the capacity allows, each with entries whose middles are
+// near each other.
 pub(crate) fn group<T: Drop>(
     alloc: Global,
-    entries: Vec<Entry<T>>,
+    entries: Vec<Placed<T>>,
     capacity: usize,
 ) -> Result<Vec<Vec<T>>, AllocError>
     requires few { length entries.items ≤ 2 ^ 20 }
     requires some { 0 < capacity }
-    ensures { IfOk result (λ v. map (λ (g : list T). g.items) v.items ≡ grouped capacity entries.items) }
+    ensures { IfOk result (λ v. map (λ (g : list T). g.items) v.items
+        ≡ grouped capacity entries.items) }
 {
     let groups = group_count(entries.len(), capacity);
     let items = arranged_items(alloc, entries, groups)?;

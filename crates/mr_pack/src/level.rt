@@ -2,37 +2,21 @@ ghost use Rattle.std.specs.Prelude.{◌≡◌, ◌≤◌, ◌<◌, ◌^◌, leng
 ghost use Rattle.std.specs.Global.{Vec as list};
 ghost use Rattle.std.specs.Borrow.{Bor};
 ghost use Rattle.mr_record.specs.declared.record.Record as types;
-ghost use Rattle.mr_tree.specs.Tree.{rect, join, union_of};
+ghost use Rattle.mr_geom.specs.Rectangle.{union_of};
+ghost use Rattle.mr_tree.specs.Tree.{rect};
 ghost use Rattle.mr_tree.specs.declared.tree.Tree.TheVariants as variants;
-ghost use Rattle.mr_pack.specs.Pack.{leaves_of, level_above, record_entry, node_entries};
+ghost use Rattle.mr_pack.specs.Pack.{leaves_of, level_above, placed_record, placed_nodes};
 ghost use Rattle.mr_pack.specs.declared.node.Node.{Node as node};
 ghost use Rattle.mr_pack.specs.Views.{seen, with_tree};
 
-use crate::entry::{Entry, place};
 use crate::grouping::group;
 use crate::node::Node;
-use mr_geom::Rect;
+use crate::placed::{Placed, place};
+use mr_geom::{Rect, joined};
 use mr_outside::Items;
 use mr_record::Record;
-use mr_tree::{Tree, bounds_of};
+use mr_tree::{INNER_LIMIT, LEAF_LIMIT, Tree, bounds_of};
 use std::alloc::{AllocError, Global};
-
-// The most records of a leaf.
-const LEAF_CAPACITY: usize = 16;
-
-// The most children of an inner node.
-const INNER_CAPACITY: usize = 64;
-
-// The rectangle round two, where there is one.
-fn joined(all: Option<Rect>, more: Option<Rect>) -> Option<Rect>
-    ensures { result ≡ join all more }
-{
-    match (all, more) {
-        (None, more) => more,
-        (Some(all), None) => Some(all),
-        (Some(all), Some(more)) => Some(all.union(&more)),
-    }
-}
 
 // Copies of some records.
 fn copies(alloc: Global, records: &[&Record]) -> Result<Vec<Record>, AllocError>
@@ -73,7 +57,8 @@ fn trees_of(alloc: Global, nodes: Vec<Node>) -> Result<Vec<Tree>, AllocError>
 
 // An inner node over some nodes.
 fn inner(alloc: Global, nodes: Vec<Node>) -> Result<Node, AllocError>
-    ensures { IfOk result (λ (n : node). n.tree ≡ variants.Inner (map (λ (n : node). n.tree) nodes.items)) }
+    ensures { IfOk result (λ (n : node). n.tree
+        ≡ variants.Inner (map (λ (n : node). n.tree) nodes.items)) }
 {
     let bounds = bounds_of_nodes(&nodes);
     let trees = trees_of(alloc, nodes)?;
@@ -84,8 +69,8 @@ fn inner(alloc: Global, nodes: Vec<Node>) -> Result<Node, AllocError>
 }
 
 // The entries of some records.
-fn record_entries(alloc: Global, records: &[Record]) -> Result<Vec<Entry<&Record>>, AllocError>
-    ensures { IfOk result (λ v. map seen v.items ≡ map record_entry records.now) }
+fn record_entries(alloc: Global, records: &[Record]) -> Result<Vec<Placed<&Record>>, AllocError>
+    ensures { IfOk result (λ v. map seen v.items ≡ map placed_record records.now) }
 {
     let mut entries = Vec::with_capacity(alloc, records.len())?;
     for record in records {
@@ -97,7 +82,8 @@ fn record_entries(alloc: Global, records: &[Record]) -> Result<Vec<Entry<&Record
 // A leaf of each group.
 fn leaves_of_groups(alloc: Global, groups: &[Vec<&Record>]) -> Result<Vec<Node>, AllocError>
     ensures { IfOk result (λ v. map (λ (n : node). n.tree) v.items
-        ≡ map (λ rs. variants.Leaf rs) (map (map (λ (r : Bor types.Record). r.now)) (map (λ (g : list (Bor types.Record)). g.items) groups.now))) }
+        ≡ map (λ rs. variants.Leaf rs) (map (map (λ (r : Bor types.Record). r.now))
+        (map (λ (g : list (Bor types.Record)). g.items) groups.now))) }
 {
     let mut leaves = Vec::with_capacity(alloc, groups.len())?;
     for group in groups {
@@ -112,13 +98,14 @@ pub(crate) fn leaves(alloc: Global, records: &[Record]) -> Result<Vec<Node>, All
     ensures { IfOk result (λ v. map (λ (n : node). n.tree) v.items ≡ leaves_of records.now) }
 {
     let entries = record_entries(alloc, records)?;
-    let groups = group(alloc, entries, LEAF_CAPACITY)?;
+    let groups = group(alloc, entries, LEAF_LIMIT as usize)?;
     leaves_of_groups(alloc, &groups)
 }
 
 // The entries of some nodes.
-fn entries_of_nodes(alloc: Global, nodes: Vec<Node>) -> Result<Vec<Entry<Node>>, AllocError>
-    ensures value { IfOk result (λ v. map with_tree v.items ≡ node_entries 0 (map (λ (n : node). n.tree) nodes.items)) }
+fn entries_of_nodes(alloc: Global, nodes: Vec<Node>) -> Result<Vec<Placed<Node>>, AllocError>
+    ensures value { IfOk result (λ v. map with_tree v.items
+        ≡ placed_nodes 0 (map (λ (n : node). n.tree) nodes.items)) }
     ensures len { IfOk result (λ v. length v.items ≡ length nodes.items) }
 {
     let mut entries = Vec::with_capacity(alloc, nodes.len())?;
@@ -132,7 +119,8 @@ fn entries_of_nodes(alloc: Global, nodes: Vec<Node>) -> Result<Vec<Entry<Node>>,
 // An inner node over each group.
 fn inner_nodes(alloc: Global, groups: Vec<Vec<Node>>) -> Result<Vec<Node>, AllocError>
     ensures { IfOk result (λ v. map (λ (n : node). n.tree) v.items
-        ≡ map (λ ts. variants.Inner ts) (map (map (λ (n : node). n.tree)) (map (λ (g : list node). g.items) groups.items))) }
+        ≡ map (λ ts. variants.Inner ts) (map (map (λ (n : node). n.tree))
+        (map (λ (g : list node). g.items) groups.items))) }
 {
     let mut level = Vec::with_capacity(alloc, groups.len())?;
     for group in groups {
@@ -144,9 +132,10 @@ fn inner_nodes(alloc: Global, groups: Vec<Vec<Node>>) -> Result<Vec<Node>, Alloc
 // The level above some nodes.
 pub(crate) fn above(alloc: Global, nodes: Vec<Node>) -> Result<Vec<Node>, AllocError>
     requires { length nodes.items ≤ 2 ^ 20 }
-    ensures { IfOk result (λ v. map (λ (n : node). n.tree) v.items ≡ level_above (map (λ (n : node). n.tree) nodes.items)) }
+    ensures { IfOk result (λ v. map (λ (n : node). n.tree) v.items
+        ≡ level_above (map (λ (n : node). n.tree) nodes.items)) }
 {
     let entries = entries_of_nodes(alloc, nodes)?;
-    let groups = group(alloc, entries, INNER_CAPACITY)?;
+    let groups = group(alloc, entries, INNER_LIMIT as usize)?;
     inner_nodes(alloc, groups)
 }

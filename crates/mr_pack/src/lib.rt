@@ -1,12 +1,12 @@
-//! Bulk load: a tree made at once from all its records, by sorting them into even tiles (a variant of sort-tile-recursive
-//! packing, Leutenegger, Lopez and Edgington 1997).
+//! Bulk load: a tree made at once from all its records, by sorting them into even tiles (a variant
+//! of sort-tile-recursive packing, Leutenegger, Lopez and Edgington 1997).
 #![tactic(auto)]
 
-mod entry;
 mod grouping;
 mod level;
 mod load;
 mod node;
+mod placed;
 #[cfg(test)]
 mod tests;
 mod twice;

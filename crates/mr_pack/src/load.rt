@@ -1,19 +1,18 @@
-ghost use Rattle.std.specs.Prelude.{◌≡◌, ◌≢◌, ◌≤◌, ◌^◌, ◌<◌, length, map, IfOk, IfErr, OnOk, All, AllPairs};
+ghost use Rattle.std.specs.Prelude.{◌≡◌, ◌≢◌, ◌≤◌, ◌^◌, ◌<◌, length, map, IfOk, IfErr, OnOk, AllPairs};
 ghost use Rattle.std.specs.List.Sorted.{IsPermutation};
 ghost use Rattle.mr_record.specs.declared.record.Record as types;
-ghost use Rattle.mr_record.specs.Bytes.{AreBytes};
-ghost use Rattle.mr_record.specs.Record.{IsRecord};
 ghost use Rattle.mr_tree.specs.Tree.{records};
 ghost use Rattle.mr_tree.specs.WellFormed.{WellFormed};
 ghost use Rattle.mr_pack.specs.HalfFull.{IsHalfFullBelow};
 ghost use Rattle.mr_pack.specs.Pack.{root_above, pack};
 ghost use Rattle.mr_pack.specs.Twice.{IsCause};
+ghost use Rattle.mr_pack.specs.declared.load.PackErr.TheVariants as errors;
 ghost use Rattle.mr_pack.specs.declared.node.Node.{Node as node};
 
 use crate::level::{above, leaves};
 use crate::node::Node;
 use crate::twice::least_twice;
-use mr_record::Record;
+use mr_record::{Record, are_records};
 use mr_tree::Tree;
 use std::alloc::{AllocError, Global};
 
@@ -35,32 +34,6 @@ impl From<AllocError> for PackErr {
     }
 }
 
-// What the types of a record's fields tell of their values.
-
-fn is_number(_number: u64)
-    ensures { _number < 2 ^ 64 }
-{}
-
-fn are_bytes(_bytes: &[u8])
-    ensures { AreBytes _bytes.now }
-{}
-
-fn is_record(one: &Record)
-    ensures { IsRecord one.now }
-{
-    is_number(one.number);
-    let _corners = one.rect.corners();
-    are_bytes(one.payload.bytes());
-}
-
-fn are_records(list: &[Record])
-    ensures { All IsRecord list.now }
-{
-    for one in list {
-        is_record(one);
-    }
-}
-
 // The last node that is left, if there is one.
 fn only_tree(mut level: Vec<Node>) -> Tree
     requires { length level.items ≤ 1 }
@@ -75,7 +48,8 @@ fn only_tree(mut level: Vec<Node>) -> Tree
 // The root above some nodes.
 fn root(alloc: Global, mut level: Vec<Node>) -> Result<Tree, AllocError>
     requires { length level.items ≤ 2 ^ 20 }
-    ensures { IfOk result (λ t. t ≡ root_above (length level.items) (map (λ (n : node). n.tree) level.items)) }
+    ensures { IfOk result (λ t. t
+        ≡ root_above (length level.items) (map (λ (n : node). n.tree) level.items)) }
 {
     while level.len() > 1 {
         level = above(alloc, level)?;
@@ -92,19 +66,23 @@ fn packed(alloc: Global, list: &[Record]) -> Result<Tree, AllocError>
     root(alloc, level)
 }
 
-/// Packs at most 2^20 records into a tree with as few nodes on each level as there can be, where a leaf holds up to 16
-/// records and an inner node up to 64 nodes. The entries of a level are put into vertical slices by the middles of their
-/// rectangles, each slice is sorted from below to above, and the whole is cut into even groups (sort-tile-recursive
-/// packing, Leutenegger, Lopez and Edgington 1997). Equal middles are decided by the number of a record, and among nodes
-/// by their position.
+/// Packs at most 2^20 records into a tree with as few nodes on each level as there can be, where a
+/// leaf holds up to 16 records and an inner node up to 64 nodes. The entries of a level are put
+/// into vertical slices by the middles of their rectangles, each slice is sorted from below to
+/// above, and the whole is cut into even groups (sort-tile-recursive packing, Leutenegger, Lopez
+/// and Edgington 1997). Equal middles are decided by the number of a record, and among nodes by
+/// their position.
 pub fn pack(alloc: Global, list: Vec<Record>) -> Result<Tree, PackErr>
     requires { length list.items ≤ 2 ^ 20 }
     ensures exact { IfOk result (λ t. t ≡ pack list.items) }
-    ensures apart { OnOk result (AllPairs (λ (a b : types.Record). a.number ≢ b.number) list.items) }
+    ensures apart { OnOk result
+        (AllPairs (λ (a b : types.Record). a.number ≢ b.number) list.items) }
     ensures well_formed { IfOk result WellFormed }
     ensures half_full { IfOk result IsHalfFullBelow }
     ensures same_records { IfOk result (λ t. IsPermutation list.items (records t)) }
     ensures refused { IfErr result (λ e. IsCause e list.items) }
+    ensures only_memory { AllPairs (λ (a b : types.Record). a.number ≢ b.number) list.items
+        → IfErr result (λ e. e ≡ errors.NoMemory) }
 {
     are_records(&list);
     match least_twice(alloc, &list)? {

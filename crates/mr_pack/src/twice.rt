@@ -32,7 +32,8 @@ fn first_repeat(mut last: u64, numbers: &[u64]) -> Option<u64>
 // The least number that stands twice in a rising list.
 fn repeated(numbers: &[u64]) -> Option<u64>
     requires { IsNonDecreasing numbers.now }
-    ensures { MatchOption result ((n : ℕ) → occurrences n numbers.now ≤ 1) (λ n. IsLeastTwice n numbers.now) }
+    ensures { MatchOption result ((n : ℕ) → occurrences n numbers.now ≤ 1)
+        (λ n. IsLeastTwice n numbers.now) }
 {
     let (first, others) = numbers.split_first()?;
     first_repeat(*first, others)
@@ -40,7 +41,8 @@ fn repeated(numbers: &[u64]) -> Option<u64>
 
 // The least number that two records have.
 pub(crate) fn least_twice(alloc: Global, records: &[Record]) -> Result<Option<u64>, AllocError>
-    ensures { IfOk result (λ r. MatchOption r ((n : ℕ) → occurrences n (numbers_of records.now) ≤ 1) (λ n. IsLeastTwice n (numbers_of records.now))) }
+    ensures { IfOk result (λ r. MatchOption r ((n : ℕ) → occurrences n (numbers_of records.now) ≤ 1)
+        (λ n. IsLeastTwice n (numbers_of records.now))) }
 {
     let numbers = sorted_numbers(alloc, records)?;
     Ok(repeated(&numbers))

@@ -11,10 +11,12 @@ part_cut text front back cut = rw cut.parts (slice_split_at (λ b. eqb b 44) fro
 pub part_one : (text : List ℕ) → Lacks 44 text → parts_of text ≡ text ∷ []
 part_one text lacks = slice_split_none (λ b. eqb b 44) text lacks
 
-more_than_four : (a b c d : List ℕ) (others : List (List ℕ)) → 0 < length others → window_of_parts (a ∷ b ∷ c ∷ d ∷ others) ≡ Err faults.Parts
+more_than_four : (a b c d : List ℕ) (others : List (List ℕ)) → 0 < length others →
+    window_of_parts (a ∷ b ∷ c ∷ d ∷ others) ≡ Err faults.Parts
 unfolding window_of_parts
 more_than_four a b c d [] filled = absurd (omega arith)
 more_than_four a b c d (e ∷ others) filled = refl
 
 pub five_parts : (a b c d rest : List ℕ) → window_of_parts (a ∷ b ∷ c ∷ d ∷ parts_of rest) ≡ Err faults.Parts
-five_parts a b c d rest = more_than_four a b c d (parts_of rest) (omega (arith, length-slice_split (λ x. eqb x 44) rest))
+five_parts a b c d rest =
+    more_than_four a b c d (parts_of rest) (omega (arith, length-slice_split (λ x. eqb x 44) rest))

@@ -3,11 +3,13 @@
 
 mod comma;
 mod query;
+mod selection;
 #[cfg(test)]
 mod tests;
 mod window;
 mod word;
 
 pub use query::{Query, QueryFault};
+pub use selection::answer;
 pub use window::Window;
 pub use word::read_query;

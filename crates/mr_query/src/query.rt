@@ -1,10 +1,27 @@
-use mr_geom::Rect;
+ghost use Rattle.std.specs.Prelude.{◌≡◌};
+ghost use Rattle.mr_query.specs.Region.{reaches};
+
+use crate::Window;
+use mr_geom::{Rect, Region};
 
 /// What is asked of a map.
 #[derive(Clone, Copy, Debug, PartialEq, Eq)]
 pub enum Query {
     /// The records whose rectangle shares a point with this one.
     Window(Rect),
+}
+
+impl Query {
+    /// Whether the region of the query meets the rectangle. For a window the squared radius does
+    /// not matter.
+    #[tactic(auto, unfolding(crate::specs::Region::reaches))]
+    pub fn meets(&self, radius: Option<u128>, rect: &Rect) -> bool
+        ensures { result ≡ reaches self.now radius rect.now }
+    {
+        match self {
+            Query::Window(window) => Window { rect: *window }.meets(rect),
+        }
+    }
 }
 
 /// Why a word is no query: the first of these that applies.

@@ -1,6 +1,5 @@
 ghost use Rattle.std.specs.Prelude.{◌≡◌, ◌↔◌, IsTrue};
-ghost use Rattle.mr_geom.specs.Plane.{Meets};
-ghost use Rattle.mr_query.specs.Region.{touches};
+ghost use Rattle.mr_geom.specs.Plane.{Meets, touches};
 
 use mr_geom::{Rect, Region};
 
@@ -17,7 +16,6 @@ impl Region for Window {
         ensures reached { IsTrue result ↔ Meets self.now.rect r.now }
         ensures test { result ≡ touches self.now.rect r.now }
     {
-        let _ordered = (self.rect.corners(), r.corners());
         self.rect.meets(r)
     }
 

@@ -23,10 +23,8 @@ fn read_window(x0: &[u8], y0: &[u8], x1: &[u8], y1: &[u8]) -> Result<Query, Quer
     let y0 = read_number(2, y0)?;
     let x1 = read_number(3, x1)?;
     let y1 = read_number(4, y1)?;
-    match Rect::new(x0, y0, x1, y1) {
-        Some(rect) => Ok(Query::Window(rect)),
-        None => Err(QueryFault::Order),
-    }
+    let rect = Rect::new(x0, y0, x1, y1).ok_or(QueryFault::Order)?;
+    Ok(Query::Window(rect))
 }
 
 #[tactic(auto, unfolding(crate::specs::Word::window_of_parts))]

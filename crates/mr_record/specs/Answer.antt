@@ -18,8 +18,8 @@ abbrev pub Answers : Result (Vec Record) TextErr → Result (List Record) TextFa
 Answers (Ok v) meant = meant ≡ Ok v.items
 Answers (Err e) meant = Refuses e meant
 
--- The lines before the fault's line are the lines of records that one text may hold, and behind those records the fault's
--- line breaks the fault's rule first.
+-- The lines before the fault's line are the lines of records that one text may hold, and behind
+-- those records the fault's line breaks the fault's rule first.
 pub record IsFirstFault (text : List ℕ) (fault : TextFault) : Type 0 where
   pub earlier : List Record
   pub held : IsRecordList earlier

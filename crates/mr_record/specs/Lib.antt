@@ -1,8 +1,14 @@
-pub mod Padding
+-- what has to be believed, in reading order
 pub mod Bytes
-pub mod Record
 pub mod Decimal
 pub mod Lines
+pub mod Results
+pub mod Record
+pub mod RecordField
+pub mod Rules
 pub mod RecordText
 pub mod Answer
+pub mod Sorting
+-- what only private functions and proofs use
+pub mod Padding
 pub mod Numbers

@@ -1,11 +1,12 @@
 -- The texts of records: `number x0 y0 x1 y1 payload` on a line, and lines with different numbers.
--- A fault has the least faulty line, and on it the first rule of the list of `TextRule` that the line breaks.
-use Rattle.std.specs.Prelude.{◌≢◌, ℕ, ℤ, ◌+◌, ◌^◌, ◌≤◌, ◌==◌, ◌&&◌, ◌||◌, not, nat_le, int_le, Bool, if◌then◌else◌, List, [], ◌∷◌, ◌++◌, length, All, AllPairs, Option, Some, None, Result, Ok, Err, ok_or, flat_map, bytes_eq, decimal}
+-- A fault has the least faulty line, and on it the first rule of the list of `TextRule` that the
+-- line breaks.
+use Rattle.std.specs.Prelude.{◌≢◌, ℕ, ◌+◌, ◌^◌, ◌≤◌, ◌==◌, ◌&&◌, ◌||◌, not, nat_le, Bool, if◌then◌else◌, List, [], ◌∷◌, ◌++◌, length, All, AllPairs, Option, Some, None, Result, Ok, Err, ok_or, flat_map, bytes_eq, decimal}
 use Rattle.std.specs.List.{list_any, list_all}
 use Rattle.std.specs.Fmt.{signed_decimal}
 use Rattle.hex.specs.Hex.{encode_lower, decode_of}
 use Rattle.hex.specs.declared.error.FromHexError.{FromHexError}
-use Rattle.mr_geom.specs.Rectangle.{Rectangle}
+use Rattle.mr_geom.specs.Rectangle.{Rectangle, rectangle_of}
 use Rattle.mr_record.specs.declared.record.Record.{Record}
 use Rattle.mr_record.specs.declared.text_fault.TextRule.{TextRule}
 use Rattle.mr_record.specs.declared.text_fault.TextRule.TheVariants.{TooMany, NoEnd, Form, Number, Coordinate, Order, Payload, Repeat}
@@ -13,12 +14,7 @@ use Rattle.mr_record.specs.declared.text_fault.TextFault.{TextFault}
 use Rattle.mr_record.specs.Decimal.{u64_of, i32_of}
 use Rattle.mr_record.specs.Lines.{Line, lines_of, fields_of}
 use Rattle.mr_record.specs.Record.{IsRecord}
-
--- the second step, if the first gave a value
-infixl 10 ◌>>=◌
-abbrev pub ◌>>=◌ : {A B E : Type 0} → Result A E → (A → Result B E) → Result B E
-Ok x >>= f = f x
-Err e >>= f = Err e
+use Rattle.mr_record.specs.Results.{◌>>=◌}
 
 -- ---- the one spelling of a record
 
@@ -30,8 +26,9 @@ payload_text (b ∷ bytes) = encode_lower (b ∷ bytes)
 -- the line of a record, without its line feed
 unfoldable pub line_of : Record → List ℕ
 line_of r =
-    decimal r.number ++ 32 ∷ (signed_decimal r.rect.x0 ++ 32 ∷ (signed_decimal r.rect.y0 ++ 32 ∷ (signed_decimal r.rect.x1
-    ++ 32 ∷ (signed_decimal r.rect.y1 ++ 32 ∷ payload_text r.payload))))
+    decimal r.number ++ 32 ∷ (signed_decimal r.rect.x0 ++ 32 ∷ (signed_decimal r.rect.y0
+    ++ 32 ∷ (signed_decimal r.rect.x1 ++ 32 ∷ (signed_decimal r.rect.y1
+    ++ 32 ∷ payload_text r.payload))))
 
 -- the lines of the records, each with its line feed
 unfoldable pub text_of : List Record → List ℕ
@@ -60,18 +57,16 @@ ok_bytes (Err e) = None
 
 -- the bytes of lower-case hexadecimal of 1 to 200 bytes
 abbrev pub hex_bytes : List ℕ → Option (List ℕ)
-hex_bytes text = if nat_le 2 (length text) && nat_le (length text) 400 && list_all is_lower_digit text then ok_bytes (decode_of text) else None
+hex_bytes text =
+    if nat_le 2 (length text) && nat_le (length text) 400 && list_all is_lower_digit text
+    then ok_bytes (decode_of text) else None
 
 -- the payload that a field spells
 unfoldable pub payload_of : List ℕ → Option (List ℕ)
 payload_of text = if bytes_eq text (45 ∷ []) then Some [] else hex_bytes text
 
--- the rectangle, if its sides are in order
-abbrev pub rectangle_of : ℤ → ℤ → ℤ → ℤ → Option Rectangle
-rectangle_of x0 y0 x1 y1 = if int_le x0 x1 && int_le y0 y1 then Some (record { x0 = x0; y0 = y0; x1 = x1; y1 = y1 }) else None
-
 -- the rectangle that four fields spell, else the first rule that they break
-unfoldable pub rectangle_of_fields : List ℕ → List ℕ → List ℕ → List ℕ → Result Rectangle TextRule
+unfoldable pub rectangle_of_fields : (x0 y0 x1 y1 : List ℕ) → Result Rectangle TextRule
 rectangle_of_fields x0 y0 x1 y1 = do
   left ← ok_or (i32_of x0) Coordinate
   low ← ok_or (i32_of y0) Coordinate
@@ -114,7 +109,8 @@ abbrev pub on_line : {A : Type 0} → ℕ → Result A TextRule → Result A Tex
 on_line n (Ok x) = Ok x
 on_line n (Err rule) = Err (record { line = n; rule = rule })
 
--- the records of the lines behind the earlier records, each of which had a line of its own, else the first fault
+-- the records of the lines behind the earlier records, each of which had a line of its own, else
+-- the first fault
 unfoldable pub records_after : List Record → List Line → Result (List Record) TextFault
 records_after earlier [] = Ok earlier
 records_after earlier (line ∷ lines) = do

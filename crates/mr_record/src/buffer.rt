@@ -4,8 +4,8 @@ ghost use Rattle.std.specs.Prelude.{◌≡◌, ◌+◌, ◌≤◌, [], ◌++◌,
 
 use std::marker::Model;
 
-/// Up to 512 bytes of a line, kept inline until the line goes to a sink whole, since each write is dear.
-/// Contracts see the list of the bytes so far.
+/// Up to 512 bytes of a line, kept inline until the line goes to a sink whole, since each write is
+/// dear. Contracts see the list of the bytes so far.
 #[derive(Drop)]
 pub(crate) struct LineBuffer {
     len: usize,

@@ -3,21 +3,28 @@
 
 mod buffer;
 mod bytes;
-mod cut;
+mod cutting;
 mod decimal;
+mod encoding;
 mod line;
 mod payload;
 mod print;
 mod record;
+mod record_fault;
 mod text;
 mod text_fault;
 
-pub use bytes::rect_bytes;
+pub use bytes::{
+    coordinate_of_bytes, rect_bytes, rect_of_bytes, u32_of_bytes, u64_of_bytes, u128_of_bytes,
+};
+pub use cutting::cut;
 pub use decimal::{read_i32, read_u64};
+pub use encoding::{read_record, write_record};
 pub use line::read_line;
-pub use payload::Payload;
-pub use print::write_line;
-pub use record::Record;
+pub use payload::{PAYLOAD_LIMIT, Payload};
+pub use print::{write_line, write_lines};
+pub use record::{Record, are_records, is_record};
+pub use record_fault::{RecordFault, RecordRule};
 pub use text::read_lines;
 pub use text_fault::{TextErr, TextFault, TextRule};
 

@@ -8,7 +8,7 @@ ghost use Rattle.mr_record.specs.Lines.{fields_of};
 ghost use Rattle.mr_record.specs.declared.record.Record as types;
 ghost use Rattle.mr_record.specs.declared.text_fault.TextRule.TheVariants as rules;
 
-use crate::cut::cut;
+use crate::cutting::cut;
 use crate::{Payload, Record, TextRule, read_i32, read_u64};
 use mr_geom::Rect;
 
@@ -66,7 +66,8 @@ fn read_fields(
     y1: &[u8],
     payload: &[u8],
 ) -> Result<Record, TextRule>
-    ensures { result ≡ record_of_fields (number.now ∷ x0.now ∷ y0.now ∷ x1.now ∷ y1.now ∷ payload.now ∷ []) }
+    ensures { result ≡ record_of_fields
+        (number.now ∷ x0.now ∷ y0.now ∷ x1.now ∷ y1.now ∷ payload.now ∷ []) }
 {
     let number = read_u64(number).ok_or(TextRule::Number)?;
     let rect = read_rect(x0, y0, x1, y1)?;
@@ -81,7 +82,8 @@ fn read_fields(
 /// The first field of a line with more than one, and the line behind it.
 #[tactic(auto, using(crate::proofs::Fields::fields_cut, crate::proofs::Fields::fields_one))]
 fn split_field(line: &[u8]) -> Result<(&[u8], &[u8]), TextRule>
-    ensures { MatchResult result (λ parts. fields_of line.now ≡ parts.0.now ∷ fields_of parts.1.now) (λ e. (e ≡ rules.Form) × (fields_of line.now ≡ line.now ∷ [])) }
+    ensures { MatchResult result (λ parts. fields_of line.now ≡ parts.0.now ∷ fields_of parts.1.now)
+        (λ e. (e ≡ rules.Form) × (fields_of line.now ≡ line.now ∷ [])) }
 {
     match cut(line, b' ') {
         Some(parts) => Ok(parts),

@@ -1,11 +1,14 @@
-//! One record as a line of text, written to a sink.
+//! Records as lines of text, written to a sink.
 
-ghost use Rattle.std.specs.Prelude.{◌≡◌, ◌+◌, ◌*◌, ◌≤◌, ◌++◌, ◌∷◌, [], length, drop, decimal, OnOk, IsErrOf};
+ghost use Rattle.std.specs.Prelude.{◌≡◌, ◌+◌, ◌*◌, ◌≤◌, ◌++◌, ◌∷◌, [], length, drop, decimal, OnOk, All};
 ghost use Rattle.std.specs.Fmt.{signed_decimal};
 ghost use Rattle.hex.specs.Hex.{encode_lower};
-ghost use Rattle.mr_outside.specs.Faults.{Rose};
 ghost use Rattle.mr_outside.specs.Told.{Takes, TakesFront};
-ghost use Rattle.mr_record.specs.RecordText.{payload_text, line_of};
+ghost use Rattle.mr_outside.specs.Causes.{SinkCauses};
+ghost use Rattle.mr_geom.specs.Rectangle.{IsOrdered, FitsMap};
+ghost use Rattle.mr_record.specs.Bytes.{AreBytes};
+ghost use Rattle.mr_record.specs.Record.{IsRecord};
+ghost use Rattle.mr_record.specs.RecordText.{payload_text, line_of, text_of};
 
 use crate::buffer::LineBuffer;
 use crate::{Payload, Record};
@@ -70,6 +73,8 @@ fn put_payload(line: &mut LineBuffer, payload: &Payload)
     requires { length line.old + 400 ≤ 512 }
     ensures put { line.new ≡ line.old ++ payload_text payload.now }
     ensures within { length line.new ≤ length line.old + 400 }
+    ensures short { length payload.now ≤ 200 }
+    ensures bytes { AreBytes payload.now }
 {
     match payload.bytes() {
         [] => line.put(b"-"),
@@ -89,8 +94,12 @@ fn put_coordinate_and_space(line: &mut LineBuffer, coordinate: i32)
 /// Puts the four coordinates, each with a space behind it.
 fn put_rect(line: &mut LineBuffer, rect: &Rect)
     requires { length line.old + 88 ≤ 512 }
-    ensures put { line.new ≡ line.old ++ signed_decimal rect.now.x0 ++ 32 ∷ [] ++ signed_decimal rect.now.y0 ++ 32 ∷ [] ++ signed_decimal rect.now.x1 ++ 32 ∷ [] ++ signed_decimal rect.now.y1 ++ 32 ∷ [] }
+    ensures put { line.new ≡ line.old ++ signed_decimal rect.now.x0 ++ 32 ∷ []
+        ++ signed_decimal rect.now.y0 ++ 32 ∷ [] ++ signed_decimal rect.now.x1 ++ 32 ∷ []
+        ++ signed_decimal rect.now.y1 ++ 32 ∷ [] }
     ensures within { length line.new ≤ length line.old + 88 }
+    ensures ordered { IsOrdered rect.now }
+    ensures fits { FitsMap rect.now }
 {
     let (x0, y0, x1, y1) = rect.corners();
     put_coordinate_and_space(line, x0);
@@ -101,7 +110,8 @@ fn put_rect(line: &mut LineBuffer, rect: &Rect)
 
 /// The line of the record, with its line feed.
 fn printed_line(one: &Record) -> LineBuffer
-    ensures { result ≡ line_of one.now ++ 10 ∷ [] }
+    ensures line { result ≡ line_of one.now ++ 10 ∷ [] }
+    ensures record { IsRecord one.now }
 {
     let mut line = LineBuffer::new();
     put_number(&mut line, one.number);
@@ -112,15 +122,28 @@ fn printed_line(one: &Record) -> LineBuffer
     line
 }
 
-/// Writes one line with its line feed: `number x0 y0 x1 y1 payload`, with single spaces between. After
-/// a refusal some front of the line was taken.
+/// Writes one line with its line feed: `number x0 y0 x1 y1 payload`, with single spaces between.
+/// After a refusal some front of the line was taken.
 pub fn write_line<W: Sink>(out: &mut W, one: &Record) -> Result<(), SinkErr>
-    ensures whole { OnOk result (Takes (W.taken out.old) (W.taken out.new) (line_of one.now ++ 10 ∷ [])) }
-    ensures front { TakesFront (W.taken out.old) (W.taken out.new) (line_of one.now ++ 10 ∷ []) }
-    ensures fault { IsErrOf result SinkErr.Fault → Rose (W.faults out.old) (W.faults out.new) }
-    ensures faults { W.faults out.old ≤ W.faults out.new }
-    ensures quiet { OnOk result (W.faults out.new ≡ W.faults out.old) }
+    ensures record { IsRecord one.now }
+    ensures whole { let line = line_of one.now ++ 10 ∷ [] in
+        OnOk result (Takes (W.state out.old) (W.state out.new) line) }
+    ensures front { TakesFront (W.state out.old) (W.state out.new) (line_of one.now ++ 10 ∷ []) }
+    ensures causes { SinkCauses (W.state out.old) (W.state out.new) result }
 {
     let line = printed_line(one);
     write_all(out, line.bytes())
+}
+
+/// Writes a line for each record, in their order. After a refusal some front of the text was taken.
+pub fn write_lines<W: Sink>(out: &mut W, records: &[Record]) -> Result<(), SinkErr>
+    ensures records { OnOk result (All IsRecord records.now) }
+    ensures whole { OnOk result (Takes (W.state out.old) (W.state out.new) (text_of records.now)) }
+    ensures front { TakesFront (W.state out.old) (W.state out.new) (text_of records.now) }
+    ensures causes { SinkCauses (W.state out.old) (W.state out.new) result }
+{
+    for one in records {
+        write_line(out, one)?;
+    }
+    Ok(())
 }

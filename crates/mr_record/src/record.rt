@@ -1,3 +1,7 @@
+ghost use Rattle.std.specs.Prelude.{◌^◌, ◌<◌, All};
+ghost use Rattle.mr_record.specs.Bytes.{AreBytes};
+ghost use Rattle.mr_record.specs.Record.{IsRecord};
+
 use crate::Payload;
 use mr_geom::Rect;
 
@@ -7,4 +11,46 @@ pub struct Record {
     pub number: u64,
     pub rect: Rect,
     pub payload: Payload,
+}
+
+impl Record {
+    /// Record 0 at the point (0, 0) without a payload: it fills a place until another is put there.
+    pub fn blank() -> Record {
+        match (Rect::new(0, 0, 0, 0), Payload::new(&[])) {
+            (Some(rect), Some(payload)) => Record {
+                number: 0,
+                rect,
+                payload,
+            },
+            _ => unreachable!(),
+        }
+    }
+}
+
+// What the types of the fields tell of their values.
+
+fn is_number(_number: u64)
+    ensures { _number < 2 ^ 64 }
+{}
+
+fn are_bytes(_bytes: &[u8])
+    ensures { AreBytes _bytes.now }
+{}
+
+/// Does nothing: it is there for proofs, which learn that each value of the type is a record.
+pub fn is_record(one: &Record)
+    ensures { IsRecord one.now }
+{
+    is_number(one.number);
+    let _corners = one.rect.corners();
+    are_bytes(one.payload.bytes());
+}
+
+/// As `is_record`, for each record of a list.
+pub fn are_records(list: &[Record])
+    ensures { All IsRecord list.now }
+{
+    for one in list {
+        is_record(one);
+    }
 }

@@ -8,7 +8,7 @@ ghost use Rattle.mr_record.specs.RecordText.{IsRecordList, text_of, record_after
 ghost use Rattle.mr_record.specs.Answer.{Answers, Refuses, IsRefusal};
 ghost use Rattle.mr_record.specs.Numbers.{Knows};
 
-use crate::cut::cut;
+use crate::cutting::cut;
 use crate::{Record, TextErr, TextFault, TextRule, read_line};
 use std::alloc::Global;
 use std::collections::BTreeSet;
@@ -20,7 +20,8 @@ const LINE_LIMIT: usize = 1 << 20;
 #[tactic(auto, using(crate::proofs::Fields::lines_cut, crate::proofs::Fields::lines_last))]
 fn first_line(text: &[u8]) -> (&[u8], bool, &[u8])
     requires { 0 < length text.now }
-    ensures lines { lines_of text.now ≡ record { bytes = result.0.now; ended = result.1 } ∷ lines_of result.2.now }
+    ensures lines { lines_of text.now
+        ≡ record { bytes = result.0.now; ended = result.1 } ∷ lines_of result.2.now }
     ensures shorter { length result.2.now < length text.now }
 {
     match cut(text, b'\n') {
@@ -75,8 +76,10 @@ fn take_line<'a>(
     requires known { Knows numbers.old records.old.items }
     ensures known { OnOk result (Knows numbers.new records.new.items) }
     ensures shorter { IfOk result (λ rest. length rest.now < length text.now) }
-    ensures goes_on { IfOk result (λ rest. records_after records.old.items (lines_of text.now) ≡ records_after records.new.items (lines_of rest.now)) }
-    ensures refused { IfErr result (λ e. Refuses e (records_after records.old.items (lines_of text.now))) }
+    ensures goes_on { IfOk result (λ rest. records_after records.old.items (lines_of text.now)
+        ≡ records_after records.new.items (lines_of rest.now)) }
+    ensures refused { IfErr result
+        (λ e. Refuses e (records_after records.old.items (lines_of text.now))) }
 {
     let (line, ended, rest) = first_line(text);
     let number = records.len() as u64 + 1;
@@ -105,7 +108,8 @@ fn read_all(alloc: Global, text: &[u8]) -> Result<Vec<Record>, TextErr>
 pub fn read_lines(alloc: Global, text: &[u8]) -> Result<Vec<Record>, TextErr>
     ensures exact { Answers result (records_of_text text.now) }
     ensures written { IfOk result (λ v. IsRecordList v.items × (text.now ≡ text_of v.items)) }
-    ensures read { (rs : List types.Record) → IsRecordList rs → text.now ≡ text_of rs → Answers result (Ok rs) }
+    ensures read { (rs : List types.Record) → IsRecordList rs → text.now ≡ text_of rs
+        → Answers result (Ok rs) }
     ensures refused { IfErr result (λ e. IsRefusal text.now e) }
 {
     read_all(alloc, text)

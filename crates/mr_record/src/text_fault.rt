@@ -1,6 +1,7 @@
 //! Why a text was refused.
 
 ghost use Rattle.std.specs.Prelude.{◌≡◌};
+ghost use Rattle.mr_record.specs.Rules.{text_rule_name};
 ghost use Rattle.mr_record.specs.declared.text_fault.TextErr.TheVariants.{NoMemory};
 
 use std::alloc::{AllocError, AllocFailed};
@@ -28,6 +29,26 @@ pub enum TextRule {
     Repeat,
     /// The line of a script is no query.
     Query,
+}
+
+impl TextRule {
+    /// The name that is printed.
+    pub fn name(&self) -> &'static str
+        ensures { result.now ≡ text_rule_name self.now }
+    {
+        match self {
+            TextRule::TooMany => "TooMany",
+            TextRule::NoEnd => "NoEnd",
+            TextRule::Head => "Head",
+            TextRule::Form => "Form",
+            TextRule::Number => "Number",
+            TextRule::Coordinate => "Coordinate",
+            TextRule::Order => "Order",
+            TextRule::Payload => "Payload",
+            TextRule::Repeat => "Repeat",
+            TextRule::Query => "Query",
+        }
+    }
 }
 
 /// The first line of a text that breaks a rule, counted from 1, and the first rule that it breaks.

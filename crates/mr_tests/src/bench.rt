@@ -1,23 +1,58 @@
-//! The table on which a test lays files and words: shelf and sink in memory, or the real file system.
+//! A row of a table of runs, and how it is run: over a shelf and a sink in memory.
 
-use mr_outside::{MemShelf, MemSink, NoGate, Shelf};
+use mr_outside::{Gate, MemShelf, MemSink};
 use mr_tool::{Status, run};
 use mr_tree::Hash32;
 use std::alloc::{AllocError, Global};
 use std::thread::Threads;
 
-/// What a run left: its status and what it printed.
-#[derive(Debug, Drop)]
-pub struct Ended {
-    pub status: Status,
-    pub printed: Vec<u8>,
+/// A file by its name.
+pub type File<'a> = (&'a str, &'a [u8]);
+
+/// A run: its words, the files before, the numbers, from 1, of the calls of shelf and sink that fail; then its
+/// status, what it prints, and the files that it leaves.
+#[derive(Clone, Copy, Debug)]
+pub struct Row<'a>(
+    pub &'a [&'a str],
+    pub &'a [File<'a>],
+    pub &'a [u64],
+    pub &'a [u64],
+    pub Status,
+    pub &'a [u8],
+    pub &'a [File<'a>],
+);
+
+// The shelf that holds these files, and of which these calls fail.
+fn shelf_of(alloc: Global, files: &[File<'_>], fail: &[u64]) -> Result<MemShelf, AllocError> {
+    let mut shelf = MemShelf::new(alloc, fail.to_vec(alloc)?);
+    for (name, bytes) in files {
+        shelf.put(name, bytes)?;
+    }
+    Ok(shelf)
 }
 
-impl Ended {
-    /// Whether the run ended so, having printed this.
-    pub fn is(&self, status: Status, printed: &[u8]) -> bool {
-        self.status == status && self.printed.as_slice() == printed
+// Whether the shelf holds these files.
+fn holds_files(shelf: &MemShelf, files: &[File<'_>]) -> bool {
+    for (name, bytes) in files {
+        if shelf.file(name) != Some(*bytes) {
+            return false;
+        }
     }
+    true
+}
+
+/// Whether the run is as the row says.
+pub fn holds<H: Hash32, G: Gate, R: Threads + Sync>(
+    rt: &R,
+    alloc: Global,
+    gate: &G,
+    row: &Row<'_>,
+) -> Result<bool, AllocError> {
+    let words = words(alloc, row.0)?;
+    let shelf = shelf_of(alloc, row.1, row.2)?;
+    let mut out = MemSink::new(alloc, row.3.to_vec(alloc)?);
+    let (status, shelf) = run::<H, _, _, _, _>(rt, alloc, &words, shelf, &mut out, gate);
+    Ok(status == row.4 && out.bytes() == row.5 && holds_files(&shelf, row.6))
 }
 
 /// The words of a command line.
@@ -27,37 +62,4 @@ pub fn words(alloc: Global, words: &[&str]) -> Result<Vec<String>, AllocError> {
         all.push(String::from_str(alloc, word)?)?;
     }
     Ok(all)
-}
-
-/// Runs a command over this shelf and a sink in memory whose calls of these numbers fail.
-pub fn over<H: Hash32, S: Shelf, R: Threads + Sync>(
-    rt: &R,
-    alloc: Global,
-    line: &[&str],
-    shelf: S,
-    fail: Vec<u64>,
-) -> Result<(Ended, S), (AllocError, S)> {
-    let Ok(line) = words(alloc, line) else {
-        return Err((AllocError, shelf));
-    };
-    let mut out = MemSink::new(alloc, fail);
-    let (status, shelf) = run::<H, _, _, _, _>(rt, alloc, &line, shelf, &mut out, &NoGate);
-    match out.bytes().to_vec(alloc) {
-        Ok(printed) => Ok((Ended { status, printed }, shelf)),
-        Err(error) => Err((error, shelf)),
-    }
-}
-
-/// Runs `root r` where the file `r` has this text.
-pub fn root_of<H: Hash32, R: Threads + Sync>(
-    rt: &R,
-    alloc: Global,
-    text: &[u8],
-) -> Result<Ended, AllocError> {
-    let mut shelf = MemShelf::new(alloc, Vec::new(alloc));
-    shelf.put("r", text)?;
-    match over::<H, _, _>(rt, alloc, &["root", "r"], shelf, Vec::new(alloc)) {
-        Ok((ended, _shelf)) => Ok(ended),
-        Err((error, _shelf)) => Err(error),
-    }
 }

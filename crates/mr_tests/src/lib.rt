@@ -4,8 +4,10 @@
 #[cfg(test)]
 mod bench;
 #[cfg(test)]
-mod check;
+mod large;
 #[cfg(test)]
-mod root;
+mod maps;
+#[cfg(test)]
+mod rows;
 #[cfg(test)]
 mod tree;

@@ -24,11 +24,13 @@ apart_from (r ∷ rs) pairs = (
 )
 
 -- a number that no record has
-absent : (m : ℕ) (rs : List Record) → AllByRecursion (λ (s : Record). m ≢ s.number) rs → occurrences m (numbers_of rs) ≡ 0
+absent : (m : ℕ) (rs : List Record) → AllByRecursion (λ (s : Record). m ≢ s.number) rs
+    → occurrences m (numbers_of rs) ≡ 0
 absent m [] all = refl
 absent m (s ∷ ss) all = at (s.number == m) refl ∙ absent m ss all.1
   where
-    at : (b : Bool) → (s.number == m) ≡ b → occurrences m (numbers_of (s ∷ ss)) ≡ occurrences m (numbers_of ss)
+    at : (b : Bool) → (s.number == m) ≡ b
+        → occurrences m (numbers_of (s ∷ ss)) ≡ occurrences m (numbers_of ss)
     at true e = absurd (all.0 (sym (eqb-true s.number m e)))
     at false e = other_more m s.number (numbers_of ss) e
 
@@ -36,9 +38,22 @@ at_most_once : (m : ℕ) (rs : List Record) → AreApart rs → occurrences m (n
 at_most_once m [] apart = omega arith
 at_most_once m (r ∷ rs) apart = at (at_most_once m rs apart.1) (r.number == m) refl
   where
-    at : occurrences m (numbers_of rs) ≤ 1 → (b : Bool) → (r.number == m) ≡ b → occurrences m (numbers_of (r ∷ rs)) ≤ 1
-    at once true e = omega (arith, same_more m r.number (numbers_of rs) e, absent m rs (subst (λ k. AllByRecursion (λ (s : Record). k ≢ s.number) rs) (eqb-true r.number m e) apart.0))
+    at : occurrences m (numbers_of rs) ≤ 1 → (b : Bool) → (r.number == m) ≡ b
+        → occurrences m (numbers_of (r ∷ rs)) ≤ 1
+    at once true e = omega (
+      arith,
+      same_more m r.number (numbers_of rs) e,
+      absent m rs
+          (subst (λ k. AllByRecursion (λ (s : Record). k ≢ s.number) rs) (eqb-true r.number m e)
+          apart.0),
+    )
     at once false e = omega (arith, other_more m r.number (numbers_of rs) e, once)
 
-pub never_twice : (m : ℕ) (rs : List Record) → AllPairs Apart rs → IsLeastTwice m (numbers_of rs) → ⊥
-never_twice m rs pairs least = absurd (omega (arith, least.twice, at_most_once m rs (apart_from rs pairs)))
+pub never_twice : (m : ℕ) (rs : List Record) → AllPairs Apart rs → IsLeastTwice m (numbers_of rs)
+    → ⊥
+never_twice m rs pairs least = absurd (omega (
+  arith,
+  least.twice,
+  at_most_once m rs (apart_from rs
+      pairs),
+))

@@ -1,6 +1,11 @@
-pub mod Answering
+pub mod Showing
+pub mod Plans
+pub mod Runs
+pub mod Endings
+pub mod Going
+pub mod Texts
+pub mod Numbered
+pub mod Digests
+pub mod Spelling
 pub mod Apart
-pub mod CheckSays
-pub mod RecordLines
-pub mod RootSays
 pub mod Verdicts

@@ -1,40 +1,73 @@
 -- What the command `check` says of a proof, by what the check answers for it.
-use Rattle.std.proofs.Common.{◌≡◌, ℕ, zero, suc, ◌≤◌, true, false, cond, List, refl, ap, ◌∙◌, subst, lt-ltb, le-ltb, arith}
-use Rattle.std.specs.Prelude.{Result, Ok, Err, nat_lt}
+use Rattle.std.proofs.Common.{◌≡◌, ℕ, List, refl, sym, ap, subst}
+use Rattle.std.specs.Prelude.{Option, Some, Result, Ok, Err}
+use Rattle.std.specs.Global.{Vec}
+use Rattle.mr_outside.specs.State.{Shelved}
 use Rattle.mr_record.specs.declared.record.Record.{Record}
 use Rattle.mr_query.specs.declared.query.Query.{Query}
-use Rattle.mr_check.specs.declared.proof.head.Head.{Head}
-use Rattle.mr_check.specs.declared.proof.rule.Fault.{Fault}
+use Rattle.mr_proof.specs.declared.rule.Fault.{Fault}
 use Rattle.mr_check.specs.declared.error.CheckErr.{CheckErr}
-use Rattle.mr_check.specs.Answers.{HasInner, Checks}
-use Rattle.mr_check.specs.ProofReading.{head_read, verdict}
-use Rattle.mr_tool.specs.Say.{declines, has_inner, say_verdict, say_check_bytes}
-use Rattle.mr_tool.specs.declared.status.Status.TheVariants.{NotYet}
-
-no_inner_level : (n : ℕ) → (1 ≤ n → ⊥) → nat_lt 0 n ≡ false
-no_inner_level zero none = le-ltb 0 0 (omega arith)
-no_inner_level (suc n) none = absurd (none (omega arith))
-
-no_inner : (h : Result Head Fault) → (HasInner h → ⊥) → has_inner h ≡ false
-no_inner (Ok head) none = no_inner_level head.level none
-no_inner (Err fault) none = refl
-
-some_inner : (h : Result Head Fault) → HasInner h → has_inner h ≡ true
-some_inner (Ok head) some = lt-ltb 0 head.level (omega (arith, some))
-some_inner (Err fault) some = absurd some
+use Rattle.mr_check.specs.Answers.{Checks}
+use Rattle.mr_proof.specs.Reading.{verdict}
+use Rattle.mr_tool.specs.Answer.{IsSettled}
+use Rattle.mr_tool.specs.Ending.{Gives, Comes, Reads, printed_of}
+use Rattle.mr_tool.specs.Outcome.{Outcome, Nothing, IsLeft}
+use Rattle.mr_tool.specs.Plan.{comes}
+use Rattle.mr_tool.specs.Say.{needs, say_verdict, say_check_of}
+use Rattle.mr_tool.specs.declared.ending.Ending.{Ending}
+use Rattle.mr_tool.specs.declared.ending.Halt.{Halt}
 
 -- the error that it answers, as one of these
-pub checks_as : (hash : List ℕ → List ℕ) (root : List ℕ) (q : Query) (bytes : List ℕ) (a b : CheckErr) → a ≡ b
-    → Checks (Err a) (head_read q bytes) (verdict hash root q bytes) → Checks (Err b) (head_read q bytes) (verdict hash root q bytes)
-checks_as hash root q bytes a b e = subst (λ error. Checks (Err error) (head_read q bytes) (verdict hash root q bytes)) e
+pub checks_as : (hash : List ℕ → List ℕ) (root : List ℕ) (q : Query) (bytes : List ℕ)
+    (a b : CheckErr) → a ≡ b
+    → Checks (Err a) (verdict hash root q bytes)
+    → Checks (Err b) (verdict hash root q bytes)
+checks_as hash root q bytes a b e =
+    subst (λ error. Checks (Err error) (verdict hash root q bytes)) e
 
-pub says_verdict : (hash : List ℕ → List ℕ) (root : List ℕ) (q : Query) (bytes : List ℕ) → (HasInner (head_read q bytes) → ⊥)
-    → (v : Result (List Record) Fault) → verdict hash root q bytes ≡ v → say_check_bytes hash root q bytes ≡ say_verdict v
-unfolding say_check_bytes
-says_verdict hash root q bytes none v is =
-    ap (λ b. cond b (declines NotYet) (say_verdict (verdict hash root q bytes))) (no_inner (head_read q bytes) none) ∙ ap say_verdict is
+pub says_verdict : (hash : List ℕ → List ℕ) (root : List ℕ) (q : Query) (bytes : List ℕ)
+    (v : Result (List Record) Fault) → verdict hash root q bytes ≡ v
+    → say_check_of hash root q bytes ≡ say_verdict v
+unfolding say_check_of
+says_verdict hash root q bytes v is = ap say_verdict is
 
-pub says_not_yet : (hash : List ℕ → List ℕ) (root : List ℕ) (q : Query) (bytes : List ℕ) → HasInner (head_read q bytes) → say_check_bytes hash root q bytes ≡ declines NotYet
-unfolding say_check_bytes
-says_not_yet hash root q bytes some =
-    ap (λ b. cond b (declines NotYet) (say_verdict (verdict hash root q bytes))) (some_inner (head_read q bytes) some)
+-- an ending of this status and text
+pub gives : (said : Outcome) (ending : Ending) → IsSettled said.status → ending.status ≡ said.status
+    → printed_of ending ≡ said.printed → Gives said ending
+gives said ending settled status printed = record
+    { status = status; printed = printed; settled = subst IsSettled (sym status) settled }
+
+verdict_writes : (v : Result (List Record) Fault) → (say_verdict v).written ≡ Nothing
+verdict_writes (Ok answer) = refl
+verdict_writes (Err fault) = refl
+
+-- the command `check` writes no file
+pub check_writes : (hash : List ℕ → List ℕ) (root : List ℕ) (q : Query) (bytes : List ℕ)
+    → (say_check_of hash root q bytes).written ≡ Nothing
+unfolding say_check_of
+check_writes hash root q bytes = verdict_writes (verdict hash root q bytes)
+
+-- a command that needs one file and writes none
+pub comes_so : (name : List ℕ) (said : List ℕ → Outcome) (before after : Shelved) (bytes : Vec ℕ)
+    (read : Result (Option (Vec ℕ)) Halt) (ending : Ending)
+    → read ≡ Ok (Some bytes) → Reads name before after read → (said bytes.items).written ≡ Nothing
+    → Gives (said bytes.items) ending
+    → Comes (needs name (λ b. comes (said b))) before after (Ok ending)
+comes_so name said before after bytes read ending was reads writes gives =
+    let was_read : Reads name before after (Ok (Some bytes)) = subst (Reads name before after) was
+    reads in
+    record {
+      counts = was_read.counts;
+      came = (
+        Some bytes.items,
+        was_read.read.0,
+        (
+          gives.status,
+          gives.printed,
+          subst (λ w. IsLeft w before.files after.files) (sym writes)
+              was_read.files,
+        ),
+      );
+      outside = λ e. absurd (gives.settled.0 e);
+      quiet = λ settled. was_read.read.1;
+    }

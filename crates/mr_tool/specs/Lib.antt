@@ -1,7 +1,13 @@
-pub mod Answer
-pub mod Command
-pub mod Lines
+pub mod Status
+pub mod Words
+pub mod Found
 pub mod Outcome
+pub mod Plan
+pub mod Lines
 pub mod Refusal
 pub mod Say
-pub mod Status
+pub mod Spelling
+pub mod Answer
+pub mod Run
+pub mod Ending
+pub mod Listing

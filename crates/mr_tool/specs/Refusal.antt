@@ -1,30 +1,10 @@
 -- The line on a proof that is refused.
 use Rattle.std.specs.Prelude.{ℕ, List, [], ◌∷◌, ◌++◌, codes, decimal}
 use Rattle.hex.specs.Hex.{encode_lower}
-use Rattle.mr_check.specs.declared.proof.rule.Rule.{Rule}
-use Rattle.mr_check.specs.declared.proof.rule.Rule.TheVariants as rule
-use Rattle.mr_check.specs.declared.proof.rule.Fault.{Fault}
-
--- the name of a rule
-abbrev pub rule_text : Rule → List ℕ
-rule_text rule.Long = codes "Long"
-rule_text rule.Short = codes "Short"
-rule_text rule.BadMagic = codes "BadMagic"
-rule_text rule.BadVersion = codes "BadVersion"
-rule_text rule.WrongKind = codes "WrongKind"
-rule_text rule.BadCount = codes "BadCount"
-rule_text rule.BadFlag = codes "BadFlag"
-rule_text rule.BadRadius = codes "BadRadius"
-rule_text rule.BadLevel = codes "BadLevel"
-rule_text rule.BadTag = codes "BadTag"
-rule_text rule.BadEntries = codes "BadEntries"
-rule_text rule.BadRect = codes "BadRect"
-rule_text rule.BadLength = codes "BadLength"
-rule_text rule.Hidden = codes "Hidden"
-rule_text rule.Needless = codes "Needless"
-rule_text rule.Trailing = codes "Trailing"
-rule_text (rule.WrongRoot found) = codes "WrongRoot"
-rule_text rule.WrongRadius = codes "WrongRadius"
+use Rattle.mr_proof.specs.declared.rule.Rule.{Rule}
+use Rattle.mr_proof.specs.declared.rule.Rule.TheVariants as rule
+use Rattle.mr_proof.specs.declared.rule.Fault.{Fault}
+use Rattle.mr_proof.specs.RuleNames.{rule_text}
 
 -- the root digest that was computed, where it is another than the held one
 abbrev pub found_text : Rule → List ℕ
@@ -33,4 +13,5 @@ found_text _ = []
 
 -- `refused RULE at PLACE`, and the digest that was found
 unfoldable pub refused_line : Fault → List ℕ
-refused_line fault = codes "refused " ++ rule_text fault.rule ++ codes " at " ++ decimal fault.at ++ found_text fault.rule ++ 10 ∷ []
+refused_line fault = codes "refused " ++ rule_text fault.rule ++ codes " at " ++ decimal fault.at
+    ++ found_text fault.rule ++ 10 ∷ []

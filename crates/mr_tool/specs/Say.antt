@@ -1,22 +1,28 @@
--- What each command says: its outcome, for the files as they are at the start. The hash function is any one.
-use Rattle.std.specs.Prelude.{ℕ, List, [], ◌∷◌, ◌++◌, Option, Some, None, Result, Ok, Err, if◌then◌else◌, Bool, false, nat_lt}
+-- What each command says. The hash function is any one.
+use Rattle.std.specs.Prelude.{ℕ, List, [], ◌∷◌, ◌++◌, length, Option, Some, None, Result, Ok, Err}
 use Rattle.hex.specs.Hex.{encode_lower}
-use Rattle.mr_outside.specs.Files.{Files, file}
 use Rattle.mr_record.specs.declared.record.Record.{Record}
 use Rattle.mr_record.specs.declared.text_fault.TextFault.{TextFault}
 use Rattle.mr_record.specs.RecordText.{records_of_text, text_of}
 use Rattle.mr_tree.specs.Digest.{root}
+use Rattle.mr_tree.specs.Tree.{records}
+use Rattle.mr_tree.specs.declared.tree.Tree.{Tree}
 use Rattle.mr_pack.specs.Pack.{pack}
+use Rattle.mr_query.specs.Scan.{by_number}
 use Rattle.mr_query.specs.declared.query.Query.{Query}
-use Rattle.mr_check.specs.declared.proof.head.Head.{Head}
-use Rattle.mr_check.specs.declared.proof.rule.Fault.{Fault}
-use Rattle.mr_check.specs.ProofReading.{head_read, verdict}
+use Rattle.mr_proof.specs.declared.rule.Fault.{Fault}
+use Rattle.mr_proof.specs.Honest as honest
+use Rattle.mr_proof.specs.Reading.{verdict}
+use Rattle.mr_tool.specs.Found.{Found, bad_map_line}
+use Rattle.mr_tool.specs.Lines.{bad_words_line, bad_text_line, missing_line, proof_line}
+use Rattle.mr_tool.specs.Outcome.{Outcome, Nothing, File, map_of}
+use Rattle.mr_tool.specs.Outcome as content
+use Rattle.mr_tool.specs.Plan.{Input, Plan, comes, reads, opens}
 use Rattle.mr_tool.specs.Refusal.{refused_line}
-use Rattle.mr_tool.specs.Command.{Spoken, Root, Check}
-use Rattle.mr_tool.specs.Lines.{bad_words_line, bad_text_line, missing_line}
-use Rattle.mr_tool.specs.Outcome.{Outcome, Nothing}
 use Rattle.mr_tool.specs.declared.status.Status.{Status}
-use Rattle.mr_tool.specs.declared.status.Status.TheVariants.{Done, BadWords, Refused, BadText, Outside, NotYet}
+use Rattle.mr_tool.specs.declared.status.Status.TheVariants.{Done, BadWords, Refused, BadText, BadMap, Outside}
+use Rattle.mr_tool.specs.declared.words.Command.{Command}
+use Rattle.mr_tool.specs.declared.words.Command.TheVariants as commands
 
 -- a command that ends so, prints this text and writes no file
 abbrev pub ends : Status → List ℕ → Outcome
@@ -26,10 +32,6 @@ ends status text = record { status = status; printed = text; written = Nothing }
 abbrev pub prints : List ℕ → Outcome
 prints text = ends Done text
 
--- nothing was done, for a reason
-abbrev pub declines : Status → Outcome
-declines status = ends status []
-
 -- a digest in hexadecimal, and a line feed
 abbrev pub digest_line : List ℕ → List ℕ
 digest_line digest = encode_lower digest ++ 10 ∷ []
@@ -38,44 +40,91 @@ digest_line digest = encode_lower digest ++ 10 ∷ []
 abbrev pub says_missing : List ℕ → Outcome
 says_missing name = ends Outside (missing_line name)
 
+-- what follows on a file's bytes, or the line on a missing file
+abbrev pub given : List ℕ → (List ℕ → Plan) → Input → Plan
+given name next None = comes (says_missing name)
+given name next (Some bytes) = next bytes
+
+-- a file that has to be there is read
+abbrev pub needs : List ℕ → (List ℕ → Plan) → Plan
+needs name next = reads name (given name next)
+
+-- what follows on a map, or the line on the fault of a file that stands for none
+abbrev pub given_map : (Tree → ℕ → Plan) → Found → Plan
+given_map next (Ok map) = next map.0 map.1
+given_map next (Err fault) = comes (ends BadMap (bad_map_line fault))
+
+-- a file that has to be there and to stand for a map is read
+abbrev pub needs_map : (List ℕ → List ℕ) → List ℕ → (Tree → ℕ → Plan) → Plan
+needs_map hash name next = needs name (λ bytes. opens hash bytes (given_map next))
+
 -- the root of the tree of the records of a text at batch 0, or the text's first fault
 abbrev pub say_root_of : (List ℕ → List ℕ) → Result (List Record) TextFault → Outcome
 say_root_of hash (Err fault) = ends BadText (bad_text_line fault)
 say_root_of hash (Ok records) = prints (digest_line (root hash (pack records) 0))
 
-abbrev pub say_root_file : (List ℕ → List ℕ) → List ℕ → Option (List ℕ) → Outcome
-say_root_file hash name None = says_missing name
-say_root_file hash name (Some text) = say_root_of hash (records_of_text text)
-
 -- `root RECORDS`: the root of the records of a file
-abbrev pub say_root : (List ℕ → List ℕ) → List ℕ → Files → Outcome
-say_root hash name files = say_root_file hash name (file files name)
+abbrev pub say_root : (List ℕ → List ℕ) → List ℕ → Plan
+say_root hash records = needs records (λ text. comes (say_root_of hash (records_of_text text)))
 
--- a head that breaks no rule, of a map with inner nodes
-abbrev pub has_inner : Result Head Fault → Bool
-has_inner (Ok head) = nat_lt 0 head.level
-has_inner (Err fault) = false
+-- the map of the records of a text at batch 0 in a file, and its root, or the text's first fault
+abbrev pub say_build_of : (List ℕ → List ℕ) → List ℕ → Result (List Record) TextFault → Outcome
+say_build_of hash map (Err fault) = ends BadText (bad_text_line fault)
+say_build_of hash map (Ok records) = record {
+  status = Done;
+  printed = digest_line (root hash (pack records) 0);
+  written = File map (map_of hash (pack records) 0);
+}
+
+-- `build MAP RECORDS`: the map of the records of a file
+abbrev pub say_build : (List ℕ → List ℕ) → List ℕ → List ℕ → Plan
+say_build hash map records =
+    needs records (λ text. comes (say_build_of hash map (records_of_text text)))
+
+-- the records of a map in rising number, a line for each
+abbrev pub say_list_of : Tree → Outcome
+say_list_of tree = prints (text_of (by_number (records tree)))
+
+-- `list MAP`: the records of the map in a file
+abbrev pub say_list : (List ℕ → List ℕ) → List ℕ → Plan
+say_list hash map = needs_map hash map (λ tree batch. comes (say_list_of tree))
+
+-- these bytes in a file, and their number
+abbrev pub say_written : List ℕ → List ℕ → Outcome
+say_written proof bytes = record {
+  status = Done;
+  printed = proof_line (length bytes);
+  written = File proof (content.text bytes);
+}
+
+-- the honest proof for a query on a map in a file, and its length
+unfoldable pub say_prove_of : (List ℕ → List ℕ) → Query → List ℕ → Tree → ℕ → Outcome
+say_prove_of hash query proof tree batch =
+    say_written proof (honest.proof hash tree batch query)
+
+-- `prove MAP QUERY PROOF`: the proof for a query on the map in a file, written to another one
+abbrev pub say_prove : (List ℕ → List ℕ) → List ℕ → Query → List ℕ → Plan
+say_prove hash map query proof =
+    needs_map hash map (λ tree batch. comes (say_prove_of hash query proof tree batch))
 
 -- the answer that a proof proves, a line for each record, or its fault
 abbrev pub say_verdict : Result (List Record) Fault → Outcome
 say_verdict (Ok answer) = prints (text_of answer)
 say_verdict (Err fault) = ends Refused (refused_line fault)
 
--- a proof of a map with inner nodes is not taken yet
-unfoldable pub say_check_bytes : (List ℕ → List ℕ) → List ℕ → Query → List ℕ → Outcome
-say_check_bytes hash root query bytes =
-    if has_inner (head_read query bytes) then declines NotYet else say_verdict (verdict hash root query bytes)
-
-abbrev pub say_check_file : (List ℕ → List ℕ) → List ℕ → Query → List ℕ → Option (List ℕ) → Outcome
-say_check_file hash root query name None = says_missing name
-say_check_file hash root query name (Some bytes) = say_check_bytes hash root query bytes
+-- what is said of the bytes of a proof
+unfoldable pub say_check_of : (List ℕ → List ℕ) → List ℕ → Query → List ℕ → Outcome
+say_check_of hash root query proof = say_verdict (verdict hash root query proof)
 
 -- `check ROOT QUERY PROOF`: the answer that the proof in a file proves
-abbrev pub say_check : (List ℕ → List ℕ) → List ℕ → Query → List ℕ → Files → Outcome
-say_check hash root query name files = say_check_file hash root query name (file files name)
+abbrev pub say_check : (List ℕ → List ℕ) → List ℕ → Query → List ℕ → Plan
+say_check hash root query proof = needs proof (λ bytes. comes (say_check_of hash root query bytes))
 
--- what the words say
-abbrev pub say : (List ℕ → List ℕ) → Option Spoken → Files → Outcome
-say hash None files = ends BadWords bad_words_line
-say hash (Some (Root records)) files = say_root hash records files
-say hash (Some (Check root query proof)) files = say_check hash root query proof files
+-- what is said where words spell a command, and where they spell none
+abbrev pub say : (List ℕ → List ℕ) → Option Command → Plan
+say hash None = comes (ends BadWords bad_words_line)
+say hash (Some (commands.Root records)) = say_root hash records.now
+say hash (Some (commands.Build map records)) = say_build hash map.now records.now
+say hash (Some (commands.List map)) = say_list hash map.now
+say hash (Some (commands.Prove map query proof)) = say_prove hash map.now query proof.now
+say hash (Some (commands.Check root query proof)) = say_check hash root query proof.now

@@ -1,10 +1,16 @@
 //! The program's commands, from the words to what is printed.
 #![tactic(auto)]
 
+mod building;
 mod checking;
-mod print;
+mod ending;
+mod finish;
+mod input;
+mod lines;
+mod listing;
+mod opening;
 mod program;
-mod refusal;
+mod proving;
 mod root;
 mod status;
 mod words;

@@ -1,11 +1,17 @@
-ghost use Rattle.std.specs.Prelude.{◌≡◌, Some, None, map};
+ghost use Rattle.std.specs.Prelude.{◌≡◌, ℕ, List, length, Some, None, map};
 ghost use Rattle.std.specs.String.{string_bytes};
-ghost use Rattle.mr_tool.specs.Answer.{Counts, HasOutsideCause, IsAnswer, IsQuiet, world};
-ghost use Rattle.mr_tool.specs.Command.{command_of, spoken_of};
+ghost use Rattle.mr_tool.specs.Answer.{Counts, IsQuiet, world};
+ghost use Rattle.mr_tool.specs.Ending.{Comes};
+ghost use Rattle.mr_tool.specs.Run.{AnswersWords, BlamesRightly};
 ghost use Rattle.mr_tool.specs.Say.{say};
+ghost use Rattle.mr_tool.specs.Spelling.{IsSpelled};
 
+use crate::building::build;
 use crate::checking::check_proof;
-use crate::print::print;
+use crate::ending::{Ending, Halt};
+use crate::finish::finish;
+use crate::listing::list;
+use crate::proving::prove_query;
 use crate::root::root;
 use crate::{Command, Status, read_words};
 use mr_outside::{Gate, Shelf, Sink};
@@ -13,59 +19,38 @@ use mr_tree::Hash32;
 use std::alloc::Global;
 use std::thread::Threads;
 
-// Carries out a command.
-fn carry_out<H: Hash32, S: Shelf, W: Sink>(
+// Carries out a command that borrows the shelf.
+fn lend<H: Hash32, S: Shelf>(
     alloc: Global,
     command: &Command<'_>,
     shelf: &mut S,
-    out: &mut W,
-) -> Status
-    ensures answer { let before = world (S.files shelf.old) (S.faults shelf.old) (S.reads shelf.old) (W.taken out.old) (W.faults out.old) in
-        let after = world (S.files shelf.new) (S.faults shelf.new) (S.reads shelf.new) (W.taken out.new) (W.faults out.new) in
-        IsAnswer (say H.of (Some (spoken_of command.now))) before after result }
-    ensures outside { let before = world (S.files shelf.old) (S.faults shelf.old) (S.reads shelf.old) (W.taken out.old) (W.faults out.old) in
-        let after = world (S.files shelf.new) (S.faults shelf.new) (S.reads shelf.new) (W.taken out.new) (W.faults out.new) in
-        result ≡ Status.Outside → HasOutsideCause (Some (spoken_of command.now)) before after }
-    ensures counts { let before = world (S.files shelf.old) (S.faults shelf.old) (S.reads shelf.old) (W.taken out.old) (W.faults out.old) in
-        let after = world (S.files shelf.new) (S.faults shelf.new) (S.reads shelf.new) (W.taken out.new) (W.faults out.new) in
-        Counts before after }
-    ensures quiet { let before = world (S.files shelf.old) (S.faults shelf.old) (S.reads shelf.old) (W.taken out.old) (W.faults out.old) in
-        let after = world (S.files shelf.new) (S.faults shelf.new) (S.reads shelf.new) (W.taken out.new) (W.faults out.new) in
-        IsQuiet result before after }
+) -> Result<Ending, Halt>
+    ensures { Comes (say H.of (Some command.now)) (S.state shelf.old) (S.state shelf.new) result }
 {
     match command {
-        Command::Root(records) => root::<H, S, W>(alloc, records, shelf, out),
-        Command::Check(digest, query, proof) => check_proof::<H, S, W>(
-            alloc, digest, query, proof, shelf, out,
+        Command::Root(records) => root::<H, S>(alloc, records, shelf),
+        Command::Build(map, records) => build::<H, S>(alloc, map, records, shelf),
+        Command::List(map) => list::<H, S>(alloc, map, shelf),
+        Command::Prove(map, query, proof) => prove_query::<H, S>(alloc, map, query, proof, shelf),
+        Command::Check(digest, query, proof) => check_proof::<H, S>(
+            alloc, digest, query, proof, shelf,
         ),
     }
 }
 
-// Does what the words say.
-fn obey<H: Hash32, S: Shelf, W: Sink>(
+// Carries out a command.
+fn carry_out<H: Hash32, S: Shelf>(
     alloc: Global,
-    words: &[String],
-    shelf: &mut S,
-    out: &mut W,
-) -> Status
-    ensures answer { let before = world (S.files shelf.old) (S.faults shelf.old) (S.reads shelf.old) (W.taken out.old) (W.faults out.old) in
-        let after = world (S.files shelf.new) (S.faults shelf.new) (S.reads shelf.new) (W.taken out.new) (W.faults out.new) in
-        IsAnswer (say H.of (command_of (map string_bytes words.now))) before after result }
-    ensures outside { let before = world (S.files shelf.old) (S.faults shelf.old) (S.reads shelf.old) (W.taken out.old) (W.faults out.old) in
-        let after = world (S.files shelf.new) (S.faults shelf.new) (S.reads shelf.new) (W.taken out.new) (W.faults out.new) in
-        result ≡ Status.Outside → HasOutsideCause (command_of (map string_bytes words.now)) before after }
-    ensures counts { let before = world (S.files shelf.old) (S.faults shelf.old) (S.reads shelf.old) (W.taken out.old) (W.faults out.old) in
-        let after = world (S.files shelf.new) (S.faults shelf.new) (S.reads shelf.new) (W.taken out.new) (W.faults out.new) in
-        Counts before after }
-    ensures quiet { let before = world (S.files shelf.old) (S.faults shelf.old) (S.reads shelf.old) (W.taken out.old) (W.faults out.old) in
-        let after = world (S.files shelf.new) (S.faults shelf.new) (S.reads shelf.new) (W.taken out.new) (W.faults out.new) in
-        IsQuiet result before after }
-    ensures unspoken { command_of (map string_bytes words.now) ≡ None → shelf.new ≡ shelf.old }
+    command: &Command<'_>,
+    shelf: S,
+) -> (Result<Ending, Halt>, S)
+    ensures comes { Comes (say H.of (Some command.now)) (S.state shelf) (S.state result.1)
+        result.0 }
+    ensures sized { (bytes : List ℕ) → length (H.of bytes) ≡ 32 }
 {
-    match read_words(words) {
-        Some(command) => carry_out::<H, S, W>(alloc, &command, shelf, out),
-        None => print(out, b"bad words\n", Status::BadWords),
-    }
+    let mut shelf = shelf;
+    let came = lend::<H, S>(alloc, command, &mut shelf);
+    (came, shelf)
 }
 
 /// Runs the program on the words after its name, and hands the shelf back beside the status.
@@ -79,25 +64,30 @@ pub fn run<H: Hash32, S: Shelf, W: Sink, G: Gate, R: Threads + Sync>(
     out: &mut W,
     _gate: &G,
 ) -> (Status, S)
-    // The run answers what is said of the files, or it stopped for want of memory or for something outside.
-    ensures answer { let before = world (S.files shelf) (S.faults shelf) (S.reads shelf) (W.taken out.old) (W.faults out.old) in
-        let after = world (S.files result.1) (S.faults result.1) (S.reads result.1) (W.taken out.new) (W.faults out.new) in
-        IsAnswer (say H.of (command_of (map string_bytes words.now))) before after result.0 }
+    // The run answers what is said of the files, or it stopped for want of memory or for something
+    // outside.
+    ensures answer { let before = world (S.state shelf) (W.state out.old) in
+        let after = world (S.state result.1) (W.state out.new) in
+        AnswersWords H.of (map string_bytes words.now) before after result.0 }
     // It blames something outside only where that failed, or where an input is told to be absent.
-    ensures outside { let before = world (S.files shelf) (S.faults shelf) (S.reads shelf) (W.taken out.old) (W.faults out.old) in
-        let after = world (S.files result.1) (S.faults result.1) (S.reads result.1) (W.taken out.new) (W.faults out.new) in
-        result.0 ≡ Status.Outside → HasOutsideCause (command_of (map string_bytes words.now)) before after }
-    ensures counts { let before = world (S.files shelf) (S.faults shelf) (S.reads shelf) (W.taken out.old) (W.faults out.old) in
-        let after = world (S.files result.1) (S.faults result.1) (S.reads result.1) (W.taken out.new) (W.faults out.new) in
+    ensures outside { let before = world (S.state shelf) (W.state out.old) in
+        let after = world (S.state result.1) (W.state out.new) in
+        BlamesRightly H.of (map string_bytes words.now) before after result.0 }
+    ensures counts { let before = world (S.state shelf) (W.state out.old) in
+        let after = world (S.state result.1) (W.state out.new) in
         Counts before after }
     // Where it blames nothing outside and no want of memory, nothing outside failed.
-    ensures quiet { let before = world (S.files shelf) (S.faults shelf) (S.reads shelf) (W.taken out.old) (W.faults out.old) in
-        let after = world (S.files result.1) (S.faults result.1) (S.reads result.1) (W.taken out.new) (W.faults out.new) in
+    ensures quiet { let before = world (S.state shelf) (W.state out.old) in
+        let after = world (S.state result.1) (W.state out.new) in
         IsQuiet result.0 before after }
     // Words that spell no command leave the shelf alone.
-    ensures unspoken { command_of (map string_bytes words.now) ≡ None → result.1 ≡ shelf }
+    ensures unspoken { IsSpelled (map string_bytes words.now) None → result.1 ≡ shelf }
 {
-    let mut shelf = shelf;
-    let status = obey::<H, S, W>(alloc, words, &mut shelf, out);
-    (status, shelf)
+    match read_words(words) {
+        Some(command) => {
+            let (came, shelf) = carry_out::<H, S>(alloc, &command, shelf);
+            (finish(out, came), shelf)
+        }
+        None => (finish(out, Err(Halt::Words)), shelf),
+    }
 }

@@ -22,7 +22,7 @@ pub enum Status {
     Outside,
     /// There was no memory.
     NoMemory,
-    /// The proof is of a map with inner nodes, which this version does not take.
+    /// What is asked for is not taken by this version yet. No command ends so today.
     NotYet,
 }
 

@@ -1,9 +1,9 @@
-ghost use Rattle.std.specs.Prelude.{◌≡◌, ◌∷◌, [], map, option_map};
+ghost use Rattle.std.specs.Prelude.{◌≡◌, ◌∷◌, [], Option, codes, map};
 ghost use Rattle.std.specs.String.{string_bytes};
 ghost use Rattle.std.specs.List.{list_all};
 ghost use Rattle.mr_record.specs.RecordText.{is_lower_digit};
-ghost use Rattle.mr_query.specs.Word.{query_of};
-ghost use Rattle.mr_tool.specs.Command.{command_of, spoken_of, check_of, digest_of_word};
+ghost use Rattle.mr_tool.specs.Spelling.{IsSpelled, AsksAs, digest_of_word};
+ghost use Rattle.mr_tool.specs.declared.words.Command as types;
 
 use hex::FromHex;
 use mr_query::{Query, read_query};
@@ -13,18 +13,47 @@ use mr_query::{Query, read_query};
 pub enum Command<'a> {
     /// Print the root digest of the records of a file.
     Root(&'a str),
+    /// Write a map of the records of the second file to the first one, and print its root digest.
+    Build(&'a str, &'a str),
+    /// Print the records of the map in a file, in rising number.
+    List(&'a str),
+    /// Write the proof for a query on the map in the first file to the second one, and print its
+    /// length.
+    Prove(&'a str, Query, &'a str),
     /// Print the answer that the proof in a file proves, against a root digest and for a query.
     Check([u8; 32], Query, &'a str),
 }
 
-// The command of a word and one name.
-fn one_name<'a>(word: &str, name: &'a str) -> Option<Command<'a>>
-    ensures { option_map spoken_of result ≡ command_of (word.now ∷ name.now ∷ []) }
+// The command `root` on a file.
+fn root_words(name: &str) -> Option<Command<'_>>
+    ensures { IsSpelled (codes "root" ∷ name.now ∷ []) result }
 {
-    if word == "root" && !name.is_empty() {
-        Some(Command::Root(name))
-    } else {
+    if name.is_empty() {
         None
+    } else {
+        Some(Command::Root(name))
+    }
+}
+
+// The command `list` on a file.
+fn list_words(name: &str) -> Option<Command<'_>>
+    ensures { IsSpelled (codes "list" ∷ name.now ∷ []) result }
+{
+    if name.is_empty() {
+        None
+    } else {
+        Some(Command::List(name))
+    }
+}
+
+// The command `build` on two files.
+fn build_words<'a>(map: &'a str, records: &'a str) -> Option<Command<'a>>
+    ensures { IsSpelled (codes "build" ∷ map.now ∷ records.now ∷ []) result }
+{
+    if map.is_empty() || records.is_empty() || map == records {
+        None
+    } else {
+        Some(Command::Build(map, records))
     }
 }
 
@@ -37,7 +66,7 @@ fn are_lower_digits(word: &str) -> bool
 }
 
 // The digest that 64 lower-case hexadecimal digits write.
-#[tactic(auto, unfolding(crate::specs::Command::digest_of_word))]
+#[tactic(auto, unfolding(crate::specs::Spelling::digest_of_word))]
 fn read_digest(word: &str) -> Option<[u8; 32]>
     ensures { result ≡ digest_of_word word.now }
 {
@@ -47,34 +76,76 @@ fn read_digest(word: &str) -> Option<[u8; 32]>
     <[u8; 32] as FromHex>::from_hex(word).ok()
 }
 
-// The command of a root digest, a query and the name of a proof.
+// The command `check` on a root digest, a query and the file of a proof.
 fn check_words<'a>(root: &str, query: &str, proof: &'a str) -> Option<Command<'a>>
-    ensures { option_map spoken_of result ≡ check_of (digest_of_word root.now) (query_of query.now) proof.now }
+    ensures { IsSpelled (codes "check" ∷ root.now ∷ query.now ∷ proof.now ∷ []) result }
 {
-    match (read_digest(root), read_query(query)) {
-        (Some(root), Ok(query)) if !proof.is_empty() => Some(Command::Check(root, query, proof)),
+    let digest = read_digest(root)?;
+    let Ok(asked) = read_query(query) else {
+        return None;
+    };
+    if proof.is_empty() {
+        return None;
+    }
+    Some(Command::Check(digest, asked, proof))
+}
+
+// The command `prove` on the file of a map, a query and the file of a proof.
+fn prove_words<'a>(map: &'a str, query: &str, proof: &'a str) -> Option<Command<'a>>
+    ensures { IsSpelled (codes "prove" ∷ map.now ∷ query.now ∷ proof.now ∷ []) result }
+{
+    let Ok(asked) = read_query(query) else {
+        return None;
+    };
+    if map.is_empty() || proof.is_empty() || map == proof {
+        return None;
+    }
+    Some(Command::Prove(map, asked, proof))
+}
+
+// The command of a name and one more word.
+fn two_words<'a>(name: &str, a: &'a str) -> Option<Command<'a>>
+    ensures { IsSpelled (name.now ∷ a.now ∷ []) result }
+{
+    match name {
+        "root" => root_words(a),
+        "list" => list_words(a),
         _ => None,
     }
 }
 
-// The command of a word and three more.
-fn three_words<'a>(word: &str, a: &str, b: &str, c: &'a str) -> Option<Command<'a>>
-    ensures { option_map spoken_of result ≡ command_of (word.now ∷ a.now ∷ b.now ∷ c.now ∷ []) }
+// The command of a name and two more words.
+fn three_words<'a>(name: &str, a: &'a str, b: &'a str) -> Option<Command<'a>>
+    ensures { IsSpelled (name.now ∷ a.now ∷ b.now ∷ []) result }
 {
-    if word == "check" {
-        check_words(a, b, c)
+    if name == "build" {
+        build_words(a, b)
     } else {
         None
     }
 }
 
+// The command of a name and three more words.
+fn four_words<'a>(name: &str, a: &'a str, b: &str, c: &'a str) -> Option<Command<'a>>
+    ensures { IsSpelled (name.now ∷ a.now ∷ b.now ∷ c.now ∷ []) result }
+{
+    match name {
+        "prove" => prove_words(a, b, c),
+        "check" => check_words(a, b, c),
+        _ => None,
+    }
+}
+
 /// The command that the words after the program's name spell. `None` where they spell none.
 pub fn read_words(words: &[String]) -> Option<Command<'_>>
-    ensures { option_map spoken_of result ≡ command_of (map string_bytes words.now) }
+    ensures written { IsSpelled (map string_bytes words.now) result }
+    ensures read { (command : Option types.Command) → IsSpelled (map string_bytes words.now) command
+        → AsksAs command result }
 {
     match words {
-        [word, name] => one_name(word.as_str(), name.as_str()),
-        [word, a, b, c] => three_words(word.as_str(), a.as_str(), b.as_str(), c.as_str()),
+        [name, a] => two_words(name.as_str(), a.as_str()),
+        [name, a, b] => three_words(name.as_str(), a.as_str(), b.as_str()),
+        [name, a, b, c] => four_words(name.as_str(), a.as_str(), b.as_str(), c.as_str()),
         _ => None,
     }
 }

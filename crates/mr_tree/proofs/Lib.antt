@@ -1,5 +1,12 @@
+pub mod Induction
+pub mod Folds
 pub mod Equations
 pub mod Filled
-pub mod Induction
 pub mod Joins
 pub mod Slim
+pub mod RootLengths
+pub mod Views
+pub mod Subtrees
+pub mod Soundness
+pub mod Placements
+pub mod Reading

@@ -1,5 +1,14 @@
-pub mod Digest
-pub mod Hash
-pub mod Slim
+-- what has to be believed, in reading order
+pub mod Limits
 pub mod Tree
 pub mod WellFormed
+pub mod Digest
+pub mod Hash
+pub mod View
+pub mod Nodes
+pub mod Snapshot
+-- what only private functions and proofs use
+pub mod Slim
+pub mod Sound
+pub mod HashLaws
+pub mod SnapshotLaws

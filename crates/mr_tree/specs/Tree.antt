@@ -1,8 +1,9 @@
--- What a tree is: its level, its records, the rectangle round them and its nodes. Each is a fold: what a node
--- gives, once each child has given its own.
-use Rattle.std.specs.Prelude.{ℕ, ◌+◌, List, [], ◌∷◌, Option, Some, None, map, fold, sum}
+-- What a tree is: its level, its records, the rectangle round them and its nodes. Each is a fold:
+-- what a node gives, once each child has given its own.
+use Rattle.std.specs.Prelude.{ℕ, ◌+◌, List, [], ◌∷◌, Option, Some, None, map, sum}
 use Rattle.std.specs.List.{flat_map}
-use Rattle.mr_geom.specs.Rectangle.{Rectangle, union}
+use Rattle.mr_geom.specs.Rectangle.{Rectangle}
+pub use Rattle.mr_geom.specs.Rectangle.{join, union_of}
 use Rattle.mr_record.specs.declared.record.Record.{Record}
 use Rattle.mr_tree.specs.declared.tree.Tree.{Tree}
 use Rattle.mr_tree.specs.declared.tree.Tree.TheOpen.{Tree-F, Empty, Leaf, Inner}
@@ -30,16 +31,6 @@ records_step (Inner lists) = flat_map (λ list. list) lists
 -- the records, left to right
 abbrev pub records : Tree → List Record
 records = fold-Tree (List Record) records_step
-
--- the least rectangle round what is there
-abbrev pub join : Option Rectangle → Option Rectangle → Option Rectangle
-join None b = b
-join (Some a) None = Some a
-join (Some a) (Some b) = Some (union a b)
-
--- the union of some rectangles, where there is one
-abbrev pub union_of : List (Option Rectangle) → Option Rectangle
-union_of rects = fold join None rects
 
 abbrev pub rect_step : Tree-F (Option Rectangle) → Option Rectangle
 rect_step Empty = None

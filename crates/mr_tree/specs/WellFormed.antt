@@ -1,7 +1,8 @@
 -- Which trees stand for a map.
-use Rattle.std.specs.Prelude.{◌≡◌, ◌≢◌, ⊤, ◌^◌, ◌≤◌, map, length, All, AllPairs}
+use Rattle.std.specs.Prelude.{◌≡◌, ◌≢◌, ⊤, ◌≤◌, map, length, All, AllPairs}
 use Rattle.mr_record.specs.Record.{IsRecord}
 use Rattle.mr_record.specs.declared.record.Record.{Record}
+use Rattle.mr_tree.specs.Limits.{count_limit, level_limit, leaf_limit, inner_limit, leaf_fill, inner_fill, root_leaf_fill, root_inner_fill}
 use Rattle.mr_tree.specs.Tree.{level, records, first_level}
 use Rattle.mr_tree.specs.declared.tree.Tree.{Tree}
 use Rattle.mr_tree.specs.declared.tree.Tree.TheVariants as tree
@@ -13,24 +14,27 @@ use Rattle.mr_tree.specs.declared.tree.Tree.TheFolds.{every-Tree}
 abbrev pub HasOneLevel : Tree-F Tree → Type 0
 HasOneLevel Empty = ⊤
 HasOneLevel (Leaf records) = ⊤
-HasOneLevel (Inner children) = All (λ child. (child ≢ tree.Empty) × (level child ≡ first_level (map level children))) children
+HasOneLevel (Inner children) =
+    All (λ child. (child ≢ tree.Empty) × (level child ≡ first_level (map level children))) children
 
 -- how many entries a node has that is not the root
 abbrev pub IsFilled : Tree-F Tree → Type 0
 IsFilled Empty = ⊤
-IsFilled (Leaf records) = (6 ≤ length records) × (length records ≤ 16)
-IsFilled (Inner children) = (24 ≤ length children) × (length children ≤ 64)
+IsFilled (Leaf records) = (leaf_fill ≤ length records) × (length records ≤ leaf_limit)
+IsFilled (Inner children) = (inner_fill ≤ length children) × (length children ≤ inner_limit)
 
 -- how many entries the root has, and each node below it
 abbrev pub IsFilledRoot : Tree-F Tree → Type 0
 IsFilledRoot Empty = ⊤
-IsFilledRoot (Leaf records) = (1 ≤ length records) × (length records ≤ 16)
-IsFilledRoot (Inner children) = (2 ≤ length children) × (length children ≤ 64) × All (every-Tree IsFilled) children
+IsFilledRoot (Leaf records) = (root_leaf_fill ≤ length records) × (length records ≤ leaf_limit)
+IsFilledRoot (Inner children) =
+    (root_inner_fill ≤ length children) × (length children ≤ inner_limit)
+    × All (every-Tree IsFilled) children
 
 pub record WellFormed (t : Tree) : Type 0 where
   pub one_level : every-Tree HasOneLevel t
-  pub shallow : level t ≤ 7
+  pub shallow : level t ≤ level_limit
   pub filled : IsFilledRoot (out-Tree t)
   pub distinct : AllPairs (λ (a b : Record). a.number ≢ b.number) (records t)
   pub each : All IsRecord (records t)
-  pub few : length (records t) ≤ 2 ^ 20
+  pub few : length (records t) ≤ count_limit

@@ -1,12 +1,28 @@
 //! The Merkle R-tree: hashes, trees, their digests and roots.
 #![tactic(auto)]
 
+mod child;
 mod digest;
+mod feeding;
 mod hash;
+mod limits;
+mod nodes;
+mod placing;
 mod records;
+mod snapshot;
+mod stored;
 mod tree;
+mod view;
 
-pub use digest::{digest_of, leaf_digest, map_root, root_of};
+pub use child::Child;
+pub use digest::{count as count_of, digest_of, leaf_digest, root_of};
+pub use feeding::{feed_entry, feed_record, feed_records, open_inner, open_leaf, root_digest};
 pub use hash::{Hash32, Hashes, Sha, XorHash};
+pub use limits::{
+    COUNT_LIMIT, INNER_FILL, INNER_LIMIT, LEAF_FILL, LEAF_LIMIT, LEVEL_LIMIT, ROOT_FILL,
+};
+pub use nodes::{Nodes, NodesErr, Top};
 pub use records::records_of;
+pub use snapshot::{Reader, Snapshot};
 pub use tree::{Tree, bounds_of, level_of, rect_of};
+pub use view::{NodeView, is_view};

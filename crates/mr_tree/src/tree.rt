@@ -2,14 +2,16 @@ ghost use Rattle.std.specs.Prelude.{◌≡◌, ◌≤◌, ◌↔◌, Some, IsNon
 ghost use Rattle.mr_record.specs.declared.record.Record.{Record};
 ghost use Rattle.mr_tree.specs.WellFormed.{WellFormed};
 ghost use Rattle.mr_tree.specs.declared.tree.Tree.TheVariants as variants;
-ghost use Rattle.mr_tree.specs.Tree.{level, rect, records, join, union_of};
+ghost use Rattle.mr_tree.specs.Tree.{level, rect, records};
+ghost use Rattle.mr_geom.specs.Rectangle.{union_of};
 
-use mr_geom::Rect;
+use mr_geom::{Rect, joined};
 use mr_outside::Items;
 use mr_record::Record;
 
-/// An R-tree over records (Guttman 1984). In a well-formed one a leaf holds 6 to 16 records and an inner node 24 to 64 nodes of the
-/// level below; as the root a leaf holds 1 to 16 and an inner node 2 to 64.
+/// An R-tree over records (Guttman 1984). In a well-formed one a leaf holds 6 to 16 records and an
+/// inner node 24 to 64 nodes of the level below; as the root a leaf holds 1 to 16 and an inner node
+/// 2 to 64.
 #[derive(Drop)]
 pub enum Tree {
     /// The map without records.
@@ -31,17 +33,6 @@ pub(crate) fn height(tree: &Tree) -> u8
             None => 1,
             Some(child) => height(child) + 1,
         },
-    }
-}
-
-// The rectangle round two, where there is one.
-fn joined(all: Option<Rect>, more: Option<Rect>) -> Option<Rect>
-    ensures { result ≡ join all more }
-{
-    match (all, more) {
-        (None, more) => more,
-        (Some(all), None) => Some(all),
-        (Some(all), Some(more)) => Some(all.union(&more)),
     }
 }
 

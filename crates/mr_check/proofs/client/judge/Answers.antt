@@ -1,26 +1,48 @@
-use Rattle.std.proofs.Common.{◌∙◌, sym, ap}
-use Rattle.std.specs.Prelude.{option_map}
+use Rattle.std.proofs.Common.{[], subst, sym}
 use Rattle.std.proofs.lemmas.Result.{err_from_is_err_and}
-use Rattle.mr_check.specs.Answers.{stand, cut_of}
-use Rattle.mr_check.specs.Reading.{head_at}
-use Rattle.mr_check.proofs.Whole.{head_refused, inner_found, part_refused, part_judged}
+use Rattle.mr_proof.specs.declared.head.Kind.TheVariants as kinds
+use Rattle.mr_proof.specs.Grammar.{head}
+use Rattle.mr_proof.specs.Layout.{Stand}
+use Rattle.mr_record.specs.declared.record.Record.{Record}
+use Rattle.std.specs.Prelude.{List}
+use Rattle.mr_check.specs.Steps.{stand, Goes, Stops, TookRoot}
+use Rattle.mr_check.proofs.Judged.{head_refused, root_refused, end_refused, accepted}
 use Rattle.mr_check.proofs.client.judge.Goals as goal
 
 pub returns-in_err-head : goal.returns-in_err-head
 returns-in_err-head g c =
     let p = err_from_is_err_and c.from_residual.result c.from_residual.ensures.1 in
-    rw (p.1, p.2) (head_refused g.H.Hashes.of c.args.root.now c.args.q.now c.args.proof.now c.in_err-head.field-0.0 (ap head_at (sym c.front-cursor.ensures) ∙ c.in_err-head.ensures))
+    let stops = subst (λ (s : Stand). Stops (head kinds.W) s c.in_err-head.field-0.0) c.front-cursor.ensures
+    c.in_err-head.ensures.read in
+    rw (p.1, p.2) (head_refused g.H.Hashes.of c.args.root.now c.args.q.now c.args.proof.now c.in_err-head.field-0.0
+    stops)
 
-pub returns-then-head-gt0 : goal.returns-then-head-gt0
-returns-then-head-gt0 g c =
-    inner_found c.args.q.now c.args.proof.now c.in_ok-head.head (stand c.read_head.new.from) (ap head_at (sym c.front-cursor.ensures) ∙ c.in_ok-head.ensures) c.if-head-gt0.true
+pub returns-in_err-node : goal.returns-in_err-node
+returns-in_err-node g c =
+    let p = err_from_is_err_and c.from_residual-in_err-node.result c.from_residual-in_err-node.ensures.1 in
+    let goes = subst (λ (s : Stand). Goes (head kinds.W) s c.in_ok-head.head (stand c.read_head.new.from))
+    c.front-cursor.ensures c.in_ok-head.ensures.read in
+    rw (p.1, p.2) (root_refused g.H.Hashes.of c.args.root.now c.args.q.now c.args.proof.now c.in_ok-head.head
+    (stand c.read_head.new.from) c.root_node.new.from c.new-kept.result.items c.root_node.new.kept.items
+    c.in_err-node.field-0.0 goes c.in_err-node.ensures)
 
-pub returns-in_err-part : goal.returns-in_err-part
-returns-in_err-part g c =
-    let p = err_from_is_err_and c.from_residual-in_err-part.result c.from_residual-in_err-part.ensures.1 in
-    rw (p.1, p.2) (part_refused g.H.Hashes.of c.args.root.now c.args.q.now c.args.proof.now c.in_ok-head.head (stand c.read_head.new.from) c.in_err-part.field-0.0 (ap head_at (sym c.front-cursor.ensures) ∙ c.in_ok-head.ensures) c.if-head-gt0.false c.in_err-part.ensures.read)
+pub returns-in_err-end : goal.returns-in_err-end
+returns-in_err-end g c =
+    let p = err_from_is_err_and c.from_residual-in_err-end.result c.from_residual-in_err-end.ensures.1 in
+    let goes = subst (λ (s : Stand). Goes (head kinds.W) s c.in_ok-head.head (stand c.read_head.new.from))
+    c.front-cursor.ensures c.in_ok-head.ensures.read in
+    rw (p.1, p.2) (end_refused g.H.Hashes.of c.args.root.now c.args.q.now c.args.proof.now c.in_ok-head.head
+    (stand c.read_head.new.from) (stand c.root_node.new.from) c.new-kept.result.items c.root_node.new.kept.items
+    c.in_ok-node.node
+    c.in_err-end.field-0.0 goes c.in_ok-node.ensures c.in_err-end.ensures)
 
 pub returns : goal.returns
 returns g c =
-    part_judged g.H.Hashes.of c.args.root.now c.args.q.now c.args.proof.now c.in_ok-head.head (stand c.read_head.new.from) (option_map cut_of c.in_ok-part.part) (stand c.read_part.new.from) c.end.result
-    (ap head_at (sym c.front-cursor.ensures) ∙ c.in_ok-head.ensures) c.if-head-gt0.false c.in_ok-part.ensures.read c.end.ensures
+    let goes = subst (λ (s : Stand). Goes (head kinds.W) s c.in_ok-head.head (stand c.read_head.new.from))
+    c.front-cursor.ensures c.in_ok-head.ensures.read in
+    let took = subst (λ (old : List Record). TookRoot g.H.Hashes.of c.args.q.now c.in_ok-head.head c.in_ok-node.node
+    (stand c.read_head.new.from) (stand c.root_node.new.from) old c.root_node.new.kept.items)
+    c.new-kept.ensures.items c.in_ok-node.ensures in
+    accepted g.H.Hashes.of c.args.root.now c.args.q.now c.args.proof.now c.in_ok-head.head (stand c.read_head.new.from)
+    (stand c.root_node.new.from) c.root_node.new.kept.items c.in_ok-node.node c.in_ok-answer.field-0 goes
+    took c.in_ok-end.ensures c.in_ok-answer.ensures

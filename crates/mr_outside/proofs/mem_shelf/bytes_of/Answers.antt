@@ -4,7 +4,8 @@ use Rattle.mr_outside.proofs.mem_shelf.bytes_of.Goals as goal
 
 pub returns-in-Some : goal.returns-in-Some
 returns-in-Some c =
-    ap Some c.as_slice.ensures.value ∙ ap (option_map (λ v. v.items)) c.in-Some.ensures.value ∙ sym (file-files_of c.args.files.now c.args.name.now)
+    ap Some c.as_slice.ensures.value ∙ ap (option_map (λ v. v.items)) c.in-Some.ensures.value
+    ∙ sym (file-files_of c.args.files.now c.args.name.now)
 
 pub returns-in-None : goal.returns-in-None
 returns-in-None c =

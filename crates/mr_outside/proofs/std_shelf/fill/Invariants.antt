@@ -9,7 +9,8 @@ pub record IsFilled (left left_now : Option (List ℕ)) (before now : List ℕ) 
   pub rest : drop count now ≡ drop count before
 
 abbrev pub invariant-loop-count : goal.invariant-loop-count
-invariant-loop-count g l = IsFilled (g.F.Read.remaining l.initial.file) (g.F.Read.remaining l.file) l.initial.into l.into l.count
+invariant-loop-count g l =
+    IsFilled (g.F.Read.remaining l.initial.file) (g.F.Read.remaining l.file) l.initial.into l.into l.count
 
 abbrev pub decreases-loop-count : goal.decreases-loop-count
 decreases-loop-count g l = length l.initial.into - l.count

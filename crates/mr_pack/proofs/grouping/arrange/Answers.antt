@@ -4,14 +4,17 @@ use Rattle.std.proofs.lemmas.List.{append-nil, drop_all}
 use borrow.Rule.Slice.PartMut.{mid_of, put_mid}
 use Rattle.mr_pack.specs.Cuts.{parts, slice_start, slice_count}
 use Rattle.mr_pack.specs.Entries.{is_left, is_below, arranged}
-use Rattle.mr_pack.specs.Sorting.{sorted_by}
+use Rattle.mr_record.specs.Sorting.{sorted_by}
 use Rattle.mr_pack.proofs.Numbers.{slice_first, slice_rises, slice_within, slice_reaches}
 use Rattle.mr_pack.proofs.Cuts.{one_more_part, length_of_sorted_parts, length_of_sorted, Climbs}
 use Rattle.mr_pack.proofs.grouping.arrange.Goals as goal
 
 pub loop-slice-init : goal.loop-slice-init
 loop-slice-init g c = record {
-  so_far = c.in_ok-sort_by_x.ensures ∙ ap (λ n. drop n (sorted_by is_left c.args.entries.now)) (sym (slice_first (length c.sort_by_x.new.entries) c.args.groups c.slice_count-slices.result));
+  so_far =
+      c.in_ok-sort_by_x.ensures
+      ∙ ap (λ n. drop n (sorted_by is_left c.args.entries.now))
+      (sym (slice_first (length c.sort_by_x.new.entries) c.args.groups c.slice_count-slices.result));
 }
 
 pub slice_bounds-sort_by_y-start : goal.slice_bounds-sort_by_y-start
@@ -20,7 +23,8 @@ slice_bounds-sort_by_y-start g c =
       arith,
       c.slice_start-from.ensures.value,
       c.slice_start-to.ensures.value,
-      slice_rises (length c.sort_by_x.new.entries) c.args.groups c.slice_count-slices.result c.loop-slice.slice (omega arith) (omega arith),
+      slice_rises (length c.sort_by_x.new.entries) c.args.groups c.slice_count-slices.result c.loop-slice.slice
+          (omega arith) (omega arith),
     )
 
 pub slice_bounds-sort_by_y-count : goal.slice_bounds-sort_by_y-count
@@ -29,7 +33,8 @@ slice_bounds-sort_by_y-count g c =
       arith,
       c.slice_start-from.ensures.value,
       c.slice_start-to.ensures.value,
-      slice_rises (length c.sort_by_x.new.entries) c.args.groups c.slice_count-slices.result c.loop-slice.slice (omega arith) (omega arith),
+      slice_rises (length c.sort_by_x.new.entries) c.args.groups c.slice_count-slices.result c.loop-slice.slice
+          (omega arith) (omega arith),
     )
 
 pub loop-slice-preserved : goal.loop-slice-preserved
@@ -41,7 +46,8 @@ loop-slice-preserved g c =
     let some : 0 < c.args.groups = omega arith in
     let slices : 0 < c.slice_count-slices.result = omega arith in
     let size : length c.sort_by_x.new.entries ≡ length xs = ap length c.in_ok-sort_by_x.ensures in
-    let high : start (i + 1) ≤ length xs = omega (arith, size, slice_within n c.args.groups c.slice_count-slices.result (i + 1) some slices (omega arith)) in
+    let high : start (i + 1) ≤ length xs = omega
+    (arith, size, slice_within n c.args.groups c.slice_count-slices.result (i + 1) some slices (omega arith)) in
     let low : start i ≤ start (i + 1) = slice_rises n c.args.groups c.slice_count-slices.result i some slices in
     let climbs : Climbs start i = record {
       first = slice_first n c.args.groups c.slice_count-slices.result;
@@ -52,7 +58,8 @@ loop-slice-preserved g c =
     let k = c.slice_start-to.result - c.slice_start-from.result in
     record {
       so_far = one_more_part (sorted_by is_below) start i xs c.loop-slice.entries
-          (put_mid c.slice_start-from.result k c.loop-slice.entries c.sort_by_y.new.entries) c.sort_by_y.new.entries k low high
+          (put_mid c.slice_start-from.result k c.loop-slice.entries c.sort_by_y.new.entries) c.sort_by_y.new.entries k
+          low high
           (length_of_sorted_parts is_below start i xs climbs (omega (arith, low, high)))
           c.loop-slice.invariant.so_far
           (λ j. to j - from j)
@@ -65,12 +72,15 @@ unfolding arranged
 returns g c =
     let xs = sorted_by is_left c.args.entries.now in
     let size : length c.sort_by_x.new.entries ≡ length xs = ap length c.in_ok-sort_by_x.ensures in
-    let n : length c.sort_by_x.new.entries ≡ length c.args.entries.now = size ∙ length_of_sorted is_left c.args.entries.now in
+    let n : length c.sort_by_x.new.entries ≡ length c.args.entries.now = size
+    ∙ length_of_sorted is_left c.args.entries.now in
     let end : c.loop-slice.slice ≡ c.slice_count-slices.result = omega arith in
     let s : c.slice_count-slices.result ≡ slice_count c.args.groups = c.slice_count-slices.ensures.value in
     let start = slice_start (length c.sort_by_x.new.entries) c.args.groups c.slice_count-slices.result in
-    let reached = slice_reaches (length c.sort_by_x.new.entries) c.args.groups c.slice_count-slices.result (λ h. c.requires.some (omega (arith, n, h))) c.slice_count-slices.ensures.some in
-    let none : drop (start c.loop-slice.slice) xs ≡ [] = ap (λ j. drop (start j) xs) end ∙ drop_all (start c.slice_count-slices.result) xs (omega (arith, reached, size)) in
+    let reached = slice_reaches (length c.sort_by_x.new.entries) c.args.groups c.slice_count-slices.result
+    (λ h. c.requires.some (omega (arith, n, h))) c.slice_count-slices.ensures.some in
+    let none : drop (start c.loop-slice.slice) xs ≡ [] = ap (λ j. drop (start j) xs) end
+    ∙ drop_all (start c.slice_count-slices.result) xs (omega (arith, reached, size)) in
     c.loop-slice.invariant.so_far
     ∙ (λ j. flat_map (sorted_by is_below) (parts (slice_start (n j) c.args.groups (s j)) ((end ∙ s) j) xs) ++ none j)
     ∙ append-nil _

@@ -8,5 +8,6 @@ abbrev pub invariant-loop-group : goal.invariant-loop-group
 invariant-loop-group g l = record {
   left : l.items.items ≡ take (group_start l.count l.groups l.group) l.fn.items.items;
   done : parts (group_start l.count l.groups) l.groups l.fn.items.items
-      ≡ parts (group_start l.count l.groups) l.group l.fn.items.items ++ reverse (map (λ (v : Vec g.row.T.Denot). v.items) l.cut.items);
+      ≡ parts (group_start l.count l.groups) l.group l.fn.items.items ++ reverse
+      (map (λ (v : Vec g.row.T.Denot). v.items) l.cut.items);
 }

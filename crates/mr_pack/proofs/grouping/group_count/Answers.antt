@@ -7,8 +7,10 @@ returns-clause-value c = c.div_ceil.ensures ∙ rounded_up_is c.args.count c.arg
 
 pub returns-clause-within : goal.returns-clause-within
 returns-clause-within c =
-    subst (λ m. m ≤ c.args.count) (sym (c.div_ceil.ensures ∙ rounded_up_is c.args.count c.args.capacity c.requires)) (groups_within c.args.count c.args.capacity)
+    subst (λ m. m ≤ c.args.count) (sym (c.div_ceil.ensures ∙ rounded_up_is c.args.count c.args.capacity c.requires))
+    (groups_within c.args.count c.args.capacity)
 
 pub returns-clause-some : goal.returns-clause-some
 returns-clause-some c = λ h.
-    subst (λ m. 0 < m) (sym (c.div_ceil.ensures ∙ rounded_up_is c.args.count c.args.capacity c.requires)) (some_groups c.args.count c.args.capacity c.requires h)
+    subst (λ m. 0 < m) (sym (c.div_ceil.ensures ∙ rounded_up_is c.args.count c.args.capacity c.requires))
+    (some_groups c.args.count c.args.capacity c.requires h)

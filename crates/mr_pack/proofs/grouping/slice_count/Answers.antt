@@ -17,7 +17,9 @@ loop-slices-preserved c = record {
 }
 
 pub returns-clause-value : goal.returns-clause-value
-returns-clause-value c = slices_are c.args.groups c.loop-slices.slices c.loop-slices.invariant.within c.loop-slices-test.false c.loop-slices.invariant.below
+returns-clause-value c =
+    slices_are c.args.groups c.loop-slices.slices c.loop-slices.invariant.within c.loop-slices-test.false
+    c.loop-slices.invariant.below
 
 pub returns-clause-some : goal.returns-clause-some
 returns-clause-some c = λ h. positive c.loop-slices.slices c.args.groups h c.loop-slices-test.false

@@ -1,7 +1,8 @@
 use Rattle.std.proofs.Common.{map, ap, ◌∙◌, sym}
 use Rattle.mr_tree.specs.declared.tree.Tree.TheVariants as tree
 use Rattle.mr_pack.specs.Entries.{grouped}
-use Rattle.mr_pack.specs.Pack.{level_above, inner_capacity}
+use Rattle.mr_tree.specs.Limits.{inner_limit}
+use Rattle.mr_pack.specs.Pack.{level_above}
 use Rattle.mr_pack.specs.declared.node.Node.{Node}
 use Rattle.mr_pack.proofs.Natural.{grouped_map}
 use Rattle.mr_pack.proofs.Orders.{if_ok}
@@ -13,6 +14,6 @@ returns c =
     if_ok c.inner_nodes.result
     (λ v e. e ∙ ap (map (λ ts. tree.Inner ts))
     (ap (map (map (λ (n : Node). n.tree))) c.in_ok-groups.ensures
-    ∙ sym (grouped_map (λ (n : Node). n.tree) inner_capacity c.in_ok-entries.entries.items)
-    ∙ ap (grouped inner_capacity) c.in_ok-entries.ensures.value))
+    ∙ sym (grouped_map (λ (n : Node). n.tree) inner_limit c.in_ok-entries.entries.items)
+    ∙ ap (grouped inner_limit) c.in_ok-entries.ensures.value))
     c.inner_nodes.ensures

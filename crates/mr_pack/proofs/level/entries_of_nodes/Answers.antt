@@ -11,6 +11,9 @@ loop-node-preserved c =
       count =
           ap length c.in_ok-push.ensures.items ∙ length_push c.loop-node.entries.items c.place.result
           ∙ ap (λ n. n + 1) c.loop-node.invariant.count ∙ sym (length_push c.loop-node.yielded c.in-Some.node);
-      so_far = one_more_entry (λ (n : Node). n.tree) c.loop-node.entries.items c.push.new.self.items c.loop-node.yielded c.in-Some.node c.place.result
-          c.in-Some.node.bounds c.len-position.result c.in_ok-push.ensures.items c.place.ensures c.in-Some.node.round position c.loop-node.invariant.so_far;
+      so_far =
+          one_more_entry (λ (n : Node). n.tree) c.loop-node.entries.items c.push.new.self.items c.loop-node.yielded
+          c.in-Some.node c.place.result
+          c.in-Some.node.bounds c.len-position.result c.in_ok-push.ensures.items c.place.ensures c.in-Some.node.round
+          position c.loop-node.invariant.so_far;
     }

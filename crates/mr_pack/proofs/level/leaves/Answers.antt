@@ -2,7 +2,8 @@ use Rattle.std.proofs.Common.{Bor, map, ap, ◌∙◌, sym}
 use Rattle.mr_record.specs.declared.record.Record.{Record}
 use Rattle.mr_tree.specs.declared.tree.Tree.TheVariants as tree
 use Rattle.mr_pack.specs.Entries.{grouped}
-use Rattle.mr_pack.specs.Pack.{leaves_of, leaf_capacity}
+use Rattle.mr_tree.specs.Limits.{leaf_limit}
+use Rattle.mr_pack.specs.Pack.{leaves_of}
 use Rattle.mr_pack.proofs.Natural.{grouped_map}
 use Rattle.mr_pack.proofs.Orders.{if_ok}
 use Rattle.mr_pack.proofs.level.leaves.Goals as goal
@@ -13,6 +14,6 @@ returns c =
     if_ok c.leaves_of_groups.result
     (λ v e. e ∙ ap (map (λ rs. tree.Leaf rs))
     (ap (map (map (λ (r : Bor Record). r.now))) (ap (map _) c.deref.ensures.value ∙ c.in_ok-groups.ensures)
-    ∙ sym (grouped_map (λ (r : Bor Record). r.now) leaf_capacity c.in_ok-entries.entries.items)
-    ∙ ap (grouped leaf_capacity) c.in_ok-entries.ensures))
+    ∙ sym (grouped_map (λ (r : Bor Record). r.now) leaf_limit c.in_ok-entries.entries.items)
+    ∙ ap (grouped leaf_limit) c.in_ok-entries.ensures))
     c.leaves_of_groups.ensures

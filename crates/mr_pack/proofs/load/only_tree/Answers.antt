@@ -5,7 +5,9 @@ use Rattle.mr_pack.proofs.Roots.{last_left, none_left}
 use Rattle.mr_pack.proofs.load.only_tree.Goals as goal
 
 pub returns-in-Some : goal.returns-in-Some
-returns-in-Some c = last_left (λ (n : Node). n.tree) c.args.level.items c.pop.new.self.items c.in-Some.node c.in-Some.ensures.items c.requires
+returns-in-Some c =
+    last_left (λ (n : Node). n.tree) c.args.level.items c.pop.new.self.items c.in-Some.node c.in-Some.ensures.items
+    c.requires
 
 pub returns : goal.returns
 returns c =

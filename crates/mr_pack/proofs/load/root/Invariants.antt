@@ -7,7 +7,8 @@ use Rattle.mr_pack.proofs.load.root.Given as goal
 abbrev pub invariant-loop-alloc : goal.invariant-loop-alloc
 invariant-loop-alloc l = record {
   few : length l.level.items ≤ 1048576;
-  root : root_above (length l.level.items) (map (λ (n : Node). n.tree) l.level.items) ≡ root_above (length l.fn.level.items) (map (λ (n : Node). n.tree) l.fn.level.items);
+  root : root_above (length l.level.items) (map (λ (n : Node). n.tree) l.level.items) ≡ root_above
+      (length l.fn.level.items) (map (λ (n : Node). n.tree) l.fn.level.items);
 }
 
 abbrev pub decreases-loop-alloc : goal.decreases-loop-alloc

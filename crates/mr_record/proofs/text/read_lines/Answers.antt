@@ -8,7 +8,8 @@ pub returns-clause-written : goal.returns-clause-written
 returns-clause-written c = answer_written c.args.text.now c.read_all.result c.read_all.ensures
 
 pub returns-clause-read : goal.returns-clause-read
-returns-clause-read c = λ rs is e. subst (Answers c.read_all.result) (ap records_of_text e ∙ text_read rs is) c.read_all.ensures
+returns-clause-read c =
+    λ rs is e. subst (Answers c.read_all.result) (ap records_of_text e ∙ text_read rs is) c.read_all.ensures
 
 pub returns-clause-refused : goal.returns-clause-refused
 returns-clause-refused c = answer_refused c.args.text.now c.read_all.result c.read_all.ensures

@@ -6,4 +6,5 @@ use Rattle.mr_tool.proofs.root.packed.Goals as goal
 pub unreachable-requires : goal.unreachable-requires
 unreachable-requires c =
     never_twice c.in-Err-NumberTwice.field-0-0 c.args.records.items c.requires.apart
-    (subst (λ e. IsCause e c.args.records.items) c.in-Err-NumberTwice.field-0-is c.in-Err-NumberTwice.ensures.refused)
+    (subst (λ e. IsCause e c.args.records.items) c.in-Err-NumberTwice.field-0-is
+    c.in-Err-NumberTwice.ensures.refused)

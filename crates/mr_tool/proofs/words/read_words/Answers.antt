@@ -1,18 +1,30 @@
-use Rattle.std.proofs.Common.{◌≡◌, ◌∷◌, [], List, length, get_or, map, ap, sym, ◌∙◌, arith}
+use Rattle.std.proofs.Common.{◌≡◌, ◌∷◌, [], List, length, get_or, map, subst, sym, arith}
 use Rattle.std.specs.String.{string_bytes}
-use Rattle.mr_tool.specs.Command.{command_of}
+use Rattle.mr_tool.specs.Spelling.{IsSpelled}
+use Rattle.mr_tool.proofs.Spelling.{one_command}
 use Rattle.mr_tool.proofs.words.read_words.Goals as goal
 
--- a list of two items
-two_items : {X : Type 0} (xs : List X) (a b : X) → length xs ≡ 2 → a ≡ get_or xs 0 a → b ≡ get_or xs 1 b → xs ≡ a ∷ b ∷ []
-two_items [] a b e p q = absurd (omega arith)
-two_items (x ∷ []) a b e p q = absurd (omega arith)
-two_items (x ∷ y ∷ []) a b e p q = λ i. sym p i ∷ sym q i ∷ []
-two_items (x ∷ y ∷ z ∷ xs) a b e p q = absurd (omega arith)
+-- a list of four items
+four_items : {X : Type 0} (xs : List X) (a b c d : X) → length xs ≡ 4 → a ≡ get_or xs 0 a
+    → b ≡ get_or xs 1 b → c ≡ get_or xs 2 c → d ≡ get_or xs 3 d → xs ≡ a ∷ b ∷ c ∷ d ∷ []
+four_items [] a b c d n p q r s = absurd (omega arith)
+four_items (w ∷ []) a b c d n p q r s = absurd (omega arith)
+four_items (w ∷ x ∷ []) a b c d n p q r s = absurd (omega arith)
+four_items (w ∷ x ∷ y ∷ []) a b c d n p q r s = absurd (omega arith)
+four_items (w ∷ x ∷ y ∷ z ∷ []) a b c d n p q r s = λ i. sym p i ∷ sym q i ∷ sym r i ∷ sym s i ∷ []
+four_items (w ∷ x ∷ y ∷ z ∷ v ∷ xs) a b c d n p q r s = absurd (omega arith)
 
-pub returns-in-len2 : goal.returns-in-len2
-returns-in-len2 c =
-    let words = two_items c.args.words.now c.word-item.result c.name-item.result (omega arith) c.word-item.is c.name-item.is in
-    c.one_name.ensures
-    ∙ (λ i. command_of (c.as_str.ensures.value i ∷ c.as_str-in-len2.ensures.value i ∷ []))
-    ∙ ap (λ ws. command_of (map string_bytes ws)) (sym words)
+pub returns-in-len4-clause-written : goal.returns-in-len4-clause-written
+returns-in-len4-clause-written c =
+    let words = four_items c.args.words.now c.name-item-then-words-lt5.result
+    c.a-item-then-words-lt5.result c.b-item-then-words-lt5.result c.c-item.result (omega arith)
+    c.name-item-then-words-lt5.is c.a-item-then-words-lt5.is c.b-item-then-words-lt5.is c.c-item.is in
+    subst (λ ws. IsSpelled (map string_bytes ws) c.four_words.result) (sym words)
+    (subst (λ w. IsSpelled w c.four_words.result)
+    (λ i. c.as_str-in-len4.ensures.value i ∷ c.as_str-in-len4-2.ensures.value i ∷
+    c.as_str-in-len4-3.ensures.value i ∷ c.as_str-in-len4-4.ensures.value i ∷ [])
+    c.four_words.ensures)
+
+pub returns-in-len4-clause-read : goal.returns-in-len4-clause-read
+returns-in-len4-clause-read c = λ command spelled. one_command _ command c.four_words.result spelled
+    (returns-in-len4-clause-written c)

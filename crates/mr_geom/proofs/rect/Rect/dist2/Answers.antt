@@ -9,7 +9,8 @@ use Rattle.mr_geom.proofs.Distances.{IsLeastDistance-least_squared_distance, lea
 use Rattle.mr_geom.proofs.rect.Rect.dist2.Goals as goal
 
 -- a gap between equal numbers
-moved : (at low high at' low' high' : ℤ) (g : ℕ) → at ≡ at' → low ≡ low' → high ≡ high' → g ≡ unsigned_abs (at -ℤ int_max low (int_min at high)) → g ≡ unsigned_abs (at' -ℤ int_max low' (int_min at' high'))
+moved : (at low high at' low' high' : ℤ) (g : ℕ) → at ≡ at' → low ≡ low' → high ≡ high' →
+    g ≡ unsigned_abs (at -ℤ int_max low (int_min at high)) → g ≡ unsigned_abs (at' -ℤ int_max low' (int_min at' high'))
 moved at low high at' low' high' g p q r h = cc
 
 pub returns-clause-value : goal.returns-clause-value

@@ -10,15 +10,57 @@ returns-then-range_inside c =
     let across = c.range_inside-then-range_inside.ensures in
     inside_across c.args.self.now c.args.other.now c.range_inside-then-range_inside.result
     (subst IsOrdered c.self.view_is c.self.invariant)
-    (omega (arith, ints, along.0, ap (λ (r : Rectangle). r.x0) c.self.view_is, ap (λ (r : Rectangle). r.x0) c.other.view_is))
-    (omega (arith, ints, along.1, ap (λ (r : Rectangle). r.x1) c.self.view_is, ap (λ (r : Rectangle). r.x1) c.other.view_is)) (
+    (omega (
+      arith,
+      ints,
+      along.0,
+      ap (λ (r : Rectangle). r.x0) c.self.view_is,
+      ap (λ (r : Rectangle). r.x0)
+          c.other.view_is,
+    ))
+    (omega (
+      arith,
+      ints,
+      along.1,
+      ap (λ (r : Rectangle). r.x1) c.self.view_is,
+      ap (λ (r : Rectangle). r.x1)
+          c.other.view_is,
+    )) (
       λ yes. let both = across.0 yes in (
-        omega (arith, ints, both.0, ap (λ (r : Rectangle). r.y0) c.self.view_is, ap (λ (r : Rectangle). r.y0) c.other.view_is),
-        omega (arith, ints, both.1, ap (λ (r : Rectangle). r.y1) c.self.view_is, ap (λ (r : Rectangle). r.y1) c.other.view_is),
+        omega (
+          arith,
+          ints,
+          both.0,
+          ap (λ (r : Rectangle). r.y0) c.self.view_is,
+          ap (λ (r : Rectangle). r.y0)
+              c.other.view_is,
+        ),
+        omega (
+          arith,
+          ints,
+          both.1,
+          ap (λ (r : Rectangle). r.y1) c.self.view_is,
+          ap (λ (r : Rectangle). r.y1)
+              c.other.view_is,
+        ),
       ),
       λ both. across.1 (
-        omega (arith, ints, both.0, ap (λ (r : Rectangle). r.y0) c.self.view_is, ap (λ (r : Rectangle). r.y0) c.other.view_is),
-        omega (arith, ints, both.1, ap (λ (r : Rectangle). r.y1) c.self.view_is, ap (λ (r : Rectangle). r.y1) c.other.view_is),
+        omega (
+          arith,
+          ints,
+          both.0,
+          ap (λ (r : Rectangle). r.y0) c.self.view_is,
+          ap (λ (r : Rectangle). r.y0)
+              c.other.view_is,
+        ),
+        omega (
+          arith,
+          ints,
+          both.1,
+          ap (λ (r : Rectangle). r.y1) c.self.view_is,
+          ap (λ (r : Rectangle). r.y1)
+              c.other.view_is,
+        ),
       ),
     )
 
@@ -28,6 +70,20 @@ returns-else-range_inside c =
     (subst IsOrdered c.self.view_is c.self.invariant)
     c.if-range_inside.false
     (λ both. c.range_inside.ensures.1 (
-      omega (arith, ints, both.0, ap (λ (r : Rectangle). r.x0) c.self.view_is, ap (λ (r : Rectangle). r.x0) c.other.view_is),
-      omega (arith, ints, both.1, ap (λ (r : Rectangle). r.x1) c.self.view_is, ap (λ (r : Rectangle). r.x1) c.other.view_is),
+      omega (
+        arith,
+        ints,
+        both.0,
+        ap (λ (r : Rectangle). r.x0) c.self.view_is,
+        ap (λ (r : Rectangle). r.x0)
+            c.other.view_is,
+      ),
+      omega (
+        arith,
+        ints,
+        both.1,
+        ap (λ (r : Rectangle). r.x1) c.self.view_is,
+        ap (λ (r : Rectangle). r.x1)
+            c.other.view_is,
+      ),
     ))

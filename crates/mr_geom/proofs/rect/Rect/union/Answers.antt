@@ -12,10 +12,38 @@ invariant_of-result c = record { x = omega (arith, ints, clamps); y = omega (ari
 pub returns-clause-value : goal.returns-clause-value
 returns-clause-value c =
     same_rectangle _ _
-    (omega (arith, ints, clamps, ap (λ (r : Rectangle). r.x0) c.self.view_is, ap (λ (r : Rectangle). r.x0) c.other.view_is))
-    (omega (arith, ints, clamps, ap (λ (r : Rectangle). r.y0) c.self.view_is, ap (λ (r : Rectangle). r.y0) c.other.view_is))
-    (omega (arith, ints, clamps, ap (λ (r : Rectangle). r.x1) c.self.view_is, ap (λ (r : Rectangle). r.x1) c.other.view_is))
-    (omega (arith, ints, clamps, ap (λ (r : Rectangle). r.y1) c.self.view_is, ap (λ (r : Rectangle). r.y1) c.other.view_is))
+    (omega (
+      arith,
+      ints,
+      clamps,
+      ap (λ (r : Rectangle). r.x0) c.self.view_is,
+      ap (λ (r : Rectangle). r.x0)
+          c.other.view_is,
+    ))
+    (omega (
+      arith,
+      ints,
+      clamps,
+      ap (λ (r : Rectangle). r.y0) c.self.view_is,
+      ap (λ (r : Rectangle). r.y0)
+          c.other.view_is,
+    ))
+    (omega (
+      arith,
+      ints,
+      clamps,
+      ap (λ (r : Rectangle). r.x1) c.self.view_is,
+      ap (λ (r : Rectangle). r.x1)
+          c.other.view_is,
+    ))
+    (omega (
+      arith,
+      ints,
+      clamps,
+      ap (λ (r : Rectangle). r.y1) c.self.view_is,
+      ap (λ (r : Rectangle). r.y1)
+          c.other.view_is,
+    ))
 
 pub returns-clause-least : goal.returns-clause-least
 returns-clause-least c =

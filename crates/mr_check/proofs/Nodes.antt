@@ -1,0 +1,408 @@
+-- Nodes read item by item: what is known of one once its parts were read.
+use Rattle.std.proofs.Common.{◌≡◌, ℕ, zero, suc, ◌-◌, ◌+◌, ◌≤◌, ◌<◌, Bool, true, false, cond, eqb, List, [], ◌∷◌, ◌++◌, length, map, Result, Ok, Err, Option, Some, None, refl, sym, ap, subst, ◌∙◌, append_assoc, arith, inl, inr}
+use Rattle.std.specs.Prelude.{filter, fold, option_map, if◌then◌else◌, ◌==◌}
+use Rattle.std.specs.List.{flat_map}
+use Rattle.std.proofs.lemmas.Bool.{ne_eqb}
+use Rattle.std.proofs.lemmas.List.{append-nil, map-append, length-append}
+use Rattle.std.proofs.lemmas.List.Elements.{filter-append}
+use Rattle.std.proofs.lemmas.List.Sums.{fold-append}
+use Rattle.std.proofs.lemmas.Grind.{flat_map-append}
+use Rattle.mr_geom.specs.Rectangle.{Rectangle}
+use Rattle.mr_record.specs.Record.{record_bytes}
+use Rattle.mr_record.specs.declared.record.Record.{Record}
+use Rattle.mr_tree.specs.Tree.{join, union_of, first_level}
+use Rattle.mr_tree.specs.Digest.{Entry as NodeEntry, rect_bytes, entry_bytes}
+use Rattle.mr_query.specs.declared.query.Query.{Query}
+use Rattle.mr_proof.specs.declared.rule.Rule.{Rule}
+use Rattle.mr_proof.specs.declared.rule.Rule.TheVariants as rule
+use Rattle.mr_proof.specs.declared.rule.Fault.{Fault}
+use Rattle.mr_proof.specs.declared.want.Want.TheVariants as want
+use Rattle.mr_proof.specs.declared.field.Field.{Field}
+use Rattle.mr_proof.specs.declared.field.Field.TheVariants as field
+use Rattle.mr_proof.specs.declared.shown.Shown.{Shown}
+use Rattle.mr_proof.specs.Fields.{pruned_tag}
+use Rattle.mr_proof.specs.Cut.{Cut, Cuts, Pruned, Leaf, Inner, no_more, first, cuts_of, rect, rects, entry, entries, records, all_records}
+use Rattle.mr_proof.specs.Spelling.{Said}
+use Rattle.mr_proof.specs.Tight.{Seen, seen_at, seen, met_by}
+use Rattle.mr_proof.specs.Grammar.{Grammar, notes, must, some_records, opened, leaf, some_items, inner, pruned, item}
+use Rattle.mr_proof.specs.Layout.{Stand, field_at, fault}
+use Rattle.mr_proof.specs.Reading.{past, walk}
+use Rattle.mr_proof.proofs.Preimages.{entry-rect, entries-rects}
+use Rattle.mr_check.specs.declared.entry.Entry.{Entry}
+use Rattle.mr_check.specs.declared.cursor.Cursor.{Cursor}
+use Rattle.mr_check.specs.declared.error.CheckErr.{CheckErr}
+use Rattle.mr_check.specs.declared.error.CheckErr.TheVariants as errors
+use Rattle.mr_check.specs.Steps.{Piece, Goes, Stops, StopsOr, known, region, asked, stand, Took, TookOr}
+
+-- ---- an opened node
+
+met_goes : (b : Bool) (at : ℕ) (w : Result Said Fault) → b ≡ true → past true (must rule.Needless b) at w ≡ w
+met_goes true at w e = refl
+met_goes false at w e = absurd cc
+
+missed_stops : (b : Bool) (at : ℕ) (w : Result Said Fault) → b ≡ false
+    → past true (must rule.Needless b) at w ≡ Err (fault rule.Needless at)
+missed_stops true at w e = absurd cc
+missed_stops false at w e = refl
+
+-- ---- a leaf
+
+pub leaf_took : (hash : List ℕ → List ℕ) (q : Query) (s a t : Stand) (count : ℕ) (rs : List Record) (x : Entry)
+    (old new : List Record) → field_at want.LeafCount s ≡ Ok (field.Num count, a) → Goes (some_records count) a rs t
+    → met_by (region q) (option_map seen_at x.rect) ≡ true → x.rect ≡ rect (Leaf rs)
+    → x.digest ≡ hash (0x4c ∷ length rs ∷ flat_map record_bytes rs) → new ≡ old ++ filter (asked q) rs
+    → Took hash q 0 (leaf (region q)) x s t old new
+leaf_took hash q s a t count rs x old new read goes met place same kept =
+    let here : met_by (region q) (seen (Leaf rs)) ≡ true = ap
+    (λ (o : Option Rectangle). met_by (region q) (option_map seen_at o)) (sym place) ∙ met in
+    record {
+      cut = Leaf rs;
+      goes = λ e next. rw read (goes e (λ rs. opened (region q) (Leaf rs) next)
+          ∙ met_goes (met_by (region q) (seen (Leaf rs))) t.last (walk true e (next (Leaf rs)) t) here);
+      knows = λ i. record { level = 0; rect = sym place i; digest = sym same i };
+      kept = kept;
+    }
+
+pub leaf_stops : (q : Query) (s a t : Stand) (count : ℕ) (rs : List Record) (place : Option Rectangle)
+    → field_at want.LeafCount s ≡ Ok (field.Num count, a) → Goes (some_records count) a rs t
+    → met_by (region q) (option_map seen_at place) ≡ false → place ≡ rect (Leaf rs)
+    → Stops (leaf (region q)) s (fault rule.Needless t.last)
+leaf_stops q s a t count rs place read goes missed is =
+    let here : met_by (region q) (seen (Leaf rs)) ≡ false = ap
+    (λ (o : Option Rectangle). met_by (region q) (option_map seen_at o)) (sym is) ∙ missed in
+    λ e next. rw read (goes e (λ rs. opened (region q) (Leaf rs) next)
+    ∙ missed_stops (met_by (region q) (seen (Leaf rs))) t.last (walk true e (next (Leaf rs)) t) here)
+
+-- ---- children
+
+-- these cuts, and then those
+abbrev with_front : List Cut → Cuts → Cuts
+with_front [] Ps = Ps
+with_front (P ∷ front) Ps = first P (with_front front Ps)
+
+with_front-append : (front : List Cut) (P : Cut) (Ps : Cuts)
+    → with_front front (first P Ps) ≡ with_front (front ++ P ∷ []) Ps
+with_front-append [] P Ps = refl
+with_front-append (Q ∷ front) P Ps = ap (first Q) (with_front-append front P Ps)
+
+with_front-none : (front : List Cut) → with_front front no_more ≡ cuts_of front
+with_front-none [] = refl
+with_front-none (P ∷ front) = ap (first P) (with_front-none front)
+
+entries-cuts_of : (hash : List ℕ → List ℕ) (w : ℕ) (front : List Cut)
+    → entries hash w (cuts_of front) ≡ map (entry hash w) front
+entries-cuts_of hash w [] = refl
+entries-cuts_of hash w (P ∷ front) = ap (λ (es : List NodeEntry). entry hash w P ∷ es) (entries-cuts_of hash w front)
+
+records-cuts_of : (front : List Cut) → all_records (cuts_of front) ≡ flat_map records front
+records-cuts_of [] = refl
+records-cuts_of (P ∷ front) = ap (λ (rs : List Record). records P ++ rs) (records-cuts_of front)
+
+-- what is known of some children
+abbrev known_of : (List ℕ → List ℕ) → ℕ → List Cut → List NodeEntry
+known_of hash w front = map (entry hash w) front
+
+abbrev pub union_over : List NodeEntry → Option Rectangle
+union_over es = union_of (map (λ (e : NodeEntry). e.rect) es)
+
+abbrev pub levels_of : List NodeEntry → List ℕ
+levels_of es = map (λ (e : NodeEntry). e.level) es
+
+-- Of a node with so many children, of this level, so many were read: a cut of each, the hasher that was fed their
+-- entries, the rectangle round them, and the records that are kept.
+pub record ChildrenSo (hash : List ℕ → List ℕ) (holds : List ℕ → Type 0) (q : Query) (w v count i : ℕ) (s t : Stand)
+    (place : Option Rectangle) (old kept : List Record) : Type 0 where
+  pub front : List Cut
+  pub counted : length front ≡ i
+  pub goes : (e : Said → Stand → Result Said Fault) (next : Cuts → Grammar Said)
+      → walk true e (some_items (item (region q) w) count next) s ≡ walk true e
+      (some_items (item (region q) w) (count - i) (λ Ps. next (with_front front Ps))) t
+  pub fed : holds (0x4e ∷ v ∷ count ∷ flat_map entry_bytes (known_of hash w front))
+  pub union : place ≡ union_over (known_of hash w front)
+  pub level : 0 < i → first_level (levels_of (known_of hash w front)) ≡ w
+  pub kept_so : kept ≡ old ++ filter (asked q) (flat_map records front)
+
+pub children_begin : (hash : List ℕ → List ℕ) (holds : List ℕ → Type 0) (q : Query) (w v count : ℕ) (s : Stand)
+    (place : Option Rectangle) (old : List Record) → holds (0x4e ∷ v ∷ count ∷ []) → place ≡ None
+    → ChildrenSo hash holds q w v count 0 s s place old old
+children_begin hash holds q w v count s place old fed none = record {
+  front = [];
+  counted = refl;
+  goes = λ e next. let all : count - 0 ≡ count = omega arith in rw all refl;
+  fed = fed;
+  union = none;
+  level = λ lt. absurd (omega arith);
+  kept_so = sym (append-nil old);
+}
+
+-- the level of the first child is that of the first read
+first_stays : (w i : ℕ) (es : List NodeEntry) (x : NodeEntry) → length es ≡ i → (0 < i → first_level (levels_of es) ≡ w)
+    → x.level ≡ w → first_level (levels_of (es ++ x ∷ [])) ≡ w
+first_stays w i [] x counted so is = is
+first_stays w i (e ∷ es) x counted so is = so (omega arith)
+
+length-known : (hash : List ℕ → List ℕ) (w : ℕ) (front : List Cut) → length (known_of hash w front) ≡ length front
+length-known hash w [] = refl
+length-known hash w (P ∷ front) = ap suc (length-known hash w front)
+
+pub children_go_on : (hash : List ℕ → List ℕ) (before after : List ℕ → Type 0) (q : Query) (w v count i : ℕ)
+    (s t u : Stand) (place : Option Rectangle) (old kept more : List Record) (x : Entry) (around : Option Rectangle)
+    → i < count
+    → ChildrenSo hash before q w v count i s t place old kept → Took hash q w (item (region q) w) x t u kept more
+    → ((fed : List ℕ) → before fed → after (fed ++ (rect_bytes x.rect ++ x.digest))) → around ≡ join place x.rect
+    → ChildrenSo hash after q w v count (i + 1) s u around old more
+children_go_on hash before after q w v count i s t u place old kept more x around lt so one feeds joins =
+    let es = known_of hash w so.front in
+    let all = so.front ++ one.cut ∷ [] in
+    let new : known_of hash w all ≡ es ++ known w x ∷ [] = map-append (entry hash w) so.front (one.cut ∷ [])
+    ∙ ap (λ (e : NodeEntry). es ++ e ∷ []) one.knows in
+    let left : count - i ≡ suc (count - (i + 1)) = omega arith in
+    record {
+      front = all;
+      counted = omega (arith, so.counted, length-append so.front (one.cut ∷ []));
+      goes = λ e next.
+          let here : walk true e (some_items (item (region q) w) (count - i) (λ Ps. next (with_front so.front Ps)))
+          t ≡ walk true e (some_items (item (region q) w) (count - (i + 1))
+          (λ Ps. next (with_front so.front (first one.cut Ps)))) u =
+          rw left (one.goes e (λ P. some_items (item (region q) w) (count - (i + 1))
+          (λ Ps. next (with_front so.front (first P Ps))))) in
+          so.goes e next ∙ here ∙ (λ j. walk true e
+          (some_items (item (region q) w) (count - (i + 1)) (λ Ps. next (with_front-append so.front one.cut Ps j)))
+          u);
+      fed =
+          let text = 0x4e ∷ v ∷ count ∷ flat_map entry_bytes es in
+          let last : flat_map entry_bytes (known w x ∷ []) ≡ rect_bytes x.rect ++ x.digest = append-nil
+          (rect_bytes x.rect ++ x.digest) in
+          let whole : text ++ (rect_bytes x.rect ++ x.digest) ≡ 0x4e ∷ v ∷ count ∷ flat_map entry_bytes
+          (known_of hash w all) =
+          ap (λ (bytes : List ℕ). 0x4e ∷ v ∷ count ∷ bytes)
+          (ap (λ (bytes : List ℕ). flat_map entry_bytes es ++ bytes) (sym last)
+          ∙ sym (flat_map-append entry_bytes es (known w x ∷ [])))
+          ∙ ap (λ (es : List NodeEntry). 0x4e ∷ v ∷ count ∷ flat_map entry_bytes es) (sym new) in
+          subst after whole (feeds text so.fed);
+      union =
+          let more_rects : map (λ (e : NodeEntry). e.rect) (es ++ known w x ∷ []) ≡ map
+          (λ (e : NodeEntry). e.rect) es ++ x.rect ∷ [] = map-append (λ (e : NodeEntry). e.rect) es
+          (known w x ∷ []) in
+          joins ∙ ap (λ (o : Option Rectangle). join o x.rect) so.union
+          ∙ sym (fold-append join None (map (λ (e : NodeEntry). e.rect) es) (x.rect ∷ []))
+          ∙ ap union_of (sym more_rects) ∙ ap union_over (sym new);
+      level = λ _. ap (λ (es : List NodeEntry). first_level (levels_of es)) new
+          ∙ first_stays w i es (known w x) (length-known hash w so.front ∙ so.counted) so.level refl;
+      kept_so =
+          let last : flat_map records (one.cut ∷ []) ≡ records one.cut = append-nil (records one.cut) in
+          let mine : filter (asked q) (flat_map records all) ≡ filter (asked q) (flat_map records so.front) ++ filter
+          (asked q) (records one.cut) =
+          ap (filter (asked q)) (flat_map-append records so.front (one.cut ∷ [])
+          ∙ ap (λ (rs : List Record). flat_map records so.front ++ rs) last)
+          ∙ filter-append (asked q) (flat_map records so.front) (records one.cut) in
+          one.kept ∙ ap (λ (rs : List Record). rs ++ filter (asked q) (records one.cut)) so.kept_so
+          ∙ append_assoc old (filter (asked q) (flat_map records so.front)) (filter (asked q) (records one.cut))
+          ∙ ap (λ (rs : List Record). old ++ rs) (sym mine);
+    }
+
+-- ---- an inner node
+
+-- its piece, behind its number of children
+behind_count : (q : Query) (w : ℕ) (e : Said → Stand → Result Said Fault) (next : Cut → Grammar Said) (s a : Stand)
+    (count : ℕ) → field_at want.InnerCount s ≡ Ok (field.Num count, a)
+    → walk true e (inner (region q) (item (region q) w) next) s ≡ walk true e
+    (some_items (item (region q) w) count (λ Ps. opened (region q) (Inner Ps) next)) a
+behind_count q w e next s a count read = rw read refl
+
+-- a child stops the reading
+pub inner_stops : (hash : List ℕ → List ℕ) (holds : List ℕ → Type 0) (q : Query) (w v count i : ℕ) (s a t : Stand)
+    (place : Option Rectangle) (old kept : List Record) (e : CheckErr) → i < count
+    → field_at want.InnerCount s ≡ Ok (field.Num count, a)
+    → ChildrenSo hash holds q w v count i a t place old kept → StopsOr (item (region q) w) t e
+    → StopsOr (inner (region q) (item (region q) w)) s e
+inner_stops hash holds q w v count i s a t place old kept (errors.Fault f) lt read so stops = λ e next.
+    let left : count - i ≡ suc (count - (i + 1)) = omega arith in
+    let opening = λ (Ps : Cuts). opened (region q) (Inner Ps) next in
+    let here : walk true e (some_items (item (region q) w) (count - i) (λ Ps. opening (with_front so.front Ps))) t ≡ Err
+    f =
+    rw left (stops e (λ P. some_items (item (region q) w) (count - (i + 1))
+    (λ Ps. opening (with_front so.front (first P Ps))))) in
+    behind_count q w e next s a count read ∙ so.goes e opening ∙ here
+inner_stops hash holds q w v count i s a t place old kept errors.NoMemory lt read so stops = tt
+
+-- all children were read
+all_read : (hash : List ℕ → List ℕ) (holds : List ℕ → Type 0) (q : Query) (w v count i : ℕ) (s a t : Stand)
+    (place : Option Rectangle) (old kept : List Record) → count ≤ i
+    → field_at want.InnerCount s ≡ Ok (field.Num count, a)
+    → (so : ChildrenSo hash holds q w v count i a t place old kept)
+    → (e : Said → Stand → Result Said Fault) (next : Cut → Grammar Said)
+    → walk true e (inner (region q) (item (region q) w) next) s ≡ walk true e
+    (opened (region q) (Inner (cuts_of so.front)) next) t
+all_read hash holds q w v count i s a t place old kept le read so e next =
+    let none : count - i ≡ 0 = omega arith in
+    let opening = λ (Ps : Cuts). opened (region q) (Inner Ps) next in
+    let here : walk true e (some_items (item (region q) w) (count - i) (λ Ps. opening (with_front so.front Ps)))
+    t ≡ walk true e (opening (cuts_of so.front)) t =
+    rw none (ap (λ (Ps : Cuts). walk true e (opening Ps) t) (with_front-none so.front)) in
+    behind_count q w e next s a count read ∙ so.goes e opening ∙ here
+
+rect_of_all : (hash : List ℕ → List ℕ) (w : ℕ) (front : List Cut)
+    → union_over (known_of hash w front) ≡ rect (Inner (cuts_of front))
+rect_of_all hash w front =
+    ap union_over (sym (entries-cuts_of hash w front)) ∙ ap union_of (entries-rects hash w (cuts_of front))
+
+abbrev inner_known : (List ℕ → List ℕ) → List NodeEntry → NodeEntry
+inner_known hash es = record {
+  level = first_level (levels_of es) + 1;
+  rect = union_over es;
+  digest = hash
+      (0x4e ∷ (first_level (levels_of es) + 1) ∷ length es ∷ flat_map entry_bytes es);
+}
+
+pub inner_took : (hash : List ℕ → List ℕ) (holds : List ℕ → Type 0) (q : Query) (w v count i : ℕ) (s a t : Stand)
+    (place : Option Rectangle) (old kept : List Record) (x : Entry) → count ≤ i → i ≤ count → 1 ≤ count → w ≡ v - 1
+    → 0 < v
+    → field_at want.InnerCount s ≡ Ok (field.Num count, a) → ChildrenSo hash holds q w v count i a t place old kept
+    → x.rect ≡ place → ((fed : List ℕ) → holds fed → x.digest ≡ hash fed)
+    → met_by (region q) (option_map seen_at x.rect) ≡ true
+    → Took hash q v (inner (region q) (item (region q) w)) x s t old kept
+inner_took hash holds q w v count i s a t place old kept x le ge some below above read so around digests met =
+    let Ps = cuts_of so.front in
+    let es = known_of hash w so.front in
+    let place_is : x.rect ≡ rect (Inner Ps) = around ∙ so.union ∙ rect_of_all hash w so.front in
+    let here : met_by (region q) (seen (Inner Ps)) ≡ true = ap
+    (λ (o : Option Rectangle). met_by (region q) (option_map seen_at o)) (sym place_is) ∙ met in
+    let level_is : first_level (levels_of es) + 1 ≡ v = let first = so.level (omega arith) in omega arith in
+    let long : length es ≡ count = length-known hash w so.front ∙ so.counted ∙ omega arith in
+    let children : entries hash (v - 1) Ps ≡ es = ap (λ (k : ℕ). entries hash k Ps) (sym below)
+    ∙ entries-cuts_of hash w so.front in
+    let fed_is : x.digest ≡ hash (0x4e ∷ (first_level (levels_of es) + 1) ∷ length es ∷ flat_map entry_bytes es) =
+    digests (0x4e ∷ v ∷ count ∷ flat_map entry_bytes es) so.fed
+    ∙ (λ j. hash (0x4e ∷ sym level_is j ∷ sym long j ∷ flat_map entry_bytes es)) in
+    let place_known : x.rect ≡ union_over es = around ∙ so.union in
+    record {
+      cut = Inner Ps;
+      goes = λ e next. all_read hash holds q w v count i s a t place old kept le read so e next
+          ∙ met_goes (met_by (region q) (seen (Inner Ps))) t.last (walk true e (next (Inner Ps)) t) here;
+      knows = ap (inner_known hash) children ∙
+          (λ j. record { level = level_is j; rect = sym place_known j; digest = sym fed_is j });
+      kept = so.kept_so ∙ ap (λ (rs : List Record). old ++ filter (asked q) rs) (sym (records-cuts_of so.front));
+    }
+
+pub inner_missed : (hash : List ℕ → List ℕ) (holds : List ℕ → Type 0) (q : Query) (w v count i : ℕ) (s a t : Stand)
+    (place here : Option Rectangle) (old kept : List Record) → count ≤ i
+    → field_at want.InnerCount s ≡ Ok (field.Num count, a)
+    → ChildrenSo hash holds q w v count i a t place old kept → here ≡ place
+    → met_by (region q) (option_map seen_at here) ≡ false
+    → Stops (inner (region q) (item (region q) w)) s (fault rule.Needless t.last)
+inner_missed hash holds q w v count i s a t place here old kept le read so around missed = λ e next.
+    let Ps = cuts_of so.front in
+    let place_is : here ≡ rect (Inner Ps) = around ∙ so.union ∙ rect_of_all hash w so.front in
+    let none : met_by (region q) (seen (Inner Ps)) ≡ false = ap
+    (λ (o : Option Rectangle). met_by (region q) (option_map seen_at o)) (sym place_is) ∙ missed in
+    all_read hash holds q w v count i s a t place old kept le read so e next
+    ∙ missed_stops (met_by (region q) (seen (Inner Ps))) t.last (walk true e (next (Inner Ps)) t) none
+
+-- ---- an item, by its tag
+
+pub pruned_took : (hash : List ℕ → List ℕ) (q : Query) (v b : ℕ) (s a t : Stand) (x : Shown) (old : List Record)
+    → field_at (want.Tag v) s ≡ Ok (field.Tag b, a) → b ≡ pruned_tag → Goes (pruned (region q)) a (Pruned x) t
+    → Took hash q v (item (region q) v) (record { rect = Some x.rect; digest = x.digest }) s t old old
+pruned_took hash q zero b s a t x old read is goes = record
+    { cut = Pruned x; goes = λ e next. rw (read, is) (goes e next); knows = refl; kept = sym (append-nil old) }
+pruned_took hash q (suc w) b s a t x old read is goes = record
+    { cut = Pruned x; goes = λ e next. rw (read, is) (goes e next); knows = refl; kept = sym (append-nil old) }
+
+pub pruned_stops : (q : Query) (v b : ℕ) (s a : Stand) (f : Fault) → field_at (want.Tag v) s ≡ Ok (field.Tag b, a)
+    → b ≡ pruned_tag → Stops (pruned (region q)) a f → Stops (item (region q) v) s f
+pruned_stops q zero b s a f read is stops = λ e next. rw (read, is) (stops e next)
+pruned_stops q (suc w) b s a f read is stops = λ e next. rw (read, is) (stops e next)
+
+pub tag_stops : (q : Query) (v : ℕ) (s : Stand) (f : Fault) → field_at (want.Tag v) s ≡ Err f
+    → Stops (item (region q) v) s f
+tag_stops q zero s f read = λ e next. rw read refl
+tag_stops q (suc w) s f read = λ e next. rw read refl
+
+-- the piece behind the tag of an opened node
+abbrev opened_piece : Query → ℕ → Piece Cut
+opened_piece q zero = leaf (region q)
+opened_piece q (suc w) = inner (region q) (item (region q) w)
+
+other_piece : (b : Bool) (g k : Grammar Said) (e : Said → Stand → Result Said Fault) (a : Stand) → b ≡ false
+    → walk true e (if b then g else k) a ≡ walk true e k a
+other_piece true g k e a is = absurd cc
+other_piece false g k e a is = refl
+
+opened_goes : (q : Query) (v b : ℕ) (s a : Stand) (e : Said → Stand → Result Said Fault) (next : Cut → Grammar Said)
+    → field_at (want.Tag v) s ≡ Ok (field.Tag b, a) → eqb b pruned_tag ≡ false
+    → walk true e (item (region q) v next) s ≡ walk true e (opened_piece q v next) a
+opened_goes q zero b s a e next read is =
+    rw read (other_piece (eqb b pruned_tag) (pruned (region q) next) (leaf (region q) next) e a is)
+opened_goes q (suc w) b s a e next read is =
+    rw read (other_piece (eqb b pruned_tag) (pruned (region q) next) (inner (region q) (item (region q) w) next) e a is)
+
+-- what a call that reads the piece behind the tag says, said of the item
+opened_item : (q : Query) (v b : ℕ) (s a t : Stand) (hash : List ℕ → List ℕ) (x : Entry) (old new : List Record)
+    → field_at (want.Tag v) s ≡ Ok (field.Tag b, a) → eqb b pruned_tag ≡ false
+    → Took hash q v (opened_piece q v) x a t old new → Took hash q v (item (region q) v) x s t old new
+opened_item q v b s a t hash x old new read is took =
+    record {
+      cut = took.cut;
+      goes = λ e next. opened_goes q v b s a e next read is
+          ∙ took.goes e next;
+      knows = took.knows;
+      kept = took.kept;
+    }
+
+opened_stops : (q : Query) (v b : ℕ) (s a : Stand) (e : CheckErr) → field_at (want.Tag v) s ≡ Ok (field.Tag b, a)
+    → eqb b pruned_tag ≡ false → StopsOr (opened_piece q v) a e → StopsOr (item (region q) v) s e
+opened_stops q v b s a (errors.Fault f) read is stops = λ e next. opened_goes q v b s a e next read is ∙ stops e next
+opened_stops q v b s a errors.NoMemory read is stops = tt
+
+pub leaf_item : (q : Query) (v b : ℕ) (s a t : Stand) (hash : List ℕ → List ℕ) (x : Entry) (old new : List Record)
+    → v ≡ 0 → field_at (want.Tag v) s ≡ Ok (field.Tag b, a) → eqb b pruned_tag ≡ false
+    → Took hash q 0 (leaf (region q)) x a t old new → Took hash q v (item (region q) v) x s t old new
+leaf_item q zero b s a t hash x old new flat read is took = opened_item q 0 b s a t hash x old new read is took
+leaf_item q (suc w) b s a t hash x old new flat read is took = absurd (omega arith)
+
+pub leaf_item_stops : (q : Query) (v b : ℕ) (s a : Stand) (e : CheckErr) → v ≡ 0
+    → field_at (want.Tag v) s ≡ Ok (field.Tag b, a) → eqb b pruned_tag ≡ false → StopsOr (leaf (region q)) a e
+    → StopsOr (item (region q) v) s e
+leaf_item_stops q zero b s a e flat read is stops = opened_stops q 0 b s a e read is stops
+leaf_item_stops q (suc w) b s a e flat read is stops = absurd (omega arith)
+
+pub inner_item : (q : Query) (v b : ℕ) (s a t : Stand) (hash : List ℕ → List ℕ) (x : Entry) (old new : List Record)
+    → 0 < v → field_at (want.Tag v) s ≡ Ok (field.Tag b, a) → eqb b pruned_tag ≡ false
+    → Took hash q v (inner (region q) (item (region q) (v - 1))) x a t old new
+    → Took hash q v (item (region q) v) x s t old new
+inner_item q zero b s a t hash x old new above read is took = absurd (omega arith)
+inner_item q (suc w) b s a t hash x old new above read is took =
+    let below : suc w - 1 ≡ w = omega arith in
+    opened_item q (suc w) b s a t hash x old new read is
+    (subst (λ (k : ℕ). Took hash q (suc w) (inner (region q) (item (region q) k)) x a t old new) below took)
+
+pub inner_item_stops : (q : Query) (v b : ℕ) (s a : Stand) (e : CheckErr) → 0 < v
+    → field_at (want.Tag v) s ≡ Ok (field.Tag b, a) → eqb b pruned_tag ≡ false
+    → StopsOr (inner (region q) (item (region q) (v - 1))) a e
+    → StopsOr (item (region q) v) s e
+inner_item_stops q zero b s a e above read is stops = absurd (omega arith)
+inner_item_stops q (suc w) b s a e above read is stops =
+    let below : suc w - 1 ≡ w = omega arith in
+    opened_stops q (suc w) b s a e read is (subst
+    (λ (k : ℕ). StopsOr (inner (region q) (item (region q) k)) a e) below stops)
+
+pub leaf_item_or : (q : Query) (v b : ℕ) (s a : Stand) (hash : List ℕ → List ℕ) (result : Result Entry CheckErr)
+    (after : Cursor) (old new : List Record) → v ≡ 0 → field_at (want.Tag v) s ≡ Ok (field.Tag b, a)
+    → (b ≡ pruned_tag → ⊥)
+    → TookOr hash q 0 (leaf (region q)) result a after old new
+    → TookOr hash q v (item (region q) v) result s after old new
+leaf_item_or q v b s a hash (Ok x) after old new flat read is took =
+    leaf_item q v b s a (stand after) hash x old new flat read (ne_eqb b pruned_tag is) took
+leaf_item_or q v b s a hash (Err e) after old new flat read is stops =
+    leaf_item_stops q v b s a e flat read (ne_eqb b pruned_tag is) stops
+
+pub inner_item_or : (q : Query) (v b : ℕ) (s a : Stand) (hash : List ℕ → List ℕ) (result : Result Entry CheckErr)
+    (after : Cursor) (old new : List Record) → 0 < v → field_at (want.Tag v) s ≡ Ok (field.Tag b, a)
+    → (b ≡ pruned_tag → ⊥)
+    → TookOr hash q v (inner (region q) (item (region q) (v - 1))) result a after old new
+    → TookOr hash q v (item (region q) v) result s after old new
+inner_item_or q v b s a hash (Ok x) after old new above read is took =
+    inner_item q v b s a (stand after) hash x old new above read (ne_eqb b pruned_tag is) took
+inner_item_or q v b s a hash (Err e) after old new above read is stops =
+    inner_item_stops q v b s a e above read (ne_eqb b pruned_tag is) stops

@@ -1,0 +1,6 @@
+use Rattle.std.proofs.Common.{sym, ◌∙◌}
+use Rattle.mr_pages.proofs.Short.{short_free}
+use Rattle.mr_pages.proofs.bytes.MapBytesPages.free.Goals as goal
+
+pub returns-in_err-page_bytes : goal.returns-in_err-page_bytes
+returns-in_err-page_bytes c = c.from_residual.ensures ∙ sym (short_free _ c.in_err-page_bytes.ensures)

@@ -1,0 +1,13 @@
+use Rattle.mr_pages.specs.PageBytes.{first_form}
+use Rattle.mr_pages.proofs.Answered.{stands_of, only_of}
+use Rattle.mr_pages.proofs.opening.open_plain.Goals as goal
+
+pub returns-clause-stands : goal.returns-clause-stands
+returns-clause-stands g c =
+    stands_of first_form g.H.Hashes.of (g.S.Shelf.state c.args.shelf.now).files c.args.name.now c.open_named.result
+    c.open_named.ensures.told
+
+pub returns-clause-only : goal.returns-clause-only
+returns-clause-only g c =
+    only_of first_form g.H.Hashes.of (g.S.Shelf.state c.args.shelf.now).files c.args.name.now c.open_named.result
+    c.open_named.ensures.told

@@ -1,0 +1,16 @@
+use Rattle.std.proofs.Common.{append_assoc}
+use Rattle.mr_record.specs.Record.{record_bytes}
+use Rattle.mr_pages.proofs.page.put.put_record.Goals as goal
+
+pub returns-clause-bytes : goal.returns-clause-bytes
+unfolding record_bytes
+returns-clause-bytes c =
+    rw (
+      c.put.ensures.bytes,
+      c.put-at-3.ensures.bytes,
+      c.put-at-2.ensures.bytes,
+      c.put-at.ensures.bytes,
+      c.bytes-payload.ensures.value,
+      c.rect_bytes.ensures,
+      c.to_be_bytes.ensures,
+    ) (simp append_assoc)

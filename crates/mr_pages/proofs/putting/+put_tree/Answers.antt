@@ -1,0 +1,186 @@
+use Rattle.std.proofs.Common.{rules, ◌≡◌, ◌≤◌, ◌<◌, ◌+◌, ◌*◌, ◌/◌, suc, ◌∙◌, length, subst, sym, ap, arith}
+use Rattle.mr_tree.specs.declared.tree.Tree.TheVariants as tree
+use Rattle.mr_tree.specs.View.{size}
+use Rattle.mr_tree.specs.Tree.{level}
+use Rattle.mr_pages.specs.Stands.{all_pages}
+use Rattle.mr_pages.proofs.Put.{leaf_entries, next_page, child_room, child_can, child_lower, put_one, put_whole, one_of, below_first, inner_put, written_whole, some_row}
+use Rattle.mr_pages.specs.Putting.{IsPut}
+use Rattle.mr_pages.proofs.putting.+put_tree.Goals as goal
+
+pub set_leaf-requires-clause-some : goal.set_leaf-requires-clause-some
+set_leaf-requires-clause-some g t c =
+    let few = leaf_entries c.args.tree.now c.in-Leaf.records c.requires.can c.in-Leaf.is in
+    subst (λ rs. 1 ≤ length rs) (sym c.as_slice.ensures) few.0
+
+pub set_leaf-requires-clause-few : goal.set_leaf-requires-clause-few
+set_leaf-requires-clause-few g t c =
+    let few = leaf_entries c.args.tree.now c.in-Leaf.records c.requires.can c.in-Leaf.is in
+    subst (λ rs. length rs ≤ 16) (sym c.as_slice.ensures) few.1
+
+pub add_page-requires : goal.add_page-requires
+add_page-requires g t c =
+    let few = leaf_entries c.args.tree.now c.in-Leaf.records c.requires.can c.in-Leaf.is in
+    subst (λ n. 1 ≤ size n) (sym c.set_leaf.ensures) (subst (λ rs. 1 ≤ length rs) (sym c.as_slice.ensures) few.0)
+
+pub child_on-requires : goal.child_on-requires
+child_on-requires g t c =
+    let few = leaf_entries c.args.tree.now c.in-Leaf.records c.requires.can c.in-Leaf.is in
+    subst (λ n. 1 ≤ size n) (sym c.set_leaf.ensures) (subst (λ rs. 1 ≤ length rs) (sym c.as_slice.ensures) few.0)
+
+pub overflow_cast-next : goal.overflow_cast-next
+overflow_cast-next g t c =
+    let ts = c.as_slice-child-items.result.now in
+    let long : c.len.result ≡ length c.loop-child.pages.items = omega (arith, c.len.ensures, c.loop-child.pages.ok) in
+    let next : c.len.result / 4096 ≡ suc c.args.page + length
+    (all_pages (some_row (suc c.args.page) ts c.loop-child.child-index)) =
+    ap (λ n. n / 4096) long
+    ∙ next_page g.H.Hashes.of ts c.loop-child.child-index c.args.page c.args.pages.now.items c.loop-child.pages.items
+    c.loop-child.links.items c.loop-child.invariant in
+    let room = child_room c.args.tree.now ts c.args.page c.loop-child.child-index
+    (c.len.result / 4096) c.child-item.result
+    (c.in-Inner.is ∙ ap tree.Inner (sym c.as_slice-child-items.ensures)) c.loop-child-test.true c.child-item.is next
+    c.requires.room in
+    omega (arith, room)
+
+pub put_tree-requires : goal.put_tree-requires
+put_tree-requires g t c κs within =
+    let ts = c.as_slice-child-items.result.now in
+    let is = c.in-Inner.is ∙ ap tree.Inner (sym c.as_slice-child-items.ensures) in
+    let long : c.len.result ≡ length c.loop-child.pages.items = omega (arith, c.len.ensures, c.loop-child.pages.ok) in
+    let next : c.len.result / 4096 ≡ suc c.args.page + length
+    (all_pages (some_row (suc c.args.page) ts c.loop-child.child-index)) =
+    ap (λ n. n / 4096) long
+    ∙ next_page g.H.Hashes.of ts c.loop-child.child-index c.args.page c.args.pages.now.items c.loop-child.pages.items
+    c.loop-child.links.items c.loop-child.invariant in
+    let room = child_room c.args.tree.now ts c.args.page c.loop-child.child-index
+    (c.len.result / 4096) c.child-item.result is
+    c.loop-child-test.true c.child-item.is next c.requires.room in
+    let can = child_can c.args.tree.now ts c.loop-child.child-index c.child-item.result is c.requires.can
+    c.loop-child-test.true c.child-item.is in
+    let at : length c.loop-child.pages.items ≡ c.len.result / 4096 * 4096 =
+    c.loop-child.invariant.size ∙ ap (λ n. n * 4096) (sym next) in
+    let here : level c.args.tree.now ≡ t = c.decreases in
+    let lower = child_lower c.args.tree.now ts c.loop-child.child-index c.child-item.result is c.requires.can
+    c.loop-child-test.true c.child-item.is in
+    let smaller : level c.child-item.result < t = omega (arith, lower, here) in
+    (smaller, (search rules, (can, (at, room))))
+
+pub loop-child-preserved : goal.loop-child-preserved
+loop-child-preserved g t c =
+    let ts = c.as_slice-child-items.result.now in
+    let long : c.len.result ≡ length c.loop-child.pages.items = omega (arith, c.len.ensures, c.loop-child.pages.ok) in
+    let next : c.len.result / 4096 ≡ suc c.args.page + length
+    (all_pages (some_row (suc c.args.page) ts c.loop-child.child-index)) =
+    ap (λ n. n / 4096) long
+    ∙ next_page g.H.Hashes.of ts c.loop-child.child-index c.args.page c.args.pages.now.items c.loop-child.pages.items
+    c.loop-child.links.items c.loop-child.invariant in
+    put_one g.H.Hashes.of ts c.loop-child.child-index c.args.page
+    (c.len.result / 4096) c.args.pages.now.items c.loop-child.pages.items
+    c.put_tree.new.pages.items c.loop-child.links.items c.push.new.self.items c.child-item.result
+    c.in_ok-link-in-Inner.link
+    c.loop-child-test.true c.child-item.is next c.loop-child.invariant c.in_ok-link-in-Inner.ensures
+    c.in_ok-push-in-Inner.ensures.items
+
+pub index-requires : goal.index-requires
+index-requires g t c =
+    let ts = c.as_slice-child-items.result.now in
+    let all = put_whole g.H.Hashes.of c.args.tree.now ts c.loop-child.child-index c.args.page c.args.pages.now.items
+    c.loop-child.pages.items
+    c.loop-child.links.items (c.in-Inner.is ∙ ap tree.Inner (sym c.as_slice-child-items.ensures)) c.requires.can
+    c.loop-child.invariant
+    (omega (arith, c.loop-child-test.false, c.loop-child.auto.child-index-end)) in
+    omega (arith, all.count, all.few.0, c.loop-child.links.ok)
+
+pub overflow_add-index : goal.overflow_add-index
+overflow_add-index g t c =
+    let ts = c.as_slice-child-items.result.now in
+    let all = put_whole g.H.Hashes.of c.args.tree.now ts c.loop-child.child-index c.args.page c.args.pages.now.items
+    c.loop-child.pages.items
+    c.loop-child.links.items (c.in-Inner.is ∙ ap tree.Inner (sym c.as_slice-child-items.ensures)) c.requires.can
+    c.loop-child.invariant
+    (omega (arith, c.loop-child-test.false, c.loop-child.auto.child-index-end)) in
+    let first' = one_of c.loop-child.links.items ts all 0 c.index.result.now
+    (omega (arith, all.count, all.few.0)) c.index.ensures in
+    omega (arith, first', all.high.1)
+
+pub set_inner-requires-clause-level : goal.set_inner-requires-clause-level
+set_inner-requires-clause-level g t c =
+    let ts = c.as_slice-child-items.result.now in
+    let all = put_whole g.H.Hashes.of c.args.tree.now ts c.loop-child.child-index c.args.page c.args.pages.now.items
+    c.loop-child.pages.items
+    c.loop-child.links.items (c.in-Inner.is ∙ ap tree.Inner (sym c.as_slice-child-items.ensures)) c.requires.can
+    c.loop-child.invariant
+    (omega (arith, c.loop-child-test.false, c.loop-child.auto.child-index-end)) in
+    let first' = one_of c.loop-child.links.items ts all 0 c.index.result.now
+    (omega (arith, all.count, all.few.0)) c.index.ensures in
+    (omega (arith, first', all.high.0), omega (arith, first', all.high.1))
+
+pub set_inner-requires-clause-some : goal.set_inner-requires-clause-some
+set_inner-requires-clause-some g t c =
+    let ts = c.as_slice-child-items.result.now in
+    let all = put_whole g.H.Hashes.of c.args.tree.now ts c.loop-child.child-index c.args.page c.args.pages.now.items
+    c.loop-child.pages.items
+    c.loop-child.links.items (c.in-Inner.is ∙ ap tree.Inner (sym c.as_slice-child-items.ensures)) c.requires.can
+    c.loop-child.invariant
+    (omega (arith, c.loop-child-test.false, c.loop-child.auto.child-index-end)) in
+    omega (arith, all.count, all.few.0, ap length c.deref.ensures.value)
+
+pub set_inner-requires-clause-few : goal.set_inner-requires-clause-few
+set_inner-requires-clause-few g t c =
+    let ts = c.as_slice-child-items.result.now in
+    let all = put_whole g.H.Hashes.of c.args.tree.now ts c.loop-child.child-index c.args.page c.args.pages.now.items
+    c.loop-child.pages.items
+    c.loop-child.links.items (c.in-Inner.is ∙ ap tree.Inner (sym c.as_slice-child-items.ensures)) c.requires.can
+    c.loop-child.invariant
+    (omega (arith, c.loop-child-test.false, c.loop-child.auto.child-index-end)) in
+    omega (arith, all.count, all.few.1, ap length c.deref.ensures.value)
+
+pub set_inner-requires-clause-below : goal.set_inner-requires-clause-below
+set_inner-requires-clause-below g t c =
+    let ts = c.as_slice-child-items.result.now in
+    let all = put_whole g.H.Hashes.of c.args.tree.now ts c.loop-child.child-index c.args.page c.args.pages.now.items
+    c.loop-child.pages.items
+    c.loop-child.links.items (c.in-Inner.is ∙ ap tree.Inner (sym c.as_slice-child-items.ensures)) c.requires.can
+    c.loop-child.invariant
+    (omega (arith, c.loop-child-test.false, c.loop-child.auto.child-index-end)) in
+    let first' = one_of c.loop-child.links.items ts all 0 c.index.result.now
+    (omega (arith, all.count, all.few.0)) c.index.ensures in
+    below_first c.loop-child.links.items c.deref.result.now ts all c.index.result.now c.deref.ensures.value first'
+
+pub put_page-requires-clause-some : goal.put_page-requires-clause-some
+put_page-requires-clause-some g t c =
+    let ts = c.as_slice-child-items.result.now in
+    let all = put_whole g.H.Hashes.of c.args.tree.now ts c.loop-child.child-index c.args.page c.args.pages.now.items
+    c.loop-child.pages.items
+    c.loop-child.links.items (c.in-Inner.is ∙ ap tree.Inner (sym c.as_slice-child-items.ensures)) c.requires.can
+    c.loop-child.invariant
+    (omega (arith, c.loop-child-test.false, c.loop-child.auto.child-index-end)) in
+    subst (λ n. 1 ≤ size n) (sym c.set_inner.ensures) (omega
+    (arith, all.count, all.few.0, ap length c.deref.ensures.value))
+
+pub child_on-requires-in-Inner : goal.child_on-requires-in-Inner
+child_on-requires-in-Inner g t c =
+    let ts = c.as_slice-child-items.result.now in
+    let all = put_whole g.H.Hashes.of c.args.tree.now ts c.loop-child.child-index c.args.page c.args.pages.now.items
+    c.loop-child.pages.items
+    c.loop-child.links.items (c.in-Inner.is ∙ ap tree.Inner (sym c.as_slice-child-items.ensures)) c.requires.can
+    c.loop-child.invariant
+    (omega (arith, c.loop-child-test.false, c.loop-child.auto.child-index-end)) in
+    subst (λ n. 1 ≤ size n) (sym c.set_inner.ensures) (omega
+    (arith, all.count, all.few.0, ap length c.deref.ensures.value))
+
+pub returns-after-loop-child : goal.returns-after-loop-child
+returns-after-loop-child g t c =
+    let ts = c.as_slice-child-items.result.now in
+    let kept : length c.put_page.new.pages ≡ length c.as_mut_slice.result.now = c.put_page.auto.pages in
+    let whole : length c.put_page.new.pages ≡ c.loop-child.pages.len =
+    omega (arith, kept, ap length c.as_mut_slice.ensures.value, c.loop-child.pages.ok) in
+    subst (λ bytes. IsPut g.H.Hashes.of c.args.tree.now c.args.page c.args.pages.now.items bytes
+    c.child_on-in-Inner.result)
+    (sym (written_whole c.loop-child.pages.len c.put_page.new.pages c.loop-child.pages.items whole))
+    (inner_put g.H.Hashes.of c.args.tree.now ts c.loop-child.child-index c.args.page c.args.pages.now.items
+    c.loop-child.pages.items
+    c.put_page.new.pages c.loop-child.links.items c.deref.result.now c.child_on-in-Inner.result
+    (c.in-Inner.is ∙ ap tree.Inner (sym c.as_slice-child-items.ensures)) c.requires.can c.loop-child.invariant
+    (omega (arith, c.loop-child-test.false, c.loop-child.auto.child-index-end)) c.requires.at c.deref.ensures.value
+    c.set_inner.ensures c.as_mut_slice.ensures.value c.put_page.ensures kept c.child_on-in-Inner.ensures)

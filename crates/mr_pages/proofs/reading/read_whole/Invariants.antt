@@ -1,0 +1,21 @@
+use Rattle.std.proofs.Common.{◌≡◌, ◌-◌, ◌≤◌, ℕ, List, length}
+use Rattle.mr_outside.specs.State.{Shelved}
+use Rattle.mr_outside.specs.Told.{OfFile}
+use Rattle.mr_pages.proofs.Filled.{IsFront}
+use Rattle.mr_pages.proofs.reading.read_whole.Given as goal
+
+-- the shelf's files are as before, and what was read so far is the front of the named one
+pub record ReadsOn (before now : Shelved) (name : List ℕ) (size at : ℕ) (so_far : List ℕ) : Type 0 where
+  pub files : now.files ≡ before.files
+  pub front : OfFile before.files name ⊥ (IsFront size at so_far)
+  pub faults : now.faults ≡ before.faults
+  pub reads : before.reads ≤ now.reads
+  pub long : length so_far ≡ size
+  pub within : at ≤ size
+
+abbrev pub invariant-loop-at : goal.invariant-loop-at
+invariant-loop-at g l =
+    ReadsOn (g.S.Shelf.state l.initial.shelf) (g.S.Shelf.state l.shelf) l.name l.size l.at l.bytes.items
+
+abbrev pub decreases-loop-at : goal.decreases-loop-at
+decreases-loop-at g l = l.size - l.at

@@ -1,0 +1,30 @@
+-- What binds the two: a file has no fault just where it stands for a map, which is then the only
+-- one.
+use Rattle.std.specs.Prelude.{◌≡◌, ℕ, List, None}
+use Rattle.mr_tree.specs.WellFormed.{WellFormed}
+use Rattle.mr_tree.specs.declared.tree.Tree.{Tree}
+use Rattle.mr_pages.specs.Page.{Form}
+use Rattle.mr_pages.specs.File.{file_of}
+use Rattle.mr_pages.specs.Stands.{Stands}
+use Rattle.mr_pages.specs.Faults.{mapfault}
+
+-- the file stands for a well-formed tree at a batch
+pub record IsMap (form : Form) (hash : List ℕ → List ℕ) (bytes : List ℕ) (t : Tree) (batch : ℕ)
+    : Type 0 where
+  pub well : WellFormed t
+  pub stands : Stands form hash bytes t batch
+
+-- and for no other
+abbrev pub IsOnlyMap : Form → (List ℕ → List ℕ) → (bytes : List ℕ) → Tree → (batch : ℕ) → Type 0
+IsOnlyMap form hash bytes t b =
+    (u : Tree) (c : ℕ) → IsMap form hash bytes u c → (t ≡ u) × (b ≡ c)
+
+pub record Agrees (form : Form) (hash : List ℕ → List ℕ) (bytes : List ℕ) : Type 0 where
+  -- a file without a fault stands for a map
+  pub map : mapfault hash (file_of form bytes) ≡ None →
+      (t : Tree) × (b : ℕ) × IsMap form hash bytes t b
+  -- one that stands for a map has no fault
+  pub none : (t : Tree) (b : ℕ) → IsMap form hash bytes t b →
+      mapfault hash (file_of form bytes) ≡ None
+  -- and it stands for no other map
+  pub only : (t : Tree) (b : ℕ) → IsMap form hash bytes t b → IsOnlyMap form hash bytes t b

@@ -1,0 +1,13 @@
+pub mod Rules
+pub mod Page
+pub mod PageBytes
+pub mod File
+pub mod Stands
+pub mod Faults
+pub mod Law
+pub mod Saved
+pub mod Spelled
+pub mod Walking
+pub mod Judging
+pub mod Opening
+pub mod Putting

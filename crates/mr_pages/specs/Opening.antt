@@ -1,0 +1,67 @@
+-- What opening a named file answers.
+use Rattle.std.specs.Prelude.{◌≡◌, ⊤, ◌⊎◌, ℕ, ◌≤◌, List, Some, Result, Ok, Err, IsErrOf}
+use Rattle.mr_tree.specs.declared.tree.Tree.{Tree}
+use Rattle.mr_record.specs.Bytes.{AreBytes}
+use Rattle.mr_outside.specs.Faults.{Rose}
+use Rattle.mr_outside.specs.State.{Shelved}
+use Rattle.mr_outside.specs.Told.{MayMiss}
+use Rattle.mr_outside.specs.declared.shelf.ShelfErr.{ShelfErr}
+use Rattle.mr_outside.specs.declared.shelf.ShelfErr.TheVariants as shelf
+use Rattle.mr_pages.specs.declared.rule.MapFault.{MapFault}
+use Rattle.mr_pages.specs.declared.error.MapErr.{MapErr}
+use Rattle.mr_pages.specs.declared.error.MapErr.TheVariants as errors
+use Rattle.mr_pages.specs.Page.{Form}
+use Rattle.mr_pages.specs.File.{file_of}
+use Rattle.mr_pages.specs.Faults.{mapfault}
+use Rattle.mr_pages.specs.Law.{IsMap}
+
+-- the same cause in a call's own words
+abbrev pub of_shelf : ShelfErr → MapErr
+of_shelf shelf.Missing = errors.Missing
+of_shelf shelf.Fault = errors.Fault
+of_shelf shelf.NoMemory = errors.NoMemory
+
+-- the call failed, and says nothing of the file
+abbrev pub Fails : Result (Tree × ℕ) MapErr → Type 0
+Fails (Ok r) = ⊥
+Fails (Err (errors.Map f)) = ⊥
+Fails (Err _) = ⊤
+
+-- no failure of a shelf
+abbrev pub FindsOut : Result (Tree × ℕ) MapErr → Type 0
+FindsOut (Err errors.Missing) = ⊥
+FindsOut (Err errors.Fault) = ⊥
+FindsOut _ = ⊤
+
+-- this is the answer, unless the call failed
+abbrev pub OrFails : (result wanted : Result (Tree × ℕ) MapErr) → Type 0
+OrFails result wanted = (result ≡ wanted) ⊎ Fails result
+
+-- what is answered of these bytes: the map that they stand for, or their fault
+abbrev pub Answers : Form → (List ℕ → List ℕ) → List ℕ → Result (Tree × ℕ) MapErr → Type 0
+Answers form hash bytes (Ok r) = IsMap form hash bytes r.0 r.1
+Answers form hash bytes (Err (errors.Map f)) = mapfault hash (file_of form bytes) ≡ Some f
+Answers form hash bytes (Err _) = ⊤
+
+-- the answer is that of some bytes
+abbrev pub SomeBytes : Form → (List ℕ → List ℕ) → Result (Tree × ℕ) MapErr → Type 0
+SomeBytes form hash result = (bytes : List ℕ) × AreBytes bytes × Answers form hash bytes result
+
+-- what is answered where the file has these bytes: nothing but their map or their fault, and that
+-- it
+-- is, unless the call failed
+pub record Tells (form : Form) (hash : List ℕ → List ℕ) (bytes : List ℕ)
+    (result : Result (Tree × ℕ) MapErr) : Type 0 where
+  pub answers : Answers form hash bytes result
+  pub fault : (f : MapFault) → mapfault hash (file_of form bytes) ≡ Some f →
+      OrFails result (Err (errors.Map f))
+  pub map : (t : Tree) (b : ℕ) → IsMap form hash bytes t b → OrFails result (Ok (t, b))
+
+-- each failure has its cause, and a call that says something of the file counts no fault
+pub record MapCauses (name : List ℕ) (before after : Shelved) (result : Result (Tree × ℕ) MapErr)
+    : Type 0 where
+  pub missing : IsErrOf result errors.Missing →
+      MayMiss before.files name before.faults after.faults
+  pub fault : IsErrOf result errors.Fault → Rose before.faults after.faults
+  pub faults : before.faults ≤ after.faults
+  pub quiet : (after.faults ≡ before.faults) ⊎ Fails result

@@ -1,0 +1,219 @@
+-- The bytes of the pages of a map file, version 1: page 0, a node's page and a free page. Each has
+-- its fields in front, one behind the other, and is filled up with zeros.
+use Rattle.std.specs.Prelude.{◌≡◌, ℕ, zero, suc, ◌-◌, ◌==◌, ◌&&◌, nat_le, Bool, not, if◌then◌else◌, List, [], ◌∷◌, ◌++◌, length, take, drop, replicate, slice_index, slice_range, Option, Some, None, option_map, Result, Ok, Err, bytes_eq}
+use Rattle.std.specs.List.{flat_map, list_all}
+use Rattle.std.specs.Option.{option_and_then}
+use Rattle.std.specs.Int.{w32, w64, to_be_bytes, from_be_bytes}
+use Rattle.mr_geom.specs.Rectangle.{Rectangle}
+use Rattle.mr_record.specs.Record.{record_bytes, rectangle_of_bytes}
+use Rattle.mr_record.specs.RecordField.{record_in}
+use Rattle.mr_record.specs.declared.record.Record.{Record}
+use Rattle.mr_record.specs.declared.record_fault.RecordFault.{RecordFault}
+use Rattle.mr_tree.specs.Limits.{count_limit, level_limit, leaf_limit, inner_limit}
+use Rattle.mr_tree.specs.Digest.{entry_bytes, leaf_tag, inner_tag}
+use Rattle.mr_tree.specs.declared.tree.Tree.TheOpen.{Empty, Leaf, Inner}
+use Rattle.mr_pages.specs.declared.rule.MapRule.{MapRule}
+use Rattle.mr_pages.specs.declared.rule.MapRule.TheVariants.{Unsealed, Header}
+use Rattle.mr_pages.specs.Page.{Link, Node, level_of, IsNode, Head, FitsHead, Form}
+
+-- ---- what differs from one version of the format to the next
+
+-- the size of a page in bytes, and the version of the file
+pub record Layout : Type 0 where
+  pub size : ℕ
+  pub version : ℕ
+
+abbrev pub first_layout : Layout
+first_layout = record { size = 4096; version = 1 }
+
+-- ---- how pages are spelled
+
+-- the bytes, and zeros to the page's end
+abbrev pub filled : ℕ → List ℕ → List ℕ
+filled size bytes = bytes ++ replicate (size - length bytes) 0
+
+-- a child: its page, its rectangle and its digest
+unfoldable pub link_bytes : Link → List ℕ
+link_bytes l = to_be_bytes w32 l.page ++ entry_bytes l.entry
+
+-- a leaf, or an inner node
+abbrev pub node_bytes : Node → List ℕ
+node_bytes Empty = []
+node_bytes (Leaf records) = leaf_tag ∷ length records ∷ flat_map record_bytes records
+node_bytes (Inner links) =
+    inner_tag ∷ level_of (Inner links) ∷ length links ∷ flat_map link_bytes links
+
+abbrev pub node_page : ℕ → Node → List ℕ
+node_page size node = filled size (node_bytes node)
+
+abbrev pub free_tag : ℕ
+free_tag = 0x46
+
+-- a free page names the next one, 0 for none
+abbrev pub free_page : ℕ → ℕ → List ℕ
+free_page size next = filled size (free_tag ∷ to_be_bytes w32 next)
+
+-- `MRMP`
+abbrev pub magic : List ℕ
+magic = 0x4d ∷ 0x52 ∷ 0x4d ∷ 0x50 ∷ []
+
+-- `SEAL`
+abbrev pub seal : List ℕ
+seal = 0x53 ∷ 0x45 ∷ 0x41 ∷ 0x4c ∷ []
+
+-- the level of the root node, its page, rectangle and digest, all of them 0 where there is none
+abbrev pub root_level : Option Link → ℕ
+root_level None = 0
+root_level (Some l) = l.entry.level
+
+unfoldable pub root_bytes : Option Link → List ℕ
+root_bytes None = replicate 52 0
+root_bytes (Some l) = link_bytes l
+
+-- what page 0 says, up to the gap before the seal
+unfoldable pub head_bytes : ℕ → Head → List ℕ
+head_bytes version h =
+    magic ++ version ∷ root_level h.root ∷ (to_be_bytes w64 h.batch ++ to_be_bytes w64 h.count
+    ++ to_be_bytes w32 h.pages ++ root_bytes h.root ++ to_be_bytes w32 h.free)
+
+abbrev pub head_page : Layout → Head → List ℕ
+head_page form h = filled (form.size - 4) (head_bytes form.version h) ++ seal
+
+-- ---- how they are read
+
+-- a reader answers a value that stands at the front, and what is left behind it
+abbrev pub Reader : Type 0 → Type 0
+Reader A = List ℕ → Option (A × List ℕ)
+
+-- n values one behind the other
+abbrev pub many : {A : Type 0} → Reader A → ℕ → Reader (List A)
+many read zero bytes = Some ([], bytes)
+many read (suc n) bytes =
+    option_and_then (λ x. option_map (λ xs. (x.0 ∷ xs.0, xs.1)) (many read n x.1)) (read bytes)
+
+abbrev pub found_record : List ℕ → Result (Record × ℕ) RecordFault → Option (Record × List ℕ)
+found_record bytes (Ok r) = Some (r.0, drop r.1 bytes)
+found_record bytes (Err fault) = None
+
+abbrev pub record_field : Reader Record
+record_field bytes = found_record bytes (record_in bytes)
+
+-- the child of 52 bytes, if its rectangle has its sides in order
+unfoldable pub link_in : (level : ℕ) → List ℕ → Option Link
+link_in level bytes = option_map (λ (r : Rectangle). record {
+  page = from_be_bytes w32 (take 4 bytes);
+  entry = record { level = level; rect = Some r; digest = slice_range bytes 20 52 };
+}) (rectangle_of_bytes (slice_range bytes 4 20))
+
+abbrev pub link_field : (level : ℕ) → Reader Link
+link_field level bytes =
+    if nat_le 52 (length bytes)
+    then option_map (λ l. (l, drop 52 bytes)) (link_in level (take 52 bytes))
+    else None
+
+-- whether all bytes are 0
+abbrev pub are_zeros : List ℕ → Bool
+are_zeros bytes = list_all (λ b. b == 0) bytes
+
+-- from 1 to the limit
+abbrev pub from_one_to : ℕ → ℕ → Bool
+from_one_to limit n = nat_le 1 n && nat_le n limit
+
+-- what was read, if nothing but zeros is left
+abbrev pub before_zeros : {A : Type 0} → A × List ℕ → Option A
+before_zeros x = if are_zeros x.1 then Some x.0 else None
+
+abbrev pub leaf_in : List ℕ → Option Node
+leaf_in [] = None
+leaf_in (count ∷ rest) =
+    if from_one_to leaf_limit count
+    then option_map Leaf (option_and_then before_zeros (many record_field count rest))
+    else None
+
+abbrev pub inner_in : List ℕ → Option Node
+inner_in (level ∷ count ∷ rest) =
+    if from_one_to level_limit level && from_one_to inner_limit count
+    then option_map Inner (option_and_then before_zeros (many (link_field (level - 1)) count rest))
+    else None
+inner_in _ = None
+
+abbrev pub tagged_in : List ℕ → Option Node
+tagged_in [] = None
+tagged_in (tag ∷ rest) =
+    if tag == leaf_tag then leaf_in rest
+    else if tag == inner_tag then inner_in rest
+    else None
+
+-- the node that a page of this size spells
+abbrev pub node_in : ℕ → List ℕ → Option Node
+node_in size page = if length page == size then tagged_in page else None
+
+-- the value, if this is its spelling
+abbrev pub if_spelled : {A : Type 0} → (A → List ℕ) → List ℕ → A → Option A
+if_spelled spell page a = if bytes_eq (spell a) page then Some a else None
+
+-- the page that a free page names
+abbrev pub free_in : ℕ → List ℕ → Option ℕ
+free_in size page = if_spelled (free_page size) page (from_be_bytes w32 (slice_range page 1 5))
+
+-- the root node that the fields name, where there are records
+unfoldable pub root_in : (count level : ℕ) → List ℕ → Option Link
+root_in count level raw = if count == 0 then None else link_in level raw
+
+-- what the fields of page 0 say, whatever stands around them
+unfoldable pub fields_in : List ℕ → Head
+fields_in page = record {
+  batch = from_be_bytes w64 (slice_range page 6 14);
+  count = from_be_bytes w64 (slice_range page 14 22);
+  pages = from_be_bytes w32 (slice_range page 22 26);
+  root = root_in (from_be_bytes w64 (slice_range page 14 22)) (slice_index page 5)
+      (slice_range page 26 78);
+  free = from_be_bytes w32 (slice_range page 78 82);
+}
+
+-- whether the root node is on a page and of a level that a file may have
+abbrev pub is_root : ℕ → Option Link → Bool
+is_root count None = count == 0
+is_root count (Some l) = not (count == 0) && (not (l.page == 0) && nat_le l.entry.level level_limit)
+
+abbrev pub is_head : (pages : ℕ) → Head → Bool
+is_head pages h = nat_le h.count count_limit && (h.pages == pages && is_root h.count h.root)
+
+abbrev pub is_sealed : ℕ → List ℕ → Bool
+is_sealed size page = bytes_eq (drop (size - 4) page) seal
+
+-- page 0 of a file of so many pages
+abbrev pub head_in : Layout → ℕ → List ℕ → Result Head MapRule
+head_in form pages page =
+    if not (is_sealed form.size page) then Err Unsealed
+    else if is_head pages (fields_in page) && bytes_eq (head_page form (fields_in page)) page
+    then Ok (fields_in page)
+    else Err Header
+
+-- ---- the form of pages of a layout
+
+abbrev pub form_of : Layout → Form
+form_of layout = record {
+  size = layout.size;
+  head_page = head_page layout;
+  node_page = node_page layout.size;
+  free_page = free_page layout.size;
+  head_in = head_in layout;
+  node_in = node_in layout.size;
+  free_in = free_in layout.size;
+}
+
+-- version 1
+abbrev pub first_form : Form
+first_form = form_of first_layout
+
+-- the page spells this node, which is of this level
+pub record SpellsNode (form : Form) (at : ℕ) (page : List ℕ) (n : Node) : Type 0 where
+  pub fits : IsNode n
+  pub level : level_of n ≡ at
+  pub is : page ≡ form.node_page n
+
+-- page 0 of a file of so many pages spells this head
+pub record SpellsHead (form : Form) (pages : ℕ) (page : List ℕ) (h : Head) : Type 0 where
+  pub fits : FitsHead pages h
+  pub is : page ≡ form.head_page h

@@ -1,0 +1,156 @@
+-- What the walk keeps, and what it answers.
+use Rattle.std.specs.Prelude.{◌≡◌, ⊤, ℕ, ◌<◌, ◌==◌, ◌||◌, nat_le, is_none, Bool, true, List, [], ◌∷◌, ◌++◌, map, length, slice_index_or, false, Option, Some, None, option_map, Result, Ok, Err}
+use Rattle.std.specs.Bool.{OnFalse}
+use Rattle.std.specs.Ordering.{nat_cmp}
+use Rattle.std.specs.BTreeSet.{contains, btree_set_len}
+use Rattle.mr_tree.specs.declared.child.Child.{Child}
+use Rattle.mr_tree.specs.declared.tree.Tree.{Tree}
+use Rattle.mr_tree.specs.declared.tree.Tree.TheOpen.{Empty, Leaf, Inner}
+use Rattle.mr_tree.specs.View as view
+use Rattle.mr_pages.specs.declared.rule.MapRule.{MapRule}
+use Rattle.mr_pages.specs.declared.rule.MapRule.TheVariants as rule
+use Rattle.mr_pages.specs.declared.rule.MapFault.{MapFault}
+use Rattle.mr_pages.specs.declared.error.MapErr.{MapErr}
+use Rattle.mr_pages.specs.declared.error.MapErr.TheVariants as errors
+use Rattle.mr_pages.specs.declared.node.Node as owned_type
+use Rattle.mr_pages.specs.declared.node.Node.TheVariants as owned_node
+use Rattle.mr_pages.specs.declared.head.MapHead.{MapHead}
+use Rattle.mr_pages.specs.declared.seen.Seen.{Seen}
+use Rattle.mr_pages.specs.Page.{Link, Node, Head}
+use Rattle.mr_pages.specs.File.{File}
+use Rattle.mr_pages.specs.Stands.{tree_of, whole_tree}
+use Rattle.mr_pages.specs.Faults.{fault_if, has, repeats, found, Visit, visits, reached, all_records, numbers_of, node_faults, walk_faults, walk, chain, chain_faults, lost_faults, mapfault, first_of}
+use Rattle.mr_pages.specs.Spelled.{place, placed_at}
+
+-- what is said of a node, and a node, as the definitions have them
+abbrev pub child_link : Child → Link
+child_link c = record {
+  page = c.id;
+  entry = record { level = c.level; rect = Some c.rect; digest = c.digest };
+}
+
+abbrev pub page_node : view.Node → Node
+page_node Empty = Empty
+page_node (Leaf records) = Leaf records
+page_node (Inner children) = Inner (map child_link children)
+
+-- a node of one's own, as a view shows it
+abbrev pub owned : owned_type.Node → view.Node
+owned (owned_node.Leaf records) = Leaf records.items
+owned (owned_node.Inner children) = Inner children.items
+
+-- whether a view shows the node that is wanted
+abbrev pub Shows : (shown : Bool) → view.Node → Option Node → Type 0
+Shows true n wanted = wanted ≡ Some (page_node n)
+Shows false n wanted = wanted ≡ None
+
+-- ---- what was reached and met
+
+-- these pages were reached, in a file of this many, and these numbers met, none of them twice
+pub record Saw (pages : ℕ) (s : Seen) (ps ns : List ℕ) : Type 0 where
+  pub count : length s.reached.items ≡ pages
+  pub reached : (p : ℕ) → p < pages → slice_index_or s.reached.items p false ≡ has p ps
+  pub met : (n : ℕ) → contains nat_cmp s.numbers n ≡ has n ns
+  pub size : btree_set_len s.numbers ≡ length ns
+
+-- the first two rules of a visit
+abbrev pub enter_faults : ℕ → List ℕ → ℕ → List MapFault
+enter_faults pages ps p =
+    fault_if (p == 0 || nat_le pages p) p rule.Outside ++ fault_if (has p ps) p rule.Twice
+
+-- what comes of coming to a page
+abbrev pub Enters : ℕ → List ℕ → List ℕ → ℕ → Option MapRule → Seen → Type 0
+Enters pages ps ns p None after =
+    (enter_faults pages ps p ≡ []) × Saw pages after (ps ++ p ∷ []) ns
+Enters pages ps ns p (Some r) after =
+    first_of (enter_faults pages ps p) ≡ Some (record { page = p; rule = r })
+
+-- what comes of meeting numbers
+abbrev pub Counts : ℕ → List ℕ → List ℕ → List ℕ → Bool → Seen → Type 0
+Counts pages ps ns new twice after =
+    (twice ≡ repeats ns new) × OnFalse twice (Saw pages after ps (ns ++ new))
+
+-- ---- what is answered
+
+-- the node, of which nothing is broken, or the first rule that is
+abbrev pub Looks : (List ℕ → List ℕ) → (ℕ → Option Node) → Bool → Link →
+    Result owned_type.Node MapErr → Type 0
+Looks hash at root link (Ok n) =
+    (node_faults hash root link (found at link) ≡ []) × (found at link ≡ Some (page_node (owned n)))
+Looks hash at root link (Err (errors.Map f)) =
+    first_of (node_faults hash root link (found at link)) ≡ Some f
+Looks hash at root link (Err errors.NoMemory) = ⊤
+Looks hash at root link (Err _) = ⊥
+
+-- a walk behind these visits met no fault among these, and this is what it keeps then
+pub record Passed (hash : List ℕ → List ℕ) (pages : ℕ) (before vs : List Visit) (after : Seen)
+    : Type 0 where
+  pub none : walk_faults hash pages before vs ≡ []
+  pub saw : Saw pages after (reached (before ++ vs)) (numbers_of (all_records (before ++ vs)))
+
+-- the tree that the pages below a link spell, or the first fault of the walk there
+abbrev pub Walks : (List ℕ → List ℕ) → ℕ → (ℕ → Option Node) → (before : List Visit) → Bool → Link
+    → Result Tree MapErr → Seen → Type 0
+Walks hash pages at before root link (Ok t) after =
+    (t ≡ tree_of (place at link.entry.level link))
+    × Passed hash pages before (visits at link.entry.level root link) after
+Walks hash pages at before root link (Err (errors.Map f)) after =
+    first_of (walk_faults hash pages before (visits at link.entry.level root link)) ≡ Some f
+Walks hash pages at before root link (Err errors.NoMemory) after = ⊤
+Walks hash pages at before root link (Err _) after = ⊥
+
+-- page 0
+abbrev pub head_of : MapHead → Head
+head_of h = record {
+  batch = h.batch;
+  count = h.count;
+  pages = h.pages;
+  root = option_map child_link h.root;
+  free = h.free;
+}
+
+abbrev pub Heads : Result MapHead MapRule → Result Head MapRule → Type 0
+Heads (Ok h) head = head ≡ Ok (head_of h)
+Heads (Err r) head = head ≡ Err r
+
+-- the same from the root on
+abbrev pub Roots : (List ℕ → List ℕ) → ℕ → (ℕ → Option Node) → Option Link → Result Tree MapErr →
+    Seen → Type 0
+Roots hash pages at root (Ok t) after =
+    (t ≡ whole_tree (placed_at at root)) × Passed hash pages [] (walk at root) after
+Roots hash pages at root (Err (errors.Map f)) after =
+    first_of (walk_faults hash pages [] (walk at root)) ≡ Some f
+Roots hash pages at root (Err errors.NoMemory) after = ⊤
+Roots hash pages at root (Err _) after = ⊥
+
+-- the chain of free pages was followed, or met this fault
+abbrev pub Follows : (ℕ → Option ℕ) → ℕ → ℕ → List ℕ → List ℕ → Option MapFault → Seen → Type 0
+Follows free pages f ps ns None after =
+    (chain_faults free pages ps (chain free pages f) ≡ [])
+    × Saw pages after (ps ++ chain free pages f) ns
+Follows free pages f ps ns (Some e) after =
+    first_of (chain_faults free pages ps (chain free pages f)) ≡ Some e
+
+-- one step on the chain
+abbrev pub Steps : (ℕ → Option ℕ) → ℕ → ℕ → List ℕ → List ℕ → Option ℕ → Seen → Type 0
+Steps free pages p ps ns None after =
+    (nat_le pages p || (has p ps || is_none (free p))) ≡ true
+Steps free pages p ps ns (Some g) after =
+    ((nat_le pages p || (has p ps || is_none (free p))) ≡ false)
+    × (free p ≡ Some g)
+    × Saw pages after (ps ++ p ∷ []) ns
+
+-- the least page that was never reached
+abbrev pub Loses : ℕ → List ℕ → Option MapFault → Type 0
+Loses pages ps r = first_of (lost_faults pages ps) ≡ r
+
+-- what opening a file answers: the map that its pages spell, where it has no fault
+abbrev pub Opens : (List ℕ → List ℕ) → File → Result (Tree × ℕ) MapErr → Type 0
+Opens hash file (Ok r) =
+    (mapfault hash file ≡ None)
+    × (h : Head) × (file.head ≡ Ok h)
+    × (r.0 ≡ whole_tree (placed_at file.node h.root))
+    × (r.1 ≡ h.batch)
+Opens hash file (Err (errors.Map f)) = mapfault hash file ≡ Some f
+Opens hash file (Err errors.NoMemory) = ⊤
+Opens hash file (Err _) = ⊥

@@ -1,0 +1,27 @@
+//! Maps on disk: what a file stands for, its first fault, and the walk that opens it.
+#![tactic(auto)]
+
+mod bytes;
+mod error;
+mod following;
+mod head;
+mod judging;
+mod node;
+mod opening;
+mod page;
+mod pages;
+mod putting;
+mod reading;
+mod rule;
+mod saving;
+mod seen;
+mod walking;
+
+pub use error::MapErr;
+pub use head::MapHead;
+pub use opening::open_plain;
+pub use page::{
+    PAGE_SIZE, read_free_page, read_head, read_page, write_free_page, write_head_page, write_page,
+};
+pub use rule::{MapFault, MapRule};
+pub use saving::save_plain;

@@ -1,0 +1,72 @@
+ghost use Rattle.std.specs.Prelude.{◌≡◌, ℕ, List, [], length, IfOk};
+ghost use Rattle.mr_pages.specs.Faults.{numbers_of};
+ghost use Rattle.mr_pages.specs.Walking.{Saw, Enters, Counts, Loses};
+
+use crate::{MapFault, MapRule};
+use mr_record::Record;
+use std::alloc::{AllocError, Global};
+use std::collections::BTreeSet;
+
+/// The pages that a walk has reached, and the numbers of the records that it has met.
+#[derive(Drop)]
+pub struct Seen {
+    pub reached: Vec<bool>,
+    pub numbers: BTreeSet<u64>,
+}
+
+impl Seen {
+    /// Before a walk over a file of this many pages.
+    pub fn new(alloc: Global, pages: u32) -> Result<Seen, AllocError>
+        ensures { IfOk result (λ s. Saw pages s [] []) }
+    {
+        Ok(Seen {
+            reached: vec![in alloc; false; pages as usize]?,
+            numbers: BTreeSet::new(alloc),
+        })
+    }
+
+    /// Comes to the page of a node.
+    pub fn enter(&mut self, page: u32) -> Option<MapRule>
+        ensures { (pages : ℕ) (ps ns : List ℕ) → Saw pages self.old ps ns →
+            Enters pages ps ns page result self.new }
+    {
+        let at = page as usize;
+        if page == 0 || at >= self.reached.len() {
+            return Some(MapRule::Outside);
+        }
+        if self.reached[at] {
+            return Some(MapRule::Twice);
+        }
+        self.reached[at] = true;
+        None
+    }
+
+    /// Meets the numbers of some records; whether one of them was met before.
+    pub fn meet(&mut self, records: &[Record]) -> Result<bool, AllocError>
+        ensures { IfOk result (λ twice. (pages : ℕ) (ps ns : List ℕ) → Saw pages self.old ps ns →
+            Counts pages ps ns (numbers_of records.now) twice self.new) }
+    {
+        for record in records {
+            if !self.numbers.insert(record.number)? {
+                return Ok(true);
+            }
+        }
+        Ok(false)
+    }
+
+    /// The least page that was never reached.
+    pub fn lost(&self, pages: u32) -> Option<MapFault>
+        requires { length self.now.reached.items ≡ pages }
+        ensures { (ps ns : List ℕ) → Saw pages self.now ps ns → Loses pages ps result }
+    {
+        for page in 1..pages {
+            if !self.reached[page as usize] {
+                return Some(MapFault {
+                    page,
+                    rule: MapRule::Free,
+                });
+            }
+        }
+        None
+    }
+}

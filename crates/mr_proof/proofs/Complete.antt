@@ -1,0 +1,324 @@
+-- The honest proof is accepted, with the answer of a scan of the tree.
+use Rattle.std.proofs.Common.{◌≡◌, ℕ, ◌+◌, ◌-◌, ◌<◌, ◌≤◌, ◌^◌, Bool, true, false, eqb, List, [], ◌∷◌, ◌++◌, map, length, Option, Some, None, Ok, refl, sym, ap, subst, ◌∙◌, inl, inr, arith}
+use Rattle.std.specs.Prelude.{IfSome}
+use Rattle.std.specs.List.{AllByRecursion}
+use Rattle.std.specs.Int.{w64, to_be_bytes}
+use Rattle.std.proofs.lemmas.List.{length-append}
+use Rattle.std.proofs.lemmas.Bool.{cases_Bool, eq-eqb, ne_eqb}
+use Rattle.std.proofs.lemmas.List.Elements.{All-from_recursion, recursion_from_All}
+use Rattle.mr_geom.specs.Rectangle.{Rectangle}
+use Rattle.mr_record.specs.Bytes.{AreBytes}
+use Rattle.mr_record.specs.Record.{IsRecord}
+use Rattle.mr_record.specs.declared.record.Record.{Record}
+use Rattle.mr_tree.specs.Tree.{level, records}
+use Rattle.mr_tree.specs.Tree as trees
+use Rattle.mr_tree.specs.Digest.{Entry, entry_step, digest, root, root_preimage}
+use Rattle.mr_tree.specs.Digest as digests
+use Rattle.mr_tree.specs.Slim.{IsSlim, IsSlimNode}
+use Rattle.mr_tree.specs.WellFormed.{WellFormed, HasOneLevel}
+use Rattle.mr_tree.specs.declared.tree.Tree.{Tree}
+use Rattle.mr_tree.specs.declared.tree.Tree.TheVariants as tree
+use Rattle.mr_tree.specs.declared.tree.Tree.TheOpen as node
+use Rattle.mr_tree.specs.declared.tree.Tree.TheFolds.{every-Tree}
+use Rattle.mr_tree.proofs.Equations.{level-Leaf, level-Inner, level-Empty, records-Empty, digest_of_preimage, entry_rect, entry_level}
+use Rattle.mr_tree.proofs.Induction.{tree_induction, here-Leaf, here-Inner, every_child}
+use Rattle.mr_tree.proofs.Slim.{slim_tree}
+use Rattle.mr_query.specs.declared.query.Query.{Query}
+use Rattle.mr_query.specs.declared.query.Query.TheVariants.{Window}
+use Rattle.mr_query.specs.Scan.{scan}
+use Rattle.mr_proof.specs.declared.head.Head.{Head}
+use Rattle.mr_proof.specs.declared.shown.Shown.{Shown}
+use Rattle.mr_proof.specs.Cut.{Cut, Cuts, Pruned, Leaf, Inner, no_more, first, count_of, entry, entries, CutOf, CutsOf}
+use Rattle.mr_proof.specs.Spelling.{FitsCut, FitCuts, FitsShown, FitsLeaf, FitsInner, FitsHead, FitsPart, head_bytes, cut_bytes, part_bytes, level_bytes, opened_records, IsSpelled}
+use Rattle.mr_proof.specs.Tight.{Seen, asks, IsTight}
+use Rattle.mr_proof.specs.Accepted.{root_found, Proves}
+use Rattle.mr_proof.specs.Honest.{Part, pruned_cut, part, honest_cut, honest_head, honest_part, proof}
+use Rattle.mr_proof.specs.Reading.{verdict}
+use Rattle.mr_proof.specs.Halves.{IsHonestProof, AcceptsHonest}
+use Rattle.mr_proof.proofs.Full.{IsFull, IsFullNode, there_tree, some_record, not_full_empty, empty_or_full}
+use Rattle.mr_proof.proofs.HonestCut.{meets, known_out, honest_cuts, honest_missed, honest_met, honest_good}
+use Rattle.mr_proof.proofs.KeptRecords.{plain_region, same_scan}
+use Rattle.mr_proof.proofs.HonestSize.{cut_short}
+use Rattle.mr_proof.proofs.PreimageBytes.{IsSized, digest_are_bytes}
+use Rattle.mr_proof.proofs.Completeness.{verdict_from}
+use Rattle.mr_proof.proofs.Preimages.{entry-rect}
+
+-- ---- what is known of a tree by a cut of it
+
+-- each tree of this level
+abbrev pub Levels : ℕ → List Tree → Type 0
+Levels v ts = AllByRecursion (λ t. level t ≡ v) ts
+
+abbrev pub Even : List Tree → Type 0
+Even ts = AllByRecursion (every-Tree HasOneLevel) ts
+
+pub below_levels : (v : ℕ) (ts : List Tree) → every-Tree HasOneLevel (tree.Inner ts) → level (tree.Inner ts) ≡ v
+    → Levels (v - 1) ts
+below_levels v ts even e =
+    recursion_from_All (λ t. level t ≡ v - 1) ts
+    (λ k d within. let one = (here-Inner HasOneLevel ts even k d within).1 in let up = level-Inner ts in omega arith)
+
+leaf_entry : (hash : List ℕ → List ℕ) (rs : List Record) (t : Tree) → t ≡ tree.Leaf rs
+    → entry_step hash (node.Leaf rs) ≡ digests.entry hash t
+leaf_entry hash rs t c =
+    sym (ap (digests.entry hash) c ∙ known_out hash (tree.Leaf rs) (node.Leaf rs) (tree.outs-Leaf rs))
+
+inner_entry : (hash : List ℕ → List ℕ) (ts : List Tree) (t : Tree) → t ≡ tree.Inner ts
+    → entry_step hash (node.Inner (map (digests.entry hash) ts)) ≡ digests.entry hash t
+inner_entry hash ts t c =
+    sym (ap (digests.entry hash) c ∙ known_out hash (tree.Inner ts) (node.Inner ts) (tree.outs-Inner ts))
+
+mutual
+  pub entry_cut : (hash : List ℕ → List ℕ) (v : ℕ) (P : Cut) (t : Tree) → CutOf hash P t → every-Tree HasOneLevel t
+      → level t ≡ v → entry hash v P ≡ digests.entry hash t
+  entry_cut hash v (Pruned x) t c even e = λ i. record {
+    level = (sym e ∙ sym (entry_level hash t)) i;
+    rect = (c.0 ∙ sym (entry_rect hash t)) i;
+    digest = c.1 i;
+  }
+  entry_cut hash v (Leaf rs) t c even e = leaf_entry hash rs t c
+  entry_cut hash v (Inner cuts) t c even e =
+      let evens = subst (every-Tree HasOneLevel) c.1 even in
+      ap (λ (es : List Entry). entry_step hash (node.Inner es)) (entry_cuts hash (v - 1) cuts c.0 c.2
+      (every_child HasOneLevel c.0 evens) (below_levels v c.0 evens (ap level (sym c.1) ∙ e)))
+      ∙ inner_entry hash c.0 t c.1
+
+  pub entry_cuts : (hash : List ℕ → List ℕ) (v : ℕ) (Ps : Cuts) (ts : List Tree) → CutsOf hash Ps ts → Even ts
+      → Levels v ts → entries hash v Ps ≡ map (digests.entry hash) ts
+  entry_cuts hash v no_more ts c even e = sym (ap (map (digests.entry hash)) c)
+  entry_cuts hash v (first P Ps) ts c even e =
+      let evens = subst Even c.2 even in
+      let es = subst (Levels v) c.2 e in
+      (λ i. entry_cut hash v P c.0 c.3 evens.0 es.0 i ∷ entry_cuts hash v Ps c.1 c.4 evens.1 es.1 i)
+      ∙ sym (ap (map (digests.entry hash)) c.2)
+
+-- ---- the honest cut has each value in its range
+
+missed_fits : (hash : List ℕ → List ℕ) (region : Seen → Bool) → IsSized hash → (v : ℕ) (t : Tree) → IsFull t
+    → IsSlim t → meets region t ≡ false → FitsCut v (honest_cut hash region t)
+missed_fits hash region h v t full slim f =
+    let p = there_tree t full in
+    let x : Shown = record { rect = p.at; digest = digest hash t } in
+    let is : honest_cut hash region t ≡ Pruned x =
+    honest_missed hash region t f ∙ ap (λ (o : Option Rectangle). pruned_cut o (digest hash t)) p.is in
+    let fine : FitsShown x = record {
+      ordered = p.ordered;
+      coordinates = p.fits;
+      digest = ap length (digest_of_preimage hash t) ∙ h.long (digests.preimage hash t);
+      bytes = digest_are_bytes hash h t full slim;
+    } in
+    subst (FitsCut v) (sym is) fine
+
+abbrev Fit : (List ℕ → List ℕ) → (Seen → Bool) → Tree → Type 0
+Fit hash region t = IsFull t → IsSlim t → every-Tree HasOneLevel t → (v : ℕ) → level t ≡ v
+    → FitsCut v (honest_cut hash region t)
+
+count_cuts : (hash : List ℕ → List ℕ) (region : Seen → Bool) (ts : List Tree)
+    → count_of (honest_cuts hash region ts) ≡ length ts
+count_cuts hash region [] = refl
+count_cuts hash region (t ∷ ts) = let rest = count_cuts hash region ts in omega arith
+
+all_fit : (hash : List ℕ → List ℕ) (region : Seen → Bool) (ts : List Tree) → AllByRecursion (Fit hash region) ts
+    → AllByRecursion IsFull ts → AllByRecursion IsSlim ts → Even ts → (v : ℕ) → Levels v ts
+    → FitCuts v (honest_cuts hash region ts)
+all_fit hash region [] all full slim even v e = tt
+all_fit hash region (t ∷ ts) all full slim even v e =
+    (all.0 full.0 slim.0 even.0 v e.0, all_fit hash region ts all.1 full.1 slim.1 even.1 v e.1)
+
+leaf_fits : (hash : List ℕ → List ℕ) (region : Seen → Bool) (rs : List Record) → IsFull (tree.Leaf rs)
+    → IsSlim (tree.Leaf rs) → (v : ℕ) → level (tree.Leaf rs) ≡ v → meets region (tree.Leaf rs) ≡ true
+    → FitsCut v (honest_cut hash region (tree.Leaf rs))
+leaf_fits hash region rs full slim v e m =
+    let own = here-Leaf IsFullNode rs full in
+    let fine : FitsLeaf v rs = record {
+      at_leaf = sym e ∙ level-Leaf rs;
+      some = own.0;
+      few = here-Leaf IsSlimNode rs slim;
+      each = All-from_recursion IsRecord rs own.1;
+    } in
+    subst (FitsCut v) (sym (honest_met hash region (tree.Leaf rs) (node.Leaf rs) (tree.outs-Leaf rs) m)) fine
+
+inner_fits : (hash : List ℕ → List ℕ) (region : Seen → Bool) (ts : List Tree) → AllByRecursion (Fit hash region) ts
+    → IsFull (tree.Inner ts) → IsSlim (tree.Inner ts) → every-Tree HasOneLevel (tree.Inner ts) → (v : ℕ)
+    → level (tree.Inner ts) ≡ v → meets region (tree.Inner ts) ≡ true
+    → FitsCut v (honest_cut hash region (tree.Inner ts))
+inner_fits hash region ts all full slim even v e m =
+    let some = here-Inner IsFullNode ts full in
+    let few = (here-Inner IsSlimNode ts slim).0 in
+    let count = count_cuts hash region ts in
+    let up = level-Inner ts in
+    let fine : FitsInner v (count_of (honest_cuts hash region ts)) =
+    record { above = omega arith; some = omega arith; few = omega arith } in
+    let below = all_fit hash region ts all (every_child IsFullNode ts full) (every_child IsSlimNode ts slim)
+    (every_child HasOneLevel ts even) (v - 1) (below_levels v ts even e) in
+    subst (FitsCut v) (sym (honest_met hash region (tree.Inner ts) (node.Inner ts) (tree.outs-Inner ts) m))
+    (fine, below)
+
+honest_fits : (hash : List ℕ → List ℕ) (region : Seen → Bool) → IsSized hash → (t : Tree) → Fit hash region t
+honest_fits hash region h = tree_induction (Fit hash region)
+    (λ full slim even v e. absurd (not_full_empty full))
+    (λ rs full slim even v e. elim (cases_Bool (meets region (tree.Leaf rs))) [
+      | inl m ↦ leaf_fits hash region rs full slim v e m
+      | inr f ↦ missed_fits hash region h v (tree.Leaf rs) full slim f
+    ])
+    (λ ts all full slim even v e. elim (cases_Bool (meets region (tree.Inner ts))) [
+      | inl m ↦ inner_fits hash region ts all full slim even v e m
+      | inr f ↦ missed_fits hash region h v (tree.Inner ts) full slim f
+    ])
+
+-- ---- the head
+
+word_long : (n : ℕ) → length (to_be_bytes w64 n) ≡ 8
+word_long n = refl
+
+level_short : (count v : ℕ) → length (level_bytes count v) ≤ 1
+level_short count v = elim (cases_Bool (eqb count 0)) [
+  | inl t ↦ rw t (omega arith)
+  | inr f ↦ rw f (omega arith)
+]
+
+head_short : (t : Tree) (b : ℕ) (w : Rectangle) → length (head_bytes (honest_head (asks (Window w)) t b)) ≤ 23
+head_short t b w =
+    let last = level_bytes (length (records t)) (level t) in
+    omega (
+      arith,
+      length-append (to_be_bytes w64 b) (to_be_bytes w64 (length (records t)) ++ last),
+      length-append (to_be_bytes w64 (length (records t))) last,
+      word_long b,
+      word_long (length (records t)),
+      level_short (length (records t)) (level t),
+    )
+
+-- ---- the honest proof
+
+some_part : (hash : List ℕ → List ℕ) (w : Rectangle) (t : Tree) → 1 ≤ length (records t)
+    → honest_part hash (asks (Window w)) t ≡ Some (honest_cut hash (plain_region (Window w)) t)
+some_part hash w t some = rw (ne_eqb (length (records t)) 0 (λ z. omega arith)) refl
+
+no_part : (hash : List ℕ → List ℕ) (w : Rectangle) (t : Tree) → length (records t) ≡ 0
+    → honest_part hash (asks (Window w)) t ≡ None
+no_part hash w t none = rw (eq-eqb (length (records t)) 0 none) refl
+
+-- what is shown of the honest proof, whose cut this is
+record IsOwn (hash : List ℕ → List ℕ) (t : Tree) (b : ℕ) (w : Rectangle) (P : Option Cut) : Type 0 where
+  same : honest_part hash (asks (Window w)) t ≡ P
+  spelled : IsSpelled (honest_head (asks (Window w)) t b) P (proof hash t b (Window w))
+  tight : IsTight (asks (Window w)) (honest_head (asks (Window w)) t b) P
+  cut : IfSome P (λ C. CutOf hash C t)
+  held : root_found hash (honest_head (asks (Window w)) t b) P ≡ root hash t b
+  scanned : scan (records t) (Window w) ≡ scan (opened_records P) (Window w)
+  short : length (proof hash t b (Window w)) < 2 ^ 30
+
+filled_own : (hash : List ℕ → List ℕ) → IsSized hash → (t : Tree) (b : ℕ) (w : Rectangle) → WellFormed t → IsFull t
+    → b < 2 ^ 64 → IsOwn hash t b w (Some (honest_cut hash (plain_region (Window w)) t))
+filled_own hash h t b w well full low =
+    let region = plain_region (Window w) in
+    let head = honest_head (asks (Window w)) t b in
+    let P = honest_cut hash region t in
+    let good = honest_good hash region t full in
+    let some = some_record t full in
+    let same = some_part hash w t some in
+    let own : entry hash (level t) P ≡ digests.entry hash t =
+    entry_cut hash (level t) P t good.cut well.one_level refl in
+    let few = well.few in
+    let fits = honest_fits hash region h t full (slim_tree t well) well.one_level (level t) refl in
+    let whole = ap (λ (o : Option Cut). head_bytes head ++ part_bytes o) same in
+    let front = head_short t b w in
+    let behind = cut_short hash (level t) P t full fits good.cut in
+    let size : length (proof hash t b (Window w)) ≡ length (head_bytes head) + length (cut_bytes P) =
+    ap length whole ∙ length-append (head_bytes head) (cut_bytes P) in
+    let shallow : FitsHead head = record {
+      batch = low;
+      count = few;
+      radius = refl;
+      level = well.shallow;
+      empty = λ z. absurd (omega arith);
+    } in
+    record {
+      same = same;
+      spelled = record { head = shallow; part = (some, fits); whole = whole; short = omega arith };
+      tight = record { parts = good.tight; radius = refl };
+      cut = good.cut;
+      held = ap hash (λ i. root_preimage b (length (records t)) (record {
+        level = level t;
+        rect = (sym (entry-rect hash (level t) P) ∙ ap (λ (e : Entry). e.rect) own) i;
+        digest = (own i).digest;
+      })) ∙ ap hash (λ i. root_preimage b (length (records t)) (record {
+        level = sym (entry_level hash t) i;
+        rect = (digests.entry hash t).rect;
+        digest = digest hash t;
+      }));
+      scanned = sym (same_scan hash w P t full good.cut good.tight);
+      short = omega arith;
+    }
+
+empty_own : (hash : List ℕ → List ℕ) (t : Tree) (b : ℕ) (w : Rectangle) → t ≡ tree.Empty → b < 2 ^ 64
+    → IsOwn hash t b w None
+empty_own hash t b w e low =
+    let head = honest_head (asks (Window w)) t b in
+    let none : records t ≡ [] = ap records e ∙ records-Empty in
+    let zero : length (records t) ≡ 0 = ap length none in
+    let flat : level t ≡ 0 = ap level e ∙ level-Empty in
+    let same = no_part hash w t zero in
+    let whole = ap (λ (o : Option Cut). head_bytes head ++ part_bytes o) same in
+    let front = head_short t b w in
+    let size : length (proof hash t b (Window w)) ≡ length (head_bytes head) + 0 =
+    ap length whole ∙ length-append (head_bytes head) [] in
+    let fits : FitsHead head = record {
+      batch = low;
+      count = omega arith;
+      radius = refl;
+      level = omega arith;
+      empty = λ z. flat;
+    } in
+    record {
+      same = same;
+      spelled = record { head = fits; part = zero; whole = whole; short = omega arith };
+      tight = record { parts = tt; radius = refl };
+      cut = tt;
+      held = ap hash (sym (ap (λ (n : ℕ). root_preimage b n (digests.entry hash t)) zero));
+      scanned = ap (λ (rs : List Record). scan rs (Window w)) none;
+      short = omega arith;
+    }
+
+own_part : (hash : List ℕ → List ℕ) → IsSized hash → (t : Tree) (b : ℕ) (w : Rectangle) → WellFormed t → b < 2 ^ 64
+    → (P : Option Cut) × IsOwn hash t b w P
+own_part hash h t b w well low = elim (empty_or_full t well) [
+  | inl e ↦ (None, empty_own hash t b w e low)
+  | inr full ↦ (Some (honest_cut hash (plain_region (Window w)) t), filled_own hash h t b w well full low)
+]
+
+-- the honest proof proves the answer of a scan
+honest_proves : (hash : List ℕ → List ℕ) → IsSized hash → (t : Tree) (b : ℕ) (w : Rectangle) → WellFormed t
+    → b < 2 ^ 64
+    → Proves hash (root hash t b) (asks (Window w)) (proof hash t b (Window w)) (scan (records t) (Window w))
+honest_proves hash h t b w well low =
+    let p = own_part hash h t b w well low in
+    record {
+      head = honest_head (asks (Window w)) t b;
+      part = p.0;
+      spelled = p.1.spelled;
+      kind = refl;
+      tight = p.1.tight;
+      held = p.1.held;
+      scanned = p.1.scanned;
+    }
+
+pub accepts_honest : (hash : List ℕ → List ℕ) → IsSized hash → (q : Query) → AcceptsHonest hash q
+accepts_honest hash h (Window w) = λ t b well low. verdict_from hash (root hash t b) (Window w)
+    (proof hash t b (Window w)) (scan (records t) (Window w)) (honest_proves hash h t b w well low)
+
+pub honest_stands : (hash : List ℕ → List ℕ) → IsSized hash → (q : Query) (t : Tree) (b : ℕ) → WellFormed t
+    → b < 2 ^ 64 → IsHonestProof hash t b q
+honest_stands hash h (Window w) t b well low =
+    let p = own_part hash h t b w well low in
+    let is = sym p.1.same in
+    record {
+      spelled = subst (λ (o : Option Cut). IsSpelled (honest_head (asks (Window w)) t b) o (proof hash t b (Window w))) is
+          p.1.spelled;
+      tight = subst (λ (o : Option Cut). IsTight (asks (Window w)) (honest_head (asks (Window w)) t b) o) is p.1.tight;
+      cut = subst (λ (o : Option Cut). IfSome o (λ C. CutOf hash C t)) is p.1.cut;
+      held = subst (λ (o : Option Cut). root_found hash (honest_head (asks (Window w)) t b) o ≡ root hash t b) is
+          p.1.held;
+      short = p.1.short;
+    }

@@ -1,0 +1,660 @@
+-- What is spelled is read again without a fault; where notes are heeded, if its cut is tight.
+use Rattle.std.proofs.Common.{◌≡◌, ◌⊎◌, ℕ, zero, suc, ◌+◌, ◌-◌, ◌<◌, ◌≤◌, ◌^◌, Bool, true, false, cond, eqb, ltb, List, [], ◌∷◌, ◌++◌, length, take, drop, Result, Ok, Option, Some, None, refl, sym, ap, subst, ◌∙◌, inl, inr, arith, append_assoc}
+use Rattle.std.specs.Prelude.{if◌then◌else◌, ◌==◌, nat_le, not, ◌&&◌, ◌||◌, IfSome}
+use Rattle.std.specs.List.{flat_map, AllByRecursion}
+use Rattle.std.specs.Int.{w64, w128, to_be_bytes, from_be_bytes}
+use Rattle.std.proofs.lemmas.Bool.{false≢true, eqb-true, le-ltb, le-leb, eq-eqb, ne_eqb, or_right}
+use Rattle.std.proofs.lemmas.List.{append-nil, length-append, take_at, drop_at}
+use Rattle.std.proofs.lemmas.Nat.{from_be_bytes-to_be_bytes_8}
+use Rattle.std.proofs.lemmas.List.Concat.{flat_map-cons}
+use Rattle.std.proofs.lemmas.List.Elements.{recursion_from_All}
+use Rattle.mr_geom.specs.Rectangle.{Rectangle, IsOrdered, FitsMap}
+use Rattle.mr_record.specs.Record.{IsRecord, record_bytes, rectangle_bytes}
+use Rattle.mr_record.specs.declared.record.Record.{Record}
+use Rattle.mr_query.specs.declared.query.Query.{Query}
+use Rattle.mr_query.specs.declared.query.Query.TheVariants.{Window}
+use Rattle.std.proofs.Math.Dec.{eqb-suc-zero}
+use Rattle.mr_proof.specs.declared.head.Kind.{Kind}
+use Rattle.mr_proof.specs.declared.head.Kind.TheVariants as kind
+use Rattle.mr_proof.specs.declared.head.Head.{Head}
+use Rattle.mr_proof.specs.declared.rule.Rule.{Rule}
+use Rattle.mr_proof.specs.declared.rule.Rule.TheVariants as rule
+use Rattle.mr_proof.specs.declared.rule.Fault.{Fault}
+use Rattle.mr_proof.specs.declared.want.Want.{Want}
+use Rattle.mr_proof.specs.declared.want.Want.TheVariants as want
+use Rattle.mr_proof.specs.declared.field.Field.{Field}
+use Rattle.mr_proof.specs.declared.field.Field.TheVariants as field
+use Rattle.mr_proof.specs.declared.shown.Shown.{Shown}
+use Rattle.mr_proof.specs.Limits.{count_limit, radius_limit, level_limit, leaf_limit, inner_limit, place_limit}
+use Rattle.mr_proof.specs.Fields.{size_of, field_of, only_if, magic, kind_byte, pruned_tag, leaf_tag, inner_tag, opened_tag, version}
+use Rattle.mr_geom.specs.Rectangle.{in_order}
+use Rattle.mr_proof.specs.Cut.{Cut, Cuts, Pruned, Leaf, Inner, no_more, first, count_of}
+use Rattle.mr_proof.specs.Spelling.{shown_bytes, cut_bytes, cuts_bytes, FitsShown, FitsLeaf, FitsInner, FitsCut, FitCuts, radius_bytes, level_bytes, head_bytes, FitsRadius, FitsHead, Said, said, opened_records, part_bytes, FitsPart, IsSpelled}
+use Rattle.mr_proof.specs.Tight.{Seen, seen_at, seen, met_by, asks, radius_of, IsTightCut, AreTightCuts}
+use Rattle.mr_proof.specs.Accepted.{root_found, Proves}
+use Rattle.mr_proof.specs.Grammar.{Note, must, opens, Grammar, done, reads, notes, number_in, wide_in, tag_in, rect_in, bytes_in, payload, one_record, some_records, opened, leaf, some_items, inner, pruned, item, radius, level, head, part, whole}
+use Rattle.mr_proof.specs.Layout.{Stand, start, behind, field_at}
+use Rattle.mr_proof.specs.Refused.{has_other_radius}
+use Rattle.mr_proof.specs.Reading.{past, walk, ending, checked, verdict}
+use Rattle.mr_record.proofs.Encodings.{sides_again}
+use Rattle.mr_geom.proofs.Rectangles.{is_in_order}
+use Rattle.mr_proof.proofs.Values.{bytes_same}
+use Rattle.mr_proof.proofs.Wide.{wide_again}
+
+-- the text is read from the front, and what follows it is read behind it
+pub record Comes {A B : Type 0} (heeds : Bool) (e : A → Stand → Result B Fault) (g k : Grammar A) (s : Stand)
+    (text rest : List ℕ) : Type 0 where
+  pub end : Stand
+  pub left : end.rest ≡ rest
+  pub place : end.at ≡ s.at + length text
+  pub same : walk heeds e g s ≡ walk heeds e k end
+
+comes_none : {A B : Type 0} (heeds : Bool) (e : A → Stand → Result B Fault) (g : Grammar A) (s : Stand) (rest : List ℕ)
+    → s.rest ≡ rest → Comes heeds e g g s [] rest
+comes_none heeds e g s rest left = record { end = s; left = left; place = omega arith; same = refl }
+
+comes_both : {A B : Type 0} (heeds : Bool) (e : A → Stand → Result B Fault) (g k l : Grammar A) (s : Stand)
+    (x y rest : List ℕ) (p : Comes heeds e g k s x (y ++ rest)) → Comes heeds e k l p.end y rest
+    → Comes heeds e g l s (x ++ y) rest
+comes_both heeds e g k l s x y rest p q = record {
+  end = q.end;
+  left = q.left;
+  place = omega (arith, p.place, q.place, length-append x y);
+  same = p.same ∙ q.same;
+}
+
+comes_as : {A B : Type 0} (heeds : Bool) (e : A → Stand → Result B Fault) (g k : Grammar A) (s : Stand)
+    (x y rest : List ℕ) → x ≡ y → Comes heeds e g k s x rest → Comes heeds e g k s y rest
+comes_as heeds e g k s x y rest is p = subst (λ (z : List ℕ). Comes heeds e g k s z rest) is p
+
+-- ---- one field
+
+field_again : (w : Want) (s : Stand) (raw rest : List ℕ) (f : Field) → length raw ≡ size_of w → field_of w raw ≡ Ok f
+    → s.rest ≡ raw ++ rest → s.at + length raw ≤ place_limit
+    → field_at w s ≡ Ok (f, behind w s)
+unfolding field_at
+field_again w s raw rest f long value parts within =
+    let inside : ltb place_limit (s.at + size_of w) ≡ false = le-ltb place_limit (s.at + size_of w) (omega arith) in
+    let enough : ltb (length s.rest) (size_of w) ≡ false = le-ltb (length s.rest) (size_of w)
+    (omega (arith, ap length parts, length-append raw rest)) in
+    let front : take (size_of w) s.rest ≡ raw = ap (take (size_of w)) parts ∙ take_at raw rest (size_of w) long in
+    rw (inside, enough, front, value) refl
+
+reads_again : {A B X : Type 0} (heeds : Bool) (e : A → Stand → Result B Fault) (w : Want) (m : Field → X)
+    (next : X → Grammar A) (s : Stand) (raw rest : List ℕ) (f : Field)
+    → length raw ≡ size_of w → field_of w raw ≡ Ok f → s.rest ≡ raw ++ rest → s.at + length raw ≤ place_limit
+    → Comes heeds e (reads w (λ f. next (m f))) (next (m f)) s raw rest
+reads_again heeds e w m next s raw rest f long value parts within = record {
+  end = behind w s;
+  left = ap (drop (size_of w)) parts ∙ drop_at raw rest (size_of w) long;
+  place = omega arith;
+  same = rw (field_again w s raw rest f long value parts within) refl;
+}
+
+-- ---- the fields of values
+
+number_value : (n : ℕ) → n < 2 ^ 64 → field_of want.Number (to_be_bytes w64 n) ≡ Ok (field.Num n)
+unfolding field_of
+number_value n lt = ap (λ (k : ℕ). Ok (field.Num k)) (from_be_bytes-to_be_bytes_8 n lt)
+
+batch_value : (n : ℕ) → n < 2 ^ 64 → field_of want.Batch (to_be_bytes w64 n) ≡ Ok (field.Num n)
+unfolding field_of
+batch_value n lt = ap (λ (k : ℕ). Ok (field.Num k)) (from_be_bytes-to_be_bytes_8 n lt)
+
+passes : (b : Bool) (v : Field) (d : Rule) → b ≡ true → only_if b v d ≡ Ok v
+passes true v d t = refl
+passes false v d t = absurd cc
+
+count_value : (n : ℕ) → n ≤ count_limit → field_of want.Count (to_be_bytes w64 n) ≡ Ok (field.Num n)
+unfolding field_of
+count_value n le =
+    let same : from_be_bytes w64 (to_be_bytes w64 n) ≡ n = from_be_bytes-to_be_bytes_8 n (omega arith) in
+    ap (λ (k : ℕ). only_if (nat_le k count_limit) (field.Num k) rule.BadCount) same
+    ∙ passes (nat_le n count_limit) (field.Num n) rule.BadCount (le-leb n count_limit le)
+
+level_value : (n : ℕ) → n ≤ level_limit → field_of want.Level (n ∷ []) ≡ Ok (field.Num n)
+unfolding field_of
+level_value n le = passes (nat_le n level_limit) (field.Num n) rule.BadLevel (le-leb n level_limit le)
+
+length_value : (n : ℕ) → n ≤ 200 → field_of want.Length (n ∷ []) ≡ Ok (field.Num n)
+unfolding field_of
+length_value n le = passes (nat_le n 200) (field.Num n) rule.BadLength (le-leb n 200 le)
+
+entries_value : (most n : ℕ) → 1 ≤ n → n ≤ most
+    → only_if (nat_le 1 n && nat_le n most) (field.Num n) rule.BadEntries ≡ Ok (field.Num n)
+entries_value most n low high =
+    passes (nat_le 1 n && nat_le n most) (field.Num n) rule.BadEntries (rw (le-leb 1 n low, le-leb n most high) refl)
+
+leaf_count_value : (n : ℕ) → 1 ≤ n → n ≤ leaf_limit → field_of want.LeafCount (n ∷ []) ≡ Ok (field.Num n)
+unfolding field_of
+leaf_count_value n low high = entries_value leaf_limit n low high
+
+inner_count_value : (n : ℕ) → 1 ≤ n → n ≤ inner_limit → field_of want.InnerCount (n ∷ []) ≡ Ok (field.Num n)
+unfolding field_of
+inner_count_value n low high = entries_value inner_limit n low high
+
+rect_value : (r : Rectangle) → IsOrdered r → FitsMap r → field_of want.Rect (rectangle_bytes r) ≡ Ok (field.Rect r)
+unfolding field_of
+rect_value r ordered coordinates =
+    ap (λ (k : Rectangle). only_if (in_order k) (field.Rect k) rule.BadRect) (sides_again r coordinates)
+    ∙ passes (in_order r) (field.Rect r) rule.BadRect (is_in_order r ordered)
+
+payload_value : (n : ℕ) (p : List ℕ) → field_of (want.Payload n) p ≡ Ok (field.Payload p)
+unfolding field_of
+payload_value n p = refl
+
+digest_value : (d : List ℕ) → field_of want.Digest d ≡ Ok (field.Digest d)
+unfolding field_of
+digest_value d = refl
+
+either_tag : (b c d : ℕ) → (b ≡ c) ⊎ (b ≡ d) → (b == c || b == d) ≡ true
+either_tag b c d (inl p) = rw (eq-eqb b c p) refl
+either_tag b c d (inr p) = or_right (b == c) (b == d) (eq-eqb b d p)
+
+tag_value : (v b : ℕ) → (b ≡ pruned_tag) ⊎ (b ≡ opened_tag v) → field_of (want.Tag v) (b ∷ []) ≡ Ok (field.Tag b)
+unfolding field_of
+tag_value v b is =
+    passes (b == pruned_tag || b == opened_tag v) (field.Tag b) rule.BadTag (either_tag b pruned_tag (opened_tag v) is)
+
+magic_value : field_of want.Magic magic ≡ Ok field.Plain
+unfolding field_of
+magic_value = refl
+
+version_value : field_of want.Version (version ∷ []) ≡ Ok field.Plain
+unfolding field_of
+version_value = refl
+
+kind_value : (k : Kind) → field_of (want.Kind k) (kind_byte k ∷ []) ≡ Ok field.Plain
+unfolding field_of
+kind_value kind.W = refl
+kind_value kind.K = refl
+
+flag_value : (n : ℕ) → n ≤ 1 → field_of want.Flag (n ∷ []) ≡ Ok (field.Num n)
+unfolding field_of
+flag_value n le = passes (nat_le n 1) (field.Num n) rule.BadFlag (le-leb n 1 le)
+
+radius_value : (n : ℕ) → n ≤ radius_limit → field_of want.Radius (to_be_bytes w128 n) ≡ Ok (field.Wide n)
+unfolding field_of
+radius_value n le =
+    let same : from_be_bytes w128 (to_be_bytes w128 n) ≡ n = wide_again n (omega arith) in
+    ap (λ (k : ℕ). only_if (nat_le k radius_limit) (field.Wide k) rule.BadRadius) same
+    ∙ passes (nat_le n radius_limit) (field.Wide n) rule.BadRadius (le-leb n radius_limit le)
+
+-- ---- records
+
+payload_again : {A B : Type 0} (heeds : Bool) (e : A → Stand → Result B Fault) (next : List ℕ → Grammar A) (s : Stand)
+    (p rest : List ℕ) → s.rest ≡ p ++ rest → s.at + length p ≤ place_limit
+    → Comes heeds e (payload (length p) next) (next p) s p rest
+payload_again heeds e next s [] rest parts within = comes_none heeds e (next []) s rest parts
+payload_again heeds e next s (b ∷ p) rest parts within =
+    let some : eqb (length (b ∷ p)) 0 ≡ false = ne_eqb (length (b ∷ p)) 0 (λ z. omega arith) in
+    subst (λ (c : Bool). Comes heeds e (cond c (next [])
+    (reads (want.Payload (length (b ∷ p))) (λ f. next (bytes_in f)))) (next (b ∷ p)) s (b ∷ p) rest) (sym some)
+    (reads_again heeds e (want.Payload (length (b ∷ p))) bytes_in next s (b ∷ p) rest (field.Payload (b ∷ p)) refl
+    (payload_value (length (b ∷ p)) (b ∷ p)) parts within)
+
+word_long : (n : ℕ) → length (to_be_bytes w64 n) ≡ 8
+word_long n = refl
+
+wide_long : (n : ℕ) → length (to_be_bytes w128 n) ≡ 16
+wide_long n = refl
+
+rectangle_long : (r : Rectangle) → length (rectangle_bytes r) ≡ 16
+unfolding rectangle_bytes
+rectangle_long r = refl
+
+record_again : {A B : Type 0} (heeds : Bool) (e : A → Stand → Result B Fault) (next : Record → Grammar A) (s : Stand)
+    (r : Record) (rest : List ℕ) → IsRecord r → s.rest ≡ record_bytes r ++ rest
+    → s.at + length (record_bytes r) ≤ place_limit
+    → Comes heeds e (one_record next) (next r) s (record_bytes r) rest
+unfolding record_bytes
+record_again heeds e next s r rest fine parts within =
+    let number = to_be_bytes w64 r.number in
+    let place = rectangle_bytes r.rect in
+    let tail = length r.payload ∷ r.payload in
+    let one : s.rest ≡ number ++ (place ++ (tail ++ rest)) = parts ∙ append_assoc (number ++ place) tail rest
+    ∙ append_assoc number place (tail ++ rest) in
+    let size : length ((number ++ place) ++ tail) ≡ 8 + 16 + (1 + length r.payload) = omega (
+      arith,
+      length-append (number ++ place) tail,
+      length-append number place,
+      word_long r.number,
+      rectangle_long r.rect,
+    ) in
+    let wide = word_long r.number in
+    let square = rectangle_long r.rect in
+    let few = fine.payload in
+    let n = reads_again heeds e want.Number number_in
+    (λ n. reads want.Rect (λ x. reads want.Length
+    (λ l. payload (number_in l) (λ p. next (record { number = n; rect = rect_in x; payload = p }))))) s number
+    (place ++ (tail ++ rest)) (field.Num r.number) (word_long r.number) (number_value r.number fine.number) one
+    (omega arith) in
+    let a = n.place in
+    let x = reads_again heeds e want.Rect rect_in
+    (λ x. reads want.Length (λ l. payload (number_in l)
+    (λ p. next (record { number = r.number; rect = x; payload = p })))) n.end place (tail ++ rest)
+    (field.Rect r.rect) (rectangle_long r.rect) (rect_value r.rect fine.ordered fine.coordinates) n.left
+    (omega arith) in
+    let b = x.place in
+    let l = reads_again heeds e want.Length number_in
+    (λ l. payload l (λ p. next (record { number = r.number; rect = r.rect; payload = p }))) x.end
+    (length r.payload ∷ []) (r.payload ++ rest) (field.Num (length r.payload)) refl
+    (length_value (length r.payload) few) x.left (omega arith) in
+    let c = l.place in
+    let p = payload_again heeds e (λ p. next (record { number = r.number; rect = r.rect; payload = p })) l.end r.payload
+    rest l.left (omega arith) in
+    let d = p.place in
+    record { end = p.end; left = p.left; place = omega arith; same = n.same ∙ x.same ∙ l.same ∙ p.same }
+
+records_again : {A B : Type 0} (heeds : Bool) (e : A → Stand → Result B Fault) (next : List Record → Grammar A)
+    (s : Stand) (rs : List Record) (rest : List ℕ) → AllByRecursion IsRecord rs
+    → s.rest ≡ flat_map record_bytes rs ++ rest → s.at + length (flat_map record_bytes rs) ≤ place_limit
+    → Comes heeds e (some_records (length rs) next) (next rs) s (flat_map record_bytes rs) rest
+records_again heeds e next s [] rest fine parts within = comes_none heeds e (next []) s rest parts
+records_again heeds e next s (r ∷ rs) rest fine parts within =
+    let whole : flat_map record_bytes (r ∷ rs) ≡ record_bytes r ++ flat_map record_bytes rs = flat_map-cons record_bytes
+    r rs in
+    let size : length (flat_map record_bytes (r ∷ rs)) ≡ length (record_bytes r) + length
+    (flat_map record_bytes rs) = ap length whole ∙ length-append (record_bytes r) (flat_map record_bytes rs) in
+    let regrouped : s.rest ≡ record_bytes r ++ (flat_map record_bytes rs ++ rest) = parts
+    ∙ ap (λ (x : List ℕ). x ++ rest) whole ∙ append_assoc (record_bytes r) (flat_map record_bytes rs) rest in
+    let one = record_again heeds e (λ r. notes (opens r) (some_records (length rs) (λ rs. next (r ∷ rs)))) s r
+    (flat_map record_bytes rs ++ rest) fine.0 regrouped (omega arith) in
+    let a = one.place in
+    let behind_one = records_again heeds e (λ rs. next (r ∷ rs)) one.end rs rest fine.1 one.left (omega arith) in
+    let others : Comes heeds e (notes (opens r) (some_records (length rs) (λ rs. next (r ∷ rs))))
+    (next (r ∷ rs)) one.end (flat_map record_bytes rs) rest = record
+    { end = behind_one.end; left = behind_one.left; place = behind_one.place; same = behind_one.same } in
+    comes_as heeds e (some_records (length (r ∷ rs)) next) (next (r ∷ rs)) s
+    (record_bytes r ++ flat_map record_bytes rs) (flat_map record_bytes (r ∷ rs)) rest (sym whole)
+    (comes_both heeds e (some_records (length (r ∷ rs)) next)
+    (notes (opens r) (some_records (length rs) (λ rs. next (r ∷ rs)))) (next (r ∷ rs)) s (record_bytes r)
+    (flat_map record_bytes rs) rest one others)
+
+-- ---- items
+
+abbrev tail : Cut → List ℕ
+tail P = drop 1 (cut_bytes P)
+
+note_again : {A B : Type 0} (heeds : Bool) (e : A → Stand → Result B Fault) (broken : Rule) (b : Bool) (g : Grammar A)
+    (s : Stand) (rest : List ℕ) → (heeds ≡ true → b ≡ true) → s.rest ≡ rest
+    → Comes heeds e (notes (must broken b) g) g s [] rest
+note_again true e broken true g s rest passed left = record { end = s; left = left; place = omega arith; same = refl }
+note_again true e broken false g s rest passed left = absurd (false≢true (passed refl))
+note_again false e broken b g s rest passed left = record { end = s; left = left; place = omega arith; same = refl }
+
+-- where notes are heeded, the cut is tight
+abbrev Passes : Bool → (Seen → Bool) → Cut → Type 0
+Passes heeds region P = heeds ≡ true → IsTightCut region P
+
+leaf_again : {A B : Type 0} (heeds : Bool) (e : A → Stand → Result B Fault) (region : Seen → Bool)
+    (next : Cut → Grammar A) (s : Stand) (rs : List Record) (rest : List ℕ) → FitsLeaf 0 rs
+    → Passes heeds region (Leaf rs)
+    → s.rest ≡ tail (Leaf rs) ++ rest → s.at + length (tail (Leaf rs)) ≤ place_limit
+    → Comes heeds e (leaf region next) (next (Leaf rs)) s (tail (Leaf rs)) rest
+leaf_again heeds e region next s rs rest fine tight parts within =
+    let text = flat_map record_bytes rs in
+    let n = reads_again heeds e want.LeafCount number_in (λ n. some_records n (λ rs. opened region (Leaf rs) next)) s
+    (length rs ∷ []) (text ++ rest) (field.Num (length rs)) refl
+    (leaf_count_value (length rs) fine.some fine.few) parts (omega arith) in
+    let a = n.place in
+    let all = records_again heeds e (λ rs. opened region (Leaf rs) next) n.end rs rest
+    (recursion_from_All IsRecord rs fine.each) n.left (omega arith) in
+    let b = all.place in
+    let met = note_again heeds e rule.Needless (met_by region (seen (Leaf rs)))
+    (next (Leaf rs)) all.end rest tight all.left in
+    let c = met.place in
+    record { end = met.end; left = met.left; place = omega arith; same = n.same ∙ all.same ∙ met.same }
+
+is_not : (b : Bool) → b ≡ false → not b ≡ true
+is_not b e = rw e refl
+
+pruned_again : {A B : Type 0} (heeds : Bool) (e : A → Stand → Result B Fault) (region : Seen → Bool)
+    (next : Cut → Grammar A) (s : Stand) (x : Shown) (rest : List ℕ) → FitsShown x → Passes heeds region (Pruned x)
+    → s.rest ≡ shown_bytes x ++ rest → s.at + length (shown_bytes x) ≤ place_limit
+    → Comes heeds e (pruned region next) (next (Pruned x)) s (shown_bytes x) rest
+pruned_again heeds e region next s x rest fine missed parts within =
+    let square = rectangle_long x.rect in
+    let size : length (shown_bytes x) ≡ 16 + length x.digest = omega
+    (arith, length-append (rectangle_bytes x.rect) x.digest) in
+    let regrouped : s.rest ≡ rectangle_bytes x.rect ++ (x.digest ++ rest) = parts
+    ∙ append_assoc (rectangle_bytes x.rect) x.digest rest in
+    let behind_rect = λ (r : Rectangle). reads want.Digest
+    (λ d. next (Pruned (record { rect = r; digest = bytes_in d }))) in
+    let r = reads_again heeds e want.Rect rect_in
+    (λ r. notes (must rule.Hidden (not (region (seen_at r)))) (behind_rect r)) s (rectangle_bytes x.rect)
+    (x.digest ++ rest) (field.Rect x.rect) square (rect_value x.rect fine.ordered fine.coordinates) regrouped
+    (omega arith) in
+    let a = r.place in
+    let n = note_again heeds e rule.Hidden (not (region (seen_at x.rect))) (behind_rect x.rect) r.end (x.digest ++ rest)
+    (λ h. is_not (region (seen_at x.rect)) (missed h)) r.left in
+    let b = n.place in
+    let d = reads_again heeds e want.Digest bytes_in (λ d. next (Pruned (record { rect = x.rect; digest = d }))) n.end
+    x.digest rest (field.Digest x.digest) fine.digest (digest_value x.digest) n.left (omega arith) in
+    let c = d.place in
+    record { end = d.end; left = d.left; place = omega arith; same = r.same ∙ n.same ∙ d.same }
+
+-- an item that is spelled, and tight where notes are heeded, is read again
+abbrev ItemsAgain : {A B : Type 0} → Bool → (A → Stand → Result B Fault) → (Seen → Bool) → ℕ
+    → ((Cut → Grammar A) → Grammar A) → Type 0
+ItemsAgain {A} {B} heeds e region v one =
+    (next : Cut → Grammar A) (s : Stand) (P : Cut) (rest : List ℕ) → FitsCut v P → Passes heeds region P
+    → s.rest ≡ cut_bytes P ++ rest → s.at + length (cut_bytes P) ≤ place_limit
+    → Comes heeds e (one next) (next P) s (cut_bytes P) rest
+
+items_again : {A B : Type 0} (heeds : Bool) (e : A → Stand → Result B Fault) (region : Seen → Bool) (v : ℕ)
+    (one : (Cut → Grammar A) → Grammar A) → ItemsAgain heeds e region v one
+    → (next : Cuts → Grammar A) (s : Stand) (Ps : Cuts) (n : ℕ) (rest : List ℕ) → count_of Ps ≡ n → FitCuts v Ps
+    → (heeds ≡ true → AreTightCuts region Ps) → s.rest ≡ cuts_bytes Ps ++ rest
+    → s.at + length (cuts_bytes Ps) ≤ place_limit
+    → Comes heeds e (some_items one n next) (next Ps) s (cuts_bytes Ps) rest
+items_again heeds e region v one again next s no_more zero rest count fit tight parts within =
+    comes_none heeds e (next no_more) s rest parts
+items_again heeds e region v one again next s no_more (suc n) rest count fit tight parts within = absurd (omega arith)
+items_again heeds e region v one again next s (first P Ps) zero rest count fit tight parts within = absurd (omega arith)
+items_again heeds e region v one again next s (first P Ps) (suc n) rest count fit tight parts within =
+    let size : length (cut_bytes P ++ cuts_bytes Ps) ≡ length (cut_bytes P) + length (cuts_bytes Ps) = length-append
+    (cut_bytes P) (cuts_bytes Ps) in
+    let a = again (λ P. some_items one n (λ Ps. next (first P Ps))) s P (cuts_bytes Ps ++ rest) fit.0 (λ h. (tight h).0)
+    (parts ∙ append_assoc (cut_bytes P) (cuts_bytes Ps) rest) (omega arith) in
+    let p = a.place in
+    let b = items_again heeds e region v one again (λ Ps. next (first P Ps)) a.end Ps n rest (omega arith) fit.1
+    (λ h. (tight h).1) a.left (omega arith) in
+    comes_both heeds e (some_items one (suc n) next) (some_items one n (λ Ps. next (first P Ps))) (next (first P Ps)) s
+    (cut_bytes P) (cuts_bytes Ps) rest a b
+
+inner_again : {A B : Type 0} (heeds : Bool) (e : A → Stand → Result B Fault) (region : Seen → Bool) (v : ℕ)
+    (one : (Cut → Grammar A) → Grammar A) → ItemsAgain heeds e region v one
+    → (next : Cut → Grammar A) (s : Stand) (Ps : Cuts) (rest : List ℕ) → FitsInner (suc v) (count_of Ps) → FitCuts v Ps
+    → Passes heeds region (Inner Ps)
+    → s.rest ≡ tail (Inner Ps) ++ rest → s.at + length (tail (Inner Ps)) ≤ place_limit
+    → Comes heeds e (inner region one next) (next (Inner Ps)) s (tail (Inner Ps)) rest
+inner_again heeds e region v one again next s Ps rest fine fit tight parts within =
+    let n = reads_again heeds e want.InnerCount number_in (λ n. some_items one n (λ Ps. opened region (Inner Ps) next))
+    s (count_of Ps ∷ []) (cuts_bytes Ps ++ rest) (field.Num (count_of Ps)) refl
+    (inner_count_value (count_of Ps) fine.some fine.few) parts (omega arith) in
+    let a = n.place in
+    let all = items_again heeds e region v one again (λ Ps. opened region (Inner Ps) next) n.end Ps
+    (count_of Ps) rest refl fit (λ h. (tight h).1) n.left (omega arith) in
+    let b = all.place in
+    let met = note_again heeds e rule.Needless (met_by region (seen (Inner Ps))) (next (Inner Ps)) all.end rest
+    (λ h. (tight h).0) all.left in
+    let c = met.place in
+    record { end = met.end; left = met.left; place = omega arith; same = n.same ∙ all.same ∙ met.same }
+
+inner_tag_is : (v : ℕ) → inner_tag ≡ opened_tag (suc v)
+inner_tag_is v = rw (eqb-suc-zero v) refl
+
+item_again : {A B : Type 0} (heeds : Bool) (e : A → Stand → Result B Fault) (region : Seen → Bool) (v : ℕ)
+    → ItemsAgain heeds e region v (item region v)
+item_again heeds e region zero next s (Pruned x) rest fit tight parts within =
+    let t = reads_again heeds e (want.Tag 0) tag_in
+    (λ b. if b == pruned_tag then pruned region next else leaf region next) s (pruned_tag ∷ [])
+    (tail (Pruned x) ++ rest) (field.Tag pruned_tag) refl (tag_value 0 pruned_tag (inl refl)) parts (omega arith) in
+    let a = t.place in
+    comes_both heeds e (item region 0 next) (pruned region next) (next (Pruned x)) s (pruned_tag ∷ [])
+    (tail (Pruned x)) rest t (pruned_again heeds e region next t.end x rest fit tight t.left (omega arith))
+item_again heeds e region zero next s (Leaf rs) rest fit tight parts within =
+    let t = reads_again heeds e (want.Tag 0) tag_in
+    (λ b. if b == pruned_tag then pruned region next else leaf region next) s (leaf_tag ∷ [])
+    (tail (Leaf rs) ++ rest) (field.Tag leaf_tag) refl (tag_value 0 leaf_tag (inr refl)) parts (omega arith) in
+    let a = t.place in
+    comes_both heeds e (item region 0 next) (leaf region next) (next (Leaf rs)) s (leaf_tag ∷ [])
+    (tail (Leaf rs)) rest t (leaf_again heeds e region next t.end rs rest fit tight t.left (omega arith))
+item_again heeds e region zero next s (Inner Ps) rest fit tight parts within =
+    let above = fit.0.above in absurd (omega arith)
+item_again heeds e region (suc v) next s (Pruned x) rest fit tight parts within =
+    let t = reads_again heeds e (want.Tag (suc v))
+    tag_in (λ b. if b == pruned_tag then pruned region next else inner region (item region v) next) s
+    (pruned_tag ∷ []) (tail (Pruned x) ++ rest) (field.Tag pruned_tag) refl
+    (tag_value (suc v) pruned_tag (inl refl)) parts (omega arith) in
+    let a = t.place in
+    comes_both heeds e (item region (suc v) next) (pruned region next) (next (Pruned x)) s (pruned_tag ∷ [])
+    (tail (Pruned x)) rest t (pruned_again heeds e region next t.end x rest fit tight t.left (omega arith))
+item_again heeds e region (suc v) next s (Leaf rs) rest fit tight parts within =
+    let level = fit.at_leaf in absurd (omega arith)
+item_again heeds e region (suc v) next s (Inner Ps) rest fit tight parts within =
+    let t = reads_again heeds e (want.Tag (suc v))
+    tag_in (λ b. if b == pruned_tag then pruned region next else inner region (item region v) next) s
+    (inner_tag ∷ []) (tail (Inner Ps) ++ rest) (field.Tag inner_tag) refl
+    (tag_value (suc v) inner_tag (inr (inner_tag_is v))) parts (omega arith) in
+    let a = t.place in
+    let below : suc v - 1 ≡ v = omega arith in
+    let inside = subst (λ (k : ℕ). FitCuts k Ps) below fit.1 in
+    comes_both heeds e (item region (suc v) next) (inner region (item region v) next) (next (Inner Ps)) s
+    (inner_tag ∷ []) (tail (Inner Ps)) rest t
+    (inner_again heeds e region v (item region v)
+    (item_again heeds e region v) next t.end Ps rest fit.0 inside tight t.left (omega arith))
+
+-- ---- the head
+
+level_by : {A B : Type 0} (heeds : Bool) (e : A → Stand → Result B Fault) (count : ℕ) (none : Bool) → eqb count 0 ≡ none
+    → (next : ℕ → Grammar A) (s : Stand) (l : ℕ) (rest : List ℕ) → l ≤ level_limit → (count ≡ 0 → l ≡ 0)
+    → s.rest ≡ level_bytes count l ++ rest → s.at + length (level_bytes count l) ≤ place_limit
+    → Comes heeds e (level count next) (next l) s (level_bytes count l) rest
+level_by heeds e count true is next s l rest le empty parts within =
+    let zero_level : l ≡ 0 = empty (eqb-true count 0 is) in
+    let nothing : level_bytes count l ≡ [] = rw is refl in
+    record {
+      end = s;
+      left = parts ∙ ap (λ (x : List ℕ). x ++ rest) nothing;
+      place = omega (arith, ap length nothing);
+      same = rw (is, zero_level) refl;
+    }
+level_by heeds e count false is next s l rest le empty parts within =
+    let one : level_bytes count l ≡ l ∷ [] = rw is refl in
+    let size : length (level_bytes count l) ≡ 1 = ap length one in
+    let x = reads_again heeds e want.Level number_in next s (l ∷ []) rest (field.Num l) refl (level_value l le)
+    (parts ∙ ap (λ (y : List ℕ). y ++ rest) one) (omega arith) in
+    let p = x.place in
+    let there : walk heeds e (level count next) s ≡ walk heeds e
+    (reads want.Level (λ l. next (number_in l))) s = rw is refl in
+    record { end = x.end; left = x.left; place = omega arith; same = there ∙ x.same }
+
+level_again : {A B : Type 0} (heeds : Bool) (e : A → Stand → Result B Fault) (count : ℕ) (next : ℕ → Grammar A)
+    (s : Stand) (l : ℕ) (rest : List ℕ) → l ≤ level_limit → (count ≡ 0 → l ≡ 0)
+    → s.rest ≡ level_bytes count l ++ rest → s.at + length (level_bytes count l) ≤ place_limit
+    → Comes heeds e (level count next) (next l) s (level_bytes count l) rest
+level_again heeds e count next s l rest le empty parts within =
+    level_by heeds e count (eqb count 0) refl next s l rest le empty parts within
+
+radius_again : {A B : Type 0} (heeds : Bool) (e : A → Stand → Result B Fault) (k : Kind) (next : Option ℕ → Grammar A)
+    (s : Stand) (r : Option ℕ) (rest : List ℕ) → FitsRadius k r
+    → s.rest ≡ radius_bytes k r ++ rest → s.at + length (radius_bytes k r) ≤ place_limit
+    → Comes heeds e (radius k next) (next r) s (radius_bytes k r) rest
+radius_again heeds e kind.W next s r rest fits parts within =
+    subst (λ (r : Option ℕ). Comes heeds e (next None) (next r) s [] rest) (sym fits)
+    (comes_none heeds e (next None) s rest parts)
+radius_again heeds e kind.K next s None rest fits parts within =
+    reads_again heeds e want.Flag number_in (λ f. if f == 0 then next None else reads want.Radius
+    (λ r. next (Some (wide_in r)))) s (0 ∷ []) rest (field.Num 0) refl (flag_value 0 (omega arith)) parts within
+radius_again heeds e kind.K next s (Some r) rest fits parts within =
+    let f = reads_again heeds e want.Flag number_in
+    (λ f. if f == 0 then next None else reads want.Radius (λ r. next (Some (wide_in r)))) s (1 ∷ [])
+    (to_be_bytes w128 r ++ rest) (field.Num 1) refl (flag_value 1 (omega arith)) parts (omega arith) in
+    let a = f.place in
+    let w = reads_again heeds e want.Radius wide_in (λ r. next (Some r)) f.end (to_be_bytes w128 r) rest (field.Wide r)
+    (wide_long r) (radius_value r fits) f.left (omega arith) in
+    comes_both heeds e (radius kind.K next) (reads want.Radius (λ r. next (Some (wide_in r)))) (next (Some r)) s
+    (1 ∷ []) (to_be_bytes w128 r) rest f w
+
+-- of a field that says nothing more than that it is right
+abbrev no_value : Field → Unit {0}
+no_value f = tt
+
+-- what stands before the batch
+abbrev opening_bytes : Kind → List ℕ
+opening_bytes k = magic ++ version ∷ kind_byte k ∷ []
+
+opening_again : {A B : Type 0} (heeds : Bool) (e : A → Stand → Result B Fault) (k : Kind) (g : Grammar A) (s : Stand)
+    (rest : List ℕ) → s.rest ≡ opening_bytes k ++ rest → s.at + 6 ≤ place_limit
+    → Comes heeds e (reads want.Magic (λ _. reads want.Version (λ _. reads (want.Kind k) (λ _. g)))) g s
+    (opening_bytes k) rest
+opening_again heeds e k g s rest parts within =
+    let m = reads_again heeds e want.Magic no_value
+    (λ _. reads want.Version (λ _. reads (want.Kind k) (λ _. g))) s magic
+    (version ∷ kind_byte k ∷ rest) field.Plain refl magic_value parts (omega arith) in
+    let m1 = m.place in
+    let v = reads_again heeds e want.Version no_value (λ _. reads (want.Kind k) (λ _. g)) m.end (version ∷ [])
+    (kind_byte k ∷ rest) field.Plain refl version_value m.left (omega arith) in
+    let v1 = v.place in
+    let b = reads_again heeds e (want.Kind k) no_value (λ _. g) v.end (kind_byte k ∷ []) rest field.Plain refl
+    (kind_value k) v.left (omega arith) in
+    let b1 = b.place in
+    let mv : walk heeds e (reads want.Magic (λ _. reads want.Version (λ _. reads (want.Kind k) (λ _. g)))) s ≡ walk
+    heeds e (reads (want.Kind k) (λ _. g)) v.end = m.same ∙ v.same in
+    record { end = b.end; left = b.left; place = omega arith; same = mv ∙ b.same }
+
+-- the bytes of a radius and a level
+abbrev last_bytes : Kind → Option ℕ → ℕ → ℕ → List ℕ
+last_bytes k r c l = radius_bytes k r ++ level_bytes c l
+
+last_again : {A B : Type 0} (heeds : Bool) (e : A → Stand → Result B Fault) (k : Kind) (made : Option ℕ → ℕ → Grammar A)
+    (s : Stand) (r : Option ℕ) (c l : ℕ) (rest : List ℕ) → FitsRadius k r → l ≤ level_limit → (c ≡ 0 → l ≡ 0)
+    → s.rest ≡ last_bytes k r c l ++ rest → s.at + length (last_bytes k r c l) ≤ place_limit
+    → Comes heeds e (radius k (λ r. level c (made r))) (made r l) s (last_bytes k r c l) rest
+last_again heeds e k made s r c l rest fits low empty parts within =
+    let size = length-append (radius_bytes k r) (level_bytes c l) in
+    let x = radius_again heeds e k (λ r. level c (made r)) s r (level_bytes c l ++ rest) fits
+    (parts ∙ append_assoc (radius_bytes k r) (level_bytes c l) rest) (omega arith) in
+    let x1 = x.place in
+    let y = level_again heeds e c (made r) x.end l rest low empty x.left (omega arith) in
+    comes_both heeds e (radius k (λ r. level c (made r))) (level c (made r)) (made r l) s (radius_bytes k r)
+    (level_bytes c l) rest x y
+
+counts_again : {A B : Type 0} (heeds : Bool) (e : A → Stand → Result B Fault) (k : Kind)
+    (made : ℕ → Option ℕ → ℕ → Grammar A) (s : Stand) (r : Option ℕ) (c l : ℕ) (rest : List ℕ) → c ≤ count_limit
+    → FitsRadius k r → l ≤ level_limit → (c ≡ 0 → l ≡ 0)
+    → s.rest ≡ (to_be_bytes w64 c ++ last_bytes k r c l) ++ rest
+    → s.at + (8 + length (last_bytes k r c l)) ≤ place_limit
+    → Comes heeds e (reads want.Count (λ f. radius k (λ r. level (number_in f) (made (number_in f) r)))) (made c r l) s
+    (to_be_bytes w64 c ++ last_bytes k r c l) rest
+counts_again heeds e k made s r c l rest few fits low empty parts within =
+    let x = reads_again heeds e want.Count number_in (λ c. radius k (λ r. level c (made c r))) s (to_be_bytes w64 c)
+    (last_bytes k r c l ++ rest) (field.Num c) (word_long c) (count_value c few)
+    (parts ∙ append_assoc (to_be_bytes w64 c) (last_bytes k r c l) rest) (omega arith) in
+    let x1 = x.place in
+    let y = last_again heeds e k (made c) x.end r c l rest fits low empty x.left (omega arith) in
+    comes_both heeds e (reads want.Count (λ f. radius k (λ r. level (number_in f) (made (number_in f) r))))
+    (radius k (λ r. level c (made c r))) (made c r l) s (to_be_bytes w64 c) (last_bytes k r c l) rest x y
+
+-- the bytes behind the kind
+abbrev number_bytes : Kind → Option ℕ → ℕ → ℕ → ℕ → List ℕ
+number_bytes k r b c l = to_be_bytes w64 b ++ (to_be_bytes w64 c ++ last_bytes k r c l)
+
+numbers_again : {A B : Type 0} (heeds : Bool) (e : A → Stand → Result B Fault) (k : Kind)
+    (made : ℕ → ℕ → Option ℕ → ℕ → Grammar A) (s : Stand) (r : Option ℕ) (b c l : ℕ) (rest : List ℕ) → b < 2 ^ 64
+    → c ≤ count_limit → FitsRadius k r → l ≤ level_limit → (c ≡ 0 → l ≡ 0)
+    → s.rest ≡ number_bytes k r b c l ++ rest → s.at + (8 + (8 + length (last_bytes k r c l))) ≤ place_limit
+    → Comes heeds e (reads want.Batch (λ f. reads want.Count
+    (λ g. radius k (λ r. level (number_in g) (made (number_in f) (number_in g) r))))) (made b c r l) s
+    (number_bytes k r b c l) rest
+numbers_again heeds e k made s r b c l rest small few fits low empty parts within =
+    let x = reads_again heeds e want.Batch number_in
+    (λ b. reads want.Count (λ g. radius k (λ r. level (number_in g) (made b (number_in g) r)))) s
+    (to_be_bytes w64 b) ((to_be_bytes w64 c ++ last_bytes k r c l) ++ rest) (field.Num b) (word_long b)
+    (batch_value b small) (parts ∙ append_assoc (to_be_bytes w64 b) (to_be_bytes w64 c ++ last_bytes k r c l) rest)
+    (omega arith) in
+    let x1 = x.place in
+    let y = counts_again heeds e k (made b) x.end r c l rest few fits low empty x.left (omega arith) in
+    comes_both heeds e (reads want.Batch (λ f. reads want.Count
+    (λ g. radius k (λ r. level (number_in g) (made (number_in f) (number_in g) r)))))
+    (reads want.Count (λ g. radius k (λ r. level (number_in g) (made b (number_in g) r)))) (made b c r l) s
+    (to_be_bytes w64 b) (to_be_bytes w64 c ++ last_bytes k r c l) rest x y
+
+abbrev made_by : {A : Type 0} → (Head → Grammar A) → Kind → ℕ → ℕ → Option ℕ → ℕ → Grammar A
+made_by next k b c r l = next (record { kind = k; batch = b; count = c; radius = r; level = l })
+
+head_long : (h : Head) → length (head_bytes h) ≡ 6 + (8 + (8 + length (last_bytes h.kind h.radius h.count h.level)))
+head_long h =
+    let last = last_bytes h.kind h.radius h.count h.level in
+    omega (
+      arith,
+      length-append (to_be_bytes w64 h.batch) (to_be_bytes w64 h.count ++ last),
+      length-append
+          (to_be_bytes w64 h.count) last,
+      word_long h.batch,
+      word_long h.count,
+    )
+
+head_again : {A B : Type 0} (heeds : Bool) (e : A → Stand → Result B Fault) (next : Head → Grammar A) (s : Stand)
+    (h : Head) (rest : List ℕ) → FitsHead h
+    → s.rest ≡ head_bytes h ++ rest → s.at + length (head_bytes h) ≤ place_limit
+    → Comes heeds e (head h.kind next) (next h) s (head_bytes h) rest
+head_again heeds e next s h rest fine parts within =
+    let numbers = number_bytes h.kind h.radius h.batch h.count h.level in
+    let g = reads want.Batch (λ f. reads want.Count
+    (λ g. radius h.kind (λ r. level (number_in g) (made_by next h.kind (number_in f) (number_in g) r)))) in
+    let size = head_long h in
+    let a = opening_again heeds e h.kind g s (numbers ++ rest) parts (omega arith) in
+    let p = a.place in
+    let b = numbers_again heeds e h.kind (made_by next h.kind) a.end h.radius h.batch h.count h.level rest fine.batch
+    fine.count fine.radius fine.level fine.empty a.left (omega arith) in
+    comes_both heeds e (head h.kind next) g (next h) s (opening_bytes h.kind) numbers rest a b
+
+-- ---- the whole
+
+part_again : {B : Type 0} (heeds : Bool) (e : Said → Stand → Result B Fault) (region : Option ℕ → Seen → Bool)
+    (h : Head) (P : Option Cut) (s : Stand) → FitsPart h P → (heeds ≡ true → IfSome P (IsTightCut (region h.radius)))
+    → s.rest ≡ part_bytes P → s.at + length (part_bytes P) ≤ place_limit
+    → Comes heeds e (part region h) (done (said h P)) s (part_bytes P) []
+part_again heeds e region h None s fit tight parts within =
+    let none : eqb h.count 0 ≡ true = eq-eqb h.count 0 fit in
+    subst (λ (c : Bool). Comes heeds e (if c then done (said h None) else item (region h.radius) h.level
+    (λ P. done (said h (Some P)))) (done (said h None)) s [] []) (sym none)
+    (comes_none heeds e (done (said h None)) s [] parts)
+part_again heeds e region h (Some P) s fit tight parts within =
+    let filled = fit.0 in
+    let some : eqb h.count 0 ≡ false = ne_eqb h.count 0 (λ z. omega arith) in
+    subst (λ (c : Bool). Comes heeds e (if c then done (said h None) else item (region h.radius) h.level
+    (λ P. done (said h (Some P)))) (done (said h (Some P))) s (cut_bytes P) []) (sym some)
+    (item_again heeds e (region h.radius) h.level (λ P. done (said h (Some P))) s P [] fit.1 tight
+    (parts ∙ sym (append-nil (cut_bytes P))) within)
+
+-- what is spelled, and tight where notes are heeded, is read again, by any ending
+pub whole_again : {B : Type 0} (heeds : Bool) (e : Said → Stand → Result B Fault) (region : Option ℕ → Seen → Bool)
+    (bytes : List ℕ) (h : Head) (P : Option Cut) → IsSpelled h P bytes
+    → (heeds ≡ true → IfSome P (IsTightCut (region h.radius)))
+    → Comes heeds e (whole h.kind region) (done (said h P)) (start bytes) (head_bytes h ++ part_bytes P) []
+whole_again heeds e region bytes h P spelled tight =
+    let size : length bytes ≡ length (head_bytes h) + length (part_bytes P) = ap length spelled.whole
+    ∙ length-append (head_bytes h) (part_bytes P) in
+    let short = spelled.short in
+    let none = append-nil (part_bytes P) in
+    let parts : bytes ≡ head_bytes h ++ (part_bytes P ++ []) = spelled.whole
+    ∙ ap (λ (x : List ℕ). head_bytes h ++ x) (sym none) in
+    let a = head_again heeds e (part region) (start bytes) h (part_bytes P ++ []) spelled.head parts (omega arith) in
+    let p = a.place in
+    let b = part_again heeds e region h P a.end spelled.part tight (a.left ∙ none) (omega arith) in
+    comes_both heeds e (whole h.kind region) (part region h) (done (said h P)) (start bytes) (head_bytes h)
+    (part_bytes P) [] a b
+
+ending_again : (hash : List ℕ → List ℕ) (root : List ℕ) (q : Query) (x : Said) (s : Stand) → s.rest ≡ []
+    → root_found hash x.head x.part ≡ root → has_other_radius q x.head.radius (opened_records x.part) ≡ false
+    → ending hash root q x s ≡ Ok x
+unfolding ending
+ending_again hash root q x s left same right =
+    rw (left, bytes_same (root_found hash x.head x.part) root same, right) refl
+
+-- the radius of the opened records breaks no rule
+radius_stands : (q : Query) (r : Option ℕ) (P : Option Cut) → r ≡ (asks q).radius (opened_records P)
+    → has_other_radius q r (opened_records P) ≡ false
+radius_stands (Window w) r P e = refl
+
+pub checked_from : (hash : List ℕ → List ℕ) (root : List ℕ) (q : Query) (bytes : List ℕ) (answer : List Record)
+    → (p : Proves hash root (asks q) bytes answer) → checked hash root q bytes ≡ Ok (said p.head p.part)
+unfolding checked
+checked_from hash root q bytes answer p =
+    let x = whole_again true (ending hash root q) (asks q).region bytes p.head p.part p.spelled (λ _. p.tight.parts) in
+    let of_kind : walk true (ending hash root q) (whole p.head.kind (asks q).region) (start bytes) ≡ Ok
+    (said p.head p.part) =
+    x.same ∙ ending_again hash root q (said p.head p.part) x.end x.left p.held
+    (radius_stands q p.head.radius p.part p.tight.radius) in
+    subst (λ (k : Kind). walk true (ending hash root q) (whole k (asks q).region) (start bytes) ≡ Ok
+    (said p.head p.part)) p.kind of_kind
+
+pub verdict_from : (hash : List ℕ → List ℕ) (root : List ℕ) (q : Query) (bytes : List ℕ) (answer : List Record)
+    → Proves hash root (asks q) bytes answer → verdict hash root q bytes ≡ Ok answer
+unfolding verdict
+verdict_from hash root q bytes answer p =
+    rw (checked_from hash root q bytes answer p) (ap (λ (x : List Record). Ok x) (sym p.scanned))

@@ -1,0 +1,140 @@
+-- What a byte string breaks, any longer one breaks too, but for what is only found at its end.
+use Rattle.std.proofs.Common.{◌≡◌, ℕ, zero, suc, ◌+◌, ◌<◌, ◌≤◌, Bool, true, false, cond, ltb, List, [], ◌∷◌, ◌++◌, length, take, drop, Result, Ok, Err, refl, sym, ap, subst, ◌∙◌, inl, inr, arith}
+use Rattle.std.specs.Prelude.{if◌then◌else◌, nat_lt, not, bytes_eq}
+use Rattle.std.proofs.lemmas.Bool.{cases_Bool, ltb-true, ltb-false, le-ltb, lt-ltb}
+use Rattle.std.proofs.lemmas.List.{length-append, take-append-le, drop-append-le}
+use Rattle.mr_query.specs.declared.query.Query.{Query}
+use Rattle.mr_record.specs.declared.record.Record.{Record}
+use Rattle.mr_proof.specs.declared.rule.Rule.{Rule}
+use Rattle.mr_proof.specs.declared.rule.Rule.TheVariants as rule
+use Rattle.mr_proof.specs.declared.rule.Fault.{Fault}
+use Rattle.mr_proof.specs.declared.want.Want.{Want}
+use Rattle.mr_proof.specs.declared.field.Field.{Field}
+use Rattle.mr_proof.specs.Limits.{place_limit}
+use Rattle.mr_proof.specs.Fields.{size_of, field_of}
+use Rattle.mr_proof.specs.Spelling.{Said, opened_records}
+use Rattle.mr_proof.specs.Tight.{asks}
+use Rattle.mr_proof.specs.Accepted.{root_found}
+use Rattle.mr_proof.specs.Grammar.{Grammar, must, opens, done, reads, notes, whole}
+use Rattle.mr_proof.specs.Layout.{fault, Stand, start, behind, field_or_fault, field_at}
+use Rattle.mr_proof.specs.Refused.{has_other_radius}
+use Rattle.mr_proof.specs.Reading.{◌>>=◌, walk, ending, checked, verdict}
+use Rattle.mr_proof.specs.Halves.{IsSettled, StaysRefused}
+use Rattle.mr_proof.proofs.FirstFault.{refuses_just}
+
+-- the same place in a longer string
+abbrev longer : List ℕ → Stand → Stand
+longer more s = record { at = s.at; last = s.last; rest = s.rest ++ more }
+
+abbrev failed : {A : Type 0} → Fault → Result A Fault
+failed f = Err f
+
+same_fault : {A : Type 0} (f g : Fault) → failed {A = A} f ≡ failed g → f ≡ g
+same_fault f g e = cc
+
+-- ---- one field
+
+-- a field that is read is read again, and a settled fault comes again
+abbrev Again : Want → Stand → List ℕ → Result (Field × Stand) Fault → Type 0
+Again w s more (Ok x) = field_at w (longer more s) ≡ Ok (x.0, longer more x.1)
+Again w s more (Err f) = IsSettled f.rule → field_at w (longer more s) ≡ Err f
+
+value_again : (w : Want) (s : Stand) (more : List ℕ) (r : Result Field Rule)
+    → drop (size_of w) (s.rest ++ more) ≡ drop (size_of w) s.rest ++ more
+    → field_at w (longer more s) ≡ field_or_fault w (longer more s) r → Again w s more (field_or_fault w s r)
+value_again w s more (Ok v) tail e =
+    e ∙ ap (λ (rest : List ℕ). Ok (v, record { at = s.at + size_of w; last = s.at; rest = rest })) tail
+value_again w s more (Err d) tail e = λ settled. e
+
+field_again : (w : Want) (s : Stand) (more : List ℕ) → Again w s more (field_at w s)
+unfolding field_at
+field_again w s more = elim (cases_Bool (ltb place_limit (s.at + size_of w))) [
+  | inl long ↦
+      let there : field_at w (longer more s) ≡ Err (fault rule.Long s.at) = unfold field_at in rw long refl in
+      rw long (λ settled. there)
+  | inr fits ↦ elim (cases_Bool (ltb (length s.rest) (size_of w))) [
+    | inl short ↦ rw (fits, short) (λ settled. absurd settled)
+    | inr enough ↦
+        let le : size_of w ≤ length s.rest = ltb-false (length s.rest) (size_of w) enough in
+        let still : ltb (length (s.rest ++ more)) (size_of w) ≡ false = le-ltb (length (s.rest ++ more)) (size_of w)
+        (omega (arith, length-append s.rest more)) in
+        let front : take (size_of w) (s.rest ++ more) ≡ take (size_of w) s.rest = take-append-le
+        (size_of w) s.rest more le in
+        let back : drop (size_of w) (s.rest ++ more) ≡ drop (size_of w) s.rest ++ more = drop-append-le
+        (size_of w) s.rest more le in
+        let there : field_at w (longer more s) ≡ field_or_fault w (longer more s)
+        (field_of w (take (size_of w) s.rest)) = unfold field_at in rw (fits, still, front) refl in
+        rw (fits, enough) (value_again w s more (field_of w (take (size_of w) s.rest)) back there)
+  ]
+]
+
+-- ---- a layout
+
+step_stays : {B : Type 0} (w : Want) (s : Stand) (more : List ℕ) (r : Result (Field × Stand) Fault) → Again w s more r
+    → (k : Field × Stand → Result B Fault) (f : Fault) → IsSettled f.rule
+    → ((x : Field × Stand) → k x ≡ Err f → k (x.0, longer more x.1) ≡ Err f) → (r >>= k) ≡ Err f
+    → (field_at w (longer more s) >>= k) ≡ Err f
+step_stays w s more (Ok x) again k f settled rest e = rw again (rest x e)
+step_stays w s more (Err g) again k f settled rest e =
+    let same : g ≡ f = same_fault g f e in
+    rw (again (subst (λ (h : Fault). IsSettled h.rule) (sym same) settled)) e
+
+walk_stays : {A B : Type 0} (e : A → Stand → Result B Fault) (more : List ℕ) (f : Fault) → IsSettled f.rule
+    → ((x : A) (s : Stand) → e x s ≡ Err f → e x (longer more s) ≡ Err f) → (g : Grammar A) (s : Stand)
+    → walk true e g s ≡ Err f → walk true e g (longer more s) ≡ Err f
+walk_stays e more f settled last (done x) s is = last x s is
+walk_stays e more f settled last (reads w next) s is =
+    step_stays w s more (field_at w s) (field_again w s more) (λ x. walk true e (next x.0) x.1) f settled
+    (λ x. walk_stays e more f settled last (next x.0) x.1) is
+walk_stays e more f settled last (notes (must r true) next) s is = walk_stays e more f settled last next s is
+walk_stays e more f settled last (notes (must r false) next) s is = is
+walk_stays e more f settled last (notes (opens x) next) s is = walk_stays e more f settled last next s is
+
+-- ---- the whole
+
+end_stays : (b c d b2 : Bool) (t w r f : Fault) (x : Said) (after : Result Said Fault) → (b ≡ true → b2 ≡ true)
+    → (IsSettled w.rule → ⊥) → (IsSettled r.rule → ⊥) → IsSettled f.rule
+    → cond b (Err t) (cond (not c) (Err w) (cond d (Err r) (Ok x))) ≡ Err f → cond b2 (Err t) after ≡ Err f
+end_stays true c d b2 t w r f x after more no_w no_r settled e = rw (more refl) e
+end_stays false true true b2 t w r f x after more no_w no_r settled e =
+    absurd (no_r (subst (λ (h : Fault). IsSettled h.rule) (sym (same_fault r f e)) settled))
+end_stays false true false b2 t w r f x after more no_w no_r settled e = absurd cc
+end_stays false false d b2 t w r f x after more no_w no_r settled e =
+    absurd (no_w (subst (λ (h : Fault). IsSettled h.rule) (sym (same_fault w f e)) settled))
+
+ending_stays : (hash : List ℕ → List ℕ) (root : List ℕ) (q : Query) (more : List ℕ) (f : Fault) → IsSettled f.rule
+    → (x : Said) (s : Stand) → ending hash root q x s ≡ Err f → ending hash root q x (longer more s) ≡ Err f
+unfolding ending
+ending_stays hash root q more f settled x s is =
+    let found = root_found hash x.head x.part in
+    let other = has_other_radius q x.head.radius (opened_records x.part) in
+    let end = s.at + length s.rest in
+    let far = s.at + length (s.rest ++ more) in
+    end_stays (nat_lt 0 (length s.rest)) (bytes_eq found root) other (nat_lt 0 (length (s.rest ++ more)))
+    (fault rule.Trailing s.at) (fault (rule.WrongRoot found) end) (fault rule.WrongRadius end) f x
+    (if not (bytes_eq found root) then Err (fault (rule.WrongRoot found) far) else if other then Err
+    (fault rule.WrongRadius far) else Ok x)
+    (λ t. let some : 0 < length s.rest = ltb-true 0 (length s.rest) t in
+    lt-ltb 0 (length (s.rest ++ more)) (omega (arith, length-append s.rest more)))
+    (λ h. h) (λ h. h) settled is
+
+not_answered : {A B : Type 0} (r : Result A Fault) (m : A → B) (f : Fault) → (r >>= λ x. Ok (m x)) ≡ Err f → r ≡ Err f
+not_answered (Ok x) m f e = absurd cc
+not_answered (Err g) m f e = ap (λ (h : Fault). Err h) (same_fault g f e)
+
+verdict_stays : (hash : List ℕ → List ℕ) (root : List ℕ) (q : Query) (bytes : List ℕ) (f : Fault) (more : List ℕ)
+    → IsSettled f.rule → verdict hash root q bytes ≡ Err f → verdict hash root q (bytes ++ more) ≡ Err f
+unfolding verdict checked
+verdict_stays hash root q bytes f more settled e =
+    let g = whole (asks q).kind (asks q).region in
+    let first = not_answered (walk true (ending hash root q) g (start bytes))
+    (λ x. (asks q).answer (opened_records x.part)) f e in
+    let again : walk true (ending hash root q) g (start (bytes ++ more)) ≡ Err f = walk_stays
+    (ending hash root q) more f settled (ending_stays hash root q more f settled) g (start bytes) first in
+    rw again refl
+
+pub stays_refused : (hash : List ℕ → List ℕ) (root : List ℕ) (q : Query) (bytes : List ℕ)
+    → StaysRefused hash root q bytes
+stays_refused hash root q bytes = λ f more settled r.
+    (refuses_just hash root q (bytes ++ more) f).0
+    (verdict_stays hash root q bytes f more settled ((refuses_just hash root q bytes f).1 r))

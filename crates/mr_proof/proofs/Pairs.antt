@@ -1,0 +1,77 @@
+-- Bytes spell at most one pair of a head and a cut, and reading finds it.
+use Rattle.std.proofs.Common.{◌≡◌, ℕ, Bool, true, false, eqb, List, [], ◌∷◌, ◌++◌, length, Result, Ok, Err, Option, Some, None, refl, sym, ap, subst, ◌∙◌}
+use Rattle.std.specs.Prelude.{if◌then◌else◌, ◌==◌, nat_lt, slice_index}
+use Rattle.std.proofs.lemmas.Bool.{false≢true}
+use Rattle.mr_proof.specs.declared.head.Kind.{Kind}
+use Rattle.mr_proof.specs.declared.head.Kind.TheVariants as kind
+use Rattle.mr_proof.specs.declared.head.Head.{Head}
+use Rattle.mr_proof.specs.declared.rule.Rule.TheVariants as rule
+use Rattle.mr_proof.specs.declared.rule.Fault.{Fault}
+use Rattle.mr_proof.specs.Fields.{kind_byte}
+use Rattle.mr_proof.specs.Cut.{Cut}
+use Rattle.mr_proof.specs.Spelling.{Said, said, head_bytes, part_bytes, IsSpelled}
+use Rattle.mr_proof.specs.Grammar.{whole}
+use Rattle.mr_proof.specs.Layout.{fault, Stand, start}
+use Rattle.mr_proof.specs.Reading.{walk, kind_in, at_end, if_spelled, anywhere, pair_in}
+use Rattle.mr_proof.specs.Halves.{SpellsOne}
+use Rattle.mr_record.proofs.Encodings.{IsBytes}
+use Rattle.mr_proof.proofs.Soundness.{TakenWhole, take_whole, spelled_whole, not_failed, nothing_left}
+use Rattle.mr_proof.proofs.Completeness.{whole_again}
+
+-- ---- the kind stands at the sixth byte
+
+kind_back : (k : Kind) → (if kind_byte k == kind_byte kind.K then kind.K else kind.W) ≡ k
+kind_back kind.W = refl
+kind_back kind.K = refl
+
+pub kind_spelled : (h : Head) (P : Option Cut) (bytes : List ℕ) → IsSpelled h P bytes → kind_in bytes ≡ h.kind
+kind_spelled h P bytes s = ap kind_in s.whole ∙ kind_back h.kind
+
+-- ---- what is spelled is found
+
+-- the pair that bytes spell is found in them, tight or not
+pub pair_found : (h : Head) (P : Option Cut) (bytes : List ℕ) → IsSpelled h P bytes → pair_in bytes ≡ Some (said h P)
+unfolding pair_in
+pair_found h P bytes s =
+    let x = whole_again false at_end anywhere bytes h P s (λ f. absurd (false≢true f)) in
+    let of_kind : if_spelled (walk false at_end (whole h.kind anywhere) (start bytes)) ≡ Some (said h P) =
+    ap if_spelled x.same ∙ (rw x.left refl) in
+    subst (λ (k : Kind). if_spelled (walk false at_end (whole k anywhere) (start bytes)) ≡ Some (said h P))
+    (sym (kind_spelled h P bytes s)) of_kind
+
+-- ---- what is found is spelled
+
+abbrev some : Said → Option Said
+some x = Some x
+
+same_pair : (x y : Said) → some x ≡ some y → x ≡ y
+same_pair x y e = cc
+
+read_pair : (r : Result Said Fault) (x : Said) → if_spelled r ≡ Some x → r ≡ Ok x
+read_pair (Ok y) x e = ap (λ (z : Said). Ok z) (same_pair y x e)
+read_pair (Err f) x e = absurd cc
+
+abbrev found : Said → Result Said Fault
+found x = Ok x
+
+same_found : (x y : Said) → found x ≡ found y → x ≡ y
+same_found x y e = cc
+
+-- bytes spell the pair that is found in them
+pub pair_spelled : (bytes : List ℕ) (x : Said) → IsBytes bytes → pair_in bytes ≡ Some x → IsSpelled x.head x.part bytes
+unfolding pair_in
+pair_spelled bytes x fits e =
+    let t = take_whole false at_end (kind_in bytes) anywhere bytes x fits
+    (read_pair (walk false at_end (whole (kind_in bytes) anywhere) (start bytes)) x e) in
+    let z = not_failed (nat_lt 0 (length t.end.rest)) (fault rule.Trailing t.end.at) (Ok t.value) x t.rest in
+    let same = same_found t.value x z.1 in
+    subst (λ (y : Said). IsSpelled y.head y.part bytes) same
+    (spelled_whole false at_end (kind_in bytes) anywhere bytes x t (nothing_left t.end.rest z.0))
+
+-- ---- there is one
+
+pub one_pair : (bytes : List ℕ) → SpellsOne bytes
+one_pair bytes = λ h g P Q s t.
+    let same : said h P ≡ said g Q = same_pair (said h P) (said g Q)
+    (sym (pair_found h P bytes s) ∙ pair_found g Q bytes t) in
+    (ap (λ (x : Said). x.head) same, ap (λ (x : Said). x.part) same)

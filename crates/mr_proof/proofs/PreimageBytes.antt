@@ -1,0 +1,129 @@
+-- The preimages and digests of a tree that is not empty are bytes.
+use Rattle.std.proofs.Common.{◌≡◌, ℕ, zero, suc, ◌+◌, ◌<◌, ◌≤◌, ◌^◌, List, [], ◌∷◌, ◌++◌, map, length, refl, sym, ap, subst, ◌∙◌, arith}
+use Rattle.std.specs.Prelude.{Option, Some, None}
+use Rattle.std.specs.Int.{w32, w64, byte_at, bytes_high_first, to_be_bytes, cast_unsigned}
+use Rattle.std.specs.List.{flat_map, AllByRecursion}
+use Rattle.std.proofs.lemmas.List.{length-map}
+use Rattle.std.proofs.lemmas.List.Concat.{flat_map-cons}
+use Rattle.std.proofs.lemmas.List.Elements.{All-append, All-cons, All-nil}
+use Rattle.mr_geom.specs.Rectangle.{Rectangle}
+use Rattle.mr_record.specs.Bytes.{AreBytes}
+use Rattle.mr_record.specs.Record.{IsRecord, record_bytes, rectangle_bytes, coordinate_bytes}
+use Rattle.mr_record.specs.declared.record.Record.{Record}
+use Rattle.mr_tree.specs.Tree.{level, first_level}
+use Rattle.mr_tree.specs.Digest.{Entry, entry, entry_step, entry_bytes, rect_bytes, level_over, node_preimage, digest}
+use Rattle.mr_tree.specs.Digest.{leaf_tag, inner_tag}
+use Rattle.mr_tree.specs.Slim.{IsSlim, IsSlimNode}
+use Rattle.mr_tree.specs.declared.tree.Tree.{Tree}
+use Rattle.mr_tree.specs.declared.tree.Tree.TheVariants as tree
+use Rattle.mr_tree.specs.declared.tree.Tree.TheOpen as node
+use Rattle.mr_tree.proofs.Equations.{entry_level}
+use Rattle.mr_tree.proofs.Folds.{fold-Leaf, fold-Inner}
+use Rattle.mr_tree.proofs.Induction.{tree_induction, here-Leaf, here-Inner, every_child}
+use Rattle.mr_proof.proofs.Full.{IsFull, IsFullNode, not_full_empty}
+
+-- a hash of bytes in 32 bytes
+pub record IsSized (hash : List ℕ → List ℕ) : Type 0 where
+  pub long : (m : List ℕ) → length (hash m) ≡ 32
+  pub bytes : (m : List ℕ) → AreBytes m → AreBytes (hash m)
+
+abbrev IsByte : ℕ → Type 0
+IsByte b = b < 2 ^ 8
+
+both : (xs ys : List ℕ) → AreBytes xs → AreBytes ys → AreBytes (xs ++ ys)
+both xs ys p q = All-append IsByte xs ys p q
+
+one_more : (b : ℕ) (xs : List ℕ) → b < 2 ^ 8 → AreBytes xs → AreBytes (b ∷ xs)
+one_more b xs p q = All-cons IsByte b xs p q
+
+none : AreBytes []
+none = All-nil IsByte
+
+byte_below : (i n : ℕ) → byte_at i n < 2 ^ 8
+byte_below zero n = omega arith
+byte_below (suc i) n = omega arith
+
+high_first : (k n : ℕ) → AreBytes (bytes_high_first k n)
+high_first zero n = none
+high_first (suc k) n = one_more (byte_at k n) (bytes_high_first k n) (byte_below k n) (high_first k n)
+
+rectangle_are_bytes : (r : Rectangle) → AreBytes (rectangle_bytes r)
+unfolding rectangle_bytes
+rectangle_are_bytes r =
+    let a = high_first 4 (cast_unsigned w32 r.x0) in
+    let b = high_first 4 (cast_unsigned w32 r.y0) in
+    let c = high_first 4 (cast_unsigned w32 r.x1) in
+    let d = high_first 4 (cast_unsigned w32 r.y1) in
+    both (coordinate_bytes r.x0) (coordinate_bytes r.y0 ++ coordinate_bytes r.x1 ++ coordinate_bytes r.y1) a
+    (both (coordinate_bytes r.y0) (coordinate_bytes r.x1 ++ coordinate_bytes r.y1) b
+    (both (coordinate_bytes r.x1) (coordinate_bytes r.y1) c d))
+
+record_are_bytes : (r : Record) → IsRecord r → AreBytes (record_bytes r)
+unfolding record_bytes
+record_are_bytes r fit =
+    let few = fit.payload in
+    both (to_be_bytes w64 r.number ++ rectangle_bytes r.rect) (length r.payload ∷ r.payload)
+    (both (to_be_bytes w64 r.number) (rectangle_bytes r.rect) (high_first 8 r.number) (rectangle_are_bytes r.rect))
+    (one_more (length r.payload) r.payload (omega (arith, few)) fit.bytes)
+
+records_are_bytes : (rs : List Record) → AllByRecursion IsRecord rs → AreBytes (flat_map record_bytes rs)
+records_are_bytes [] all = none
+records_are_bytes (r ∷ rs) all =
+    subst AreBytes (sym (flat_map-cons record_bytes r rs))
+    (both (record_bytes r) (flat_map record_bytes rs) (record_are_bytes r all.0) (records_are_bytes rs all.1))
+
+rect_are_bytes : (o : Option Rectangle) → AreBytes (rect_bytes o)
+rect_are_bytes None = none
+rect_are_bytes (Some r) = rectangle_are_bytes r
+
+-- ---- digests
+
+abbrev HasBytes : (List ℕ → List ℕ) → Tree → Type 0
+HasBytes hash t = IsFull t → IsSlim t → AreBytes (digest hash t)
+
+entries_are_bytes : (hash : List ℕ → List ℕ) (ts : List Tree) → AllByRecursion (HasBytes hash) ts
+    → AllByRecursion IsFull ts → AllByRecursion IsSlim ts → AreBytes (flat_map entry_bytes (map (entry hash) ts))
+entries_are_bytes hash [] all full slim = none
+entries_are_bytes hash (t ∷ ts) all full slim =
+    subst AreBytes (sym (flat_map-cons entry_bytes (entry hash t) (map (entry hash) ts)))
+    (both (entry_bytes (entry hash t)) (flat_map entry_bytes (map (entry hash) ts))
+    (both (rect_bytes (entry hash t).rect) (digest hash t) (rect_are_bytes (entry hash t).rect) (all.0 full.0 slim.0))
+    (entries_are_bytes hash ts all.1 full.1 slim.1))
+
+levels_same : (hash : List ℕ → List ℕ) (ts : List Tree)
+    → map (λ (e : Entry). e.level) (map (entry hash) ts) ≡ map level ts
+levels_same hash [] = refl
+levels_same hash (t ∷ ts) = λ i. entry_level hash t i ∷ levels_same hash ts i
+
+leaf_has_bytes : (hash : List ℕ → List ℕ) → IsSized hash → (rs : List Record) → HasBytes hash (tree.Leaf rs)
+leaf_has_bytes hash h rs full slim =
+    let own = here-Leaf IsFullNode rs full in
+    let few = here-Leaf IsSlimNode rs slim in
+    let whole = node_preimage (node.Leaf rs) in
+    let fine : AreBytes whole = one_more leaf_tag (length rs ∷ flat_map record_bytes rs) (omega arith)
+    (one_more (length rs) (flat_map record_bytes rs) (omega (arith, few)) (records_are_bytes rs own.1)) in
+    subst AreBytes (sym (ap (λ (e : Entry). e.digest) (fold-Leaf Entry (entry_step hash) rs))) (h.bytes whole fine)
+
+inner_has_bytes : (hash : List ℕ → List ℕ) → IsSized hash → (ts : List Tree) → AllByRecursion (HasBytes hash) ts
+    → HasBytes hash (tree.Inner ts)
+inner_has_bytes hash h ts all full slim =
+    let own = here-Inner IsSlimNode ts slim in
+    let few = own.0 in
+    let low = own.1 in
+    let entries = map (entry hash) ts in
+    let whole = node_preimage (node.Inner entries) in
+    let long : length entries ≡ length ts = length-map ts (entry hash) in
+    let high : level_over entries ≡ first_level (map level ts) + 1 =
+    ap (λ (ns : List ℕ). first_level ns + 1) (levels_same hash ts) in
+    let each = entries_are_bytes hash ts all (every_child IsFullNode ts full) (every_child IsSlimNode ts slim) in
+    let fine : AreBytes whole = one_more inner_tag (level_over entries ∷ length entries ∷ flat_map entry_bytes entries)
+    (omega arith) (one_more (level_over entries) (length entries ∷ flat_map entry_bytes entries)
+    (omega (arith, high, low)) (one_more (length entries) (flat_map entry_bytes entries)
+    (omega (arith, long, few)) each)) in
+    subst AreBytes (sym (ap (λ (e : Entry). e.digest) (fold-Inner Entry (entry_step hash) ts))) (h.bytes whole fine)
+
+pub digest_are_bytes : (hash : List ℕ → List ℕ) → IsSized hash → (t : Tree) → HasBytes hash t
+digest_are_bytes hash h = tree_induction (HasBytes hash)
+    (λ full slim. absurd (not_full_empty full))
+    (leaf_has_bytes hash h)
+    (inner_has_bytes hash h)

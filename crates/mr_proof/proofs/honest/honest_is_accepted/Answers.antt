@@ -1,0 +1,13 @@
+use Rattle.mr_proof.proofs.PreimageBytes.{IsSized}
+use Rattle.mr_proof.proofs.Complete.{accepts_honest, honest_stands}
+use Rattle.mr_proof.proofs.honest.honest_is_accepted.Goals as goal
+
+pub returns-clause-accepted : goal.returns-clause-accepted
+returns-clause-accepted g c =
+    let sized : IsSized g.H.Hashes.of = record { long = g.met.H.Hashes.sized; bytes = g.met.H.Hashes.bytes } in
+    accepts_honest g.H.Hashes.of sized c.args._q.now
+
+pub returns-clause-honest : goal.returns-clause-honest
+returns-clause-honest g c =
+    let sized : IsSized g.H.Hashes.of = record { long = g.met.H.Hashes.sized; bytes = g.met.H.Hashes.bytes } in
+    λ t batch well low. honest_stands g.H.Hashes.of sized c.args._q.now t batch well low

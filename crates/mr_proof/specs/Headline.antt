@@ -1,0 +1,56 @@
+-- What an accepted proof is worth: it is the honest proof and its answer that of a scan of the
+-- map's records, or it shows two strings that differ and have one hash.
+use Rattle.std.specs.Prelude.{◌≡◌, ◌≢◌, ◌⊎◌, ℕ, ◌^◌, ◌<◌, List, Some, None, Ok, Err}
+use Rattle.mr_record.specs.declared.record.Record.{Record}
+use Rattle.mr_tree.specs.Tree.{records}
+use Rattle.mr_tree.specs.Digest.{root}
+use Rattle.mr_tree.specs.WellFormed.{WellFormed}
+use Rattle.mr_tree.specs.declared.tree.Tree.{Tree}
+use Rattle.mr_query.specs.declared.query.Query.{Query}
+use Rattle.mr_query.specs.Scan.{scan}
+use Rattle.mr_proof.specs.declared.rule.Fault.{Fault}
+use Rattle.mr_proof.specs.Tight.{asks}
+use Rattle.mr_proof.specs.Accepted.{Proves}
+use Rattle.mr_proof.specs.Honest.{proof}
+use Rattle.mr_proof.specs.Reading.{verdict}
+use Rattle.mr_proof.specs.Clash.{Pair, clash, IsCollision, NoneAnd}
+
+-- the answer is the whole of it, and the bytes are those that an honest server sends
+pub record IsHonest (hash : List ℕ → List ℕ) (t : Tree) (batch : ℕ) (q : Query)
+    (bytes : List ℕ) (answer : List Record) : Type 0 where
+  pub complete : answer ≡ scan (records t) q
+  pub own : bytes ≡ proof hash t batch q
+
+-- No two strings stand at one place and differ, and all is honest; or the first two that do are a
+-- collision.
+abbrev pub IsHonestOrCollides : (List ℕ → List ℕ) → Tree → (batch : ℕ) → Query → List ℕ
+    → List Record → Type 0
+IsHonestOrCollides hash t batch q bytes answer =
+    NoneAnd hash (clash hash t batch bytes) (IsHonest hash t batch q bytes answer)
+
+-- What bytes are worth that prove an answer against the root digest of a map, whatever the map.
+abbrev pub Headline : (List ℕ → List ℕ) → Query → List ℕ → Type 0
+Headline hash q bytes =
+    (t : Tree) (batch : ℕ) (answer : List Record) → WellFormed t → batch < 2 ^ 64
+    → Proves hash (root hash t batch) (asks q) bytes answer
+    → IsHonestOrCollides hash t batch q bytes answer
+
+-- The same by the verdict: what an accepted proof is worth.
+abbrev pub AcceptedIsHonest : (List ℕ → List ℕ) → Query → List ℕ → Type 0
+AcceptedIsHonest hash q bytes =
+    (t : Tree) (batch : ℕ) (answer : List Record) → WellFormed t → batch < 2 ^ 64
+    → verdict hash (root hash t batch) q bytes ≡ Ok answer
+    → IsHonestOrCollides hash t batch q bytes answer
+
+-- Bytes other than the honest proof are refused, or show a collision.
+abbrev pub OthersFail : (List ℕ → List ℕ) → Query → List ℕ → Type 0
+OthersFail hash q bytes =
+    (t : Tree) (batch : ℕ) → WellFormed t → batch < 2 ^ 64 → bytes ≢ proof hash t batch q
+    → ((f : Fault) × (verdict hash (root hash t batch) q bytes ≡ Err f))
+    ⊎ ((p : Pair) × (clash hash t batch bytes ≡ Some p) × IsCollision hash p)
+
+-- The honest proof shows no pair.
+abbrev pub HonestIsQuiet : (List ℕ → List ℕ) → Query → Type 0
+HonestIsQuiet hash q =
+    (t : Tree) (batch : ℕ) → WellFormed t → batch < 2 ^ 64
+    → clash hash t batch (proof hash t batch q) ≡ None

@@ -1,0 +1,16 @@
+pub mod Limits
+pub mod RuleNames
+pub mod Fields
+pub mod Cut
+pub mod Spelling
+pub mod Items
+pub mod Tight
+pub mod Accepted
+pub mod Honest
+pub mod Grammar
+pub mod Layout
+pub mod Refused
+pub mod Reading
+pub mod Halves
+pub mod Clash
+pub mod Headline

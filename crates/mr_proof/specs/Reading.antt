@@ -1,0 +1,81 @@
+-- Reading a proof from the front, up to the first fault.
+use Rattle.std.specs.Prelude.{ℕ, ◌+◌, Bool, true, false, not, ◌==◌, ◌||◌, nat_lt, if◌then◌else◌, List, length, slice_index, bytes_eq, Option, Some, None, Result, Ok, Err}
+use Rattle.mr_record.specs.declared.record.Record.{Record}
+use Rattle.mr_query.specs.declared.query.Query.{Query}
+use Rattle.mr_proof.specs.declared.head.Kind.{Kind}
+use Rattle.mr_proof.specs.declared.head.Kind.TheVariants as kind
+use Rattle.mr_proof.specs.declared.rule.Rule.TheVariants as rule
+use Rattle.mr_proof.specs.declared.rule.Fault.{Fault}
+use Rattle.mr_proof.specs.Fields.{kind_byte}
+use Rattle.mr_proof.specs.Spelling.{Said, opened_records}
+use Rattle.mr_proof.specs.Tight.{Seen, Asks, asks}
+use Rattle.mr_proof.specs.Accepted.{root_found}
+use Rattle.mr_proof.specs.Grammar.{Note, must, opens, Grammar, done, reads, notes, whole}
+use Rattle.mr_proof.specs.Layout.{fault, Stand, start, field_at}
+use Rattle.mr_proof.specs.Refused.{has_other_radius}
+
+-- the second step, if the first met no fault
+infixl 10 ◌>>=◌
+abbrev pub ◌>>=◌ : {A B : Type 0} → Result A Fault → (A → Result B Fault) → Result B Fault
+Ok x >>= f = f x
+Err e >>= f = Err e
+
+-- past a note at the last field, which stands at this place: a note that is heeded stops where its
+-- test fails
+abbrev pub past : {B : Type 0} → Bool → Note → ℕ → Result B Fault → Result B Fault
+past heeds (must broken passes) at rest =
+    if not heeds || passes then rest else Err (fault broken at)
+past heeds (opens r) at rest = rest
+
+-- What the ending gives after the last field, or the first fault before it: a field's, or, where
+-- notes are heeded, a note's.
+abbrev pub walk : {A B : Type 0} → Bool → (A → Stand → Result B Fault) → Grammar A → Stand
+    → Result B Fault
+walk heeds ending (done x) s = ending x s
+walk heeds ending (reads w next) s = field_at w s >>= λ x. walk heeds ending (next x.0) x.1
+walk heeds ending (notes n next) s = past heeds n s.last (walk heeds ending next s)
+
+-- ---- a proof that is checked
+
+-- the head and the cut after a layout that reached its last field, or the first fault behind it
+unfoldable pub ending : (List ℕ → List ℕ) → List ℕ → Query → Said → Stand → Result Said Fault
+ending hash root q x s =
+    if nat_lt 0 (length s.rest) then Err (fault rule.Trailing s.at)
+    else if not (bytes_eq (root_found hash x.head x.part) root) then
+    Err (fault (rule.WrongRoot (root_found hash x.head x.part)) (s.at + length s.rest))
+    else if has_other_radius q x.head.radius (opened_records x.part) then
+    Err (fault rule.WrongRadius (s.at + length s.rest))
+    else Ok x
+
+-- the head and the cut of an accepted proof, or the fault of the bytes
+unfoldable pub checked : (List ℕ → List ℕ) → List ℕ → Query → List ℕ → Result Said Fault
+checked hash root q bytes =
+    walk true (ending hash root q) (whole (asks q).kind (asks q).region) (start bytes)
+
+-- the answer that the bytes prove, or their fault
+unfoldable pub verdict : (List ℕ → List ℕ) → List ℕ → Query → List ℕ → Result (List Record) Fault
+verdict hash root q bytes =
+    checked hash root q bytes >>= λ x. Ok ((asks q).answer (opened_records x.part))
+
+-- ---- what any bytes spell
+
+-- the kind of query that the bytes, where they are a proof, are for
+abbrev pub kind_in : List ℕ → Kind
+kind_in bytes = if slice_index bytes 5 == kind_byte kind.K then kind.K else kind.W
+
+-- nothing is left behind the last field
+abbrev pub at_end : Said → Stand → Result Said Fault
+at_end x s = if nat_lt 0 (length s.rest) then Err (fault rule.Trailing s.at) else Ok x
+
+abbrev pub if_spelled : Result Said Fault → Option Said
+if_spelled (Ok x) = Some x
+if_spelled (Err f) = None
+
+-- any region: where notes are not heeded, none counts
+abbrev pub anywhere : Option ℕ → Seen → Bool
+anywhere radius s = true
+
+-- the head and the cut that the whole of the bytes spells, for a query of whatever kind, tight or
+-- not
+unfoldable pub pair_in : List ℕ → Option Said
+pair_in bytes = if_spelled (walk false at_end (whole (kind_in bytes) anywhere) (start bytes))

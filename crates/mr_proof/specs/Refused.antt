@@ -1,0 +1,94 @@
+-- The refusing half: all rules that a byte string breaks as a proof, and which of them is its
+-- fault.
+use Rattle.std.specs.Prelude.{◌≡◌, ◌⊎◌, ℕ, ◌+◌, ◌<◌, Bool, false, not, nat_lt, if◌then◌else◌, List, [], ◌∷◌, ◌++◌, length, All, bytes_eq, Option, Result, Ok, Err}
+use Rattle.std.specs.List.{Contains}
+use Rattle.mr_record.specs.declared.record.Record.{Record}
+use Rattle.mr_query.specs.declared.query.Query.{Query}
+use Rattle.mr_query.specs.declared.query.Query.TheVariants.{Window}
+use Rattle.mr_proof.specs.declared.rule.Rule.{Rule}
+use Rattle.mr_proof.specs.declared.rule.Rule.TheVariants as rule
+use Rattle.mr_proof.specs.declared.rule.Fault.{Fault}
+use Rattle.mr_proof.specs.declared.field.Field.{Field}
+use Rattle.mr_proof.specs.Spelling.{Said, opened_records}
+use Rattle.mr_proof.specs.Tight.{asks}
+use Rattle.mr_proof.specs.Accepted.{root_found}
+use Rattle.mr_proof.specs.Grammar.{Note, must, opens, Grammar, done, reads, notes, whole}
+use Rattle.mr_proof.specs.Layout.{fault, Stand, start, field_at}
+
+-- ---- the first of some faults
+
+-- the number of a rule: of several at one place the least counts
+abbrev pub rank : Rule → ℕ
+rank rule.Long = 0
+rank rule.Short = 1
+rank rule.BadMagic = 2
+rank rule.BadVersion = 3
+rank rule.WrongKind = 4
+rank rule.BadCount = 5
+rank rule.BadFlag = 6
+rank rule.BadRadius = 7
+rank rule.BadLevel = 8
+rank rule.BadTag = 9
+rank rule.BadEntries = 10
+rank rule.BadRect = 11
+rank rule.BadLength = 12
+rank rule.Hidden = 13
+rank rule.Needless = 14
+rank rule.Trailing = 15
+rank (rule.WrongRoot found) = 16
+rank rule.WrongRadius = 17
+
+-- the first goes before the second: it has the lesser place, or at one place the lesser rule
+abbrev pub Before : Fault → Fault → Type 0
+Before f g = (f.at < g.at) ⊎ ((f.at ≡ g.at) × (rank f.rule < rank g.rule))
+
+-- f is one of the faults, and goes before all others
+pub record IsFirst (f : Fault) (faults : List Fault) : Type 0 where
+  pub is_one : Contains faults f
+  pub least : All (λ g. (g ≡ f) ⊎ Before f g) faults
+
+-- ---- all faults
+
+abbrev pub if_fault : Bool → Fault → List Fault
+if_fault broken f = if broken then f ∷ [] else []
+
+-- the faults behind a field that is read, or its own fault, with which the layout ends
+abbrev pub with_field : Result (Field × Stand) Fault → (Field → Stand → List Fault) → List Fault
+with_field (Ok x) behind = behind x.0 x.1
+with_field (Err f) behind = f ∷ []
+
+-- the fault of a note at the last field, which stands at this place
+abbrev pub note_faults : Note → ℕ → List Fault
+note_faults (must broken passes) at = if_fault (not passes) (fault broken at)
+note_faults (opens r) at = []
+
+-- All faults of the layout: that of the field with which it ends, those of the notes on the way,
+-- and after a layout that reached its last field those that then are found.
+abbrev pub faults : {A : Type 0} → (A → Stand → List Fault) → Grammar A → Stand → List Fault
+faults ending (done x) s = ending x s
+faults ending (reads w next) s = with_field (field_at w s) (λ value t. faults ending (next value) t)
+faults ending (notes n next) s = note_faults n s.last ++ faults ending next s
+
+-- whether the squared radius is another than that of the opened records; for a window there is none
+abbrev pub has_other_radius : Query → Option ℕ → List Record → Bool
+has_other_radius (Window w) radius records = false
+
+-- what is found after a layout that reached its last field
+abbrev pub last_faults : (List ℕ → List ℕ) → List ℕ → Query → Said → Stand → List Fault
+last_faults hash root q x s =
+    let found = root_found hash x.head x.part in
+    let end = s.at + length s.rest in
+    if_fault (nat_lt 0 (length s.rest)) (fault rule.Trailing s.at)
+    ++ (if_fault (not (bytes_eq found root)) (fault (rule.WrongRoot found) end)
+    ++ if_fault (has_other_radius q x.head.radius (opened_records x.part))
+    (fault rule.WrongRadius end))
+
+-- all faults of the bytes as a proof
+abbrev pub all_faults : (List ℕ → List ℕ) → List ℕ → Query → List ℕ → List Fault
+all_faults hash root q bytes =
+    faults (last_faults hash root q) (whole (asks q).kind (asks q).region) (start bytes)
+
+-- the fault of the bytes: of all that are broken the one with the least place, and at that place
+-- with the least rule
+abbrev pub IsRefused : (List ℕ → List ℕ) → List ℕ → Query → List ℕ → Fault → Type 0
+IsRefused hash root q bytes f = IsFirst f (all_faults hash root q bytes)

@@ -1,0 +1,119 @@
+-- The one spelling of a head and a cut.
+use Rattle.std.specs.Prelude.{◌≡◌, ℕ, ◌-◌, ◌+◌, ◌^◌, ◌<◌, ◌≤◌, ⊤, ◌==◌, if◌then◌else◌, List, [], ◌∷◌, ◌++◌, length, All, Option, Some, None, IfSome}
+use Rattle.std.specs.List.{flat_map}
+use Rattle.std.specs.Int.{w64, w128, to_be_bytes}
+use Rattle.mr_geom.specs.Rectangle.{IsOrdered, FitsMap}
+use Rattle.mr_record.specs.Bytes.{AreBytes}
+use Rattle.mr_record.specs.Record.{IsRecord, record_bytes, rectangle_bytes}
+use Rattle.mr_record.specs.declared.record.Record.{Record}
+use Rattle.mr_proof.specs.declared.head.Kind.{Kind}
+use Rattle.mr_proof.specs.declared.head.Kind.TheVariants as kind
+use Rattle.mr_proof.specs.declared.head.Head.{Head}
+use Rattle.mr_proof.specs.declared.shown.Shown.{Shown}
+use Rattle.mr_proof.specs.Limits.{count_limit, radius_limit, level_limit, leaf_limit, inner_limit, place_limit}
+use Rattle.mr_proof.specs.Fields.{magic, version, kind_byte, pruned_tag, leaf_tag, inner_tag}
+use Rattle.mr_proof.specs.Cut.{Cut, Cuts, Pruned, Leaf, Inner, no_more, first, count_of, records}
+
+-- ---- items
+
+abbrev pub shown_bytes : Shown → List ℕ
+shown_bytes part = rectangle_bytes part.rect ++ part.digest
+
+abbrev mutual
+  pub cut_bytes : Cut → List ℕ
+  cut_bytes (Pruned part) = pruned_tag ∷ shown_bytes part
+  cut_bytes (Leaf records) = leaf_tag ∷ length records ∷ flat_map record_bytes records
+  cut_bytes (Inner cuts) = inner_tag ∷ count_of cuts ∷ cuts_bytes cuts
+
+  pub cuts_bytes : Cuts → List ℕ
+  cuts_bytes no_more = []
+  cuts_bytes (first P Ps) = cut_bytes P ++ cuts_bytes Ps
+
+pub record FitsShown (part : Shown) : Type 0 where
+  pub ordered : IsOrdered part.rect
+  pub coordinates : FitsMap part.rect
+  pub digest : length part.digest ≡ 32
+  pub bytes : AreBytes part.digest
+
+pub record FitsLeaf (level : ℕ) (records : List Record) : Type 0 where
+  pub at_leaf : level ≡ 0
+  pub some : 1 ≤ length records
+  pub few : length records ≤ leaf_limit
+  pub each : All IsRecord records
+
+pub record FitsInner (level count : ℕ) : Type 0 where
+  pub above : 1 ≤ level
+  pub some : 1 ≤ count
+  pub few : count ≤ inner_limit
+
+abbrev mutual
+  -- a cut of this level, with each value in its range
+  pub FitsCut : ℕ → Cut → Type 0
+  FitsCut level (Pruned part) = FitsShown part
+  FitsCut level (Leaf records) = FitsLeaf level records
+  FitsCut level (Inner cuts) = FitsInner level (count_of cuts) × FitCuts (level - 1) cuts
+
+  pub FitCuts : ℕ → Cuts → Type 0
+  FitCuts level no_more = ⊤
+  FitCuts level (first P Ps) = FitsCut level P × FitCuts level Ps
+
+-- ---- the head
+
+-- a flag and a squared radius, in a proof for nearest records
+abbrev pub radius_bytes : Kind → Option ℕ → List ℕ
+radius_bytes kind.W r = []
+radius_bytes kind.K None = 0 ∷ []
+radius_bytes kind.K (Some r) = 1 ∷ to_be_bytes w128 r
+
+abbrev pub level_bytes : ℕ → ℕ → List ℕ
+level_bytes count level = if count == 0 then [] else level ∷ []
+
+abbrev pub head_bytes : Head → List ℕ
+head_bytes h =
+    magic ++ version ∷ kind_byte h.kind
+    ∷ (to_be_bytes w64 h.batch ++ (to_be_bytes w64 h.count ++
+    (radius_bytes h.kind h.radius ++ level_bytes h.count h.level)))
+
+-- a window's proof has no radius
+abbrev pub FitsRadius : Kind → Option ℕ → Type 0
+FitsRadius kind.W r = r ≡ None
+FitsRadius kind.K r = IfSome r (λ n. n ≤ radius_limit)
+
+-- each value in its range
+pub record FitsHead (h : Head) : Type 0 where
+  pub batch : h.batch < 2 ^ 64
+  pub count : h.count ≤ count_limit
+  pub radius : FitsRadius h.kind h.radius
+  pub level : h.level ≤ level_limit
+  pub empty : h.count ≡ 0 → h.level ≡ 0
+
+-- ---- both
+
+-- a head and, where there are records, a cut
+pub record Said : Type 0 where
+  pub head : Head
+  pub part : Option Cut
+
+abbrev pub said : Head → Option Cut → Said
+said h P = record { head = h; part = P }
+
+abbrev pub opened_records : Option Cut → List Record
+opened_records None = []
+opened_records (Some P) = records P
+
+abbrev pub part_bytes : Option Cut → List ℕ
+part_bytes None = []
+part_bytes (Some P) = cut_bytes P
+
+-- there is a cut, of the head's level, just where the head's count is not 0
+abbrev pub FitsPart : Head → Option Cut → Type 0
+FitsPart h None = h.count ≡ 0
+FitsPart h (Some P) = (0 < h.count) × FitsCut h.level P
+
+-- The whole of the bytes is the spelling of the head and the cut. All fields end by the place
+-- limit, since the last one does.
+pub record IsSpelled (h : Head) (P : Option Cut) (bytes : List ℕ) : Type 0 where
+  pub head : FitsHead h
+  pub part : FitsPart h P
+  pub whole : bytes ≡ head_bytes h ++ part_bytes P
+  pub short : length bytes ≤ place_limit

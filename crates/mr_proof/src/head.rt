@@ -1,0 +1,23 @@
+/// The kind of query that a proof is for.
+#[derive(Clone, Copy, Debug, PartialEq, Eq)]
+pub enum Kind {
+    /// A window.
+    W,
+    /// The nearest records.
+    K,
+}
+
+/// What a proof says before its items.
+#[derive(Clone, Copy, Debug, PartialEq, Eq)]
+pub struct Head {
+    pub kind: Kind,
+    /// The batch of the map.
+    pub batch: u64,
+    /// How many records the map has.
+    pub count: u64,
+    /// The squared radius round the query's point, in squared map units, where the map has records
+    /// enough.
+    pub radius: Option<u128>,
+    /// The level of the root node, 0 for the empty map.
+    pub level: u8,
+}

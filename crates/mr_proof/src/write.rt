@@ -1,0 +1,135 @@
+//! The writers of a proof's pieces, each with one write to the sink.
+
+ghost use Rattle.std.specs.Prelude.{◌≡◌, ◌+◌, ◌*◌, ◌<◌, ◌≤◌, ◌++◌, [], length, OnOk};
+ghost use Rattle.std.specs.List.{flat_map};
+ghost use Rattle.mr_outside.specs.Causes.{SinkCauses};
+ghost use Rattle.mr_outside.specs.Told.{Takes, TakesFront};
+ghost use Rattle.mr_record.specs.Record.{record_bytes};
+ghost use Rattle.mr_proof.specs.Limits.{count_limit, level_limit};
+ghost use Rattle.mr_proof.specs.Cut.{Pruned, Leaf};
+ghost use Rattle.mr_proof.specs.Spelling.{cut_bytes, radius_bytes, level_bytes, head_bytes, FitsRadius};
+ghost use Rattle.mr_proof.specs.Items.{item_bytes, FitsItem};
+
+use crate::buffer::Buffer;
+use crate::field::{VERSION, kind_byte};
+use crate::{Head, Item, Kind};
+use mr_geom::Rect;
+use mr_outside::{Sink, SinkErr, write_all};
+use mr_record::{Record, is_record, rect_bytes};
+
+// ---- the head
+
+fn put_radius(bytes: &mut Buffer, kind: Kind, radius: Option<u128>)
+    requires room { length bytes.old < 100 }
+    requires radius { FitsRadius kind radius }
+    ensures value { bytes.new ≡ bytes.old ++ radius_bytes kind radius }
+    ensures short { length bytes.new < 200 }
+{
+    match kind {
+        Kind::W => {}
+        Kind::K => match radius {
+            None => bytes.put(&[0]),
+            Some(radius) => {
+                bytes.put(&[1]);
+                bytes.put(&radius.to_be_bytes());
+            }
+        },
+    }
+}
+
+fn put_level(bytes: &mut Buffer, count: u64, level: u8)
+    requires { length bytes.old < 200 }
+    ensures { bytes.new ≡ bytes.old ++ level_bytes count level }
+{
+    if count > 0 {
+        bytes.put(&[level]);
+    }
+}
+
+fn head_of(head: &Head) -> Buffer
+    requires { FitsRadius head.now.kind head.now.radius }
+    ensures { result ≡ head_bytes head.now }
+{
+    let mut bytes = Buffer::new();
+    bytes.put(b"MRVO");
+    bytes.put(&[VERSION, kind_byte(head.kind)]);
+    bytes.put(&head.batch.to_be_bytes());
+    bytes.put(&head.count.to_be_bytes());
+    put_radius(&mut bytes, head.kind, head.radius);
+    put_level(&mut bytes, head.count, head.level);
+    bytes
+}
+
+/// Writes what a proof says before its items. A window's proof has no radius. After a refusal some
+/// front of the bytes was taken.
+pub fn write_head<W: Sink>(out: &mut W, head: &Head) -> Result<(), SinkErr>
+    requires radius { FitsRadius head.now.kind head.now.radius }
+    requires count { head.now.count ≤ count_limit }
+    requires level { head.now.level ≤ level_limit }
+    ensures whole { OnOk result (Takes (W.state out.old) (W.state out.new) (head_bytes head.now)) }
+    ensures front { TakesFront (W.state out.old) (W.state out.new) (head_bytes head.now) }
+    ensures causes { SinkCauses (W.state out.old) (W.state out.new) result }
+{
+    let bytes = head_of(head);
+    write_all(out, bytes.bytes())
+}
+
+// ---- items
+
+fn pruned(rect: &Rect, digest: &[u8; 32]) -> Buffer
+    ensures { result ≡ cut_bytes (Pruned (record { rect = rect.now; digest = digest.now })) }
+{
+    let mut bytes = Buffer::new();
+    bytes.put(b"P");
+    bytes.put(&rect_bytes(rect));
+    bytes.put(digest);
+    bytes
+}
+
+fn put_record(bytes: &mut Buffer, one: &Record)
+    requires { length bytes.old + 225 ≤ 3602 }
+    ensures value { bytes.new ≡ bytes.old ++ record_bytes one.now }
+    ensures short { length bytes.new ≤ length bytes.old + 225 }
+{
+    is_record(one);
+    let payload = one.payload.bytes();
+    bytes.put(&one.number.to_be_bytes());
+    bytes.put(&rect_bytes(&one.rect));
+    bytes.put(&[payload.len() as u8]);
+    bytes.put(payload);
+}
+
+fn put_records(bytes: &mut Buffer, records: &[Record])
+    requires { length bytes.old + 225 * length records.now ≤ 3602 }
+    ensures { bytes.new ≡ bytes.old ++ flat_map record_bytes records.now }
+{
+    for one in records {
+        put_record(bytes, one);
+    }
+}
+
+fn leaf(records: &[Record]) -> Buffer
+    requires { length records.now ≤ 16 }
+    ensures { result ≡ cut_bytes (Leaf records.now) }
+{
+    let mut bytes = Buffer::new();
+    bytes.put(&[b'L', records.len() as u8]);
+    put_records(&mut bytes, records);
+    bytes
+}
+
+/// Writes one item: a pruned part or a leaf whole, and of an inner node the tag and the number of
+/// its children, from 1 to 64, whose items are to be written next. A leaf has at least one record.
+/// After a refusal some front of the bytes was taken.
+pub fn write_item<W: Sink>(out: &mut W, item: &Item) -> Result<(), SinkErr>
+    requires { FitsItem item.now }
+    ensures whole { OnOk result (Takes (W.state out.old) (W.state out.new) (item_bytes item.now)) }
+    ensures front { TakesFront (W.state out.old) (W.state out.new) (item_bytes item.now) }
+    ensures causes { SinkCauses (W.state out.old) (W.state out.new) result }
+{
+    match item {
+        Item::Pruned(rect, digest) => write_all(out, pruned(rect, digest).bytes()),
+        Item::Leaf(view) => write_all(out, leaf(view.records()).bytes()),
+        Item::Inner(count) => write_all(out, &[b'N', *count]),
+    }
+}

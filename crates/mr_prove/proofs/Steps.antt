@@ -1,0 +1,148 @@
+-- Steps of the walk: what was written and how often was fetched, so far and in all.
+use Rattle.std.proofs.Common.{◌≡◌, ℕ, ◌+◌, ◌<◌, ◌≤◌, true, false, List, [], ◌∷◌, ◌++◌, length, take, drop, get_or, append_assoc, take-append-drop, sym, ap, subst, ◌∙◌, arith}
+use Rattle.std.specs.Prelude.{Bool, IsSome, Result, Ok, Err, OnErr}
+use Rattle.std.proofs.Math.Seq.{take-length}
+use Rattle.std.specs.List.{flat_map, sum_by}
+use Rattle.std.proofs.lemmas.List.{take_more, drop_more, flat_map_more}
+use Rattle.std.proofs.lemmas.List.Concat.{flat_map-append}
+use Rattle.std.proofs.lemmas.List.Sums.{sum_by_more, sum_by-take-le}
+use Rattle.mr_outside.specs.State.{Sunk}
+use Rattle.mr_outside.specs.Told.{Takes, TakesFront}
+use Rattle.mr_outside.specs.Faults.{next_count}
+use Rattle.mr_outside.proofs.Taking.{Takes-append}
+use Rattle.mr_tree.specs.View.{Node, children_in}
+use Rattle.mr_tree.specs.Nodes.{Standing, MayFetch, Shows}
+use Rattle.mr_tree.specs.declared.child.Child.{Child}
+use Rattle.mr_proof.specs.Cut.{Pruned}
+use Rattle.mr_proof.specs.Spelling.{cut_bytes}
+use Rattle.mr_proof.specs.Tight.{Seen, seen_at}
+use Rattle.mr_prove.specs.Parts.{node_bytes, part_at, opened_at, parts_of, opened_in}
+use Rattle.mr_prove.proofs.Pieces.{missed_at, met_at, opened_met_at, opened_one_at}
+
+pub on_err : {T E : Type 0} (r : Result T E) (P : Type 0) → P → OnErr r P
+on_err (Ok x) P h = tt
+on_err (Err e) P h = h
+
+-- ---- fronts
+
+pub front_first : (old new : Sunk) (a b : List ℕ) → TakesFront old new a → TakesFront old new (a ++ b)
+front_first old new a b h = record {
+  front = h.front;
+  rest = h.rest ++ b;
+  whole = ap (λ x. x ++ b) h.whole ∙ append_assoc h.front h.rest b;
+  takes = h.takes;
+}
+
+pub front_second : (old mid new : Sunk) (a b : List ℕ) → Takes old mid a → TakesFront mid new b
+    → TakesFront old new (a ++ b)
+front_second old mid new a b taken h = record {
+  front = a ++ h.front;
+  rest = h.rest;
+  whole = ap (λ x. a ++ x) h.whole ∙ sym (append_assoc a h.front h.rest);
+  takes = Takes-append old mid new a h.front taken h.takes;
+}
+
+-- ---- one more of a list of pieces
+
+flat_more : {X : Type 0} (f : X → List ℕ) (xs : List X) (i : ℕ) (x : X) → x ≡ get_or xs i x → i < length xs
+    → flat_map f (take i xs) ++ f x ≡ flat_map f (take (i + 1) xs)
+flat_more f xs i x is within =
+    flat_map_more f [] (take i xs) x
+    ∙ ap (flat_map f) (ap (λ y. take i xs ++ y ∷ []) is ∙ sym (take_more xs i x within))
+
+pub written_more : {X : Type 0} (f : X → List ℕ) (xs : List X) (i : ℕ) (x : X) (old between new : Sunk)
+    → x ≡ get_or xs i x → i < length xs → Takes old between (flat_map f (take i xs)) → Takes between new (f x)
+    → Takes old new (flat_map f (take (i + 1) xs))
+written_more f xs i x old between new is within a b =
+    subst (Takes old new) (flat_more f xs i x is within)
+    (Takes-append old between new (flat_map f (take i xs)) (f x) a b)
+
+pub fetched_more : {X : Type 0} (f : X → ℕ) (xs : List X) (i : ℕ) (x : X) (old between new : ℕ) → x ≡ get_or xs i x
+    → i < length xs → between ≤ old + sum_by f (take i xs) → new ≤ between + f x
+    → new ≤ old + sum_by f (take (i + 1) xs)
+fetched_more f xs i x old between new is within a b =
+    let more = sum_by_more f xs i x within in
+    let same : f x ≡ f (get_or xs i x) = ap f is in
+    omega arith
+
+split_flat : {X : Type 0} (f : X → List ℕ) (xs : List X) (i : ℕ) (x : X) → x ≡ get_or xs i x → i < length xs
+    → flat_map f (take i xs) ++ (f x ++ flat_map f (drop (i + 1) xs)) ≡ flat_map f xs
+split_flat f xs i x is within =
+    sym (flat_map-append f (take i xs) (x ∷ drop (i + 1) xs))
+    ∙ ap (flat_map f) (ap (λ ys. take i xs ++ ys) (ap (λ y. y ∷ drop (i + 1) xs) is ∙ sym (drop_more xs i x within))
+    ∙ take-append-drop i xs)
+
+pub front_more : {X : Type 0} (f : X → List ℕ) (xs : List X) (i : ℕ) (x : X) (old between new : Sunk)
+    → x ≡ get_or xs i x → i < length xs → Takes old between (flat_map f (take i xs)) → TakesFront between new (f x)
+    → TakesFront old new (flat_map f xs)
+front_more f xs i x old between new is within a h =
+    subst (TakesFront old new) (split_flat f xs i x is within)
+    (front_second old between new (flat_map f (take i xs)) (f x ++ flat_map f (drop (i + 1) xs)) a
+    (front_first between new (f x) (flat_map f (drop (i + 1) xs)) h))
+
+next_count-≤ : (n : ℕ) → next_count n ≤ n + 1
+next_count-≤ n = omega arith
+
+-- ---- one node
+
+module _ (hash : List ℕ → List ℕ) (region : Seen → Bool) (s : Standing) (c : Child) (may : MayFetch hash s c)
+    (told : IsSome s.tree) where
+  abbrev here : List ℕ
+  here = part_at hash region (s.node c.id)
+
+  pub pruned_whole : (old new : Sunk) → region (seen_at c.rect) ≡ false
+      → Takes old new (cut_bytes (Pruned (record { rect = c.rect; digest = c.digest }))) → Takes old new here
+  pruned_whole old new f taken =
+      subst (Takes old new) (sym (missed_at hash region (s.node c.id) c (may.known told) f)) taken
+
+  pub pruned_front : (old new : Sunk) → region (seen_at c.rect) ≡ false
+      → TakesFront old new (cut_bytes (Pruned (record { rect = c.rect; digest = c.digest }))) → TakesFront old new here
+  pruned_front old new f taken =
+      subst (TakesFront old new) (sym (missed_at hash region (s.node c.id) c (may.known told) f)) taken
+
+  whole_is : (n : Node) → Shows hash s c n → region (seen_at c.rect) ≡ true
+      → here ≡ node_bytes n ++ parts_of hash region s (children_in n)
+  whole_is n shows m = met_at hash region s (s.node c.id) c n (may.known told) shows.node m
+
+  pub node_front : (n : Node) (old new : Sunk) → Shows hash s c n → region (seen_at c.rect) ≡ true
+      → TakesFront old new (node_bytes n) → TakesFront old new here
+  node_front n old new shows m taken =
+      subst (TakesFront old new) (sym (whole_is n shows m))
+      (front_first old new (node_bytes n) (parts_of hash region s (children_in n)) taken)
+
+  pub met_whole : (n : Node) (cs : List Child) (i : ℕ) (old mid new : Sunk) → cs ≡ children_in n → Shows hash s c n
+      → region (seen_at c.rect) ≡ true → i ≡ length cs → Takes old mid (node_bytes n)
+      → Takes mid new (parts_of hash region s (take i cs)) → Takes old new here
+  met_whole n cs i old mid new are shows m end first rest =
+      let all : take i cs ≡ children_in n = ap (λ k. take k cs) end ∙ take-length cs ∙ are in
+      subst (Takes old new) (ap (λ ds. node_bytes n ++ parts_of hash region s ds) all ∙ sym (whole_is n shows m))
+      (Takes-append old mid new (node_bytes n) (parts_of hash region s (take i cs)) first rest)
+
+  pub met_front : (n : Node) (cs : List Child) (i : ℕ) (d : Child) (old mid between new : Sunk) → cs ≡ children_in n
+      → Shows hash s c n → region (seen_at c.rect) ≡ true → d ≡ get_or cs i d → i < length cs
+      → Takes old mid (node_bytes n) → Takes mid between (parts_of hash region s (take i cs))
+      → TakesFront between new (part_at hash region (s.node d.id)) → TakesFront old new here
+  met_front n cs i d old mid between new are shows m is within first so_far next =
+      subst (TakesFront old new) (ap (λ ds. node_bytes n ++ parts_of hash region s ds) are ∙ sym (whole_is n shows m))
+      (front_second old mid new (node_bytes n) (parts_of hash region s cs) first
+      (front_more (λ (d : Child). part_at hash region (s.node d.id)) cs i d mid between new is within so_far next))
+
+  -- the node itself is fetched
+  pub one_fetch : (before now : ℕ) → region (seen_at c.rect) ≡ true → now ≡ next_count before
+      → now ≤ before + opened_at hash region (s.node c.id)
+  one_fetch before now m e =
+      let one = opened_one_at hash region (s.node c.id) c (may.known told) m in
+      let more = next_count-≤ before in
+      omega arith
+
+  -- and some of its children
+  pub some_fetches : (n : Node) (cs : List Child) (i before mid now : ℕ) → cs ≡ children_in n → Shows hash s c n
+      → region (seen_at c.rect) ≡ true → mid ≡ next_count before
+      → now ≤ mid + opened_in hash region s (take i cs) → now ≤ before + opened_at hash region (s.node c.id)
+  some_fetches n cs i before mid now are shows m e few =
+      let all = opened_met_at hash region s (s.node c.id) c n (may.known told) shows.node m in
+      let same : opened_in hash region s cs ≡ opened_in hash region s (children_in n) =
+      ap (opened_in hash region s) are in
+      let more = next_count-≤ before in
+      let part = sum_by-take-le (λ (d : Child). opened_at hash region (s.node d.id)) cs i in
+      omega arith

@@ -1,0 +1,17 @@
+use Rattle.std.specs.Prelude.{IsSome, Bool, true, ◌≡◌}
+use Rattle.mr_outside.specs.Told.{TakesFront}
+use Rattle.mr_proof.specs.Tight.{Seen, seen_at}
+use Rattle.mr_prove.specs.Parts.{part_at}
+use Rattle.mr_prove.proofs.Steps.{on_err, node_front}
+use Rattle.mr_prove.proofs.part.open_node.Goals as goal
+
+pub returns-in_err-write_node-clause-front : goal.returns-in_err-write_node-clause-front
+returns-in_err-write_node-clause-front g c =
+    on_err c.from_residual-in_err-write_node.result
+    (IsSome (g.N.Nodes.stands c.args.nodes.now).tree → (region : Seen → Bool)
+    → region (seen_at c.args.child.now.rect) ≡ true
+    → TakesFront (g.W.Sink.state c.args.out.now) (g.W.Sink.state c.write_node.new.out)
+    (part_at g.N.Hash.Hashes.of region ((g.N.Nodes.stands c.args.nodes.now).node c.args.child.now.id)))
+    (λ told region m. node_front g.N.Hash.Hashes.of region (g.N.Nodes.stands c.args.nodes.now) c.args.child.now
+    c.requires told c.fetch.new.into (g.W.Sink.state c.args.out.now) (g.W.Sink.state c.write_node.new.out)
+    c.in_ok-fetch.ensures.shows m c.write_node.ensures.front)

@@ -1,0 +1,37 @@
+-- Why a proof was not written.
+use Rattle.std.specs.Prelude.{◌≡◌, ◌≢◌, ℕ, ◌≤◌, ⊤, Result, IfErr, OnOk}
+use Rattle.mr_outside.specs.Faults.{Rose}
+use Rattle.mr_outside.specs.State.{Sunk}
+use Rattle.mr_outside.specs.declared.sink.SinkErr.{SinkErr}
+use Rattle.mr_outside.specs.declared.sink.SinkErr.TheVariants as sink
+use Rattle.mr_tree.specs.Nodes.{Standing}
+use Rattle.mr_tree.specs.Nodes as fetching
+use Rattle.mr_tree.specs.declared.nodes.NodesErr.{NodesErr}
+use Rattle.mr_tree.specs.declared.nodes.NodesErr.TheVariants as nodes
+use Rattle.mr_prove.specs.declared.error.ProveErr.{ProveErr}
+use Rattle.mr_prove.specs.declared.error.ProveErr.TheVariants as errors
+
+-- what is answered where a node was not fetched
+abbrev pub of_nodes : NodesErr → ProveErr
+of_nodes nodes.NoMemory = errors.NoMemory
+of_nodes e = errors.Nodes e
+
+-- what is answered where the sink refused
+abbrev pub of_sink : SinkErr → ProveErr
+of_sink sink.Fault = errors.Sink
+of_sink sink.NoMemory = errors.NoMemory
+
+-- Each refusal has its cause, by whether the count of faults of the nodes or of the sink rose: that
+-- of a fetch, which is never handed on as one of memory, or of the sink.
+abbrev pub HasCause : Standing → (nodes_rose sink_rose : Type 0) → ProveErr → Type 0
+HasCause s nodes_rose sink_rose (errors.Nodes e) = fetching.HasCause s nodes_rose e × (e ≢
+    nodes.NoMemory)
+HasCause s nodes_rose sink_rose errors.Sink = sink_rose
+HasCause s nodes_rose sink_rose errors.NoMemory = ⊤
+
+-- between these counts of faults of the nodes and these states of the sink
+pub record ProveCauses {A : Type 0} (s : Standing) (before after : ℕ) (from to : Sunk)
+    (result : Result A ProveErr) : Type 0 where
+  pub cause : IfErr result (HasCause s (Rose before after) (Rose from.faults to.faults))
+  pub faults : from.faults ≤ to.faults
+  pub quiet : OnOk result (to.faults ≡ from.faults)

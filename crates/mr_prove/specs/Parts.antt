@@ -1,0 +1,67 @@
+-- The parts of a proof, one by one. Nothing of this has to be believed: no public contract cites it.
+use Rattle.std.specs.Prelude.{ℕ, Bool, List, [], ◌∷◌, length, Option, Some, None}
+use Rattle.std.specs.List.{flat_map, sum_by}
+use Rattle.mr_tree.specs.View.{Node}
+use Rattle.mr_tree.specs.Nodes.{Standing}
+use Rattle.mr_tree.specs.declared.child.Child.{Child}
+use Rattle.mr_tree.specs.declared.nodes.Top.{Top}
+use Rattle.mr_tree.specs.declared.tree.Tree.{Tree}
+use Rattle.mr_tree.specs.declared.tree.Tree.TheOpen as node
+use Rattle.mr_query.specs.declared.query.Query.{Query}
+use Rattle.mr_proof.specs.declared.head.Head.{Head}
+use Rattle.mr_proof.specs.Fields.{inner_tag}
+use Rattle.mr_proof.specs.Cut.{Leaf, opened_nodes}
+use Rattle.mr_proof.specs.Spelling.{cut_bytes}
+use Rattle.mr_proof.specs.Tight.{Seen, kind_of}
+use Rattle.mr_proof.specs.Honest.{honest_cut, proof, opened}
+
+-- the bytes of the item of an opened node
+abbrev pub node_bytes : Node → List ℕ
+node_bytes node.Empty = []
+node_bytes (node.Leaf records) = cut_bytes (Leaf records)
+node_bytes (node.Inner children) = inner_tag ∷ length children ∷ []
+
+-- the bytes of the honest cut of a tree that is told
+unfoldable pub part_at : (List ℕ → List ℕ) → (Seen → Bool) → Option Tree → List ℕ
+part_at hash region None = []
+part_at hash region (Some t) = cut_bytes (honest_cut hash region t)
+
+-- the number of nodes that it opens
+unfoldable pub opened_at : (List ℕ → List ℕ) → (Seen → Bool) → Option Tree → ℕ
+opened_at hash region None = 0
+opened_at hash region (Some t) = opened_nodes (honest_cut hash region t)
+
+-- the parts of some children, and how many nodes they open
+abbrev pub parts_of : (List ℕ → List ℕ) → (Seen → Bool) → Standing → List Child → List ℕ
+parts_of hash region s children =
+    flat_map (λ (d : Child). part_at hash region (s.node d.id)) children
+
+abbrev pub opened_in : (List ℕ → List ℕ) → (Seen → Bool) → Standing → List Child → ℕ
+opened_in hash region s children =
+    sum_by (λ (d : Child). opened_at hash region (s.node d.id)) children
+
+-- ---- the whole proof
+
+-- the level of the root node, by its entry; 0 of the empty map
+abbrev pub level_at : Option Child → ℕ
+level_at None = 0
+level_at (Some c) = c.level
+
+-- the head, by what the nodes say of the map
+abbrev pub head_by : Top → Query → Head
+head_by top q = record {
+  kind = kind_of q;
+  batch = top.batch;
+  count = top.count;
+  radius = None;
+  level = level_at top.root;
+}
+
+-- the bytes of the proof, and the number of nodes that it opens, of a map whose tree is told
+unfoldable pub proof_at : (List ℕ → List ℕ) → (batch : ℕ) → Query → Option Tree → List ℕ
+proof_at hash batch q None = []
+proof_at hash batch q (Some t) = proof hash t batch q
+
+unfoldable pub all_opened_at : (List ℕ → List ℕ) → Query → Option Tree → ℕ
+all_opened_at hash q None = 0
+all_opened_at hash q (Some t) = opened hash t q

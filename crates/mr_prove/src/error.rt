@@ -1,0 +1,44 @@
+ghost use Rattle.std.specs.Prelude.{◌≡◌};
+ghost use Rattle.mr_prove.specs.Causes.{of_nodes, of_sink};
+
+use mr_outside::SinkErr;
+use mr_tree::NodesErr;
+
+/// Why a proof was not written.
+#[derive(Clone, Copy, Debug)]
+pub enum ProveErr {
+    /// A node was not fetched, for another reason than want of memory.
+    Nodes(NodesErr),
+    /// The sink failed; its count of faults says so.
+    Sink,
+    /// Memory ran out, of the nodes or of the sink.
+    NoMemory,
+}
+
+impl From<NodesErr> for ProveErr {
+    ghost use Rattle.std.specs.Prelude.{◌≡◌};
+    ghost use Rattle.mr_prove.specs.Causes.{of_nodes};
+
+    ghost from_gives = { λ e p. p ≡ of_nodes e };
+
+    fn from(error: NodesErr) -> ProveErr {
+        match error {
+            NodesErr::NoMemory => ProveErr::NoMemory,
+            other => ProveErr::Nodes(other),
+        }
+    }
+}
+
+impl From<SinkErr> for ProveErr {
+    ghost use Rattle.std.specs.Prelude.{◌≡◌};
+    ghost use Rattle.mr_prove.specs.Causes.{of_sink};
+
+    ghost from_gives = { λ e p. p ≡ of_sink e };
+
+    fn from(error: SinkErr) -> ProveErr {
+        match error {
+            SinkErr::Fault => ProveErr::Sink,
+            SinkErr::NoMemory => ProveErr::NoMemory,
+        }
+    }
+}

@@ -1,0 +1,88 @@
+//! The proof's part for one node and all below it.
+
+ghost use Rattle.std.specs.Prelude.{◌≡◌, ◌+◌, ◌≤◌, true, Bool, OnOk, OnErr, IsSome, None};
+ghost use Rattle.mr_outside.specs.Causes.{SinkCauses};
+ghost use Rattle.mr_outside.specs.Told.{Takes, TakesFront};
+ghost use Rattle.mr_outside.specs.Faults.{next_count};
+ghost use Rattle.mr_tree.specs.View.{size};
+ghost use Rattle.mr_tree.specs.Nodes.{MayFetch, Shows};
+ghost use Rattle.mr_proof.specs.Tight.{Seen, seen_at, asks};
+ghost use Rattle.mr_prove.specs.Causes.{ProveCauses};
+ghost use Rattle.mr_prove.specs.Parts.{node_bytes, part_at, opened_at};
+
+use crate::ProveErr;
+use mr_outside::{Sink, SinkErr};
+use mr_proof::{Item, write_item};
+use mr_query::Query;
+use mr_tree::{Child, NodeView, Nodes};
+
+// Writes the item of an opened node.
+fn write_node<W: Sink>(view: &NodeView, out: &mut W) -> Result<(), SinkErr>
+    requires { 1 ≤ size view.now }
+    ensures whole { OnOk result (Takes (W.state out.old) (W.state out.new) (node_bytes view.now)) }
+    ensures front { TakesFront (W.state out.old) (W.state out.new) (node_bytes view.now) }
+    ensures causes { SinkCauses (W.state out.old) (W.state out.new) result }
+{
+    if view.level() == 0 {
+        let _records = view.records();
+        return write_item(out, &Item::Leaf(view));
+    }
+    let children = view.children();
+    write_item(out, &Item::Inner(children.len() as u8))
+}
+
+// Fetches a node that the region meets, and writes its item.
+fn open_node<N: Nodes, W: Sink>(
+    nodes: &mut N,
+    child: &Child,
+    view: &mut NodeView,
+    out: &mut W,
+) -> Result<(), ProveErr>
+    requires { MayFetch N.Hash.of (N.stands nodes.old) child.now }
+    ensures kept { N.kept nodes.old nodes.new }
+    ensures counted { N.fetches nodes.new ≡ next_count (N.fetches nodes.old) }
+    ensures shows { OnOk result (Shows N.Hash.of (N.stands nodes.old) child.now view.new) }
+    ensures whole { OnOk result (Takes (W.state out.old) (W.state out.new) (node_bytes view.new)) }
+    ensures front { OnErr result (IsSome (N.stands nodes.old).tree → (region : Seen → Bool) →
+        region (seen_at child.now.rect) ≡ true → TakesFront (W.state out.old) (W.state out.new)
+        (part_at N.Hash.of region ((N.stands nodes.old).node child.now.id))) }
+    ensures causes { ProveCauses (N.stands nodes.old) (N.faults nodes.old) (N.faults nodes.new)
+        (W.state out.old) (W.state out.new) result }
+{
+    nodes.fetch(child, view)?;
+    write_node(view, out)?;
+    Ok(())
+}
+
+/// Writes the part of the node of which the child is the entry: where the region misses it what is
+/// shown of it, and else the node and the parts of its children, each once it is fetched.
+pub(crate) fn write_part<N: Nodes, W: Sink>(
+    nodes: &mut N,
+    q: &Query,
+    child: &Child,
+    out: &mut W,
+) -> Result<(), ProveErr>
+    requires { MayFetch N.Hash.of (N.stands nodes.old) child.now }
+    ensures kept { N.kept nodes.old nodes.new }
+    ensures whole { OnOk result (IsSome (N.stands nodes.old).tree →
+        Takes (W.state out.old) (W.state out.new)
+        (part_at N.Hash.of ((asks q.now).region None) ((N.stands nodes.old).node child.now.id))) }
+    ensures front { OnErr result (IsSome (N.stands nodes.old).tree →
+        TakesFront (W.state out.old) (W.state out.new)
+        (part_at N.Hash.of ((asks q.now).region None) ((N.stands nodes.old).node child.now.id))) }
+    ensures fetched { IsSome (N.stands nodes.old).tree → N.fetches nodes.new ≤ N.fetches nodes.old +
+        opened_at N.Hash.of ((asks q.now).region None) ((N.stands nodes.old).node child.now.id) }
+    ensures causes { ProveCauses (N.stands nodes.old) (N.faults nodes.old) (N.faults nodes.new)
+        (W.state out.old) (W.state out.new) result }
+{
+    if !q.meets(None, &child.rect) {
+        write_item(out, &Item::Pruned(child.rect, child.digest))?;
+        return Ok(());
+    }
+    let mut view = NodeView::new();
+    open_node(nodes, child, &mut view, out)?;
+    for next in view.children() {
+        write_part(nodes, q, next, out)?;
+    }
+    Ok(())
+}

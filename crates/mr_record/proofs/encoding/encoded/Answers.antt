@@ -1,0 +1,17 @@
+use Rattle.std.proofs.Common.{append_assoc}
+use Rattle.mr_record.specs.Record.{record_bytes}
+use Rattle.mr_record.proofs.encoding.encoded.Goals as goal
+
+pub returns : goal.returns
+unfolding record_bytes
+returns c =
+    rw (
+      c.put-4.ensures,
+      c.put-3.ensures,
+      c.put-2.ensures,
+      c.put.ensures,
+      c.new-bytes.ensures,
+      c.bytes-payload.ensures.value,
+      c.rect_bytes.ensures,
+      c.to_be_bytes.ensures,
+    ) (simp append_assoc)

@@ -1,0 +1,18 @@
+/// What is wrong with the bytes of a record.
+#[derive(Clone, Copy, Debug, PartialEq, Eq)]
+pub enum RecordRule {
+    /// The bytes end before the field does.
+    Short,
+    /// The sides of the rectangle are out of order.
+    BadRect,
+    /// The payload's length is above 200.
+    BadLength,
+}
+
+/// The first field of a record that breaks a rule.
+#[derive(Clone, Copy, Debug, PartialEq, Eq)]
+pub struct RecordFault {
+    pub rule: RecordRule,
+    /// The offset of the field's first byte.
+    pub at: usize,
+}

@@ -1,0 +1,550 @@
+//! Map files, as rows of tables: the commands that write and list them and that prove windows on them, and files that
+//! stand for no map.
+
+use crate::bench::{Row, holds, words};
+use mr_outside::{MemShelf, MemSink, NoGate};
+use mr_tool::Status::{self, BadMap, BadText, BadWords, Done, Outside};
+use mr_tool::run;
+use mr_tree::XorHash;
+use std::alloc::{AllocError, Global};
+use std::test::Fail;
+use std::thread::Threads;
+
+// A page of these bytes in front.
+fn page(alloc: Global, front: &[u8]) -> Result<Vec<u8>, AllocError> {
+    let mut bytes = front.to_vec(alloc)?;
+    for _ in front.len()..4096 {
+        bytes.push(0)?;
+    }
+    Ok(bytes)
+}
+
+// The bytes with this one in place of another.
+fn changed(alloc: Global, bytes: &[u8], place: usize, byte: u8) -> Result<Vec<u8>, AllocError> {
+    let mut changed = bytes.to_vec(alloc)?;
+    if place < changed.len() {
+        changed[place] = byte;
+    }
+    Ok(changed)
+}
+
+// The bytes with a seal at the end of the first page.
+fn sealed(alloc: Global, bytes: Vec<u8>) -> Result<Vec<u8>, AllocError> {
+    let mut bytes = bytes;
+    for (place, byte) in [(4092, b'S'), (4093, b'E'), (4094, b'A'), (4095, b'L')] {
+        bytes = changed(alloc, &bytes, place, byte)?;
+    }
+    Ok(bytes)
+}
+
+// These pages, sealed.
+fn map(alloc: Global, pages: &[&[u8]]) -> Result<Vec<u8>, AllocError> {
+    let mut bytes = Vec::new(alloc);
+    for front in pages {
+        bytes.extend_from_slice(&page(alloc, front)?)?;
+    }
+    sealed(alloc, bytes)
+}
+
+// Record 7 at (0,0), under the exclusive or of all bytes: page 0 and a leaf.
+const ONE_HEAD: &[u8] =
+    b"MRMP\x01\0\0\0\0\0\0\0\0\0\0\0\0\0\0\0\0\x01\0\0\0\x02\0\0\0\x01\0\0\0\0\0\0\0\0\0\0\0\0\0\0\0\0\0\0\0\0\0\0\0\0\0\0\0\0\0\0\0\0\0\0\0\0\0\0\0\0\0\0\0\0\0\0\0\x4a";
+
+const ONE_LEAF: &[u8] = b"L\x01\0\0\0\0\0\0\0\x07\0\0\0\0\0\0\0\0\0\0\0\0\0\0\0\0\0";
+
+fn one(alloc: Global) -> Result<Vec<u8>, AllocError> {
+    map(alloc, &[ONE_HEAD, ONE_LEAF])
+}
+
+// No record at all.
+const NO_HEAD: &[u8] = b"MRMP\x01\0\0\0\0\0\0\0\0\0\0\0\0\0\0\0\0\0\0\0\0\x01";
+
+// Records I at (I,0) for I = 1 to 17: page 0, an inner node and two leaves.
+const TWO_HEAD: &[u8] =
+    b"MRMP\x01\x01\0\0\0\0\0\0\0\0\0\0\0\0\0\0\0\x11\0\0\0\x04\0\0\0\x01\0\0\0\x01\0\0\0\0\0\0\0\x11\0\0\0\0\0\0\0\0\0\0\0\0\0\0\0\0\0\0\0\0\0\0\0\0\0\0\0\0\0\0\0\0\0\0\0\x5c";
+
+const TWO_ROOT: &[u8] =
+    b"N\x01\x02\0\0\0\x02\0\0\0\x01\0\0\0\0\0\0\0\x08\0\0\0\0\0\0\0\0\0\0\0\0\0\0\0\0\0\0\0\0\0\0\0\0\0\0\0\0\0\0\0\0\0\0\0\x4c\0\0\0\x03\0\0\0\x09\0\0\0\0\0\0\0\x11\0\0\0\0\0\0\0\0\0\0\0\0\0\0\0\0\0\0\0\0\0\0\0\0\0\0\0\0\0\0\0\0\0\0\0\x4c";
+
+// A leaf of the records I at (I,0) from the first to the last.
+fn leaf(alloc: Global, first: u8, last: u8) -> Result<Vec<u8>, AllocError> {
+    let mut bytes = b"L".to_vec(alloc)?;
+    bytes.push(last.wrapping_sub(first).wrapping_add(1))?;
+    for i in first..=last {
+        bytes.extend_from_slice(&[
+            0, 0, 0, 0, 0, 0, 0, i, 0, 0, 0, i, 0, 0, 0, 0, 0, 0, 0, i, 0, 0, 0, 0, 0,
+        ])?;
+    }
+    Ok(bytes)
+}
+
+fn two_leaves(alloc: Global) -> Result<Vec<u8>, AllocError> {
+    let mut bytes = page(alloc, TWO_HEAD)?;
+    bytes.extend_from_slice(&page(alloc, TWO_ROOT)?)?;
+    bytes.extend_from_slice(&page(alloc, &leaf(alloc, 1, 8)?)?)?;
+    bytes.extend_from_slice(&page(alloc, &leaf(alloc, 9, 17)?)?)?;
+    sealed(alloc, bytes)
+}
+
+const SEVENTEEN: &[u8] =
+    b"1 1 0 1 0 -\n2 2 0 2 0 -\n3 3 0 3 0 -\n4 4 0 4 0 -\n5 5 0 5 0 -\n6 6 0 6 0 -\n7 7 0 7 0 -\n8 8 0 8 0 -\n9 9 0 9 0 -\n10 10 0 10 0 -\n11 11 0 11 0 -\n12 12 0 12 0 -\n13 13 0 13 0 -\n14 14 0 14 0 -\n15 15 0 15 0 -\n16 16 0 16 0 -\n17 17 0 17 0 -\n";
+
+const FIFTEEN: &[u8] = b"000000000000000000000000000000000000000000000000000000000000000f\n";
+
+const BUILD: &[&str] = &["build", "m", "r"];
+
+const LIST: &[&str] = &["list", "m"];
+
+#[test]
+fn maps_that_are_built(rt: HostRuntime) -> Result<(), Fail> {
+    let alloc = rt.alloc();
+    let two = two_leaves(alloc)?;
+    assert_eq!(rt; two.len(), 16_384);
+    let before = [("r", SEVENTEEN)];
+    let after = [("r", SEVENTEEN), ("m", two.as_slice())];
+    let built = Row(BUILD, &before, &[], &[], Done, FIFTEEN, &after);
+    assert!(rt; holds::<XorHash, _, _>(&rt, alloc, &NoGate, &built)?);
+    // Over another file of that name.
+    let over = [("m", b"some text\n".as_slice()), ("r", SEVENTEEN)];
+    let built = Row(BUILD, &over, &[], &[], Done, FIFTEEN, &after);
+    assert!(rt; holds::<XorHash, _, _>(&rt, alloc, &NoGate, &built)?);
+    let one = one(alloc)?;
+    let text = b"7 0 0 0 0 -\n".as_slice();
+    let after = [("m", one.as_slice())];
+    let line = b"0000000000000000000000000000000000000000000000000000000000000018\n";
+    let built = Row(BUILD, &[("r", text)], &[], &[], Done, line, &after);
+    assert!(rt; holds::<XorHash, _, _>(&rt, alloc, &NoGate, &built)?);
+    let none = map(alloc, &[NO_HEAD])?;
+    let after = [("m", none.as_slice())];
+    let line = b"0000000000000000000000000000000000000000000000000000000000000044\n";
+    let built = Row(BUILD, &[("r", b"")], &[], &[], Done, line, &after);
+    assert!(rt; holds::<XorHash, _, _>(&rt, alloc, &NoGate, &built)?);
+    Ok(())
+}
+
+#[test]
+fn nothing_is_built(rt: HostRuntime) -> Result<(), Fail> {
+    let alloc = rt.alloc();
+    let files = [("m", SEVENTEEN), ("r", b"7 0 0 0 0\n".as_slice())];
+    let rows = [
+        Row(
+            &["build", "m", "m"],
+            &files,
+            &[],
+            &[],
+            BadWords,
+            b"bad words\n",
+            &files,
+        ),
+        Row(
+            &["build", "m", ""],
+            &files,
+            &[],
+            &[],
+            BadWords,
+            b"bad words\n",
+            &files,
+        ),
+        Row(
+            &["build", "", "r"],
+            &files,
+            &[],
+            &[],
+            BadWords,
+            b"bad words\n",
+            &files,
+        ),
+        Row(
+            &["build", "m"],
+            &files,
+            &[],
+            &[],
+            BadWords,
+            b"bad words\n",
+            &files,
+        ),
+        Row(
+            &["build", "m", "r", "r"],
+            &files,
+            &[],
+            &[],
+            BadWords,
+            b"bad words\n",
+            &files,
+        ),
+        Row(
+            &["list"],
+            &files,
+            &[],
+            &[],
+            BadWords,
+            b"bad words\n",
+            &files,
+        ),
+        Row(
+            &["list", ""],
+            &files,
+            &[],
+            &[],
+            BadWords,
+            b"bad words\n",
+            &files,
+        ),
+        Row(
+            &["list", "m", "m"],
+            &files,
+            &[],
+            &[],
+            BadWords,
+            b"bad words\n",
+            &files,
+        ),
+        Row(
+            BUILD,
+            &files,
+            &[],
+            &[],
+            BadText,
+            b"bad text line 1 Form\n",
+            &files,
+        ),
+        Row(
+            &["build", "m", "s"],
+            &files,
+            &[],
+            &[],
+            Outside,
+            b"missing s\n",
+            &files,
+        ),
+        Row(
+            &["list", "s"],
+            &files,
+            &[],
+            &[],
+            Outside,
+            b"missing s\n",
+            &files,
+        ),
+    ];
+    for row in &rows {
+        assert!(rt;
+            holds::<XorHash, _, _>(&rt, alloc, &NoGate, row)?,
+            "{row:?}"
+        );
+    }
+    Ok(())
+}
+
+// Whether a list of these bytes ends so.
+fn lists<R: Threads + Sync>(
+    rt: &R,
+    alloc: Global,
+    bytes: &[u8],
+    status: Status,
+    line: &[u8],
+) -> Result<bool, AllocError> {
+    let files = [("m", bytes)];
+    let row = Row(LIST, &files, &[], &[], status, line, &files);
+    holds::<XorHash, _, _>(rt, alloc, &NoGate, &row)
+}
+
+#[test]
+fn maps_that_are_listed(rt: HostRuntime) -> Result<(), Fail> {
+    let alloc = rt.alloc();
+    assert!(rt; lists(&rt, alloc, &one(alloc)?, Done, b"7 0 0 0 0 -\n")?);
+    assert!(rt; lists(&rt, alloc, &map(alloc, &[NO_HEAD])?, Done, b"")?);
+    assert!(rt; lists(&rt, alloc, &two_leaves(alloc)?, Done, SEVENTEEN)?);
+    // The record on the left has the greater number.
+    let head =
+        b"MRMP\x01\0\0\0\0\0\0\0\0\0\0\0\0\0\0\0\0\x02\0\0\0\x02\0\0\0\x01\0\0\0\0\0\0\0\0\0\0\0\x05\0\0\0\0\0\0\0\0\0\0\0\0\0\0\0\0\0\0\0\0\0\0\0\0\0\0\0\0\0\0\0\0\0\0\0\x4d";
+    let leaf =
+        b"L\x02\0\0\0\0\0\0\0\x02\0\0\0\0\0\0\0\0\0\0\0\0\0\0\0\0\0\0\0\0\0\0\0\0\x01\0\0\0\x05\0\0\0\0\0\0\0\x05\0\0\0\0\0";
+    let exchanged = map(alloc, &[head.as_slice(), leaf.as_slice()])?;
+    assert!(rt; lists(&rt, alloc, &exchanged, Done, b"1 5 0 5 0 -\n2 0 0 0 0 -\n")?);
+    Ok(())
+}
+
+#[test]
+fn pages_that_break_a_rule(rt: HostRuntime) -> Result<(), Fail> {
+    let alloc = rt.alloc();
+    let one = one(alloc)?;
+    // A place of the map of one record, the byte there, and the line on it.
+    let table: [(usize, u8, &[u8]); 9] = [
+        (4095, b'l', b"bad map page 0 Unsealed\n"),
+        (4, 2, b"bad map page 0 Header\n"),
+        (4096, b'F', b"bad map page 1 Page\n"),
+        (4096 + 27, 1, b"bad map page 1 Page\n"),
+        (29, 2, b"bad map page 2 Outside\n"),
+        (
+            77,
+            0x4b,
+            b"bad map page 1 Digest held 000000000000000000000000000000000000000000000000000000000000004b found 000000000000000000000000000000000000000000000000000000000000004a\n",
+        ),
+        (41, 1, b"bad map page 1 Rect\n"),
+        (21, 2, b"bad map page 0 Count held 2 found 1\n"),
+        (81, 1, b"bad map page 1 Free\n"),
+    ];
+    for (place, byte, line) in table {
+        let broken = changed(alloc, &one, place, byte)?;
+        assert!(rt; lists(&rt, alloc, &broken, BadMap, line)?, "{line:?}");
+    }
+    Ok(())
+}
+
+#[test]
+fn files_that_stand_for_no_map(rt: HostRuntime) -> Result<(), Fail> {
+    let alloc = rt.alloc();
+    let one = one(alloc)?;
+    let two = two_leaves(alloc)?;
+    let (cut, _) = one.split_at(one.len().min(8191));
+    assert!(rt; lists(&rt, alloc, cut, BadMap, b"bad map page 0 Size\n")?);
+    assert!(rt; lists(&rt, alloc, b"", BadMap, b"bad map page 0 Size\n")?);
+    assert!(rt; lists(&rt, alloc, SEVENTEEN, BadMap, b"bad map page 0 Size\n")?);
+    let zeros = page(alloc, b"")?;
+    assert!(rt; lists(&rt, alloc, &zeros, BadMap, b"bad map page 0 Unsealed\n")?);
+    let twice = changed(alloc, &two, 4096 + 58, 2)?;
+    assert!(rt; lists(&rt, alloc, &twice, BadMap, b"bad map page 2 Twice\n")?);
+    // Numbers 9 and 17 of the second leaf become 25 and 1, which keeps its digest.
+    let numbers = changed(alloc, &two, 3 * 4096 + 9, 25)?;
+    let numbers = changed(alloc, &numbers, 3 * 4096 + 209, 1)?;
+    assert!(rt; lists(&rt, alloc, &numbers, BadMap, b"bad map page 3 Number\n")?);
+    let third = map(alloc, &[&changed(alloc, ONE_HEAD, 25, 3)?, ONE_LEAF, b""])?;
+    assert!(rt; lists(&rt, alloc, &third, BadMap, b"bad map page 2 Free\n")?);
+    // A root of one child.
+    let head = changed(alloc, ONE_HEAD, 5, 1)?;
+    let head = changed(alloc, &head, 25, 3)?;
+    let head = changed(alloc, &head, 77, 4)?;
+    let root =
+        b"N\x01\x01\0\0\0\x02\0\0\0\0\0\0\0\0\0\0\0\0\0\0\0\0\0\0\0\0\0\0\0\0\0\0\0\0\0\0\0\0\0\0\0\0\0\0\0\0\0\0\0\0\0\0\0\x4a";
+    let thin = map(alloc, &[&head, root.as_slice(), ONE_LEAF])?;
+    assert!(rt; lists(&rt, alloc, &thin, BadMap, b"bad map page 1 Fill\n")?);
+    Ok(())
+}
+
+// How a run ended over a file `r`, where these calls of the shelf fail: its status, what it printed, and the file
+// `m` that it leaves.
+fn built<R: Threads + Sync>(
+    rt: &R,
+    alloc: Global,
+    shelf_fails: u64,
+    sink_fails: u64,
+) -> Result<(Status, Vec<u8>, Option<Vec<u8>>), AllocError> {
+    let mut shelf = MemShelf::new(alloc, [shelf_fails].to_vec(alloc)?);
+    shelf.put("r", SEVENTEEN)?;
+    let mut out = MemSink::new(alloc, [sink_fails].to_vec(alloc)?);
+    let spoken = words(alloc, BUILD)?;
+    let (status, shelf) = run::<XorHash, _, _, _, _>(rt, alloc, &spoken, shelf, &mut out, &NoGate);
+    let left = match shelf.file("m") {
+        Some(bytes) => Some(bytes.to_vec(alloc)?),
+        None => None,
+    };
+    Ok((status, out.bytes().to_vec(alloc)?, left))
+}
+
+// Whether a build that was refused may leave this file.
+fn may_stand<R: Threads + Sync>(
+    rt: &R,
+    alloc: Global,
+    left: &Option<Vec<u8>>,
+) -> Result<bool, AllocError> {
+    let Some(bytes) = left else {
+        return Ok(true);
+    };
+    Ok(
+        bytes.as_slice() == two_leaves(alloc)?.as_slice()
+            || lists(rt, alloc, bytes, BadMap, b"bad map page 0 Size\n")?
+            || lists(rt, alloc, bytes, BadMap, b"bad map page 0 Unsealed\n")?,
+    )
+}
+
+#[test]
+fn each_call_of_a_build_fails_in_turn(rt: HostRuntime) -> Result<(), Fail> {
+    let alloc = rt.alloc();
+    let mut calls = 0u64;
+    for call in 1..100u64 {
+        let (status, printed, left) = built(&rt, alloc, call, 0)?;
+        assert!(rt; may_stand(&rt, alloc, &left)?, "call {call}");
+        if status == Done {
+            break;
+        }
+        calls = call;
+        assert_eq!(rt; status, Outside);
+        assert!(rt;
+            printed.as_slice() == b"shelf fault\n".as_slice(),
+            "call {call}"
+        );
+        // It is whole only once its pages were synced and its seal was written.
+        let whole = match &left {
+            Some(bytes) => bytes.as_slice() == two_leaves(alloc)?.as_slice(),
+            None => false,
+        };
+        assert_eq!(rt; whole, call == 7);
+    }
+    // A size, a read, and then the file is made, written, synced, sealed and synced.
+    assert_eq!(rt; calls, 7);
+    let (status, printed, left) = built(&rt, alloc, 0, 1)?;
+    assert_eq!(rt; status, Outside);
+    assert!(rt; printed.is_empty());
+    assert!(rt; may_stand(&rt, alloc, &left)?);
+    assert!(rt; left.is_some());
+    Ok(())
+}
+
+// The proof of `window:2,0,3,0` on the map of the records I at (I,0) for I = 1 to 17: the root and its first leaf are
+// opened, the second one is pruned.
+fn proof_of_two(alloc: Global) -> Result<Vec<u8>, AllocError> {
+    let mut bytes = b"MRVO\x01W\0\0\0\0\0\0\0\0\0\0\0\0\0\0\0\x11\x01N\x02".to_vec(alloc)?;
+    bytes.extend_from_slice(&leaf(alloc, 1, 8)?)?;
+    bytes.extend_from_slice(
+        b"P\0\0\0\x09\0\0\0\0\0\0\0\x11\0\0\0\0\0\0\0\0\0\0\0\0\0\0\0\0\0\0\0\0",
+    )?;
+    bytes.extend_from_slice(b"\0\0\0\0\0\0\0\0\0\0\0\0\0\0\0\x4c")?;
+    Ok(bytes)
+}
+
+const PROVE: &[&str] = &["prove", "m", "window:2,0,3,0", "p"];
+
+const CHECK: &[&str] = &[
+    "check",
+    "000000000000000000000000000000000000000000000000000000000000000f",
+    "window:2,0,3,0",
+    "p",
+];
+
+#[test]
+fn proofs_that_are_not_written(rt: HostRuntime) -> Result<(), Fail> {
+    let alloc = rt.alloc();
+    let one = one(alloc)?;
+    let files = [("m", one.as_slice()), ("t", b"a text".as_slice())];
+    let table: [(&[&str], Status, &[u8]); 8] = [
+        (
+            &["prove", "m", "window:1,0,0,0", "p"],
+            BadWords,
+            b"bad words\n",
+        ),
+        (
+            &["prove", "m", "window:0,0,0,0", "m"],
+            BadWords,
+            b"bad words\n",
+        ),
+        (&["prove", "m", "window:0,0,0,0"], BadWords, b"bad words\n"),
+        (
+            &["prove", "m", "window:0,0,0,0", ""],
+            BadWords,
+            b"bad words\n",
+        ),
+        (
+            &["prove", "", "window:0,0,0,0", "p"],
+            BadWords,
+            b"bad words\n",
+        ),
+        (
+            &["prove", "m", "window:0,0,0,0", "p", "p"],
+            BadWords,
+            b"bad words\n",
+        ),
+        (
+            &["prove", "n", "window:0,0,0,0", "p"],
+            Outside,
+            b"missing n\n",
+        ),
+        (
+            &["prove", "t", "window:0,0,0,0", "p"],
+            BadMap,
+            b"bad map page 0 Size\n",
+        ),
+    ];
+    for (line, status, printed) in table {
+        let row = Row(line, &files, &[], &[], status, printed, &files);
+        assert!(rt;
+            holds::<XorHash, _, _>(&rt, alloc, &NoGate, &row)?,
+            "{line:?}"
+        );
+    }
+    Ok(())
+}
+
+// How a list of the map of seventeen records ended, where these calls fail: its status and what it printed.
+fn listed<R: Threads + Sync>(
+    rt: &R,
+    alloc: Global,
+    shelf_fails: u64,
+    sink_fails: u64,
+) -> Result<(Status, Vec<u8>), AllocError> {
+    let mut shelf = MemShelf::new(alloc, [shelf_fails].to_vec(alloc)?);
+    shelf.put("m", &two_leaves(alloc)?)?;
+    let mut out = MemSink::new(alloc, [sink_fails].to_vec(alloc)?);
+    let spoken = words(alloc, LIST)?;
+    let (status, _) = run::<XorHash, _, _, _, _>(rt, alloc, &spoken, shelf, &mut out, &NoGate);
+    Ok((status, out.bytes().to_vec(alloc)?))
+}
+
+#[test]
+fn each_call_of_a_list_fails_in_turn(rt: HostRuntime) -> Result<(), Fail> {
+    let alloc = rt.alloc();
+    // A size and a read.
+    for call in 1..3u64 {
+        let (status, printed) = listed(&rt, alloc, call, 0)?;
+        assert_eq!(rt; status, Outside);
+        assert!(rt; printed.as_slice() == b"shelf fault\n".as_slice());
+    }
+    let (status, printed) = listed(&rt, alloc, 3, 0)?;
+    assert_eq!(rt; status, Done);
+    assert!(rt; printed.as_slice() == SEVENTEEN);
+    let (status, printed) = listed(&rt, alloc, 0, 3)?;
+    assert_eq!(rt; status, Outside);
+    assert!(rt; printed.as_slice() == b"1 1 0 1 0 -\n2 2 0 2 0 -\n".as_slice());
+    Ok(())
+}
+
+// How a proof of the map of seventeen records was written, where these calls fail: the run's status, what it printed,
+// and the file that it left.
+fn written<R: Threads + Sync>(
+    rt: &R,
+    alloc: Global,
+    shelf_fails: u64,
+    sink_fails: u64,
+) -> Result<(Status, Vec<u8>, Option<Vec<u8>>), AllocError> {
+    let mut shelf = MemShelf::new(alloc, [shelf_fails].to_vec(alloc)?);
+    shelf.put("m", &two_leaves(alloc)?)?;
+    let mut out = MemSink::new(alloc, [sink_fails].to_vec(alloc)?);
+    let spoken = words(alloc, PROVE)?;
+    let (status, shelf) = run::<XorHash, _, _, _, _>(rt, alloc, &spoken, shelf, &mut out, &NoGate);
+    let left = match shelf.file("p") {
+        Some(bytes) => Some(bytes.to_vec(alloc)?),
+        None => None,
+    };
+    Ok((status, out.bytes().to_vec(alloc)?, left))
+}
+
+#[test]
+fn each_call_of_a_proof_fails_in_turn(rt: HostRuntime) -> Result<(), Fail> {
+    let alloc = rt.alloc();
+    let proof = proof_of_two(alloc)?;
+    assert_eq!(rt; proof.len(), 276);
+    // A size, a read, and then the file is made, written and synced.
+    for call in 1..6u64 {
+        let (status, printed, left) = written(&rt, alloc, call, 0)?;
+        assert_eq!(rt; status, Outside);
+        assert!(rt; printed.as_slice() == b"shelf fault\n".as_slice());
+        let whole = match &left {
+            Some(bytes) => bytes.as_slice() == proof.as_slice(),
+            None => false,
+        };
+        assert_eq!(rt; whole, call == 5);
+    }
+    let (status, printed, left) = written(&rt, alloc, 0, 0)?;
+    assert_eq!(rt; status, Done);
+    assert!(rt; printed.as_slice() == b"proof 276\n".as_slice());
+    let whole = match &left {
+        Some(bytes) => bytes.as_slice() == proof.as_slice(),
+        None => false,
+    };
+    assert!(rt; whole);
+    let files = [("p", proof.as_slice())];
+    let lines = b"2 2 0 2 0 -\n3 3 0 3 0 -\n".as_slice();
+    let row = Row(CHECK, &files, &[], &[], Done, lines, &files);
+    assert!(rt; holds::<XorHash, _, _>(&rt, alloc, &NoGate, &row)?);
+    Ok(())
+}

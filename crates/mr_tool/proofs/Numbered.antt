@@ -1,0 +1,30 @@
+-- Sorting records beside their numbers sorts the records.
+use Rattle.std.proofs.Common.{◌≡◌, ℕ, List, [], ◌∷◌, map, refl, sym, ap, ◌∙◌}
+use Rattle.std.specs.Ordering.{is_lt, nat_cmp}
+use Rattle.mr_record.specs.Sorting.{sorted_by_key}
+use Rattle.mr_record.specs.declared.record.Record.{Record}
+use Rattle.mr_pack.proofs.Natural.{sorted_map}
+use Rattle.mr_query.specs.Scan.{by_number}
+use Rattle.mr_tool.specs.Listing.{seen, numbered}
+use Rattle.mr_tool.specs.declared.listing.Numbered.{Numbered}
+
+items_seen : (es : List Numbered) → map (λ (e : Numbered). e.item.now) es
+    ≡ map (λ (p : ℕ × Record). p.1) (map seen es)
+items_seen [] = refl
+items_seen (e ∷ es) = ap (λ rs. e.item.now ∷ rs) (items_seen es)
+
+records_numbered : (rs : List Record) → map (λ (p : ℕ × Record). p.1) (map numbered rs) ≡ rs
+records_numbered [] = refl
+records_numbered (r ∷ rs) = ap (λ ts. r ∷ ts) (records_numbered rs)
+
+pub sorted_entries : (es : List Numbered) (rs : List Record) → map seen es ≡ map numbered rs
+    → map (λ (e : Numbered). e.item.now) (sorted_by_key (λ (e : Numbered). e.number) es) ≡ by_number rs
+sorted_entries es rs same =
+    items_seen (sorted_by_key (λ (e : Numbered). e.number) es)
+    ∙ ap (map (λ (p : ℕ × Record). p.1))
+    (sym (sorted_map seen (λ (a b : Numbered). is_lt (nat_cmp a.number b.number))
+    (λ (a b : ℕ × Record). is_lt (nat_cmp a.0 b.0)) (λ a b. refl) es)
+    ∙ ap (sorted_by_key (λ (p : ℕ × Record). p.0)) same
+    ∙ sorted_map numbered (λ (a b : Record). is_lt (nat_cmp a.number b.number))
+    (λ (a b : ℕ × Record). is_lt (nat_cmp a.0 b.0)) (λ a b. refl) rs)
+    ∙ records_numbered (by_number rs)

@@ -1,0 +1,163 @@
+-- What a command comes to before it is printed, and how it is printed. This serves private
+-- functions.
+use Rattle.std.specs.Prelude.{◌≡◌, ◌⊎◌, ℕ, ◌≤◌, List, ◌++◌, Option, Some, None, ⊤, Result, Ok, Err}
+use Rattle.std.specs.Global.{Vec}
+use Rattle.std.specs.String.{string_bytes}
+use Rattle.mr_outside.specs.Files.{Files}
+use Rattle.mr_outside.specs.Faults.{Rose}
+use Rattle.mr_outside.specs.State.{Shelved, Sunk}
+use Rattle.mr_outside.specs.Told.{Takes, TakesFront}
+use Rattle.mr_outside.specs.declared.shelf.ShelfErr.{ShelfErr}
+use Rattle.mr_outside.specs.declared.shelf.ShelfErr.TheVariants as shelf
+use Rattle.mr_record.specs.RecordText.{text_of}
+use Rattle.mr_tool.specs.Answer.{IsSettled}
+use Rattle.mr_tree.specs.WellFormed.{WellFormed}
+use Rattle.mr_tree.specs.declared.tree.Tree.{Tree}
+use Rattle.mr_tool.specs.Found.{Found}
+use Rattle.mr_tool.specs.Lines.{bad_words_line, shelf_fault_line}
+use Rattle.mr_tool.specs.Outcome.{Outcome, Content, File, IsLeft, MayLeave}
+use Rattle.mr_tool.specs.Plan.{Plan, comes, reads, opens, Input, IsInput, IsFound, IsAbsent, LacksInput}
+use Rattle.mr_tool.specs.Say.{needs_map}
+use Rattle.mr_tool.specs.declared.ending.Ending.{Ending}
+use Rattle.mr_tool.specs.declared.ending.Halt.{Halt}
+use Rattle.mr_tool.specs.declared.ending.Halt.TheVariants as halts
+use Rattle.mr_tool.specs.declared.status.Status.{Status}
+use Rattle.mr_tool.specs.declared.status.Status.TheVariants.{BadWords, Outside, NoMemory}
+
+-- the text of an ending: its line, then a line for each record
+abbrev pub printed_of : Ending → List ℕ
+printed_of ending = string_bytes ending.line ++ text_of ending.records.items
+
+-- the ending is what is said, for a reason that is not outside
+pub record Gives (said : Outcome) (ending : Ending) : Type 0 where
+  pub status : ending.status ≡ said.status
+  pub printed : printed_of ending ≡ said.printed
+  pub settled : IsSettled ending.status
+
+-- ---- before it is printed
+
+-- no count of the shelf falls
+pub record NoneFalls (before after : Shelved) : Type 0 where
+  pub faults : before.faults ≤ after.faults
+  pub reads : before.reads ≤ after.reads
+
+-- the plan comes to this status and text, and the files are left as its outcome says
+abbrev pub Ends : Plan → Option Files → Option Files → Status → List ℕ → Type 0
+Ends (comes said) before after status text = (status ≡ said.status) × (text ≡ said.printed)
+    × IsLeft said.written before after
+Ends (reads name next) before after status text = (input : Input) × IsInput before name input
+    × Ends (next input) before after status text
+Ends (opens hash bytes next) before after status text = (found : Found) × IsFound hash bytes found
+    × Ends (next found) before after status text
+
+-- the plan was given up, and the files are left as its outcome allows
+abbrev pub GivesUp : Plan → Option Files → Option Files → Type 0
+GivesUp (comes said) before after = MayLeave said.written before after
+GivesUp (reads name next) before after = (after ≡ before)
+    ⊎ ((input : Input) × IsInput before name input × GivesUp (next input) before after)
+GivesUp (opens hash bytes next) before after = (after ≡ before)
+    ⊎ ((found : Found) × IsFound hash bytes found × GivesUp (next found) before after)
+
+-- why a command is not carried out to its end
+abbrev pub Stops : Shelved → Shelved → Halt → Type 0
+Stops before after halts.Words = ⊥
+Stops before after halts.Shelf = Rose before.faults after.faults
+Stops before after halts.NoMemory = ⊤
+
+abbrev pub Came : Plan → Shelved → Shelved → Result Ending Halt → Type 0
+Came plan before after (Ok ending) = Ends plan before.files after.files ending.status
+    (printed_of ending)
+Came plan before after (Err halt) = Stops before after halt × GivesUp plan before.files after.files
+
+-- why an ending may say that something outside failed
+abbrev pub Blames : Plan → Shelved → Shelved → Result Ending Halt → Type 0
+Blames plan before after (Ok ending) = ending.status ≡ Outside → Rose before.faults after.faults
+    ⊎ LacksInput plan before.files
+Blames plan before after (Err halt) = ⊤
+
+-- where it does not, nothing failed
+abbrev pub IsCalm : Shelved → Shelved → Result Ending Halt → Type 0
+IsCalm before after (Ok ending) = IsSettled ending.status → after.faults ≡ before.faults
+IsCalm before after (Err halt) = ⊤
+
+-- a command comes to what is said
+pub record Comes (plan : Plan) (before after : Shelved) (result : Result Ending Halt) : Type 0 where
+  pub counts : NoneFalls before after
+  pub came : Came plan before after result
+  pub outside : Blames plan before after result
+  pub quiet : IsCalm before after result
+
+abbrev pub Read : List ℕ → Shelved → Shelved → Result (Option (Vec ℕ)) Halt → Type 0
+Read name before after (Ok None) = IsInput before.files name None
+    × (Rose before.faults after.faults ⊎ IsAbsent before.files name)
+Read name before after (Ok (Some bytes)) = IsInput before.files name (Some bytes.items)
+    × (after.faults ≡ before.faults)
+Read name before after (Err halt) = Stops before after halt
+
+-- an input was read, or is missing
+pub record Reads (name : List ℕ) (before after : Shelved) (result : Result (Option (Vec ℕ)) Halt)
+    : Type 0 where
+  pub counts : NoneFalls before after
+  pub files : after.files ≡ before.files
+  pub read : Read name before after result
+
+-- a file was read that stands for this tree at this batch
+pub record HoldsMap (hash : List ℕ → List ℕ) (name : List ℕ) (before after : Shelved) (tree : Tree)
+    (batch : ℕ) : Type 0 where
+  pub counts : NoneFalls before after
+  pub files : after.files ≡ before.files
+  pub quiet : after.faults ≡ before.faults
+  pub bytes : List ℕ
+  pub input : IsInput before.files name (Some bytes)
+  pub found : IsFound hash bytes (Ok (tree, batch))
+  pub well : WellFormed tree
+
+-- a map was read, or what is said without it is settled
+abbrev pub Opens : (List ℕ → List ℕ) → List ℕ → Shelved → Shelved
+    → Result (Result (Tree × ℕ) Ending) Halt → Type 0
+Opens hash name before after (Ok (Ok map)) = HoldsMap hash name before after map.0 map.1
+Opens hash name before after (Ok (Err ending)) =
+    (next : Tree → ℕ → Plan) → Comes (needs_map hash name next) before after (Ok ending)
+Opens hash name before after (Err halt) =
+    (next : Tree → ℕ → Plan) → Comes (needs_map hash name next) before after (Err halt)
+
+-- the halt over a refusal of the shelf
+abbrev pub halt_of : ShelfErr → Halt
+halt_of shelf.Missing = halts.Shelf
+halt_of shelf.Fault = halts.Shelf
+halt_of shelf.NoMemory = halts.NoMemory
+
+-- what a save leaves: the content, or what stands where it stopped
+abbrev pub Saved : List ℕ → Content → Shelved → Shelved → Result Unit Halt → Type 0
+Saved name content before after (Ok done) =
+    IsLeft (File name content) before.files after.files × (after.faults ≡ before.faults)
+Saved name content before after (Err halt) = Stops before after halt
+    × MayLeave (File name content) before.files after.files
+
+-- a file was written
+pub record Saves (name : List ℕ) (content : Content) (before after : Shelved)
+    (result : Result Unit Halt) : Type 0 where
+  pub counts : NoneFalls before after
+  pub saved : Saved name content before after result
+
+-- ---- while it is printed
+
+-- all was printed, or the sink or memory gave out behind a front
+abbrev pub Prints : Status → List ℕ → Sunk → Sunk → Status → Type 0
+Prints meant text before after ended =
+    ((ended ≡ meant) × Takes before after text × (after.faults ≡ before.faults))
+    ⊎ (((ended ≡ NoMemory) ⊎ ((ended ≡ Outside) × Rose before.faults after.faults))
+    × TakesFront before after text)
+
+-- what is printed of what a command came to
+abbrev pub Finished : Result Ending Halt → Sunk → Sunk → Status → Type 0
+Finished (Ok ending) before after status = Prints ending.status (printed_of ending) before after
+    status
+Finished (Err halts.Words) before after status = Prints BadWords bad_words_line before after status
+Finished (Err halts.Shelf) before after status = Prints Outside shelf_fault_line before after status
+Finished (Err halts.NoMemory) before after status = (status ≡ NoMemory) × (after ≡ before)
+
+pub record Finishes (came : Result Ending Halt) (before after : Sunk) (status : Status)
+    : Type 0 where
+  pub faults : before.faults ≤ after.faults
+  pub printed : Finished came before after status

@@ -1,0 +1,10 @@
+-- Records with their numbers beside them. This serves private functions.
+use Rattle.std.specs.Prelude.{ℕ}
+use Rattle.mr_record.specs.declared.record.Record.{Record}
+use Rattle.mr_tool.specs.declared.listing.Numbered.{Numbered}
+
+abbrev pub seen : Numbered → ℕ × Record
+seen e = (e.number, e.item.now)
+
+abbrev pub numbered : Record → ℕ × Record
+numbered r = (r.number, r)

@@ -1,0 +1,27 @@
+-- A run of the program on some words, as the clauses of `run` say it.
+use Rattle.std.specs.Prelude.{◌≡◌, ℕ, List, Option}
+use Rattle.mr_tool.specs.Answer.{World, Counts, HasOutsideCause, IsAnswer, IsQuiet}
+use Rattle.mr_tool.specs.Say.{say}
+use Rattle.mr_tool.specs.Spelling.{IsSpelled}
+use Rattle.mr_tool.specs.declared.status.Status.{Status}
+use Rattle.mr_tool.specs.declared.status.Status.TheVariants.{Outside}
+use Rattle.mr_tool.specs.declared.words.Command.{Command}
+
+-- whatever the words spell is answered
+abbrev pub AnswersWords : (List ℕ → List ℕ) → List (List ℕ) → World → World → Status → Type 0
+AnswersWords hash words before after status =
+    (command : Option Command) → IsSpelled words command
+    → IsAnswer (say hash command) before after status
+
+-- it blames something outside only where there is a cause
+abbrev pub BlamesRightly : (List ℕ → List ℕ) → List (List ℕ) → World → World → Status → Type 0
+BlamesRightly hash words before after status =
+    (command : Option Command) → IsSpelled words command → status ≡ Outside
+    → HasOutsideCause (say hash command) before after
+
+pub record IsRun (hash : List ℕ → List ℕ) (words : List (List ℕ)) (before after : World)
+    (status : Status) : Type 0 where
+  pub answer : AnswersWords hash words before after status
+  pub outside : BlamesRightly hash words before after status
+  pub counts : Counts before after
+  pub quiet : IsQuiet status before after

@@ -1,0 +1,25 @@
+-- The command that words spell, if any.
+use Rattle.std.specs.Prelude.{◌≡◌, ℕ, nat_eq, ◌&&◌, if◌then◌else◌, List, length, Option, Some, None}
+use Rattle.std.specs.List.{list_all}
+use Rattle.hex.specs.Hex.{decode_of}
+use Rattle.mr_record.specs.RecordText.{is_lower_digit, ok_bytes}
+use Rattle.mr_tool.specs.Say.{say}
+use Rattle.mr_tool.specs.Words.{Spells}
+use Rattle.mr_tool.specs.declared.words.Command.{Command}
+
+-- the words spell this command, or none at all
+abbrev pub IsSpelled : List (List ℕ) → Option Command → Type 0
+IsSpelled words (Some command) = Spells words command
+IsSpelled words None = (command : Command) → Spells words command → ⊥
+
+-- the two ask for the same
+abbrev pub AsksAs : Option Command → Option Command → Type 0
+AsksAs a b = (hash : List ℕ → List ℕ) → say hash a ≡ say hash b
+
+-- ---- this serves private functions
+
+-- the digest that 64 lower-case hexadecimal digits write
+unfoldable pub digest_of_word : List ℕ → Option (List ℕ)
+digest_of_word word =
+    if nat_eq (length word) 64 && list_all is_lower_digit word then ok_bytes (decode_of word)
+    else None

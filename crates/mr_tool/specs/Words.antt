@@ -1,0 +1,68 @@
+-- The words of the program's commands.
+use Rattle.std.specs.Prelude.{◌≡◌, ◌≢◌, ℕ, ◌<◌, List, [], ◌∷◌, length, map, codes, ⊤}
+use Rattle.std.specs.List.{AllByRecursion}
+use Rattle.hex.specs.Hex.{encode_lower}
+use Rattle.mr_record.specs.Bytes.{AreBytes}
+use Rattle.mr_query.specs.Word.{IsQuery, word_of}
+use Rattle.mr_query.specs.declared.query.Query.{Query}
+use Rattle.mr_tool.specs.declared.words.Command.{Command}
+use Rattle.mr_tool.specs.declared.words.Command.TheVariants as commands
+
+-- a word, by what it stands for
+pub data Word : Type 0 where
+  -- the name of a command
+  key : (name : List ℕ) → Word
+  -- a file, by the bytes of its name
+  file : (name : List ℕ) → Word
+  digest : (bytes : List ℕ) → Word
+  query : (asked : Query) → Word
+
+-- its one spelling: a digest is written in lower-case hexadecimal
+abbrev pub spelled : Word → List ℕ
+spelled (key name) = name
+spelled (file name) = name
+spelled (digest bytes) = encode_lower bytes
+spelled (query asked) = word_of asked
+
+-- 32 bytes
+pub record IsDigest (bytes : List ℕ) : Type 0 where
+  pub size : length bytes ≡ 32
+  pub each : AreBytes bytes
+
+-- what such a word may stand for: a file's name is not empty
+abbrev pub IsWord : Word → Type 0
+IsWord (key name) = ⊤
+IsWord (file name) = 0 < length name
+IsWord (digest bytes) = IsDigest bytes
+IsWord (query asked) = IsQuery asked
+
+-- the words of each command
+abbrev pub words_of : Command → List Word
+words_of (commands.Root records) = key (codes "root") ∷ file records.now ∷ []
+words_of (commands.Build map records) =
+    key (codes "build") ∷ file map.now ∷ file records.now ∷ []
+words_of (commands.List map) = key (codes "list") ∷ file map.now ∷ []
+words_of (commands.Prove map asked proof) =
+    key (codes "prove") ∷ file map.now ∷ query asked ∷ file proof.now ∷ []
+words_of (commands.Check root asked proof) =
+    key (codes "check") ∷ digest root ∷ query asked ∷ file proof.now ∷ []
+
+-- the files among some words, by their names
+abbrev pub file_names : List Word → List (List ℕ)
+file_names [] = []
+file_names (file name ∷ words) = name ∷ file_names words
+file_names (key name ∷ words) = file_names words
+file_names (digest bytes ∷ words) = file_names words
+file_names (query asked ∷ words) = file_names words
+
+-- no two of them are one
+abbrev pub AreApart : List (List ℕ) → Type 0
+AreApart [] = ⊤
+AreApart (name ∷ names) = AllByRecursion (λ other. name ≢ other) names × AreApart names
+
+-- the words spell this command
+pub record Spells (words : List (List ℕ)) (command : Command) : Type 0 where
+  pub each : AllByRecursion IsWord (words_of command)
+  -- the files of a command are different ones
+  pub apart : AreApart (file_names (words_of command))
+  pub spelled : words ≡ map spelled (words_of command)

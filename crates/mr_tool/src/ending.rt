@@ -1,0 +1,75 @@
+ghost use Rattle.std.specs.Prelude.{◌≡◌};
+ghost use Rattle.std.specs.String.{string_bytes};
+ghost use Rattle.mr_record.specs.RecordText.{text_of};
+ghost use Rattle.mr_tool.specs.Ending.{halt_of, printed_of};
+ghost use Rattle.mr_tool.specs.declared.ending.Halt.TheVariants as halts;
+
+use crate::Status;
+use mr_outside::ShelfErr;
+use mr_record::Record;
+use std::alloc::{AllocError, Global};
+
+// What a command comes to: how it ends and what it prints, a text that may be empty and then a
+// line for each record.
+#[derive(Drop)]
+pub(crate) struct Ending {
+    pub(crate) status: Status,
+    pub(crate) line: String,
+    pub(crate) records: Vec<Record>,
+}
+
+impl Ending {
+    // Prints this line alone.
+    pub(crate) fn line(alloc: Global, status: Status, line: String) -> Ending
+        ensures status { result.status ≡ status }
+        ensures printed { printed_of result ≡ string_bytes line }
+    {
+        Ending {
+            status,
+            line,
+            records: Vec::new(alloc),
+        }
+    }
+
+    // Prints these records alone.
+    pub(crate) fn records(alloc: Global, status: Status, records: Vec<Record>) -> Ending
+        ensures status { result.status ≡ status }
+        ensures printed { printed_of result ≡ text_of records.items }
+    {
+        Ending {
+            status,
+            line: String::new(alloc),
+            records,
+        }
+    }
+}
+
+// Why no command comes to its end.
+#[derive(Clone, Copy, Debug)]
+pub(crate) enum Halt {
+    // The words spell no command.
+    Words,
+    // The shelf failed.
+    Shelf,
+    NoMemory,
+}
+
+impl From<AllocError> for Halt {
+    ghost from_gives = { λ _ e. e ≡ halts.NoMemory };
+
+    fn from(_error: AllocError) -> Halt {
+        Halt::NoMemory
+    }
+}
+
+impl From<ShelfErr> for Halt {
+    ghost from_gives = { λ e h. h ≡ halt_of e };
+
+    fn from(error: ShelfErr) -> Halt {
+        match error {
+            ShelfErr::Missing => Halt::Shelf,
+            ShelfErr::Fault => Halt::Shelf,
+            ShelfErr::NoMemory => Halt::NoMemory,
+        }
+    }
+}

@@ -1,0 +1,59 @@
+ghost use Rattle.std.specs.Prelude.{◌≡◌, ◌++◌, ◌≤◌, OnOk};
+ghost use Rattle.std.specs.String.{string_bytes};
+ghost use Rattle.mr_outside.specs.Causes.{SinkCauses};
+ghost use Rattle.mr_outside.specs.Told.{Takes, TakesFront};
+ghost use Rattle.mr_record.specs.RecordText.{text_of};
+ghost use Rattle.mr_tool.specs.Ending.{Finishes, Prints, printed_of};
+
+use crate::Status;
+use crate::ending::{Ending, Halt};
+use mr_outside::{Sink, SinkErr, write_all};
+use mr_record::write_lines;
+
+// Writes the text of an ending, its records one by one.
+fn write_ending<W: Sink>(out: &mut W, ending: &Ending) -> Result<(), SinkErr>
+    ensures whole { OnOk result
+        (Takes (W.state out.old) (W.state out.new) (printed_of ending.now)) }
+    ensures front { TakesFront (W.state out.old) (W.state out.new) (printed_of ending.now) }
+    ensures causes { SinkCauses (W.state out.old) (W.state out.new) result }
+{
+    write_all(out, ending.line.as_bytes())?;
+    write_lines(out, &ending.records)
+}
+
+// Prints a line, the last thing that a run does.
+fn print<W: Sink>(out: &mut W, line: &[u8], meant: Status) -> Status
+    ensures printed { Prints meant line.now (W.state out.old) (W.state out.new) result }
+    ensures faults { (W.state out.old).faults ≤ (W.state out.new).faults }
+{
+    match write_all(out, line) {
+        Ok(()) => meant,
+        Err(SinkErr::Fault) => Status::Outside,
+        Err(SinkErr::NoMemory) => Status::NoMemory,
+    }
+}
+
+// Prints an ending, the last thing that a run does.
+fn print_ending<W: Sink>(out: &mut W, ending: &Ending) -> Status
+    ensures printed { Prints ending.now.status (printed_of ending.now) (W.state out.old)
+        (W.state out.new) result }
+    ensures faults { (W.state out.old).faults ≤ (W.state out.new).faults }
+{
+    match write_ending(out, ending) {
+        Ok(()) => ending.status,
+        Err(SinkErr::Fault) => Status::Outside,
+        Err(SinkErr::NoMemory) => Status::NoMemory,
+    }
+}
+
+// Prints what a command came to, the last thing that a run does.
+pub(crate) fn finish<W: Sink>(out: &mut W, came: Result<Ending, Halt>) -> Status
+    ensures { Finishes came (W.state out.old) (W.state out.new) result }
+{
+    match came {
+        Ok(ending) => print_ending(out, &ending),
+        Err(Halt::Words) => print(out, b"bad words\n", Status::BadWords),
+        Err(Halt::Shelf) => print(out, b"shelf fault\n", Status::Outside),
+        Err(Halt::NoMemory) => Status::NoMemory,
+    }
+}

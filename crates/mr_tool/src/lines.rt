@@ -1,0 +1,117 @@
+ghost use Rattle.std.specs.Prelude.{◌≡◌, ◌++◌, codes, OnOk, IfOk};
+ghost use Rattle.std.specs.String.{string_bytes};
+ghost use Rattle.hex.specs.Hex.{encode_lower};
+ghost use Rattle.mr_tool.specs.Found.{kept_text, bad_map_line};
+ghost use Rattle.mr_tool.specs.Lines.{bad_text_line, missing_line, proof_line as line_of_proof};
+ghost use Rattle.mr_tool.specs.Refusal.{found_text, refused_line};
+ghost use Rattle.mr_tool.specs.Say.{digest_line};
+
+use mr_pages::{MapFault, MapRule};
+use mr_proof::{Fault, Rule};
+use mr_record::TextFault;
+use std::alloc::{AllocError, Global};
+
+// Puts the root digest that was computed, where it is another than the held one.
+fn push_found(alloc: Global, line: &mut String, rule: &Rule) -> Result<(), AllocError>
+    ensures { OnOk result (string_bytes line.new ≡ string_bytes line.old ++ found_text rule.now) }
+{
+    if let Rule::WrongRoot { found } = rule {
+        line.push_str(" found ")?;
+        line.push_str(hex::encode(alloc, found)?.as_str())?;
+    }
+    Ok(())
+}
+
+// The line on a proof that is refused: `refused RULE at PLACE`, and for another root digest the
+// one that was found.
+#[tactic(auto, unfolding(crate::specs::Refusal::refused_line))]
+pub(crate) fn refused_line(alloc: Global, fault: &Fault) -> Result<String, AllocError>
+    ensures { IfOk result (λ line. string_bytes line ≡ refused_line fault.now) }
+{
+    let rule = fault.rule.name();
+    let mut line = format!(in alloc; "refused {rule} at {}", fault.at)?;
+    push_found(alloc, &mut line, &fault.rule)?;
+    line.push('\n')?;
+    Ok(line)
+}
+
+// The line on a text that is refused: `bad text line LINE RULE`.
+#[tactic(auto, unfolding(crate::specs::Lines::bad_text_line))]
+pub(crate) fn bad_text_line(alloc: Global, fault: &TextFault) -> Result<String, AllocError>
+    ensures { IfOk result (λ line. string_bytes line ≡ bad_text_line fault.now) }
+{
+    let rule = fault.rule.name();
+    let mut line = format!(in alloc; "bad text line {} {rule}", fault.line)?;
+    line.push('\n')?;
+    Ok(line)
+}
+
+// Puts two digests that differ.
+fn push_digests(
+    alloc: Global,
+    line: &mut String,
+    held: &[u8; 32],
+    found: &[u8; 32],
+) -> Result<(), AllocError>
+    ensures { OnOk result (string_bytes line.new ≡ string_bytes line.old
+        ++ (codes " held " ++ encode_lower held.now ++ codes " found " ++ encode_lower found.now)) }
+{
+    line.push_str(" held ")?;
+    line.push_str(hex::encode(alloc, held)?.as_str())?;
+    line.push_str(" found ")?;
+    line.push_str(hex::encode(alloc, found)?.as_str())?;
+    Ok(())
+}
+
+// Puts what differs, where a rule keeps it.
+fn push_kept(alloc: Global, line: &mut String, rule: &MapRule) -> Result<(), AllocError>
+    ensures { OnOk result (string_bytes line.new ≡ string_bytes line.old ++ kept_text rule.now) }
+{
+    match rule {
+        MapRule::Digest { held, found } => push_digests(alloc, line, held, found),
+        MapRule::Changed { held, found } => push_digests(alloc, line, held, found),
+        MapRule::Count { held, found } => {
+            line.push_str(format!(in alloc; " held {held} found {found}")?.as_str())
+        }
+        _ => Ok(()),
+    }
+}
+
+// The line on a file that stands for no map: `bad map page PAGE RULE`, and what differs.
+#[tactic(auto, unfolding(crate::specs::Found::bad_map_line))]
+pub(crate) fn bad_map_line(alloc: Global, fault: &MapFault) -> Result<String, AllocError>
+    ensures { IfOk result (λ line. string_bytes line ≡ bad_map_line fault.now) }
+{
+    let rule = fault.rule.name();
+    let mut line = format!(in alloc; "bad map page {} {rule}", fault.page)?;
+    push_kept(alloc, &mut line, &fault.rule)?;
+    line.push('\n')?;
+    Ok(line)
+}
+
+// The line on a proof that was written: `proof LENGTH`.
+#[tactic(auto, unfolding(crate::specs::Lines::proof_line))]
+pub(crate) fn proof_line(alloc: Global, size: usize) -> Result<String, AllocError>
+    ensures { IfOk result (λ s. string_bytes s ≡ line_of_proof size) }
+{
+    let mut line = format!(in alloc; "proof {size}")?;
+    line.push('\n')?;
+    Ok(line)
+}
+
+// The line on a file that is missing: `missing NAME`.
+#[tactic(auto, unfolding(crate::specs::Lines::missing_line))]
+pub(crate) fn missing_line(alloc: Global, name: &str) -> Result<String, AllocError>
+    ensures { IfOk result (λ line. string_bytes line ≡ missing_line name.now) }
+{
+    format!(in alloc; "missing {name}\n")
+}
+
+// A digest as a line of hexadecimal.
+pub(crate) fn digest_line(alloc: Global, digest: &[u8; 32]) -> Result<String, AllocError>
+    ensures { IfOk result (λ line. string_bytes line ≡ digest_line digest.now) }
+{
+    let mut line = hex::encode(alloc, digest)?;
+    line.push('\n')?;
+    Ok(line)
+}

@@ -1,0 +1,89 @@
+ghost use Rattle.std.specs.Prelude.{◌≡◌, map, IfOk, OnOk};
+ghost use Rattle.mr_record.specs.Sorting.{sorted_by_key};
+ghost use Rattle.mr_query.specs.Scan.{by_number as in_order};
+ghost use Rattle.mr_tree.specs.Tree.{records};
+ghost use Rattle.mr_tool.specs.Ending.{Comes, Gives};
+ghost use Rattle.mr_tool.specs.Listing.{seen, numbered as numbered_record};
+ghost use Rattle.mr_tool.specs.Say.{say_list, say_list_of};
+
+use crate::Status;
+use crate::ending::{Ending, Halt};
+use crate::opening::open_map;
+use mr_outside::Shelf;
+use mr_record::Record;
+use mr_tree::{Hash32, Tree, records_of};
+use std::alloc::{AllocError, Global};
+
+// A record with its number beside it: a sort moves this, and not the record.
+#[derive(Clone, Copy)]
+pub(crate) struct Numbered<'a> {
+    number: u64,
+    item: &'a Record,
+}
+
+// Each record with its number.
+fn entries_of(alloc: Global, list: &[Record]) -> Result<Vec<Numbered<'_>>, AllocError>
+    ensures { IfOk result (λ v. map seen v.items ≡ map numbered_record list.now) }
+{
+    let mut entries = Vec::with_capacity(alloc, list.len())?;
+    for record in list {
+        entries.push(Numbered {
+            number: record.number,
+            item: record,
+        })?;
+    }
+    Ok(entries)
+}
+
+// In rising number; equal ones keep their order.
+fn sort(entries: &mut Vec<Numbered<'_>>) -> Result<(), AllocError>
+    ensures { OnOk result (entries.new.items ≡ sorted_by_key (λ e. e.number) entries.old.items) }
+{
+    entries.sort_by_key(|entry| entry.number)?;
+    Ok(())
+}
+
+// Copies of the records.
+fn copies(alloc: Global, entries: &[Numbered<'_>]) -> Result<Vec<Record>, AllocError>
+    ensures { IfOk result (λ v. v.items ≡ map (λ e. e.item.now) entries.now) }
+{
+    entries.iter().map(|entry| *entry.item).collect(alloc)
+}
+
+// The records in rising number.
+fn by_number(alloc: Global, list: &[Record]) -> Result<Vec<Record>, AllocError>
+    ensures { IfOk result (λ v. v.items ≡ in_order list.now) }
+{
+    let mut entries = entries_of(alloc, list)?;
+    sort(&mut entries)?;
+    copies(alloc, &entries)
+}
+
+// The records of a tree, which is given up for them.
+fn records_of_tree(alloc: Global, tree: Tree) -> Result<Vec<Record>, AllocError>
+    ensures { IfOk result (λ v. v.items ≡ records tree) }
+{
+    records_of(alloc, &tree)
+}
+
+// The records of a tree in rising number.
+fn list_tree(alloc: Global, tree: Tree) -> Result<Ending, AllocError>
+    ensures { IfOk result (λ e. Gives (say_list_of tree) e) }
+{
+    let list = records_of_tree(alloc, tree)?;
+    Ok(Ending::records(alloc, Status::Done, by_number(alloc, &list)?))
+}
+
+/// The records of the map in a file, in rising number.
+pub(crate) fn list<H: Hash32, S: Shelf>(
+    alloc: Global,
+    name: &str,
+    shelf: &mut S,
+) -> Result<Ending, Halt>
+    ensures { Comes (say_list H.of name.now) (S.state shelf.old) (S.state shelf.new) result }
+{
+    match open_map::<H, S>(alloc, name, shelf)? {
+        Ok((tree, _batch)) => Ok(list_tree(alloc, tree)?),
+        Err(ending) => Ok(ending),
+    }
+}

@@ -1,0 +1,38 @@
+ghost use Rattle.std.specs.Prelude.{◌≡◌, IfOk};
+ghost use Rattle.mr_tool.specs.Ending.{Gives, Opens};
+ghost use Rattle.mr_tool.specs.Found.{bad_map_line as line_of};
+ghost use Rattle.mr_tool.specs.Say.{ends};
+
+use crate::Status;
+use crate::ending::{Ending, Halt};
+use crate::input::missing;
+use crate::lines::bad_map_line;
+use mr_outside::Shelf;
+use mr_pages::{MapErr, MapFault, open_plain};
+use mr_tree::{Hash32, Tree};
+use std::alloc::{AllocError, Global};
+
+// The ending over a file that stands for no map.
+fn bad_map(alloc: Global, fault: &MapFault) -> Result<Ending, AllocError>
+    ensures { IfOk result (λ e. Gives (ends Status.BadMap (line_of fault.now)) e) }
+{
+    let line = bad_map_line(alloc, fault)?;
+    Ok(Ending::line(alloc, Status::BadMap, line))
+}
+
+/// The map in a file, its tree and its batch, or what the command comes to without it.
+pub(crate) fn open_map<H: Hash32, S: Shelf>(
+    alloc: Global,
+    name: &str,
+    shelf: &mut S,
+) -> Result<Result<(Tree, u64), Ending>, Halt>
+    ensures { Opens H.of name.now (S.state shelf.old) (S.state shelf.new) result }
+{
+    match open_plain::<H, S>(alloc, shelf, name) {
+        Ok(map) => Ok(Ok(map)),
+        Err(MapErr::Map(fault)) => Ok(Err(bad_map(alloc, &fault)?)),
+        Err(MapErr::Missing) => Ok(Err(missing(alloc, name)?)),
+        Err(MapErr::Fault) => Err(Halt::Shelf),
+        Err(MapErr::NoMemory) => Err(Halt::NoMemory),
+    }
+}

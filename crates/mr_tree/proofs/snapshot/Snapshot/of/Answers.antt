@@ -1,0 +1,18 @@
+use Rattle.std.proofs.Common.{arith, subst, sym}
+use Rattle.mr_tree.specs.WellFormed.{WellFormed}
+use Rattle.mr_tree.proofs.Soundness.{sound_tree, nodes_fit}
+use Rattle.mr_tree.proofs.Reading.{snapshot_of}
+use Rattle.mr_tree.proofs.snapshot.Snapshot.of.Goals as goal
+
+pub rooted-requires-clause-sound : goal.rooted-requires-clause-sound
+rooted-requires-clause-sound g c = sound_tree c.args.tree.now c.requires
+
+pub rooted-requires-clause-room : goal.rooted-requires-clause-room
+rooted-requires-clause-room g c = omega (arith, nodes_fit c.args.tree.now c.requires)
+
+pub invariant_of-result : goal.invariant_of-result
+invariant_of-result g c = record {
+  whole = snapshot_of g.H.Hashes.of c.args.batch c.count-count.result c.args.tree.now c.requires c.count-count.ensures
+      c.rooted.new.nodes.items c.in_ok-root.root c.in_ok-root.ensures;
+  well_formed = ∣ subst WellFormed (sym c.in_ok-root.ensures.tree) c.requires ∣₁;
+}

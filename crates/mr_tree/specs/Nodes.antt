@@ -1,0 +1,98 @@
+-- What an object stands for that hands out the nodes of a map one by one, and what a fetch shows.
+use Rattle.std.specs.Prelude.{◌≡◌, ◌≢◌, ℕ, ◌<◌, ◌≤◌, ◌↔◌, ⊤, List, [], ◌∷◌, ◌++◌, map, length, All, Option, Some, None, IfSome, IsSome, IsSomeAnd, IsNone, slice_get}
+use Rattle.std.specs.List.{flat_map}
+use Rattle.mr_tree.specs.Limits.{count_limit, level_limit}
+use Rattle.mr_tree.specs.Tree.{records}
+use Rattle.mr_tree.specs.Digest.{entry}
+use Rattle.mr_tree.specs.View.{Node, children_in, size, level_of, entry_of, preimage_of}
+use Rattle.mr_tree.specs.declared.child.Child.{Child}
+use Rattle.mr_tree.specs.declared.nodes.NodesErr.{NodesErr}
+use Rattle.mr_tree.specs.declared.nodes.NodesErr.TheVariants.{Changed, Page, Outside, Missing, Fault, NoMemory}
+use Rattle.mr_tree.specs.declared.nodes.Top.{Top}
+use Rattle.mr_tree.specs.declared.tree.Tree.{Tree}
+use Rattle.mr_tree.specs.declared.tree.Tree.TheVariants as variants
+use Rattle.mr_tree.specs.declared.tree.Tree.TheOpen.{Tree-F, Empty, Leaf, Inner}
+use Rattle.mr_tree.specs.declared.tree.Tree.TheFolds.{para-Tree}
+
+-- a node, once each child has given its tree and the subtrees of that
+abbrev pub subtrees_step : Tree-F (Tree × List Tree) → List Tree
+subtrees_step Empty = []
+subtrees_step (Leaf records) = variants.Leaf records ∷ []
+subtrees_step (Inner children) =
+    flat_map (λ (c : Tree × List Tree). c.1) children
+    ++ variants.Inner (map (λ (c : Tree × List Tree). c.0) children) ∷ []
+
+-- the trees under all nodes of a tree, children before their parent, from left to right
+abbrev pub subtrees : Tree → List Tree
+subtrees = para-Tree (List Tree) subtrees_step
+
+-- what no call changes
+pub record Standing : Type 0 where
+  pub batch : ℕ
+  -- ids are from 1 and below it
+  pub span : ℕ
+  -- the map's tree, where it is told
+  pub tree : Option Tree
+  -- the tree under the node with this id, where there is one and the map's tree is told
+  pub node : ℕ → Option Tree
+
+-- Each node of this tree has an id of its own: `id` gives that of the node at each place of
+-- `subtrees`. No other id stands for a node.
+pub record HasIds (s : Standing) (t : Tree) : Type 0 where
+  pub id : ℕ → ℕ
+  pub within : (k : ℕ) → k < length (subtrees t) → (1 ≤ id k) × (id k < s.span)
+  pub shows : (k : ℕ) → k < length (subtrees t) → s.node (id k) ≡ slice_get (subtrees t) k
+  pub apart : (j k : ℕ) → j < length (subtrees t) → k < length (subtrees t) → id j ≡ id k → j ≡ k
+  pub others : (i : ℕ) → IsSome (s.node i) → (k : ℕ) × (k < length (subtrees t)) × (id k ≡ i)
+
+-- the child is the entry of the node with its id
+abbrev pub IsEntry : (List ℕ → List ℕ) → Standing → Child → Type 0
+IsEntry hash s c = IsSomeAnd (s.node c.id) (λ t. entry_of c ≡ entry hash t)
+
+-- the child may be fetched
+pub record MayFetch (hash : List ℕ → List ℕ) (s : Standing) (c : Child) : Type 0 where
+  pub positive : 1 ≤ c.id
+  pub within : c.id < s.span
+  pub low : c.level ≤ level_limit
+  pub known : IsSome s.tree → IsEntry hash s c
+
+-- the node that a view shows is the uppermost one of this tree, and the ids of its children are
+-- those of the nodes below it
+abbrev pub IsNodeOf : Standing → Tree → Node → Type 0
+IsNodeOf s t Empty = ⊥
+IsNodeOf s t (Leaf records) = t ≡ variants.Leaf records
+IsNodeOf s t (Inner children) =
+    (ts : List Tree) × (t ≡ variants.Inner ts)
+    × (map (λ (c : Child). s.node c.id) children ≡ map Some ts)
+
+-- what a fetch of this child shows
+pub record Shows (hash : List ℕ → List ℕ) (s : Standing) (c : Child) (n : Node) : Type 0 where
+  pub some : 1 ≤ size n
+  pub level : level_of n ≡ c.level
+  pub digest : hash (preimage_of n) ≡ c.digest
+  -- each child may be fetched in its turn
+  pub children : All (MayFetch hash s) (children_in n)
+  pub node : IfSome (s.node c.id) (λ t. IsNodeOf s t n)
+
+-- the tree under a root entry, and the empty one where there is none
+abbrev pub tree_under : Standing → Option Child → Option Tree
+tree_under s None = Some variants.Empty
+tree_under s (Some c) = s.node c.id
+
+-- what is said of the map as a whole
+pub record IsTop (hash : List ℕ → List ℕ) (s : Standing) (top : Top) : Type 0 where
+  pub batch : top.batch ≡ s.batch
+  pub few : top.count ≤ count_limit
+  pub none : (top.count ≡ 0) ↔ IsNone top.root
+  pub root : IfSome top.root (MayFetch hash s)
+  pub count : IfSome s.tree (λ t. top.count ≡ length (records t))
+  pub tree : IfSome s.tree (λ t. tree_under s top.root ≡ Some t)
+
+-- why a node may be refused; `rose` says that the count of faults rose in the call
+abbrev pub HasCause : Standing → (rose : Type 0) → NodesErr → Type 0
+HasCause s rose (Changed page held found) = IsNone s.tree × (held ≢ found)
+HasCause s rose (Page page) = IsNone s.tree
+HasCause s rose (Outside page) = IsNone s.tree × (1 ≤ page → s.span ≤ page)
+HasCause s rose Missing = rose
+HasCause s rose Fault = rose
+HasCause s rose NoMemory = ⊤

@@ -1,0 +1,24 @@
+use mr_geom::Rect;
+use mr_record::Record;
+
+/// What an inner node holds of a child: where it is found (a page, or a place in a list), its level,
+/// the least rectangle round its records, in map units, and its digest.
+#[derive(Clone, Copy, Debug)]
+pub struct Child {
+    pub id: u32,
+    pub level: u8,
+    pub rect: Rect,
+    pub digest: [u8; 32],
+}
+
+impl Child {
+    /// A leaf at the point (0, 0): it fills a place until another child is put there.
+    pub fn blank() -> Child {
+        Child {
+            id: 0,
+            level: 0,
+            rect: Record::blank().rect,
+            digest: [0; 32],
+        }
+    }
+}

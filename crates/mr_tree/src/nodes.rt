@@ -1,0 +1,89 @@
+//! Maps whose nodes are fetched one by one.
+
+ghost use Rattle.std.specs.Prelude.{◌≡◌, ℕ, ◌≤◌, IfSome, IfErr, OnOk};
+ghost use Rattle.mr_outside.specs.Faults.{Rose, next_count};
+ghost use Rattle.mr_tree.specs.WellFormed.{WellFormed};
+ghost use Rattle.mr_tree.specs.Nodes.{Standing, HasIds, IsTop, MayFetch, Shows, HasCause};
+
+use crate::{Child, Hash32, NodeView};
+
+/// What a map says of itself: the batch that it stands at, the number of its records, and the entry
+/// of its root node, which a map without records has not.
+#[derive(Clone, Copy, Debug)]
+pub struct Top {
+    pub batch: u64,
+    pub count: u64,
+    pub root: Option<Child>,
+}
+
+/// Why a node was not fetched.
+#[derive(Clone, Copy, Debug)]
+pub enum NodesErr {
+    /// The page holds another node than the one that its parent, or the head, tells of: the digest
+    /// that is held there, and the one that was found.
+    Changed {
+        page: u32,
+        held: [u8; 32],
+        found: [u8; 32],
+    },
+    /// The page that was read spells no node of the child's level.
+    Page {
+        page: u32,
+    },
+    /// The page that was read names this page for a child, and the file has none such.
+    Outside {
+        page: u32,
+    },
+    /// The file is not there any more.
+    Missing,
+    /// The store failed.
+    Fault,
+    NoMemory,
+}
+
+/// A map whose nodes are fetched one by one, each by the entry that its parent holds of it.
+pub trait Nodes {
+    type Hash: Hash32;
+
+    // what no call changes: the batch, how far ids go, the tree and the tree under each id
+    ghost stands: { Self → Standing };
+
+    // how many fetches there were
+    ghost fetches: { Self → ℕ };
+
+    // how many faults there were
+    ghost faults: { Self → ℕ };
+
+    // what a call leaves of the object, from what it was before it
+    ghost kept: { Self → Self → Type 0 };
+
+    /// Batch, count and root entry.
+    fn top(&self) -> Top
+        ensures { IsTop Self.Hash.of (stands self.now) result };
+
+    /// Reads the node of which the child is the entry. After a refusal the view shows any node.
+    fn fetch(&mut self, child: &Child, into: &mut NodeView) -> Result<(), NodesErr>
+        requires { MayFetch Self.Hash.of (stands self.old) child.now }
+        ensures kept { kept self.old self.new }
+        ensures counted { fetches self.new ≡ next_count (fetches self.old) }
+        ensures shows { OnOk result (Shows Self.Hash.of (stands self.old) child.now into.new) }
+        ensures cause { IfErr result
+            (HasCause (stands self.old) (Rose (faults self.old) (faults self.new))) }
+        ensures quiet { OnOk result (faults self.new ≡ faults self.old) };
+
+    ghost kept_self: { (s : Self) → kept s s };
+
+    ghost kept_on: { (s t u : Self) → kept s t → kept t u → kept s u };
+
+    ghost kept_stands: { (s t : Self) → kept s t → stands t ≡ stands s };
+
+    ghost kept_fetches: { (s t : Self) → kept s t → fetches s ≤ fetches t };
+
+    ghost kept_faults: { (s t : Self) → kept s t → faults s ≤ faults t };
+
+    // a tree that is told is well formed
+    ghost well_formed: { (s : Self) → IfSome (stands s).tree (λ t. ∥ WellFormed t ∥₁) };
+
+    // and each of its nodes has an id of its own
+    ghost numbered: { (s : Self) → IfSome (stands s).tree (HasIds (stands s)) };
+}

@@ -1,0 +1,137 @@
+//! How the nodes of a tree are put into a list.
+
+ghost use Rattle.std.specs.Prelude.{◌≡◌, ◌≢◌, ◌+◌, ◌^◌, ◌<◌, ◌≤◌, ◌∷◌, ◌++◌, [], length, All, OnOk, IfOk};
+ghost use Rattle.mr_tree.specs.View.{level_of};
+ghost use Rattle.mr_tree.specs.Nodes.{subtrees};
+ghost use Rattle.mr_tree.specs.Snapshot.{trees, tree_over, HasShape, IsLinked, AreLinked, IsPlaced, IsRooted};
+ghost use Rattle.mr_tree.specs.Sound.{IsSound, IsSoundNode};
+ghost use Rattle.mr_tree.specs.declared.stored.Stored.TheVariants.{Children};
+ghost use Rattle.mr_tree.specs.declared.tree.Tree.TheVariants as variants;
+ghost use Rattle.mr_tree.specs.declared.tree.Tree.TheOpen.{Leaf, Inner};
+
+use crate::digest::leaf_digest;
+use crate::stored::Stored;
+use crate::tree::bounds_of;
+use crate::view::{bounds_of_children, inner_digest};
+use crate::{Child, Hashes, Tree};
+use mr_outside::Items;
+use mr_record::Record;
+use std::alloc::{AllocError, Global};
+
+// Puts one node behind the others, and answers its id.
+fn put(nodes: &mut Vec<Stored>, node: Stored) -> Result<u32, AllocError>
+    requires { length nodes.old.items + 1 < 2 ^ 32 }
+    ensures nodes { OnOk result (nodes.new.items ≡ nodes.old.items ++ node ∷ []) }
+    ensures id { IfOk result (λ id. id ≡ length nodes.old.items + 1) }
+{
+    nodes.push(node)?;
+    Ok(nodes.len() as u32)
+}
+
+fn place_leaf<H: Hashes>(
+    alloc: Global,
+    records: &[Record],
+    nodes: &mut Vec<Stored>,
+) -> Result<Child, AllocError>
+    requires sound { IsSoundNode (Leaf records.now) }
+    requires room { length nodes.old.items + 1 < 2 ^ 32 }
+    requires linked { AreLinked H.of nodes.old.items }
+    ensures { IfOk result (λ c. IsPlaced H.of nodes.old.items nodes.new.items c
+        (variants.Leaf records.now) (variants.Leaf records.now ∷ [])) }
+{
+    let Some(rect) = bounds_of(records) else {
+        unreachable!()
+    };
+    let digest = leaf_digest::<H>(records);
+    let list = Vec::from_slice(alloc, records)?;
+    let id = put(nodes, Stored::Records(Items::of(list)))?;
+    Ok(Child {
+        id,
+        level: 0,
+        rect,
+        digest,
+    })
+}
+
+// The level of an inner node.
+pub(crate) fn level_over(children: &[Child]) -> u8
+    requires { level_of (Inner children.now) ≤ 7 }
+    ensures { result ≡ level_of (Inner children.now) }
+{
+    match children.first() {
+        None => 1,
+        Some(child) => child.level + 1,
+    }
+}
+
+// Puts an inner node over children that stand before it.
+fn place_inner<H: Hashes>(
+    children: Vec<Child>,
+    nodes: &mut Vec<Stored>,
+) -> Result<Child, AllocError>
+    requires shape { HasShape (Inner children.items) }
+    requires room { length nodes.old.items + 1 < 2 ^ 32 }
+    requires links { All (IsLinked H.of (trees nodes.old.items)) children.items }
+    requires linked { AreLinked H.of nodes.old.items }
+    ensures { IfOk result (λ c. IsPlaced H.of nodes.old.items nodes.new.items c
+        (tree_over (trees nodes.old.items) (Children children.items))
+        (tree_over (trees nodes.old.items) (Children children.items) ∷ [])) }
+{
+    let Some(rect) = bounds_of_children(children.as_slice()) else {
+        unreachable!()
+    };
+    let level = level_over(children.as_slice());
+    let digest = inner_digest::<H>(level, children.as_slice());
+    let id = put(nodes, Stored::Children(Items::of(children)))?;
+    Ok(Child {
+        id,
+        level,
+        rect,
+        digest,
+    })
+}
+
+// Puts the nodes of a tree behind the others, children before their parent, and answers the entry
+// of the uppermost.
+fn place<H: Hashes>(
+    alloc: Global,
+    tree: &Tree,
+    nodes: &mut Vec<Stored>,
+) -> Result<Child, AllocError>
+    requires sound { IsSound tree.now }
+    requires filled { tree.now ≢ variants.Empty }
+    requires room { length nodes.old.items + length (subtrees tree.now) < 2 ^ 32 }
+    requires linked { AreLinked H.of nodes.old.items }
+    ensures { IfOk result (λ c. IsPlaced H.of nodes.old.items nodes.new.items c tree.now
+        (subtrees tree.now)) }
+{
+    match tree {
+        Tree::Empty => unreachable!(),
+        Tree::Leaf(records) => place_leaf::<H>(alloc, records.as_slice(), nodes),
+        Tree::Inner(children) => {
+            let mut entries = Vec::with_capacity(alloc, children.as_slice().len())?;
+            for child in children.as_slice() {
+                entries.push(place::<H>(alloc, child, nodes)?)?;
+            }
+            place_inner::<H>(entries, nodes)
+        }
+    }
+}
+
+// Puts the nodes of a tree into a list, and answers the root entry.
+pub(crate) fn rooted<H: Hashes>(
+    alloc: Global,
+    tree: &Tree,
+    nodes: &mut Vec<Stored>,
+) -> Result<Option<Child>, AllocError>
+    requires sound { IsSound tree.now }
+    requires room { length (subtrees tree.now) < 2 ^ 32 }
+    requires empty { nodes.old.items ≡ [] }
+    ensures { IfOk result (λ o. IsRooted H.of nodes.new.items o tree.now) }
+{
+    if let Tree::Empty = tree {
+        return Ok(None);
+    }
+    let root = place::<H>(alloc, tree, nodes)?;
+    Ok(Some(root))
+}

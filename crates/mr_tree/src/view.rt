@@ -1,0 +1,247 @@
+//! One node, kept inline.
+
+ghost use Rattle.std.specs.Prelude.{◌≡◌, ℕ, ◌+◌, ◌<◌, ◌^◌, ◌≤◌, ◌++◌, List, [], map, length, take, slice_get, Some, All};
+ghost use Rattle.std.specs.List.{flat_map};
+ghost use Rattle.mr_geom.specs.Rectangle.{union_of};
+ghost use Rattle.mr_tree.specs.View.{records_in, children_in, IsChild, IsView, size, level_of, child_bytes, preimage_of, rect_of};
+ghost use Rattle.mr_tree.specs.declared.child.Child as types;
+ghost use Rattle.mr_tree.specs.declared.tree.Tree.TheOpen.{Leaf, Inner};
+
+use crate::digest::leaf_digest;
+use crate::tree::bounds_of;
+use crate::{Child, Hashes, feed_entry, open_inner};
+use mr_geom::{Rect, joined};
+use mr_record::{Record, are_records};
+use std::marker::Model;
+
+/// One node: up to 16 records, or up to 64 children. Contracts see the node over its children.
+#[derive(Drop)]
+pub struct NodeView {
+    level: u8,
+    len: usize,
+    records: [Record; 16],
+    children: [Child; 64],
+}
+
+impl Model for NodeView {
+    ghost use Rattle.mr_tree.specs.View.{Node, shown, IsKept};
+
+    ghost Value = { Node };
+
+    ghost view = { λ v. shown v.level v.len v.records v.children };
+
+    ghost invariant = { λ v. IsKept v.level v.len v.records v.children };
+}
+
+fn fill_records(places: &mut [Record], list: &[Record])
+    requires { length list.now ≤ length places.old }
+    ensures { take (length list.now) places.new ≡ list.now }
+{
+    let (front, _) = places.split_at_mut(list.len());
+    front.copy_from_slice(list);
+}
+
+fn fill_children(places: &mut [Child], list: &[Child])
+    requires { length list.now ≤ length places.old }
+    ensures { take (length list.now) places.new ≡ list.now }
+{
+    let (front, _) = places.split_at_mut(list.len());
+    front.copy_from_slice(list);
+}
+
+fn record_at(list: &[Record], i: usize) -> &Record
+    requires { i < length list.now }
+    ensures { Some result.now ≡ slice_get list.now i }
+{
+    &list[i]
+}
+
+fn child_at(list: &[Child], i: usize) -> &Child
+    requires { i < length list.now }
+    ensures { Some result.now ≡ slice_get list.now i }
+{
+    &list[i]
+}
+
+// Feeds what a node holds of its children.
+fn feed_children<H: Hashes>(hasher: &mut H, children: &[Child])
+    ensures { (fed : List ℕ) → H.holds hasher.old fed →
+        H.holds hasher.new (fed ++ flat_map child_bytes children.now) }
+{
+    for child in children {
+        feed_entry(hasher, Some(child.rect), &child.digest);
+    }
+}
+
+// The digest of an inner node.
+pub(crate) fn inner_digest<H: Hashes>(level: u8, children: &[Child]) -> [u8; 32]
+    requires level { level ≡ level_of (Inner children.now) }
+    requires few { length children.now ≤ 64 }
+    ensures { result ≡ H.of (preimage_of (Inner children.now)) }
+{
+    let mut hasher = open_inner::<H>(level, children.len() as u8);
+    feed_children(&mut hasher, children);
+    hasher.finish()
+}
+
+// The least rectangle round some children.
+pub(crate) fn bounds_of_children(children: &[Child]) -> Option<Rect>
+    ensures { result ≡ union_of (map (λ (c : types.Child). Some c.rect) children.now) }
+{
+    let mut all = None;
+    for child in children {
+        all = joined(all, Some(child.rect));
+    }
+    all
+}
+
+impl NodeView {
+    /// A leaf without records.
+    pub fn new() -> NodeView
+        ensures { result ≡ Leaf [] }
+    {
+        NodeView {
+            level: 0,
+            len: 0,
+            records: [Record::blank(); 16],
+            children: [Child::blank(); 64],
+        }
+    }
+
+    /// 0 for a leaf, 1 to 7 for an inner node.
+    pub fn level(&self) -> u8
+        ensures value { result ≡ level_of self.now }
+        ensures low { result ≤ 7 }
+    {
+        self.level
+    }
+
+    /// How many records or children it has.
+    pub fn len(&self) -> usize
+        ensures value { result ≡ size self.now }
+        ensures few { result ≤ 64 }
+    {
+        self.len
+    }
+
+    /// A record of a leaf.
+    pub fn item(&self, i: usize) -> &Record
+        requires { i < length (records_in self.now) }
+        ensures { Some result.now ≡ slice_get (records_in self.now) i }
+    {
+        record_at(self.records(), i)
+    }
+
+    /// A child of an inner node.
+    pub fn child(&self, i: usize) -> &Child
+        requires { i < length (children_in self.now) }
+        ensures { Some result.now ≡ slice_get (children_in self.now) i }
+    {
+        child_at(self.children(), i)
+    }
+
+    /// The records, none of an inner node.
+    pub fn records(&self) -> &[Record]
+        ensures value { result.now ≡ records_in self.now }
+        ensures few { length (records_in self.now) ≤ 16 }
+        ensures leaf { level_of self.now ≡ 0 → self.now ≡ Leaf (records_in self.now) }
+    {
+        if self.level == 0 {
+            &self.records[..self.len]
+        } else {
+            &[]
+        }
+    }
+
+    /// The children, none of a leaf.
+    pub fn children(&self) -> &[Child]
+        ensures value { result.now ≡ children_in self.now }
+        ensures few { length (children_in self.now) ≤ 64 }
+        ensures inner { 0 < level_of self.now → self.now ≡ Inner (children_in self.now) }
+        ensures some { 0 < level_of self.now → 1 ≤ length (children_in self.now) }
+        ensures alike { All (λ (c : types.Child). c.level + 1 ≡ level_of self.now)
+            (children_in self.now) }
+    {
+        if self.level == 0 {
+            &[]
+        } else {
+            &self.children[..self.len]
+        }
+    }
+
+    /// The digest of the node: the hash of its preimage.
+    pub fn digest<H: Hashes>(&self) -> [u8; 32]
+        ensures { result ≡ H.of (preimage_of self.now) }
+    {
+        if self.level() == 0 {
+            leaf_digest::<H>(self.records())
+        } else {
+            inner_digest::<H>(self.level(), self.children())
+        }
+    }
+
+    /// The least rectangle round its records or children, none round a leaf without records.
+    pub fn rect(&self) -> Option<Rect>
+        ensures { result ≡ rect_of self.now }
+    {
+        if self.level() == 0 {
+            bounds_of(self.records())
+        } else {
+            bounds_of_children(self.children())
+        }
+    }
+
+    /// Makes it a leaf with 1 to 16 records.
+    pub fn set_leaf(&mut self, list: &[Record])
+        requires some { 1 ≤ length list.now }
+        requires few { length list.now ≤ 16 }
+        ensures { self.new ≡ Leaf list.now }
+    {
+        self.level = 0;
+        self.len = list.len();
+        fill_records(&mut self.records, list);
+    }
+
+    /// Makes it an inner node of level 1 to 7 with 1 to 64 children of the level below.
+    pub fn set_inner(&mut self, level: u8, list: &[Child])
+        requires level { (1 ≤ level) × (level ≤ 7) }
+        requires some { 1 ≤ length list.now }
+        requires few { length list.now ≤ 64 }
+        requires below { All (λ (c : types.Child). c.level + 1 ≡ level) list.now }
+        ensures { self.new ≡ Inner list.now }
+    {
+        self.level = level;
+        self.len = list.len();
+        fill_children(&mut self.children, list);
+    }
+}
+
+// What the types of the fields tell of their values.
+fn is_id(_id: u32)
+    ensures { _id < 2 ^ 32 }
+{}
+
+fn is_child(one: &Child)
+    ensures { IsChild one.now }
+{
+    is_id(one.id);
+    let _corners = one.rect.corners();
+    let _digest = one.digest;
+}
+
+fn are_children(list: &[Child])
+    ensures { All IsChild list.now }
+{
+    for one in list {
+        is_child(one);
+    }
+}
+
+/// Does nothing: it is there for proofs, which learn what every view shows.
+pub fn is_view(view: &NodeView)
+    ensures { IsView view.now }
+{
+    let _level = view.level();
+    are_records(view.records());
+    are_children(view.children());
+}
