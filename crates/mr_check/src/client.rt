@@ -6,7 +6,7 @@ ghost use Rattle.mr_proof.specs.Tight.{asks};
 ghost use Rattle.mr_proof.specs.Accepted.{Proves};
 ghost use Rattle.mr_proof.specs.Refused.{IsRefused};
 ghost use Rattle.mr_proof.specs.Reading.{verdict};
-ghost use Rattle.mr_proof.specs.Halves.{AcceptsJust, RefusesJust, OneHalf, SpellsOne, StaysRefused, AcceptsHonest};
+ghost use Rattle.mr_proof.specs.Halves.{AcceptsJust, RefusesJust, OneHalf, SpellsOne, FindsPair, StaysRefused, AcceptsHonest};
 ghost use Rattle.mr_proof.specs.Headline.{Headline, AcceptedIsHonest, OthersFail};
 ghost use Rattle.mr_check.specs.declared.error.CheckErr.TheVariants as errors;
 ghost use Rattle.mr_check.specs.Answers.{Checks};
@@ -103,6 +103,7 @@ pub fn check<H: Hash32>(
     ensures refuses { RefusesJust H.of root.now q.now proof.now }
     ensures one_half { OneHalf H.of root.now q.now proof.now }
     ensures one_pair { SpellsOne proof.now }
+    ensures pair { FindsPair proof.now }
     ensures longer { StaysRefused H.of root.now q.now proof.now }
     ensures complete { AcceptsHonest H.of q.now }
     ensures headline { Headline H.of q.now proof.now }

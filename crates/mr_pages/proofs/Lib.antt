@@ -14,6 +14,7 @@ mod Numbered
 pub mod SavedStands
 mod Walks
 mod Links
+mod Placing
 mod Meeting
 mod Opened
 mod Judged

@@ -7,6 +7,8 @@ pub mod Faults
 pub mod Law
 pub mod Saved
 pub mod Spelled
+pub mod Places
+pub mod Numbers
 pub mod Walking
 pub mod Judging
 pub mod Opening

@@ -1,8 +1,6 @@
 -- What the walk keeps, and what it answers.
 use Rattle.std.specs.Prelude.{◌≡◌, ⊤, ℕ, ◌<◌, ◌==◌, ◌||◌, nat_le, is_none, Bool, true, List, [], ◌∷◌, ◌++◌, map, length, slice_index_or, false, Option, Some, None, option_map, Result, Ok, Err}
 use Rattle.std.specs.Bool.{OnFalse}
-use Rattle.std.specs.Ordering.{nat_cmp}
-use Rattle.std.specs.BTreeSet.{contains, btree_set_len}
 use Rattle.mr_tree.specs.declared.child.Child.{Child}
 use Rattle.mr_tree.specs.declared.tree.Tree.{Tree}
 use Rattle.mr_tree.specs.declared.tree.Tree.TheOpen.{Empty, Leaf, Inner}
@@ -21,6 +19,7 @@ use Rattle.mr_pages.specs.File.{File}
 use Rattle.mr_pages.specs.Stands.{tree_of, whole_tree}
 use Rattle.mr_pages.specs.Faults.{fault_if, has, repeats, found, Visit, visits, reached, all_records, numbers_of, node_faults, walk_faults, walk, chain, chain_faults, lost_faults, mapfault, first_of}
 use Rattle.mr_pages.specs.Spelled.{place, placed_at}
+use Rattle.mr_pages.specs.Numbers.{Met}
 
 -- what is said of a node, and a node, as the definitions have them
 abbrev pub child_link : Child → Link
@@ -50,8 +49,7 @@ Shows false n wanted = wanted ≡ None
 pub record Saw (pages : ℕ) (s : Seen) (ps ns : List ℕ) : Type 0 where
   pub count : length s.reached.items ≡ pages
   pub reached : (p : ℕ) → p < pages → slice_index_or s.reached.items p false ≡ has p ps
-  pub met : (n : ℕ) → contains nat_cmp s.numbers n ≡ has n ns
-  pub size : btree_set_len s.numbers ≡ length ns
+  pub met : Met s.numbers ns
 
 -- the first two rules of a visit
 abbrev pub enter_faults : ℕ → List ℕ → ℕ → List MapFault

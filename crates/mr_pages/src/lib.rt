@@ -7,6 +7,7 @@ mod following;
 mod head;
 mod judging;
 mod node;
+mod numbers;
 mod opening;
 mod page;
 mod pages;
@@ -15,6 +16,7 @@ mod reading;
 mod rule;
 mod saving;
 mod seen;
+mod table;
 mod walking;
 
 pub use error::MapErr;

@@ -54,7 +54,7 @@ fn open_at<H: Hashes, P: Pages>(
 {
     let mut seen = Seen::new(alloc, pages.count())?;
     let tree = root_tree::<H, P>(alloc, pages, &head.root, &mut seen)?;
-    let found = seen.numbers.len() as u64;
+    let found = seen.numbers.count();
     if head.count != found {
         return Err(MapErr::Map(MapFault {
             page: 0,

@@ -1,17 +1,18 @@
-ghost use Rattle.std.specs.Prelude.{◌≡◌, ℕ, List, [], length, IfOk};
+ghost use Rattle.std.specs.Prelude.{◌≡◌, ◌≤◌, ℕ, List, [], length, IfOk};
 ghost use Rattle.mr_pages.specs.Faults.{numbers_of};
 ghost use Rattle.mr_pages.specs.Walking.{Saw, Enters, Counts, Loses};
 
+use crate::numbers::Numbers;
 use crate::{MapFault, MapRule};
 use mr_record::Record;
+use mr_tree::LEAF_LIMIT;
 use std::alloc::{AllocError, Global};
-use std::collections::BTreeSet;
 
 /// The pages that a walk has reached, and the numbers of the records that it has met.
 #[derive(Drop)]
 pub struct Seen {
     pub reached: Vec<bool>,
-    pub numbers: BTreeSet<u64>,
+    pub numbers: Numbers,
 }
 
 impl Seen {
@@ -21,7 +22,7 @@ impl Seen {
     {
         Ok(Seen {
             reached: vec![in alloc; false; pages as usize]?,
-            numbers: BTreeSet::new(alloc),
+            numbers: Numbers::new(alloc, places(pages))?,
         })
     }
 
@@ -47,7 +48,7 @@ impl Seen {
             Counts pages ps ns (numbers_of records.now) twice self.new) }
     {
         for record in records {
-            if !self.numbers.insert(record.number)? {
+            if self.numbers.meet(record.number)? {
                 return Ok(true);
             }
         }
@@ -69,4 +70,14 @@ impl Seen {
         }
         None
     }
+}
+
+// The most places of the table of numbers.
+const PLACES: usize = 1 << 20;
+
+// A place for each record that a file of this many pages has room for, but not too many.
+fn places(pages: u32) -> usize
+    ensures { 1 ≤ result }
+{
+    (pages as usize * LEAF_LIMIT as usize).clamp(1, PLACES)
 }

@@ -13,7 +13,7 @@ use Rattle.mr_proof.specs.Spelling.{Said, said, head_bytes, part_bytes, IsSpelle
 use Rattle.mr_proof.specs.Grammar.{whole}
 use Rattle.mr_proof.specs.Layout.{fault, Stand, start}
 use Rattle.mr_proof.specs.Reading.{walk, kind_in, at_end, if_spelled, anywhere, pair_in}
-use Rattle.mr_proof.specs.Halves.{SpellsOne}
+use Rattle.mr_proof.specs.Halves.{SpellsOne, FindsPair}
 use Rattle.mr_record.proofs.Encodings.{IsBytes}
 use Rattle.mr_proof.proofs.Soundness.{TakenWhole, take_whole, spelled_whole, not_failed, nothing_left}
 use Rattle.mr_proof.proofs.Completeness.{whole_again}
@@ -67,6 +67,9 @@ pair_spelled bytes x fits e =
     let same = same_found t.value x z.1 in
     subst (λ (y : Said). IsSpelled y.head y.part bytes) same
     (spelled_whole false at_end (kind_in bytes) anywhere bytes x t (nothing_left t.end.rest z.0))
+
+pub finds_pair : (bytes : List ℕ) → IsBytes bytes → FindsPair bytes
+finds_pair bytes fits = λ h P. (pair_found h P bytes, pair_spelled bytes (said h P) fits)
 
 -- ---- there is one
 

@@ -63,11 +63,11 @@ same_rect a b p q e =
     let is : rectangle_bytes p.at ≡ rectangle_bytes q.at = sym (ap rect_bytes p.is) ∙ e ∙ ap rect_bytes q.is in
     p.is ∙ ap (λ (r : Rectangle). Some r) (same_rectangle p.at q.at p.fits q.fits is) ∙ sym q.is
 
-record SameFront (e f : Entry) (x y : List ℕ) : Type 0 where
-  here : SameEntry e f
-  rest : x ≡ y
+pub record SameFront (e f : Entry) (x y : List ℕ) : Type 0 where
+  pub here : SameEntry e f
+  pub rest : x ≡ y
 
-entry_front : (e f : Entry) (x y : List ℕ) → IsNamed e → IsNamed f → entry_bytes e ++ x ≡ entry_bytes f ++ y
+pub entry_front : (e f : Entry) (x y : List ℕ) → IsNamed e → IsNamed f → entry_bytes e ++ x ≡ entry_bytes f ++ y
     → SameFront e f x y
 entry_front e f x y p q is =
     let re = rect_long e.rect p.there in

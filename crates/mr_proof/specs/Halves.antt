@@ -12,12 +12,12 @@ use Rattle.mr_proof.specs.declared.rule.Rule.{Rule}
 use Rattle.mr_proof.specs.declared.rule.Rule.TheVariants as rule
 use Rattle.mr_proof.specs.declared.rule.Fault.{Fault}
 use Rattle.mr_proof.specs.Cut.{Cut, CutOf}
-use Rattle.mr_proof.specs.Spelling.{IsSpelled}
+use Rattle.mr_proof.specs.Spelling.{said, IsSpelled}
 use Rattle.mr_proof.specs.Tight.{asks, IsTight}
 use Rattle.mr_proof.specs.Accepted.{root_found, Proves}
 use Rattle.mr_proof.specs.Honest.{honest_head, honest_part, proof}
 use Rattle.mr_proof.specs.Refused.{IsRefused}
-use Rattle.mr_proof.specs.Reading.{verdict}
+use Rattle.mr_proof.specs.Reading.{verdict, pair_in}
 
 -- the verdict is an answer just where the bytes prove it
 abbrev pub AcceptsJust : (List ℕ → List ℕ) → List ℕ → Query → List ℕ → Type 0
@@ -42,6 +42,11 @@ pub record OneHalf (hash : List ℕ → List ℕ) (root : List ℕ) (q : Query)
 abbrev pub SpellsOne : List ℕ → Type 0
 SpellsOne bytes =
     (h g : Head) (P Q : Option Cut) → IsSpelled h P bytes → IsSpelled g Q bytes → (h ≡ g) × (P ≡ Q)
+
+-- what is found in bytes is the pair that they spell, where they spell one
+abbrev pub FindsPair : List ℕ → Type 0
+FindsPair bytes =
+    (h : Head) (P : Option Cut) → IsSpelled h P bytes ↔ (pair_in bytes ≡ Some (said h P))
 
 -- no byte behind the string changes that the rule is broken, or where
 abbrev pub IsSettled : Rule → Type 0

@@ -4,8 +4,7 @@ use Rattle.mr_outside.specs.Faults.{Rose}
 use Rattle.mr_outside.specs.State.{Sunk}
 use Rattle.mr_outside.specs.declared.sink.SinkErr.{SinkErr}
 use Rattle.mr_outside.specs.declared.sink.SinkErr.TheVariants as sink
-use Rattle.mr_tree.specs.Nodes.{Standing}
-use Rattle.mr_tree.specs.Nodes as fetching
+use Rattle.mr_tree.specs.Nodes.{Standing, HasSomeCause}
 use Rattle.mr_tree.specs.declared.nodes.NodesErr.{NodesErr}
 use Rattle.mr_tree.specs.declared.nodes.NodesErr.TheVariants as nodes
 use Rattle.mr_prove.specs.declared.error.ProveErr.{ProveErr}
@@ -24,8 +23,8 @@ of_sink sink.NoMemory = errors.NoMemory
 -- Each refusal has its cause, by whether the count of faults of the nodes or of the sink rose: that
 -- of a fetch, which is never handed on as one of memory, or of the sink.
 abbrev pub HasCause : Standing → (nodes_rose sink_rose : Type 0) → ProveErr → Type 0
-HasCause s nodes_rose sink_rose (errors.Nodes e) = fetching.HasCause s nodes_rose e × (e ≢
-    nodes.NoMemory)
+HasCause s nodes_rose sink_rose (errors.Nodes e) = HasSomeCause s nodes_rose e
+    × (e ≢ nodes.NoMemory)
 HasCause s nodes_rose sink_rose errors.Sink = sink_rose
 HasCause s nodes_rose sink_rose errors.NoMemory = ⊤
 
@@ -34,4 +33,5 @@ pub record ProveCauses {A : Type 0} (s : Standing) (before after : ℕ) (from to
     (result : Result A ProveErr) : Type 0 where
   pub cause : IfErr result (HasCause s (Rose before after) (Rose from.faults to.faults))
   pub faults : from.faults ≤ to.faults
+  pub still : OnOk result (after ≡ before)
   pub quiet : OnOk result (to.faults ≡ from.faults)

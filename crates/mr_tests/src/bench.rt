@@ -1,5 +1,6 @@
 //! A row of a table of runs, and how it is run: over a shelf and a sink in memory.
 
+use crate::listed::Listed;
 use mr_outside::{Gate, MemShelf, MemSink};
 use mr_tool::{Status, run};
 use mr_tree::Hash32;
@@ -9,8 +10,8 @@ use std::thread::Threads;
 /// A file by its name.
 pub type File<'a> = (&'a str, &'a [u8]);
 
-/// A run: its words, the files before, the numbers, from 1, of the calls of shelf and sink that fail; then its
-/// status, what it prints, and the files that it leaves.
+/// A run: its words, the files before, the numbers, from 1, of the calls of shelf and sink that
+/// fail; then its status, what it prints, and all the files that it leaves.
 #[derive(Clone, Copy, Debug)]
 pub struct Row<'a>(
     pub &'a [&'a str],
@@ -31,10 +32,36 @@ fn shelf_of(alloc: Global, files: &[File<'_>], fail: &[u64]) -> Result<MemShelf,
     Ok(shelf)
 }
 
+// Whether these files have one of that name, or else the shelf has none.
+fn is_listed(shelf: &Listed, name: &str, files: &[File<'_>]) -> bool {
+    for (other, _) in files {
+        if *other == name {
+            return true;
+        }
+    }
+    shelf.shelf.file(name).is_none()
+}
+
 // Whether the shelf holds these files.
-fn holds_files(shelf: &MemShelf, files: &[File<'_>]) -> bool {
+fn holds_each(shelf: &Listed, files: &[File<'_>]) -> bool {
     for (name, bytes) in files {
-        if shelf.file(name) != Some(*bytes) {
+        if shelf.shelf.file(name) != Some(*bytes) {
+            return false;
+        }
+    }
+    true
+}
+
+// Whether the shelf holds none but these files, of those that stood there before and those that
+// were made.
+fn holds_no_more(shelf: &Listed, before: &[File<'_>], files: &[File<'_>]) -> bool {
+    for (name, _) in before {
+        if !is_listed(shelf, name, files) {
+            return false;
+        }
+    }
+    for name in &shelf.made {
+        if !is_listed(shelf, name, files) {
             return false;
         }
     }
@@ -49,10 +76,11 @@ pub fn holds<H: Hash32, G: Gate, R: Threads + Sync>(
     row: &Row<'_>,
 ) -> Result<bool, AllocError> {
     let words = words(alloc, row.0)?;
-    let shelf = shelf_of(alloc, row.1, row.2)?;
+    let shelf = Listed::new(alloc, shelf_of(alloc, row.1, row.2)?);
     let mut out = MemSink::new(alloc, row.3.to_vec(alloc)?);
     let (status, shelf) = run::<H, _, _, _, _>(rt, alloc, &words, shelf, &mut out, gate);
-    Ok(status == row.4 && out.bytes() == row.5 && holds_files(&shelf, row.6))
+    let files = holds_each(&shelf, row.6) && holds_no_more(&shelf, row.1, row.6);
+    Ok(status == row.4 && out.bytes() == row.5 && files)
 }
 
 /// The words of a command line.

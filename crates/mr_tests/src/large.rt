@@ -8,8 +8,8 @@ use std::alloc::{AllocError, Global};
 use std::sync::atomic::{AtomicU64, Ordering};
 use std::test::Fail;
 
-// A text of records at (I,0), from I = 1, without payloads.
-fn in_a_row(alloc: Global, records: u64) -> Result<String, AllocError> {
+/// A text of records at (I,0), from I = 1, without payloads.
+pub fn in_a_row(alloc: Global, records: u64) -> Result<String, AllocError> {
     let mut text = String::new(alloc);
     for i in 1..=records {
         text.push_str(format!(in alloc; "{i} {i} 0 {i} 0 -\n")?.as_str())?;
@@ -79,7 +79,8 @@ fn payload(alloc: Global, byte: u8) -> Result<Vec<u8>, AllocError> {
     (0..200).map(|_| byte).collect(alloc)
 }
 
-// The proof of a window that all 16 records of a leaf meet, and their lines: record I at (I,I) with 200 bytes I.
+// The proof of a window that all 16 records of a leaf meet, and their lines: record I at (I,I) with
+// 200 bytes I.
 fn full_leaf(alloc: Global) -> Result<(Vec<u8>, String), AllocError> {
     let mut proof = b"MRVO\x01W\0\0\0\0\0\0\0\0\0\0\0\0\0\0\0\x10\0L\x10".to_vec(alloc)?;
     let mut lines = String::new(alloc);

@@ -2,11 +2,21 @@
 #![tactic(auto)]
 
 #[cfg(test)]
+mod audits;
+#[cfg(test)]
 mod bench;
+#[cfg(test)]
+mod calls;
 #[cfg(test)]
 mod large;
 #[cfg(test)]
+mod levels;
+#[cfg(test)]
+mod listed;
+#[cfg(test)]
 mod maps;
+#[cfg(test)]
+mod proofs;
 #[cfg(test)]
 mod rows;
 #[cfg(test)]

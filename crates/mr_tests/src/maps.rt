@@ -1,7 +1,7 @@
-//! Map files, as rows of tables: the commands that write and list them and that prove windows on them, and files that
-//! stand for no map.
+//! Map files, as rows of tables: the commands that write and list them and that prove windows on
+//! them, and files that stand for no map.
 
-use crate::bench::{Row, holds, words};
+use crate::bench::{File, Row, holds, words};
 use mr_outside::{MemShelf, MemSink, NoGate};
 use mr_tool::Status::{self, BadMap, BadText, BadWords, Done, Outside};
 use mr_tool::run;
@@ -19,22 +19,24 @@ fn page(alloc: Global, front: &[u8]) -> Result<Vec<u8>, AllocError> {
     Ok(bytes)
 }
 
-// The bytes with this one in place of another.
-fn changed(alloc: Global, bytes: &[u8], place: usize, byte: u8) -> Result<Vec<u8>, AllocError> {
-    let mut changed = bytes.to_vec(alloc)?;
-    if place < changed.len() {
-        changed[place] = byte;
+// The bytes with each of these in place of others.
+fn edited(alloc: Global, bytes: &[u8], edits: &[(usize, u8)]) -> Result<Vec<u8>, AllocError> {
+    let mut edited = bytes.to_vec(alloc)?;
+    for (place, byte) in edits {
+        if *place < edited.len() {
+            edited[*place] = *byte;
+        }
     }
-    Ok(changed)
+    Ok(edited)
 }
 
 // The bytes with a seal at the end of the first page.
 fn sealed(alloc: Global, bytes: Vec<u8>) -> Result<Vec<u8>, AllocError> {
-    let mut bytes = bytes;
-    for (place, byte) in [(4092, b'S'), (4093, b'E'), (4094, b'A'), (4095, b'L')] {
-        bytes = changed(alloc, &bytes, place, byte)?;
-    }
-    Ok(bytes)
+    edited(
+        alloc,
+        &bytes,
+        &[(4092, b'S'), (4093, b'E'), (4094, b'A'), (4095, b'L')],
+    )
 }
 
 // These pages, sealed.
@@ -86,14 +88,14 @@ fn two_leaves(alloc: Global) -> Result<Vec<u8>, AllocError> {
     sealed(alloc, bytes)
 }
 
-const SEVENTEEN: &[u8] =
+pub const SEVENTEEN: &[u8] =
     b"1 1 0 1 0 -\n2 2 0 2 0 -\n3 3 0 3 0 -\n4 4 0 4 0 -\n5 5 0 5 0 -\n6 6 0 6 0 -\n7 7 0 7 0 -\n8 8 0 8 0 -\n9 9 0 9 0 -\n10 10 0 10 0 -\n11 11 0 11 0 -\n12 12 0 12 0 -\n13 13 0 13 0 -\n14 14 0 14 0 -\n15 15 0 15 0 -\n16 16 0 16 0 -\n17 17 0 17 0 -\n";
 
 const FIFTEEN: &[u8] = b"000000000000000000000000000000000000000000000000000000000000000f\n";
 
-const BUILD: &[&str] = &["build", "m", "r"];
+pub const BUILD: &[&str] = &["build", "m", "r"];
 
-const LIST: &[&str] = &["list", "m"];
+pub const LIST: &[&str] = &["list", "m"];
 
 #[test]
 fn maps_that_are_built(rt: HostRuntime) -> Result<(), Fail> {
@@ -110,127 +112,51 @@ fn maps_that_are_built(rt: HostRuntime) -> Result<(), Fail> {
     assert!(rt; holds::<XorHash, _, _>(&rt, alloc, &NoGate, &built)?);
     let one = one(alloc)?;
     let text = b"7 0 0 0 0 -\n".as_slice();
-    let after = [("m", one.as_slice())];
+    let after = [("r", text), ("m", one.as_slice())];
     let line = b"0000000000000000000000000000000000000000000000000000000000000018\n";
     let built = Row(BUILD, &[("r", text)], &[], &[], Done, line, &after);
     assert!(rt; holds::<XorHash, _, _>(&rt, alloc, &NoGate, &built)?);
     let none = map(alloc, &[NO_HEAD])?;
-    let after = [("m", none.as_slice())];
+    let after = [("r", b"".as_slice()), ("m", none.as_slice())];
     let line = b"0000000000000000000000000000000000000000000000000000000000000044\n";
     let built = Row(BUILD, &[("r", b"")], &[], &[], Done, line, &after);
     assert!(rt; holds::<XorHash, _, _>(&rt, alloc, &NoGate, &built)?);
     Ok(())
 }
 
+// Commands that end at once, over a record text that breaks a rule.
+const REFUSED_FILES: &[File<'static>] = &[("m", SEVENTEEN), ("r", b"7 0 0 0 0\n")];
+
+const REFUSED: [(&[&str], Status, &[u8]); 11] = [
+    (&["build", "m", "m"], BadWords, b"bad words\n"),
+    (&["build", "m", ""], BadWords, b"bad words\n"),
+    (&["build", "", "r"], BadWords, b"bad words\n"),
+    (&["build", "m"], BadWords, b"bad words\n"),
+    (&["build", "m", "r", "r"], BadWords, b"bad words\n"),
+    (&["list"], BadWords, b"bad words\n"),
+    (&["list", ""], BadWords, b"bad words\n"),
+    (&["list", "m", "m"], BadWords, b"bad words\n"),
+    (BUILD, BadText, b"bad text line 1 Form\n"),
+    (&["build", "m", "s"], Outside, b"missing s\n"),
+    (&["list", "s"], Outside, b"missing s\n"),
+];
+
 #[test]
 fn nothing_is_built(rt: HostRuntime) -> Result<(), Fail> {
     let alloc = rt.alloc();
-    let files = [("m", SEVENTEEN), ("r", b"7 0 0 0 0\n".as_slice())];
-    let rows = [
-        Row(
-            &["build", "m", "m"],
-            &files,
+    for (line, status, printed) in REFUSED {
+        let row = Row(
+            line,
+            REFUSED_FILES,
             &[],
             &[],
-            BadWords,
-            b"bad words\n",
-            &files,
-        ),
-        Row(
-            &["build", "m", ""],
-            &files,
-            &[],
-            &[],
-            BadWords,
-            b"bad words\n",
-            &files,
-        ),
-        Row(
-            &["build", "", "r"],
-            &files,
-            &[],
-            &[],
-            BadWords,
-            b"bad words\n",
-            &files,
-        ),
-        Row(
-            &["build", "m"],
-            &files,
-            &[],
-            &[],
-            BadWords,
-            b"bad words\n",
-            &files,
-        ),
-        Row(
-            &["build", "m", "r", "r"],
-            &files,
-            &[],
-            &[],
-            BadWords,
-            b"bad words\n",
-            &files,
-        ),
-        Row(
-            &["list"],
-            &files,
-            &[],
-            &[],
-            BadWords,
-            b"bad words\n",
-            &files,
-        ),
-        Row(
-            &["list", ""],
-            &files,
-            &[],
-            &[],
-            BadWords,
-            b"bad words\n",
-            &files,
-        ),
-        Row(
-            &["list", "m", "m"],
-            &files,
-            &[],
-            &[],
-            BadWords,
-            b"bad words\n",
-            &files,
-        ),
-        Row(
-            BUILD,
-            &files,
-            &[],
-            &[],
-            BadText,
-            b"bad text line 1 Form\n",
-            &files,
-        ),
-        Row(
-            &["build", "m", "s"],
-            &files,
-            &[],
-            &[],
-            Outside,
-            b"missing s\n",
-            &files,
-        ),
-        Row(
-            &["list", "s"],
-            &files,
-            &[],
-            &[],
-            Outside,
-            b"missing s\n",
-            &files,
-        ),
-    ];
-    for row in &rows {
+            status,
+            printed,
+            REFUSED_FILES,
+        );
         assert!(rt;
-            holds::<XorHash, _, _>(&rt, alloc, &NoGate, row)?,
-            "{row:?}"
+            holds::<XorHash, _, _>(&rt, alloc, &NoGate, &row)?,
+            "{line:?}"
         );
     }
     Ok(())
@@ -265,28 +191,43 @@ fn maps_that_are_listed(rt: HostRuntime) -> Result<(), Fail> {
     Ok(())
 }
 
+// Places of the map of one record, the bytes there, and the line on it.
+const ONE_BROKEN: [(&[(usize, u8)], &[u8]); 9] = [
+    (&[(4095, b'l')], b"bad map page 0 Unsealed\n"),
+    (&[(4, 2)], b"bad map page 0 Header\n"),
+    (&[(4096, b'F')], b"bad map page 1 Page\n"),
+    (&[(4096 + 27, 1)], b"bad map page 1 Page\n"),
+    (&[(29, 2)], b"bad map page 2 Outside\n"),
+    (
+        &[(77, 0x4b)],
+        b"bad map page 1 Digest held 000000000000000000000000000000000000000000000000000000000000004b found 000000000000000000000000000000000000000000000000000000000000004a\n",
+    ),
+    (&[(41, 1)], b"bad map page 1 Rect\n"),
+    (&[(21, 2)], b"bad map page 0 Count held 2 found 1\n"),
+    (&[(81, 1)], b"bad map page 1 Free\n"),
+];
+
+// The same of the map of two leaves. Numbers 9 and 17 of the second leaf become 25 and 1, which
+// keeps its digest.
+const TWO_BROKEN: [(&[(usize, u8)], &[u8]); 2] = [
+    (&[(4096 + 58, 2)], b"bad map page 2 Twice\n"),
+    (
+        &[(3 * 4096 + 9, 25), (3 * 4096 + 209, 1)],
+        b"bad map page 3 Number\n",
+    ),
+];
+
 #[test]
 fn pages_that_break_a_rule(rt: HostRuntime) -> Result<(), Fail> {
     let alloc = rt.alloc();
-    let one = one(alloc)?;
-    // A place of the map of one record, the byte there, and the line on it.
-    let table: [(usize, u8, &[u8]); 9] = [
-        (4095, b'l', b"bad map page 0 Unsealed\n"),
-        (4, 2, b"bad map page 0 Header\n"),
-        (4096, b'F', b"bad map page 1 Page\n"),
-        (4096 + 27, 1, b"bad map page 1 Page\n"),
-        (29, 2, b"bad map page 2 Outside\n"),
-        (
-            77,
-            0x4b,
-            b"bad map page 1 Digest held 000000000000000000000000000000000000000000000000000000000000004b found 000000000000000000000000000000000000000000000000000000000000004a\n",
-        ),
-        (41, 1, b"bad map page 1 Rect\n"),
-        (21, 2, b"bad map page 0 Count held 2 found 1\n"),
-        (81, 1, b"bad map page 1 Free\n"),
-    ];
-    for (place, byte, line) in table {
-        let broken = changed(alloc, &one, place, byte)?;
+    let map = one(alloc)?;
+    for (edits, line) in ONE_BROKEN {
+        let broken = edited(alloc, &map, edits)?;
+        assert!(rt; lists(&rt, alloc, &broken, BadMap, line)?, "{line:?}");
+    }
+    let map = two_leaves(alloc)?;
+    for (edits, line) in TWO_BROKEN {
+        let broken = edited(alloc, &map, edits)?;
         assert!(rt; lists(&rt, alloc, &broken, BadMap, line)?, "{line:?}");
     }
     Ok(())
@@ -296,25 +237,19 @@ fn pages_that_break_a_rule(rt: HostRuntime) -> Result<(), Fail> {
 fn files_that_stand_for_no_map(rt: HostRuntime) -> Result<(), Fail> {
     let alloc = rt.alloc();
     let one = one(alloc)?;
-    let two = two_leaves(alloc)?;
     let (cut, _) = one.split_at(one.len().min(8191));
     assert!(rt; lists(&rt, alloc, cut, BadMap, b"bad map page 0 Size\n")?);
     assert!(rt; lists(&rt, alloc, b"", BadMap, b"bad map page 0 Size\n")?);
     assert!(rt; lists(&rt, alloc, SEVENTEEN, BadMap, b"bad map page 0 Size\n")?);
     let zeros = page(alloc, b"")?;
     assert!(rt; lists(&rt, alloc, &zeros, BadMap, b"bad map page 0 Unsealed\n")?);
-    let twice = changed(alloc, &two, 4096 + 58, 2)?;
-    assert!(rt; lists(&rt, alloc, &twice, BadMap, b"bad map page 2 Twice\n")?);
-    // Numbers 9 and 17 of the second leaf become 25 and 1, which keeps its digest.
-    let numbers = changed(alloc, &two, 3 * 4096 + 9, 25)?;
-    let numbers = changed(alloc, &numbers, 3 * 4096 + 209, 1)?;
-    assert!(rt; lists(&rt, alloc, &numbers, BadMap, b"bad map page 3 Number\n")?);
-    let third = map(alloc, &[&changed(alloc, ONE_HEAD, 25, 3)?, ONE_LEAF, b""])?;
+    let third = map(
+        alloc,
+        &[&edited(alloc, ONE_HEAD, &[(25, 3)])?, ONE_LEAF, b""],
+    )?;
     assert!(rt; lists(&rt, alloc, &third, BadMap, b"bad map page 2 Free\n")?);
     // A root of one child.
-    let head = changed(alloc, ONE_HEAD, 5, 1)?;
-    let head = changed(alloc, &head, 25, 3)?;
-    let head = changed(alloc, &head, 77, 4)?;
+    let head = edited(alloc, ONE_HEAD, &[(5, 1), (25, 3), (77, 4)])?;
     let root =
         b"N\x01\x01\0\0\0\x02\0\0\0\0\0\0\0\0\0\0\0\0\0\0\0\0\0\0\0\0\0\0\0\0\0\0\0\0\0\0\0\0\0\0\0\0\0\0\0\0\0\0\0\0\0\0\0\x4a";
     let thin = map(alloc, &[&head, root.as_slice(), ONE_LEAF])?;
@@ -322,8 +257,8 @@ fn files_that_stand_for_no_map(rt: HostRuntime) -> Result<(), Fail> {
     Ok(())
 }
 
-// How a run ended over a file `r`, where these calls of the shelf fail: its status, what it printed, and the file
-// `m` that it leaves.
+// How a run ended over a file `r`, where these calls of the shelf fail: its status, what it
+// printed, and the file `m` that it leaves.
 fn built<R: Threads + Sync>(
     rt: &R,
     alloc: Global,
@@ -391,8 +326,8 @@ fn each_call_of_a_build_fails_in_turn(rt: HostRuntime) -> Result<(), Fail> {
     Ok(())
 }
 
-// The proof of `window:2,0,3,0` on the map of the records I at (I,0) for I = 1 to 17: the root and its first leaf are
-// opened, the second one is pruned.
+// The proof of `window:2,0,3,0` on the map of the records I at (I,0) for I = 1 to 17: the root and
+// its first leaf are opened, the second one is pruned.
 fn proof_of_two(alloc: Global) -> Result<Vec<u8>, AllocError> {
     let mut bytes = b"MRVO\x01W\0\0\0\0\0\0\0\0\0\0\0\0\0\0\0\x11\x01N\x02".to_vec(alloc)?;
     bytes.extend_from_slice(&leaf(alloc, 1, 8)?)?;
@@ -403,13 +338,53 @@ fn proof_of_two(alloc: Global) -> Result<Vec<u8>, AllocError> {
     Ok(bytes)
 }
 
-const PROVE: &[&str] = &["prove", "m", "window:2,0,3,0", "p"];
+pub const PROVE: &[&str] = &["prove", "m", "window:2,0,3,0", "p"];
 
-const CHECK: &[&str] = &[
+pub const CHECK: &[&str] = &[
     "check",
     "000000000000000000000000000000000000000000000000000000000000000f",
     "window:2,0,3,0",
     "p",
+];
+
+// Commands that make no proof.
+const UNPROVED: [(&[&str], Status, &[u8]); 8] = [
+    (
+        &["prove", "m", "window:1,0,0,0", "p"],
+        BadWords,
+        b"bad words\n",
+    ),
+    (
+        &["prove", "m", "window:0,0,0,0", "m"],
+        BadWords,
+        b"bad words\n",
+    ),
+    (&["prove", "m", "window:0,0,0,0"], BadWords, b"bad words\n"),
+    (
+        &["prove", "m", "window:0,0,0,0", ""],
+        BadWords,
+        b"bad words\n",
+    ),
+    (
+        &["prove", "", "window:0,0,0,0", "p"],
+        BadWords,
+        b"bad words\n",
+    ),
+    (
+        &["prove", "m", "window:0,0,0,0", "p", "p"],
+        BadWords,
+        b"bad words\n",
+    ),
+    (
+        &["prove", "n", "window:0,0,0,0", "p"],
+        Outside,
+        b"missing n\n",
+    ),
+    (
+        &["prove", "t", "window:0,0,0,0", "p"],
+        BadMap,
+        b"bad map page 0 Size\n",
+    ),
 ];
 
 #[test]
@@ -417,45 +392,7 @@ fn proofs_that_are_not_written(rt: HostRuntime) -> Result<(), Fail> {
     let alloc = rt.alloc();
     let one = one(alloc)?;
     let files = [("m", one.as_slice()), ("t", b"a text".as_slice())];
-    let table: [(&[&str], Status, &[u8]); 8] = [
-        (
-            &["prove", "m", "window:1,0,0,0", "p"],
-            BadWords,
-            b"bad words\n",
-        ),
-        (
-            &["prove", "m", "window:0,0,0,0", "m"],
-            BadWords,
-            b"bad words\n",
-        ),
-        (&["prove", "m", "window:0,0,0,0"], BadWords, b"bad words\n"),
-        (
-            &["prove", "m", "window:0,0,0,0", ""],
-            BadWords,
-            b"bad words\n",
-        ),
-        (
-            &["prove", "", "window:0,0,0,0", "p"],
-            BadWords,
-            b"bad words\n",
-        ),
-        (
-            &["prove", "m", "window:0,0,0,0", "p", "p"],
-            BadWords,
-            b"bad words\n",
-        ),
-        (
-            &["prove", "n", "window:0,0,0,0", "p"],
-            Outside,
-            b"missing n\n",
-        ),
-        (
-            &["prove", "t", "window:0,0,0,0", "p"],
-            BadMap,
-            b"bad map page 0 Size\n",
-        ),
-    ];
-    for (line, status, printed) in table {
+    for (line, status, printed) in UNPROVED {
         let row = Row(line, &files, &[], &[], status, printed, &files);
         assert!(rt;
             holds::<XorHash, _, _>(&rt, alloc, &NoGate, &row)?,
@@ -465,7 +402,22 @@ fn proofs_that_are_not_written(rt: HostRuntime) -> Result<(), Fail> {
     Ok(())
 }
 
-// How a list of the map of seventeen records ended, where these calls fail: its status and what it printed.
+// The run is as this row says but for a file that it makes, or one that it leaves.
+#[test]
+fn a_file_that_a_row_leaves_out_is_seen(rt: HostRuntime) -> Result<(), Fail> {
+    let alloc = rt.alloc();
+    let one = one(alloc)?;
+    let files = [("m", one.as_slice())];
+    let prove: &[&str] = &["prove", "m", "window:0,0,0,0", "p"];
+    let row = Row(prove, &files, &[], &[], Done, b"proof 50\n", &files);
+    assert!(rt; !holds::<XorHash, _, _>(&rt, alloc, &NoGate, &row)?);
+    let row = Row(LIST, &files, &[], &[], Done, b"7 0 0 0 0 -\n", &[]);
+    assert!(rt; !holds::<XorHash, _, _>(&rt, alloc, &NoGate, &row)?);
+    Ok(())
+}
+
+// How a list of the map of seventeen records ended, where these calls fail: its status and what it
+// printed.
 fn listed<R: Threads + Sync>(
     rt: &R,
     alloc: Global,
@@ -498,8 +450,8 @@ fn each_call_of_a_list_fails_in_turn(rt: HostRuntime) -> Result<(), Fail> {
     Ok(())
 }
 
-// How a proof of the map of seventeen records was written, where these calls fail: the run's status, what it printed,
-// and the file that it left.
+// How a proof of the map of seventeen records was written, where these calls fail: the run's
+// status, what it printed, and the file that it left.
 fn written<R: Threads + Sync>(
     rt: &R,
     alloc: Global,

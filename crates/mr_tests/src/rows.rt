@@ -1,4 +1,5 @@
-//! Runs as tables, a row a line. Their values are computed by hand or by a program of another language.
+//! Runs as tables, a row a line. Their values are computed by hand or by a program of another
+//! language.
 
 use crate::bench::{File, Row, holds};
 use mr_outside::NoGate;
@@ -57,10 +58,11 @@ const LEAF: &[File<'static>] = &[(
     b"1 1 16 1 16 01\n2 2 15 2 15 02\n3 3 14 3 14 03\n4 4 13 4 13 04\n5 5 12 5 12 05\n6 6 11 6 11 06\n7 7 10 7 10 07\n8 8 9 8 9 08\n9 9 8 9 8 09\n10 10 7 10 7 0a\n11 11 6 11 6 0b\n12 12 5 12 5 0c\n13 13 4 13 4 0d\n14 14 3 14 3 0e\n15 15 2 15 2 0f\n16 16 1 16 1 10\n",
 )];
 
-const PLACES: &[File<'static>] = &[(
-    "r",
-    b"101 133777000 525163000 133777000 525163000 4272616e64656e62757267657220546f72\n102 133761000 525186000 133761000 525186000 526569636873746167\n103 134094000 525208000 134094000 525208000 4665726e7365687475726d\n104 133320000 525000000 133450000 525120000 5469657267617274656e\n",
-)];
+/// Four places, three of them points.
+pub const FOUR_PLACES: &[u8] =
+    b"101 133777000 525163000 133777000 525163000 4272616e64656e62757267657220546f72\n102 133761000 525186000 133761000 525186000 526569636873746167\n103 134094000 525208000 134094000 525208000 4665726e7365687475726d\n104 133320000 525000000 133450000 525120000 5469657267617274656e\n";
+
+const PLACES: &[File<'static>] = &[("r", FOUR_PLACES)];
 
 // Under SHA-256. Of the ties two records have one middle, and stand by number.
 const SHA_ROOTS: &[Row<'static>] = &[
@@ -173,12 +175,13 @@ fn texts_that_break_a_rule(rt: HostRuntime) -> Result<(), Fail> {
     Ok(())
 }
 
-// The root of record 7 at (0,0), that of the empty map, and others, under the exclusive or of all bytes.
-const ONE: &str = "0000000000000000000000000000000000000000000000000000000000000018";
+// The root of record 7 at (0,0), that of the empty map, and others, under the exclusive or of all
+// bytes.
+pub const ONE: &str = "0000000000000000000000000000000000000000000000000000000000000018";
 
 const OTHER: &str = "0000000000000000000000000000000000000000000000000000000000000019";
 
-const NONE: &str = "0000000000000000000000000000000000000000000000000000000000000044";
+pub const NONE: &str = "0000000000000000000000000000000000000000000000000000000000000044";
 
 // Words that spell no command.
 const LINES: [&[&str]; 19] = [
@@ -226,7 +229,7 @@ const HERE: &str = "window:0,0,0,0";
 const THERE: &str = "window:1,1,2,2";
 
 // A window's proof that opens the record's leaf.
-const OPENED: &[u8] =
+pub const OPENED: &[u8] =
     b"MRVO\x01W\0\0\0\0\0\0\0\0\0\0\0\0\0\0\0\x01\0L\x01\0\0\0\0\0\0\0\x07\0\0\0\0\0\0\0\0\0\0\0\0\0\0\0\0\0";
 
 // The same with a byte more.
@@ -234,11 +237,11 @@ const LONGER: &[u8] =
     b"MRVO\x01W\0\0\0\0\0\0\0\0\0\0\0\0\0\0\0\x01\0L\x01\0\0\0\0\0\0\0\x07\0\0\0\0\0\0\0\0\0\0\0\0\0\0\0\0\0\0";
 
 // A window's proof that prunes it.
-const PRUNED: &[u8] =
+pub const PRUNED: &[u8] =
     b"MRVO\x01W\0\0\0\0\0\0\0\0\0\0\0\0\0\0\0\x01\0P\0\0\0\0\0\0\0\0\0\0\0\0\0\0\0\0\0\0\0\0\0\0\0\0\0\0\0\0\0\0\0\0\0\0\0\0\0\0\0\0\0\0\0\0\0\0\0\x4a";
 
 // A window's proof on the empty map.
-const EMPTY: &[u8] = b"MRVO\x01W\0\0\0\0\0\0\0\0\0\0\0\0\0\0\0\0";
+pub const EMPTY: &[u8] = b"MRVO\x01W\0\0\0\0\0\0\0\0\0\0\0\0\0\0\0\0";
 
 // Its first 49 and its first 10 bytes.
 const CUT: &[u8] =
@@ -316,11 +319,11 @@ fn checks_of_a_proof(rt: HostRuntime) -> Result<(), Fail> {
     Ok(())
 }
 
-// The four places in one leaf, by their bytes.
-const PROOF: &[File<'static>] = &[(
-    "p",
-    b"\x4d\x52\x56\x4f\x01\x57\x00\x00\x00\x00\x00\x00\x00\x00\x00\x00\x00\x00\x00\x00\x00\x04\x00\x4c\x04\x00\x00\x00\x00\x00\x00\x00\x68\x07\xf2\x4d\x40\x1f\x4a\xdd\x40\x07\xf4\x49\x10\x1f\x4c\xb2\x00\x0a\x54\x69\x65\x72\x67\x61\x72\x74\x65\x6e\x00\x00\x00\x00\x00\x00\x00\x65\x07\xf9\x46\x68\x1f\x4d\x59\xf8\x07\xf9\x46\x68\x1f\x4d\x59\xf8\x11\x42\x72\x61\x6e\x64\x65\x6e\x62\x75\x72\x67\x65\x72\x20\x54\x6f\x72\x00\x00\x00\x00\x00\x00\x00\x66\x07\xf9\x07\xe8\x1f\x4d\xb3\xd0\x07\xf9\x07\xe8\x1f\x4d\xb3\xd0\x09\x52\x65\x69\x63\x68\x73\x74\x61\x67\x00\x00\x00\x00\x00\x00\x00\x67\x07\xfe\x1c\xb0\x1f\x4e\x09\xc0\x07\xfe\x1c\xb0\x1f\x4e\x09\xc0\x0b\x46\x65\x72\x6e\x73\x65\x68\x74\x75\x72\x6d",
-)];
+/// The proof of a window on them, by its bytes: their leaf is opened.
+pub const PROOF_OF_PLACES: &[u8] =
+    b"\x4d\x52\x56\x4f\x01\x57\x00\x00\x00\x00\x00\x00\x00\x00\x00\x00\x00\x00\x00\x00\x00\x04\x00\x4c\x04\x00\x00\x00\x00\x00\x00\x00\x68\x07\xf2\x4d\x40\x1f\x4a\xdd\x40\x07\xf4\x49\x10\x1f\x4c\xb2\x00\x0a\x54\x69\x65\x72\x67\x61\x72\x74\x65\x6e\x00\x00\x00\x00\x00\x00\x00\x65\x07\xf9\x46\x68\x1f\x4d\x59\xf8\x07\xf9\x46\x68\x1f\x4d\x59\xf8\x11\x42\x72\x61\x6e\x64\x65\x6e\x62\x75\x72\x67\x65\x72\x20\x54\x6f\x72\x00\x00\x00\x00\x00\x00\x00\x66\x07\xf9\x07\xe8\x1f\x4d\xb3\xd0\x07\xf9\x07\xe8\x1f\x4d\xb3\xd0\x09\x52\x65\x69\x63\x68\x73\x74\x61\x67\x00\x00\x00\x00\x00\x00\x00\x67\x07\xfe\x1c\xb0\x1f\x4e\x09\xc0\x07\xfe\x1c\xb0\x1f\x4e\x09\xc0\x0b\x46\x65\x72\x6e\x73\x65\x68\x74\x75\x72\x6d";
+
+const PROOF: &[File<'static>] = &[("p", PROOF_OF_PLACES)];
 
 const FIRST_PLACE: &[u8] =
     b"101 133777000 525163000 133777000 525163000 4272616e64656e62757267657220546f72\n";
@@ -328,7 +331,7 @@ const FIRST_PLACE: &[u8] =
 const TWO_PLACES: &[u8] =
     b"101 133777000 525163000 133777000 525163000 4272616e64656e62757267657220546f72\n102 133761000 525186000 133761000 525186000 526569636873746167\n";
 
-const CHECK: &[&str] = &[
+pub const CHECK: &[&str] = &[
     "check",
     "b136e9ea66645cc4c87feaf0addfecbc0d52bd619bc06f05e004ff35cbfaff04",
     "window:133700000,525100000,133800000,525200000",

@@ -7,19 +7,20 @@ use Rattle.mr_outside.specs.Files.{Files, file, with_file}
 use Rattle.mr_outside.specs.State.{Shelved}
 use Rattle.mr_outside.specs.Told.{OfFile, MayMiss}
 use Rattle.mr_outside.specs.Writing.{IsChanged}
+use Rattle.mr_record.specs.Bytes.{AreBytes}
 use Rattle.mr_tree.specs.WellFormed.{WellFormed}
 use Rattle.mr_tree.specs.declared.tree.Tree.{Tree}
 use Rattle.mr_pages.specs.PageBytes.{first_form}
 use Rattle.mr_pages.specs.Law.{IsMap}
 use Rattle.mr_pages.specs.Saved.{saved, MayStand, Leaves}
-use Rattle.mr_pages.specs.Opening.{Answers, Fails, MapCauses, SomeBytes, Tells}
+use Rattle.mr_pages.specs.Opening.{Answers, Fails, MapCauses, OrFails, SomeBytes, Tells}
 use Rattle.mr_pages.specs.declared.error.MapErr.{MapErr}
 use Rattle.mr_pages.specs.declared.error.MapErr.TheVariants as errors
 use Rattle.mr_pages.specs.declared.rule.MapFault.{MapFault}
-use Rattle.mr_tool.specs.Ending.{Gives, Comes, Came, Stops, Ends, GivesUp, Blames, IsCalm, NoneFalls, Reads, HoldsMap, Opens, Saves, printed_of}
+use Rattle.mr_tool.specs.Ending.{Gives, Comes, Came, Stops, Ends, GivesUp, Blames, IsCalm, NoneFalls, IsTaken, FindsMap, IsWell, WasFound, Reads, HoldsMap, Opens, Saves, printed_of}
 use Rattle.mr_tool.specs.Found.{Found, Shows, bad_map_line}
-use Rattle.mr_tool.specs.Outcome.{Outcome, Content, Nothing, File, map_of, IsLeft, MayLeave}
-use Rattle.mr_tool.specs.Plan.{Plan, comes, opens, Input, IsInput, IsFound, IsAbsent, LacksInput}
+use Rattle.mr_tool.specs.Outcome.{Outcome, Content, Nothing, File, map_of, IsLaidOut, IsLeft, MayLeave}
+use Rattle.mr_tool.specs.Plan.{Plan, comes, reads, opens, Input, IsInput, IsAbsent, LacksInput}
 use Rattle.mr_tool.specs.Say.{ends, needs, needs_map, given_map, says_missing}
 use Rattle.mr_tool.specs.declared.ending.Ending.{Ending}
 use Rattle.mr_tool.specs.declared.ending.Halt.{Halt}
@@ -41,14 +42,22 @@ stops_after before between after halts.Words step stops = stops
 stops_after before between after halts.Shelf step stops = subst (λ n. Rose n after.faults) step.faults stops
 stops_after before between after halts.NoMemory step stops = stops
 
+-- bytes that were read
+taken : (plan : Plan) (bytes : List ℕ) → AreBytes bytes → IsTaken plan (Some bytes)
+taken (comes said) bytes all = all
+taken (reads name next) bytes all = all
+taken (opens hash held next) bytes all = tt
+
 -- what came of the rest came of the whole
 module _ (name : List ℕ) (next : List ℕ → Plan) (bytes : List ℕ) (before between after : Shelved)
-    (step : IsStep before between) (input : IsInput before.files name (Some bytes)) where
+    (step : IsStep before between) (input : IsInput before.files name (Some bytes))
+    (is_taken : IsTaken (next bytes) (Some bytes)) where
   came_on : (result : Result Ending Halt) → Came (next bytes) between after result
       → Came (needs name next) before after result
   came_on (Ok ending) came = (
     Some bytes,
     input,
+    is_taken,
     subst (λ files. Ends (next bytes) files after.files ending.status (printed_of ending)) step.files came,
   )
   came_on (Err halt) came = (
@@ -88,7 +97,8 @@ pub comes_behind : (name : List ℕ) (next : List ℕ → Plan) (before between 
 comes_behind name next before between after bytes read result was got on =
     let was_read : Reads name before between (Ok (Some bytes)) = subst (Reads name before between) was got in
     comes_on name next bytes.items before between after
-    (record { counts = was_read.counts; files = was_read.files; faults = was_read.read.1 }) was_read.read.0 result on
+    (record { counts = was_read.counts; files = was_read.files; faults = was_read.read.2 }) was_read.read.0
+    (taken (next bytes.items) bytes.items was_read.read.1) result on
 
 -- an outcome that writes no file, at once
 pub comes_at_once : (said : Outcome) (at : Shelved) (ending : Ending) → said.written ≡ Nothing → Gives said ending
@@ -108,17 +118,17 @@ comes_at_once said at ending writes gives = record {
 
 -- what came of a map or a fault that was found came of the bytes
 comes_found : (hash : List ℕ → List ℕ) (bytes : List ℕ) (next : Found → Plan) (found : Found) (before after : Shelved)
-    (result : Result Ending Halt) → IsFound hash bytes found → Comes (next found) before after result
-    → Comes (opens hash bytes next) before after result
-comes_found hash bytes next found before after (Ok ending) is on = record {
+    (result : Result Ending Halt) → WasFound before.files hash bytes found → IsWell found
+    → Comes (next found) before after result → Comes (opens hash bytes next) before after result
+comes_found hash bytes next found before after (Ok ending) is well on = record {
   counts = on.counts;
-  came = (found, is, on.came);
-  outside = λ outside. elim (on.outside outside) [ inl rose ↦ inl rose | inr lacks ↦ inr (found, is, lacks) ];
+  came = (found, is, well, on.came);
+  outside = λ outside. elim (on.outside outside) [ inl rose ↦ inl rose | inr lacks ↦ inr (found, is.0, lacks) ];
   quiet = on.quiet;
 }
-comes_found hash bytes next found before after (Err halt) is on = record {
+comes_found hash bytes next found before after (Err halt) is well on = record {
   counts = on.counts;
-  came = (on.came.0, inr (found, is, on.came.1));
+  came = (on.came.0, inr (found, is.0, on.came.1));
   outside = tt;
   quiet = tt;
 }
@@ -128,17 +138,20 @@ pub comes_map : (hash : List ℕ → List ℕ) (name : List ℕ) (next : Tree �
     → Comes (next tree batch) between after result → Comes (needs_map hash name next) before after result
 comes_map hash name next before between after tree batch result holds on =
     comes_on name (λ bytes. opens hash bytes (given_map next)) holds.bytes before between after
-    (record { counts = holds.counts; files = holds.files; faults = holds.quiet }) holds.input result
-    (comes_found hash holds.bytes (given_map next) (Ok (tree, batch)) between after result holds.found on)
+    (record { counts = holds.counts; files = holds.files; faults = holds.quiet }) holds.input tt result
+    (comes_found hash holds.bytes (given_map next) (Ok (tree, batch)) between after result
+    (subst (λ files. WasFound files hash holds.bytes (Ok (tree, batch))) (sym holds.files) holds.found)
+    (holds.well, holds.low) on)
 
 -- the same where the file stands for no map
 comes_bad : (hash : List ℕ → List ℕ) (name : List ℕ) (next : Tree → ℕ → Plan) (before after : Shelved)
     (fault : MapFault) (bytes : List ℕ) (ending : Ending) → IsStep before after → IsInput before.files name (Some bytes)
-    → IsFound hash bytes (Err fault) → Gives (ends BadMap (bad_map_line fault)) ending
+    → WasFound before.files hash bytes (Err fault) → Gives (ends BadMap (bad_map_line fault)) ending
     → Comes (needs_map hash name next) before after (Ok ending)
 comes_bad hash name next before after fault bytes ending step input found gives =
-    comes_on name (λ b. opens hash b (given_map next)) bytes before after after step input (Ok ending)
-    (comes_found hash bytes (given_map next) (Err fault) after after (Ok ending) found
+    comes_on name (λ b. opens hash b (given_map next)) bytes before after after step input tt (Ok ending)
+    (comes_found hash bytes (given_map next) (Err fault) after after (Ok ending)
+    (subst (λ files. WasFound files hash bytes (Err fault)) (sym step.files) found) tt
     (comes_at_once (ends BadMap (bad_map_line fault)) after ending refl gives))
 
 -- where it is missing
@@ -156,7 +169,7 @@ comes_missing hash name next before after ending counts files miss status printe
     let misses = misses before.files name before.faults after.faults miss in
     record {
       counts = counts;
-      came = (None, misses.0, (status, printed, files));
+      came = (None, misses.0, tt, (status, printed, files));
       outside = λ e. elim misses.1 [ inl rose ↦ inl rose | inr absent ↦ inr (inl absent) ];
       quiet = λ settled. absurd (settled.0 status);
     }
@@ -174,25 +187,39 @@ comes_halted name next before after halt counts files stops =
 record Holds (hash : List ℕ → List ℕ) (told : Option Files) (name : List ℕ) (found : Found) : Type 0 where
   pub bytes : List ℕ
   pub input : IsInput told name (Some bytes)
-  pub is : IsFound hash bytes found
+  pub is : WasFound told hash bytes found
 
 told_bytes : (hash : List ℕ → List ℕ) (files : Files) (name : List ℕ) (found : Found) (P : Type 0)
-    (Q : List ℕ → Type 0) → (P → ⊥) → ((bytes : List ℕ) → Q bytes → Shows hash bytes found) → (input : Input)
+    (Q : List ℕ → Type 0) → (P → ⊥)
+    → ((bytes : List ℕ) → Q bytes → Shows hash bytes found × FindsMap hash bytes found) → (input : Input)
     → file files name ≡ input → MatchOption input P Q → Holds hash (Some files) name found
 told_bytes hash files name found P Q not shows None e is = absurd (not is)
-told_bytes hash files name found P Q not shows (Some bytes) e is = record
-    { bytes = bytes; input = e; is = λ all. shows bytes is }
+told_bytes hash files name found P Q not shows (Some bytes) e is =
+    let shown = shows bytes is in
+    record { bytes = bytes; input = e; is = ((λ all. shown.0), shown.1) }
 
 opened : (hash : List ℕ → List ℕ) (told : Option Files) (name : List ℕ) (found : Found)
     (result : Result (Tree × ℕ) MapErr) → (Fails result → ⊥)
     → ((bytes : List ℕ) → Answers first_form hash bytes result → Shows hash bytes found)
+    → ((map : Tree × ℕ) → OrFails result (Ok map) → found ≡ Ok map)
     → OfFile told name (Fails result) (λ bytes. Tells first_form hash bytes result)
     → SomeBytes first_form hash result → Holds hash told name found
-opened hash None name found result not shows exact some = record
-    { bytes = some.0; input = some.1; is = λ all. shows some.0 some.2 }
-opened hash (Some files) name found result not shows exact some =
+opened hash None name found result not shows only exact some = record
+    { bytes = some.0; input = some.1; is = ((λ all. shows some.0 some.2), tt) }
+opened hash (Some files) name found result not shows only exact some =
     told_bytes hash files name found (Fails result) (λ bytes. Tells first_form hash bytes result) not
-    (λ bytes tells. shows bytes tells.answers) (file files name) refl exact
+    (λ bytes tells. (shows bytes tells.answers, λ tree batch is. only (tree, batch) (tells.map tree batch is)))
+    (file files name) refl exact
+
+-- the one answer, as what is found
+found_only : (map other : Tree × ℕ) → OrFails (Ok map) (Ok other) → ◌≡◌ {A = Found} (Ok map) (Ok other)
+found_only map other (inl e) = cc
+found_only map other (inr fails) = absurd fails
+
+fault_only : (fault : MapFault) (map : Tree × ℕ) → OrFails (Err (errors.Map fault)) (Ok map)
+    → ◌≡◌ {A = Found} (Err fault) (Ok map)
+fault_only fault map (inl e) = absurd (cc)
+fault_only fault map (inr fails) = absurd fails
 
 no_fault_rose : (before after : Shelved) (name : List ℕ) (result : Result (Tree × ℕ) MapErr)
     → (Fails result → ⊥) → MapCauses name before after result → after.faults ≡ before.faults
@@ -213,9 +240,10 @@ counts_of : (hash : List ℕ → List ℕ) (name : List ℕ) (before after : She
 counts_of hash name before after result opened = record { faults = opened.2.faults; reads = opened.4 }
 
 pub opens_map : (hash : List ℕ → List ℕ) (name : List ℕ) (before after : Shelved) (map : Tree × ℕ)
-    → Opened hash name before after (Ok map) → WellFormed map.0 → HoldsMap hash name before after map.0 map.1
-opens_map hash name before after map on well =
-    let holds = opened hash before.files name (Ok map) (Ok map) (λ f. f) (λ bytes a. a) on.0 on.1 in
+    → Opened hash name before after (Ok map) → WellFormed map.0 → map.1 < 2 ^ 64
+    → HoldsMap hash name before after map.0 map.1
+opens_map hash name before after map on well low =
+    let holds = opened hash before.files name (Ok map) (Ok map) (λ f. f) (λ bytes a. a) (found_only map) on.0 on.1 in
     record {
       counts = counts_of hash name before after (Ok map) on;
       files = on.3;
@@ -224,13 +252,15 @@ opens_map hash name before after map on well =
       input = holds.input;
       found = holds.is;
       well = well;
+      low = low;
     }
 
 pub opens_bad : (hash : List ℕ → List ℕ) (name : List ℕ) (before after : Shelved) (fault : MapFault) (ending : Ending)
     → Opened hash name before after (Err (errors.Map fault)) → Gives (ends BadMap (bad_map_line fault)) ending
     → Opens hash name before after (Ok (Err ending))
 opens_bad hash name before after fault ending on gives next =
-    let holds = opened hash before.files name (Err fault) (Err (errors.Map fault)) (λ f. f) (λ bytes a. a) on.0 on.1 in
+    let holds = opened hash before.files name (Err fault) (Err (errors.Map fault)) (λ f. f) (λ bytes a. a)
+    (fault_only fault) on.0 on.1 in
     comes_bad hash name next before after fault holds.bytes ending
     (record {
       counts = counts_of hash name before after (Err (errors.Map fault)) on;
@@ -289,13 +319,22 @@ module _ (hash : List ℕ → List ℕ) (sized : IsSized hash) (name : List ℕ)
   is_map : IsMap first_form hash (saved first_form hash tree batch) tree batch
   is_map = record { well = well; stands = saved_stands first_form first_form_is hash sized tree batch well low }
 
+  laid_out : (bytes : List ℕ) → bytes ≡ saved first_form hash tree batch → IsLaidOut hash tree batch bytes
+  laid_out bytes laid = record {
+    laid = laid;
+    stands = subst (λ b. IsMap first_form hash b tree batch) (sym laid) is_map;
+  }
+
   pub saved_so : (done : Unit) → before.faults ≤ after.faults → after.reads ≡ before.reads
       → after.faults ≡ before.faults
       → IsChanged (with_file name) (saved first_form hash tree batch) before.files after.files
       → Saves name (map_of hash tree batch) before after (Ok done)
   saved_so done faults same quiet changed = record {
     counts = record { faults = faults; reads = omega (arith, same) };
-    saved = ((saved first_form hash tree batch, is_map, changed), quiet);
+    saved = (
+      (saved first_form hash tree batch, laid_out (saved first_form hash tree batch) refl, changed),
+      quiet,
+    );
   }
 
   pub unsaved : (halt : Halt) → before.faults ≤ after.faults → after.reads ≡ before.reads → Stops before after halt
@@ -311,7 +350,7 @@ module _ (hash : List ℕ → List ℕ) (sized : IsSized hash) (name : List ℕ)
           held.0,
           elim held.1 [
             | inl none ↦ inl none
-            | inr whole ↦ inr (subst (λ bytes. IsMap first_form hash bytes tree batch) (sym whole) is_map)
+            | inr whole ↦ inr (laid_out held.0 whole)
           ],
           held.2,
         )

@@ -9,3 +9,4 @@ pub mod Digests
 pub mod Spelling
 pub mod Apart
 pub mod Verdicts
+pub mod Promises

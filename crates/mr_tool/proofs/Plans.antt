@@ -10,7 +10,7 @@ use Rattle.mr_tool.specs.Outcome.{Outcome, Written, Nothing, File, IsLeft, MayLe
 use Rattle.mr_tool.specs.Plan.{Plan, comes, reads, opens, Input, IsInput, Leads, IsOutcomeOver}
 use Rattle.mr_tool.proofs.Showing.{IsSized, found_in, one_found}
 use Rattle.mr_tree.specs.declared.tree.Tree.{Tree}
-use Rattle.mr_tool.specs.Say.{needs, given_map, say, say_list_of, say_prove_of}
+use Rattle.mr_tool.specs.Say.{needs, given_map, say, say_list_of, say_prove_of, say_audit_of}
 use Rattle.mr_tool.specs.declared.status.Status.{Status}
 use Rattle.mr_tool.specs.declared.words.Command.{Command}
 use Rattle.mr_tool.specs.declared.words.Command.TheVariants as commands
@@ -68,20 +68,19 @@ pub ended_so : (plan : Plan) (before after : Option Files) (status : Status) (te
 ended_so (comes said) before after status text ends = record
     { said = said; leads = refl; status_is = ends.0; text_is = ends.1; files = ends.2 }
 ended_so (reads name next) before after status text ends =
-    let on = ended_so (next ends.0) before after status text ends.2 in
+    let on = ended_so (next ends.0) before after status text ends.3 in
     record {
       said = on.said;
       leads = (ends.0, ends.1, on.leads);
       status_is = on.status_is;
-      text_is =
-          on.text_is;
+      text_is = on.text_is;
       files = on.files;
     }
 ended_so (opens hash bytes next) before after status text ends =
-    let on = ended_so (next ends.0) before after status text ends.2 in
+    let on = ended_so (next ends.0) before after status text ends.3 in
     record {
       said = on.said;
-      leads = (ends.0, ends.1, on.leads);
+      leads = (ends.0, ends.1.0, on.leads);
       status_is = on.status_is;
       text_is = on.text_is;
       files = on.files;
@@ -138,3 +137,12 @@ say_sized hash sized (Some (commands.Prove map query proof)) =
     sized_needs map.now (λ bytes. opens hash bytes (given_map next))
     (λ bytes. (sized, sized_map next (λ tree batch. tt)))
 say_sized hash sized (Some (commands.Check root query proof)) = sized_needs _ _ (λ bytes. tt)
+say_sized hash sized (Some (commands.Audit map query proof)) =
+    let next : Tree → ℕ → Plan = λ tree batch. needs proof.now
+    (λ bytes. comes (say_audit_of hash query tree batch bytes)) in
+    sized_needs map.now (λ bytes. opens hash bytes (given_map next))
+    (λ bytes. (
+      sized,
+      sized_map next (λ tree batch.
+          sized_needs proof.now (λ bytes. comes (say_audit_of hash query tree batch bytes)) (λ bytes. tt)),
+    ))

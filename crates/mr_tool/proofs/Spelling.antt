@@ -7,7 +7,7 @@ use Rattle.mr_query.specs.Word.{IsQuery, query_of, word_of}
 use Rattle.mr_query.specs.declared.query.Query.{Query}
 use Rattle.mr_query.specs.declared.query.QueryFault.{QueryFault}
 use Rattle.mr_query.proofs.Words.{query_read}
-use Rattle.mr_tool.specs.Say.{say_root, say_build, say_list, say_prove, say_check}
+use Rattle.mr_tool.specs.Say.{say_root, say_build, say_list, say_prove, say_check, say_audit}
 use Rattle.mr_tool.specs.Spelling.{IsSpelled, AsksAs, digest_of_word}
 use Rattle.mr_tool.specs.Words.{IsDigest, Spells}
 use Rattle.mr_tool.specs.declared.words.Command.{Command}
@@ -78,6 +78,14 @@ ask_same words (commands.Prove map_a query_a proof_a) (commands.Prove map_b quer
     spells_b.each.1.1.0 (third_of _ _ _ _ _ _ _ _ e) in
     let proofs : proof_a.now ≡ proof_b.now = fourth_of _ _ _ _ _ _ _ _ e in
     λ hash i. say_prove hash (maps i) (queries i) (proofs i)
+ask_same words (commands.Audit map_a query_a proof_a) (commands.Audit map_b query_b proof_b)
+    spells_a spells_b =
+    let e = sym spells_a.spelled ∙ spells_b.spelled in
+    let maps : map_a.now ≡ map_b.now = second_of _ _ _ _ _ _ _ _ e in
+    let queries : query_a ≡ query_b = one_query query_a query_b spells_a.each.1.1.0
+    spells_b.each.1.1.0 (third_of _ _ _ _ _ _ _ _ e) in
+    let proofs : proof_a.now ≡ proof_b.now = fourth_of _ _ _ _ _ _ _ _ e in
+    λ hash i. say_audit hash (maps i) (queries i) (proofs i)
 ask_same words (commands.Build map_a records_a) (commands.Build map_b records_b) spells_a spells_b =
     let e = sym spells_a.spelled ∙ spells_b.spelled in
     let maps : map_a.now ≡ map_b.now = second_of_two _ _ _ _ _ _ e in
@@ -140,13 +148,15 @@ not_three name a b other (commands.Build map records) spells = let same : name �
 not_three name a b other command spells = let long = ap length spells.spelled in absurd (omega (arith, long))
 
 pub not_four : (name a b c : List ℕ) → (name ≡ codes "prove" → ⊥) → (name ≡ codes "check" → ⊥)
-    → IsSpelled (name ∷ a ∷ b ∷ c ∷ []) None
-not_four name a b c not_prove not_check (commands.Prove map asked proof) spells =
+    → (name ≡ codes "audit" → ⊥) → IsSpelled (name ∷ a ∷ b ∷ c ∷ []) None
+not_four name a b c not_prove not_check not_audit (commands.Prove map asked proof) spells =
     let same : name ≡ codes "prove" = cc in absurd (not_prove same)
-not_four name a b c not_prove not_check (commands.Check root asked proof) spells =
+not_four name a b c not_prove not_check not_audit (commands.Check root asked proof) spells =
     let same : name ≡ codes "check" = cc in absurd (not_check same)
-not_four name a b c not_prove not_check command spells = let long = ap length spells.spelled in absurd
-    (omega (arith, long))
+not_four name a b c not_prove not_check not_audit (commands.Audit map asked proof) spells =
+    let same : name ≡ codes "audit" = cc in absurd (not_audit same)
+not_four name a b c not_prove not_check not_audit command spells =
+    let long = ap length spells.spelled in absurd (omega (arith, long))
 
 -- where it names a map, a query and the file of a proof, the two files have names, which differ
 pub no_prove : (map asked proof : List ℕ)
@@ -161,6 +171,19 @@ no_prove map asked proof none (commands.Prove m q p) spells =
     (subst (λ n. 0 < length n) (sym proofs) spells.each.1.1.1.0)
     (λ same. spells.apart.0.0 (sym maps ∙ same ∙ proofs)))
 no_prove map asked proof none command spells = absurd (other_key _ _ _ _ refl spells.spelled)
+
+pub no_audit : (map asked proof : List ℕ)
+    → ((q : Query) → IsQuery q → asked ≡ word_of q → 0 < length map → 0 < length proof → map ≢ proof
+    → ⊥)
+    → IsSpelled (codes "audit" ∷ map ∷ asked ∷ proof ∷ []) None
+no_audit map asked proof none (commands.Audit m q p) spells =
+    let maps : map ≡ m.now = second_of _ _ _ _ _ _ _ _ spells.spelled in
+    let proofs : proof ≡ p.now = fourth_of _ _ _ _ _ _ _ _ spells.spelled in
+    absurd (none q spells.each.1.1.0 (third_of _ _ _ _ _ _ _ _ spells.spelled)
+    (subst (λ n. 0 < length n) (sym maps) spells.each.1.0)
+    (subst (λ n. 0 < length n) (sym proofs) spells.each.1.1.1.0)
+    (λ same. spells.apart.0.0 (sym maps ∙ same ∙ proofs)))
+no_audit map asked proof none command spells = absurd (other_key _ _ _ _ refl spells.spelled)
 
 pub no_check : (root asked proof : List ℕ)
     → ((d : List ℕ) → IsDigest d → root ≡ encode_lower d → (q : Query) → IsQuery q → asked ≡ word_of
@@ -182,6 +205,8 @@ no_length words not_2 not_3 not_4 (commands.Build map records) spells = not_3 (a
 no_length words not_2 not_3 not_4 (commands.Prove map asked proof) spells = not_4
     (ap length spells.spelled)
 no_length words not_2 not_3 not_4 (commands.Check root asked proof) spells = not_4
+    (ap length spells.spelled)
+no_length words not_2 not_3 not_4 (commands.Audit map asked proof) spells = not_4
     (ap length spells.spelled)
 
 pub no_digest : (root asked proof : List ℕ) → digest_of_word root ≡ None

@@ -1,6 +1,6 @@
 -- A text that is written to a file by one call after another, and what a refused one leaves.
-use Rattle.std.proofs.Common.{◌≡◌, ℕ, ◌≤◌, List, [], refl, ap, subst, ◌∙◌, inl, inr, arith}
-use Rattle.std.specs.Prelude.{Option, Some, None, MatchOption, IsErrOf, ⊤, Result, Ok, Err}
+use Rattle.std.proofs.Common.{◌≡◌, ℕ, List, [], refl, ap, subst, ◌∙◌, inl, inr, arith}
+use Rattle.std.specs.Prelude.{Option, Some, None, MatchOption, IsErrOf, ⊤, Ok, Err}
 use Rattle.mr_outside.specs.Faults.{Rose}
 use Rattle.mr_outside.specs.Files.{Files, with_file, grown}
 use Rattle.mr_outside.specs.State.{Shelved}

@@ -4,16 +4,20 @@ use Rattle.std.specs.Prelude.{Option, Some, Result, Ok, Err}
 use Rattle.std.specs.Global.{Vec}
 use Rattle.mr_outside.specs.State.{Shelved}
 use Rattle.mr_record.specs.declared.record.Record.{Record}
+use Rattle.mr_tree.specs.declared.tree.Tree.{Tree}
 use Rattle.mr_query.specs.declared.query.Query.{Query}
 use Rattle.mr_proof.specs.declared.rule.Fault.{Fault}
 use Rattle.mr_check.specs.declared.error.CheckErr.{CheckErr}
 use Rattle.mr_check.specs.Answers.{Checks}
 use Rattle.mr_proof.specs.Reading.{verdict}
+use Rattle.mr_clash.specs.Finding.{found}
+use Rattle.mr_clash.specs.declared.finding.Finding.{Finding}
+use Rattle.mr_clash.specs.declared.finding.Finding.TheVariants as findings
 use Rattle.mr_tool.specs.Answer.{IsSettled}
 use Rattle.mr_tool.specs.Ending.{Gives, Comes, Reads, printed_of}
 use Rattle.mr_tool.specs.Outcome.{Outcome, Nothing, IsLeft}
 use Rattle.mr_tool.specs.Plan.{comes}
-use Rattle.mr_tool.specs.Say.{needs, say_verdict, say_check_of}
+use Rattle.mr_tool.specs.Say.{needs, say_verdict, say_check_of, say_finding, say_audit_of}
 use Rattle.mr_tool.specs.declared.ending.Ending.{Ending}
 use Rattle.mr_tool.specs.declared.ending.Halt.{Halt}
 
@@ -47,6 +51,22 @@ pub check_writes : (hash : List ℕ → List ℕ) (root : List ℕ) (q : Query) 
 unfolding say_check_of
 check_writes hash root q bytes = verdict_writes (verdict hash root q bytes)
 
+finding_writes : (f : Finding) → (say_finding f).written ≡ Nothing
+finding_writes (findings.Refused fault) = refl
+finding_writes (findings.Sound answer) = refl
+finding_writes (findings.Collision owned shown) = refl
+
+-- nor does the command `audit`
+pub audit_writes : (hash : List ℕ → List ℕ) (q : Query) (t : Tree) (batch : ℕ) (bytes : List ℕ)
+    → (say_audit_of hash q t batch bytes).written ≡ Nothing
+unfolding say_audit_of
+audit_writes hash q t batch bytes = finding_writes (found hash t batch q bytes)
+
+pub says_finding : (hash : List ℕ → List ℕ) (q : Query) (t : Tree) (batch : ℕ) (bytes : List ℕ) (f : Finding)
+    → f ≡ found hash t batch q bytes → say_finding f ≡ say_audit_of hash q t batch bytes
+unfolding say_audit_of
+says_finding hash q t batch bytes f is = ap say_finding is
+
 -- a command that needs one file and writes none
 pub comes_so : (name : List ℕ) (said : List ℕ → Outcome) (before after : Shelved) (bytes : Vec ℕ)
     (read : Result (Option (Vec ℕ)) Halt) (ending : Ending)
@@ -61,6 +81,7 @@ comes_so name said before after bytes read ending was reads writes gives =
       came = (
         Some bytes.items,
         was_read.read.0,
+        was_read.read.1,
         (
           gives.status,
           gives.printed,
@@ -69,5 +90,5 @@ comes_so name said before after bytes read ending was reads writes gives =
         ),
       );
       outside = λ e. absurd (gives.settled.0 e);
-      quiet = λ settled. was_read.read.1;
+      quiet = λ settled. was_read.read.2;
     }

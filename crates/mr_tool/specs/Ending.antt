@@ -1,15 +1,18 @@
 -- What a command comes to before it is printed, and how it is printed. This serves private
 -- functions.
-use Rattle.std.specs.Prelude.{◌≡◌, ◌⊎◌, ℕ, ◌≤◌, List, ◌++◌, Option, Some, None, ⊤, Result, Ok, Err}
+use Rattle.std.specs.Prelude.{◌≡◌, ◌⊎◌, ℕ, ◌^◌, ◌<◌, ◌≤◌, List, ◌++◌, Option, Some, None, IfSome, ⊤, Result, Ok, Err}
 use Rattle.std.specs.Global.{Vec}
 use Rattle.std.specs.String.{string_bytes}
 use Rattle.mr_outside.specs.Files.{Files}
 use Rattle.mr_outside.specs.Faults.{Rose}
 use Rattle.mr_outside.specs.State.{Shelved, Sunk}
-use Rattle.mr_outside.specs.Told.{Takes, TakesFront}
+use Rattle.mr_outside.specs.Told.{OfFiles, Takes, TakesFront}
 use Rattle.mr_outside.specs.declared.shelf.ShelfErr.{ShelfErr}
 use Rattle.mr_outside.specs.declared.shelf.ShelfErr.TheVariants as shelf
+use Rattle.mr_record.specs.Bytes.{AreBytes}
 use Rattle.mr_record.specs.RecordText.{text_of}
+use Rattle.mr_pages.specs.PageBytes.{first_form}
+use Rattle.mr_pages.specs.Law.{IsMap}
 use Rattle.mr_tool.specs.Answer.{IsSettled}
 use Rattle.mr_tree.specs.WellFormed.{WellFormed}
 use Rattle.mr_tree.specs.declared.tree.Tree.{Tree}
@@ -41,14 +44,36 @@ pub record NoneFalls (before after : Shelved) : Type 0 where
   pub faults : before.faults ≤ after.faults
   pub reads : before.reads ≤ after.reads
 
+-- An input that was read is of bytes. Nothing is said of one that is opened as a map: its size
+-- alone may be its fault.
+abbrev pub IsTaken : Plan → Input → Type 0
+IsTaken (comes said) input = IfSome input AreBytes
+IsTaken (reads name next) input = IfSome input AreBytes
+IsTaken (opens hash bytes next) input = ⊤
+
+-- a map that the bytes stand for is what is found
+abbrev pub FindsMap : (List ℕ → List ℕ) → List ℕ → Found → Type 0
+FindsMap hash bytes found =
+    (tree : Tree) (batch : ℕ) → IsMap first_form hash bytes tree batch → found ≡ Ok (tree, batch)
+
+-- a map is of a well-formed tree at a batch of 64 bits
+abbrev pub IsWell : Found → Type 0
+IsWell (Ok map) = WellFormed map.0 × (map.1 < 2 ^ 64)
+IsWell (Err fault) = ⊤
+
+-- this was found in the bytes of a file
+abbrev pub WasFound : Option Files → (List ℕ → List ℕ) → List ℕ → Found → Type 0
+WasFound told hash bytes found = IsFound hash bytes found
+    × OfFiles told (λ files. FindsMap hash bytes found)
+
 -- the plan comes to this status and text, and the files are left as its outcome says
 abbrev pub Ends : Plan → Option Files → Option Files → Status → List ℕ → Type 0
 Ends (comes said) before after status text = (status ≡ said.status) × (text ≡ said.printed)
     × IsLeft said.written before after
 Ends (reads name next) before after status text = (input : Input) × IsInput before name input
-    × Ends (next input) before after status text
-Ends (opens hash bytes next) before after status text = (found : Found) × IsFound hash bytes found
-    × Ends (next found) before after status text
+    × IsTaken (next input) input × Ends (next input) before after status text
+Ends (opens hash bytes next) before after status text = (found : Found)
+    × WasFound before hash bytes found × IsWell found × Ends (next found) before after status text
 
 -- the plan was given up, and the files are left as its outcome allows
 abbrev pub GivesUp : Plan → Option Files → Option Files → Type 0
@@ -91,7 +116,7 @@ abbrev pub Read : List ℕ → Shelved → Shelved → Result (Option (Vec ℕ))
 Read name before after (Ok None) = IsInput before.files name None
     × (Rose before.faults after.faults ⊎ IsAbsent before.files name)
 Read name before after (Ok (Some bytes)) = IsInput before.files name (Some bytes.items)
-    × (after.faults ≡ before.faults)
+    × AreBytes bytes.items × (after.faults ≡ before.faults)
 Read name before after (Err halt) = Stops before after halt
 
 -- an input was read, or is missing
@@ -109,8 +134,9 @@ pub record HoldsMap (hash : List ℕ → List ℕ) (name : List ℕ) (before aft
   pub quiet : after.faults ≡ before.faults
   pub bytes : List ℕ
   pub input : IsInput before.files name (Some bytes)
-  pub found : IsFound hash bytes (Ok (tree, batch))
+  pub found : WasFound before.files hash bytes (Ok (tree, batch))
   pub well : WellFormed tree
+  pub low : batch < 2 ^ 64
 
 -- a map was read, or what is said without it is settled
 abbrev pub Opens : (List ℕ → List ℕ) → List ℕ → Shelved → Shelved

@@ -8,6 +8,7 @@ pub mod Refusal
 pub mod Say
 pub mod Spelling
 pub mod Answer
+pub mod Promises
 pub mod Run
 pub mod Ending
 pub mod Listing

@@ -1,5 +1,6 @@
 -- The lines on words, texts and files that are refused.
 use Rattle.std.specs.Prelude.{ℕ, List, [], ◌∷◌, ◌++◌, codes, decimal}
+use Rattle.hex.specs.Hex.{encode_lower}
 use Rattle.mr_record.specs.declared.text_fault.TextFault.{TextFault}
 use Rattle.mr_record.specs.Rules.{text_rule_name}
 
@@ -19,6 +20,16 @@ missing_line name = codes "missing " ++ name ++ 10 ∷ []
 -- `proof LENGTH`
 unfoldable pub proof_line : ℕ → List ℕ
 proof_line size = codes "proof " ++ decimal size ++ 10 ∷ []
+
+-- it is the honest proof
+abbrev pub sound_line : List ℕ
+sound_line = codes "sound" ++ 10 ∷ []
+
+-- two strings that differ and have one hash, the owner's first, each in hexadecimal on a line of its
+-- own
+unfoldable pub collision_lines : (owned shown : List ℕ) → List ℕ
+collision_lines owned shown = codes "collision" ++ 10 ∷ encode_lower owned
+    ++ 10 ∷ encode_lower shown ++ 10 ∷ []
 
 -- the shelf failed
 abbrev pub shelf_fault_line : List ℕ

@@ -5,7 +5,7 @@ use Rattle.mr_outside.specs.Files.{Files}
 use Rattle.mr_tree.specs.declared.tree.Tree.{Tree}
 use Rattle.mr_pages.specs.PageBytes.{first_form}
 use Rattle.mr_pages.specs.Law.{IsMap}
-use Rattle.mr_pages.specs.Saved.{IsUnsealed}
+use Rattle.mr_pages.specs.Saved.{saved, IsUnsealed}
 use Rattle.mr_tool.specs.declared.status.Status.{Status}
 
 -- what an output is to hold
@@ -14,10 +14,17 @@ pub data Content : Type 0 where
   -- a map file of this tree at this batch
   map_of : (hash : List ℕ → List ℕ) (tree : Tree) (batch : ℕ) → Content
 
--- these bytes are it, whole; a map file may be any that stands for the tree and the batch
+-- the map file of this tree at this batch that has its nodes in preorder from page 1 on and no
+-- free page
+pub record IsLaidOut (hash : List ℕ → List ℕ) (tree : Tree) (batch : ℕ) (bytes : List ℕ)
+    : Type 0 where
+  pub laid : bytes ≡ saved first_form hash tree batch
+  pub stands : IsMap first_form hash bytes tree batch
+
+-- these bytes are it, whole
 abbrev pub IsWholly : Content → List ℕ → Type 0
 IsWholly (text whole) bytes = bytes ≡ whole
-IsWholly (map_of hash tree batch) bytes = IsMap first_form hash bytes tree batch
+IsWholly (map_of hash tree batch) bytes = IsLaidOut hash tree batch bytes
 
 -- these bytes may stand there where its writing stopped: a front of a text; of a map file, what is
 -- no map for its size or for want of its seal

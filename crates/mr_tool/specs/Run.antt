@@ -1,6 +1,7 @@
 -- A run of the program on some words, as the clauses of `run` say it.
 use Rattle.std.specs.Prelude.{◌≡◌, ℕ, List, Option}
 use Rattle.mr_tool.specs.Answer.{World, Counts, HasOutsideCause, IsAnswer, IsQuiet}
+use Rattle.mr_tool.specs.Promises.{CompletesWords, AnswersHonest, AcceptsHonestOrCollides, AuditsAccepted, CollidesRightly}
 use Rattle.mr_tool.specs.Say.{say}
 use Rattle.mr_tool.specs.Spelling.{IsSpelled}
 use Rattle.mr_tool.specs.declared.status.Status.{Status}
@@ -25,3 +26,8 @@ pub record IsRun (hash : List ℕ → List ℕ) (words : List (List ℕ)) (befor
   pub outside : BlamesRightly hash words before after status
   pub counts : Counts before after
   pub quiet : IsQuiet status before after
+  pub complete : CompletesWords hash words before after status
+  pub honest : AnswersHonest hash words before after status
+  pub worth : AcceptsHonestOrCollides hash words before after status
+  pub audited : AuditsAccepted hash words before after status
+  pub collides : CollidesRightly hash words before after status

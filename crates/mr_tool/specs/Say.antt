@@ -13,14 +13,17 @@ use Rattle.mr_query.specs.declared.query.Query.{Query}
 use Rattle.mr_proof.specs.declared.rule.Fault.{Fault}
 use Rattle.mr_proof.specs.Honest as honest
 use Rattle.mr_proof.specs.Reading.{verdict}
+use Rattle.mr_clash.specs.Finding.{found}
+use Rattle.mr_clash.specs.declared.finding.Finding.{Finding}
+use Rattle.mr_clash.specs.declared.finding.Finding.TheVariants as findings
 use Rattle.mr_tool.specs.Found.{Found, bad_map_line}
-use Rattle.mr_tool.specs.Lines.{bad_words_line, bad_text_line, missing_line, proof_line}
+use Rattle.mr_tool.specs.Lines.{bad_words_line, bad_text_line, missing_line, proof_line, sound_line, collision_lines}
 use Rattle.mr_tool.specs.Outcome.{Outcome, Nothing, File, map_of}
 use Rattle.mr_tool.specs.Outcome as content
 use Rattle.mr_tool.specs.Plan.{Input, Plan, comes, reads, opens}
 use Rattle.mr_tool.specs.Refusal.{refused_line}
 use Rattle.mr_tool.specs.declared.status.Status.{Status}
-use Rattle.mr_tool.specs.declared.status.Status.TheVariants.{Done, BadWords, Refused, BadText, BadMap, Outside}
+use Rattle.mr_tool.specs.declared.status.Status.TheVariants.{Done, BadWords, Refused, BadText, BadMap, Collision, Outside}
 use Rattle.mr_tool.specs.declared.words.Command.{Command}
 use Rattle.mr_tool.specs.declared.words.Command.TheVariants as commands
 
@@ -67,7 +70,8 @@ say_root_of hash (Ok records) = prints (digest_line (root hash (pack records) 0)
 abbrev pub say_root : (List ℕ → List ℕ) → List ℕ → Plan
 say_root hash records = needs records (λ text. comes (say_root_of hash (records_of_text text)))
 
--- the map of the records of a text at batch 0 in a file, and its root, or the text's first fault
+-- the map of the records of a text at batch 0 in a file, laid out with its nodes in preorder and no
+-- free page, and its root; or the text's first fault
 abbrev pub say_build_of : (List ℕ → List ℕ) → List ℕ → Result (List Record) TextFault → Outcome
 say_build_of hash map (Err fault) = ends BadText (bad_text_line fault)
 say_build_of hash map (Ok records) = record {
@@ -120,6 +124,22 @@ say_check_of hash root query proof = say_verdict (verdict hash root query proof)
 abbrev pub say_check : (List ℕ → List ℕ) → List ℕ → Query → List ℕ → Plan
 say_check hash root query proof = needs proof (λ bytes. comes (say_check_of hash root query bytes))
 
+-- what was found of the bytes of a proof: its fault; that it is the honest proof, and then the
+-- answer, a line for each record; or the two strings
+abbrev pub say_finding : Finding → Outcome
+say_finding (findings.Refused fault) = ends Refused (refused_line fault)
+say_finding (findings.Sound answer) = prints (sound_line ++ text_of answer)
+say_finding (findings.Collision owned shown) = ends Collision (collision_lines owned shown)
+
+-- what is said of the bytes of a proof and of a map
+unfoldable pub say_audit_of : (List ℕ → List ℕ) → Query → Tree → ℕ → List ℕ → Outcome
+say_audit_of hash query tree batch bytes = say_finding (found hash tree batch query bytes)
+
+-- `audit MAP QUERY PROOF`: what the proof in a file is worth against the map in another one
+abbrev pub say_audit : (List ℕ → List ℕ) → List ℕ → Query → List ℕ → Plan
+say_audit hash map query proof = needs_map hash map
+    (λ tree batch. needs proof (λ bytes. comes (say_audit_of hash query tree batch bytes)))
+
 -- what is said where words spell a command, and where they spell none
 abbrev pub say : (List ℕ → List ℕ) → Option Command → Plan
 say hash None = comes (ends BadWords bad_words_line)
@@ -128,3 +148,4 @@ say hash (Some (commands.Build map records)) = say_build hash map.now records.no
 say hash (Some (commands.List map)) = say_list hash map.now
 say hash (Some (commands.Prove map query proof)) = say_prove hash map.now query proof.now
 say hash (Some (commands.Check root query proof)) = say_check hash root query proof.now
+say hash (Some (commands.Audit map query proof)) = say_audit hash map.now query proof.now

@@ -46,6 +46,8 @@ words_of (commands.Prove map asked proof) =
     key (codes "prove") ∷ file map.now ∷ query asked ∷ file proof.now ∷ []
 words_of (commands.Check root asked proof) =
     key (codes "check") ∷ digest root ∷ query asked ∷ file proof.now ∷ []
+words_of (commands.Audit map asked proof) =
+    key (codes "audit") ∷ file map.now ∷ query asked ∷ file proof.now ∷ []
 
 -- the files among some words, by their names
 abbrev pub file_names : List Word → List (List ℕ)

@@ -1,4 +1,4 @@
-ghost use Rattle.std.specs.Prelude.{◌≡◌};
+ghost use Rattle.std.specs.Prelude.{◌≡◌, ◌++◌};
 ghost use Rattle.std.specs.String.{string_bytes};
 ghost use Rattle.mr_record.specs.RecordText.{text_of};
 ghost use Rattle.mr_tool.specs.Ending.{halt_of, printed_of};
@@ -28,6 +28,18 @@ impl Ending {
             status,
             line,
             records: Vec::new(alloc),
+        }
+    }
+
+    // Prints this line, and then these records.
+    pub(crate) fn both(status: Status, line: String, records: Vec<Record>) -> Ending
+        ensures status { result.status ≡ status }
+        ensures printed { printed_of result ≡ string_bytes line ++ text_of records.items }
+    {
+        Ending {
+            status,
+            line,
+            records,
         }
     }
 

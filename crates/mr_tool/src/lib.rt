@@ -1,6 +1,7 @@
 //! The program's commands, from the words to what is printed.
 #![tactic(auto)]
 
+mod auditing;
 mod building;
 mod checking;
 mod ending;

@@ -2,7 +2,7 @@ ghost use Rattle.std.specs.Prelude.{◌≡◌, ◌++◌, codes, OnOk, IfOk};
 ghost use Rattle.std.specs.String.{string_bytes};
 ghost use Rattle.hex.specs.Hex.{encode_lower};
 ghost use Rattle.mr_tool.specs.Found.{kept_text, bad_map_line};
-ghost use Rattle.mr_tool.specs.Lines.{bad_text_line, missing_line, proof_line as line_of_proof};
+ghost use Rattle.mr_tool.specs.Lines.{bad_text_line, missing_line, proof_line as line_of_proof, collision_lines as collision_text, sound_line as line_of_sound};
 ghost use Rattle.mr_tool.specs.Refusal.{found_text, refused_line};
 ghost use Rattle.mr_tool.specs.Say.{digest_line};
 
@@ -95,6 +95,35 @@ pub(crate) fn proof_line(alloc: Global, size: usize) -> Result<String, AllocErro
     ensures { IfOk result (λ s. string_bytes s ≡ line_of_proof size) }
 {
     let mut line = format!(in alloc; "proof {size}")?;
+    line.push('\n')?;
+    Ok(line)
+}
+
+// The lines on two strings that differ and have one hash.
+#[tactic(auto, unfolding(crate::specs::Lines::collision_lines))]
+pub(crate) fn collision_lines(
+    alloc: Global,
+    owned: &[u8],
+    shown: &[u8],
+) -> Result<String, AllocError>
+    ensures { IfOk result (λ s. string_bytes s ≡ collision_text owned.now shown.now) }
+{
+    let mut lines = String::new(alloc);
+    lines.push_str("collision")?;
+    lines.push('\n')?;
+    lines.push_str(hex::encode(alloc, owned)?.as_str())?;
+    lines.push('\n')?;
+    lines.push_str(hex::encode(alloc, shown)?.as_str())?;
+    lines.push('\n')?;
+    Ok(lines)
+}
+
+// The line on the honest proof.
+pub(crate) fn sound_line(alloc: Global) -> Result<String, AllocError>
+    ensures { IfOk result (λ s. string_bytes s ≡ line_of_sound) }
+{
+    let mut line = String::new(alloc);
+    line.push_str("sound")?;
     line.push('\n')?;
     Ok(line)
 }

@@ -1,4 +1,4 @@
-ghost use Rattle.std.specs.Prelude.{◌≡◌, IfOk};
+ghost use Rattle.std.specs.Prelude.{◌≡◌, ◌<◌, ◌^◌, IfOk};
 ghost use Rattle.mr_tool.specs.Ending.{Gives, Opens};
 ghost use Rattle.mr_tool.specs.Found.{bad_map_line as line_of};
 ghost use Rattle.mr_tool.specs.Say.{ends};
@@ -11,6 +11,11 @@ use mr_outside::Shelf;
 use mr_pages::{MapErr, MapFault, open_plain};
 use mr_tree::{Hash32, Tree};
 use std::alloc::{AllocError, Global};
+
+// What the type tells of its values.
+fn is_word(_number: u64)
+    ensures { _number < 2 ^ 64 }
+{}
 
 // The ending over a file that stands for no map.
 fn bad_map(alloc: Global, fault: &MapFault) -> Result<Ending, AllocError>
@@ -29,7 +34,10 @@ pub(crate) fn open_map<H: Hash32, S: Shelf>(
     ensures { Opens H.of name.now (S.state shelf.old) (S.state shelf.new) result }
 {
     match open_plain::<H, S>(alloc, shelf, name) {
-        Ok(map) => Ok(Ok(map)),
+        Ok(map) => {
+            is_word(map.1);
+            Ok(Ok(map))
+        }
         Err(MapErr::Map(fault)) => Ok(Err(bad_map(alloc, &fault)?)),
         Err(MapErr::Missing) => Ok(Err(missing(alloc, name)?)),
         Err(MapErr::Fault) => Err(Halt::Shelf),

@@ -1,11 +1,14 @@
 ghost use Rattle.std.specs.Prelude.{◌≡◌, ℕ, List, length, Some, None, map};
 ghost use Rattle.std.specs.String.{string_bytes};
+ghost use Rattle.mr_record.specs.Bytes.{AreBytes};
 ghost use Rattle.mr_tool.specs.Answer.{Counts, IsQuiet, world};
 ghost use Rattle.mr_tool.specs.Ending.{Comes};
+ghost use Rattle.mr_tool.specs.Promises.{CompletesWords, AnswersHonest, AcceptsHonestOrCollides, AuditsAccepted, CollidesRightly};
 ghost use Rattle.mr_tool.specs.Run.{AnswersWords, BlamesRightly};
 ghost use Rattle.mr_tool.specs.Say.{say};
 ghost use Rattle.mr_tool.specs.Spelling.{IsSpelled};
 
+use crate::auditing::audit_query;
 use crate::building::build;
 use crate::checking::check_proof;
 use crate::ending::{Ending, Halt};
@@ -35,6 +38,7 @@ fn lend<H: Hash32, S: Shelf>(
         Command::Check(digest, query, proof) => check_proof::<H, S>(
             alloc, digest, query, proof, shelf,
         ),
+        Command::Audit(map, query, proof) => audit_query::<H, S>(alloc, map, query, proof, shelf),
     }
 }
 
@@ -47,6 +51,7 @@ fn carry_out<H: Hash32, S: Shelf>(
     ensures comes { Comes (say H.of (Some command.now)) (S.state shelf) (S.state result.1)
         result.0 }
     ensures sized { (bytes : List ℕ) → length (H.of bytes) ≡ 32 }
+    ensures bytes { (bytes : List ℕ) → AreBytes bytes → AreBytes (H.of bytes) }
 {
     let mut shelf = shelf;
     let came = lend::<H, S>(alloc, command, &mut shelf);
@@ -82,6 +87,27 @@ pub fn run<H: Hash32, S: Shelf, W: Sink, G: Gate, R: Threads + Sync>(
         IsQuiet result.0 before after }
     // Words that spell no command leave the shelf alone.
     ensures unspoken { IsSpelled (map string_bytes words.now) None → result.1 ≡ shelf }
+    // Inputs that are in order are dealt with to the end.
+    ensures complete { let before = world (S.state shelf) (W.state out.old) in
+        let after = world (S.state result.1) (W.state out.new) in
+        CompletesWords H.of (map string_bytes words.now) before after result.0 }
+    // The proof that an honest server gives is accepted, with the answer of a scan of the map.
+    ensures honest { let before = world (S.state shelf) (W.state out.old) in
+        let after = world (S.state result.1) (W.state out.new) in
+        AnswersHonest H.of (map string_bytes words.now) before after result.0 }
+    // What is accepted is that proof, and the answer printed is that of a scan; or the hash
+    // function has a collision.
+    ensures worth { let before = world (S.state shelf) (W.state out.old) in
+        let after = world (S.state result.1) (W.state out.new) in
+        AcceptsHonestOrCollides H.of (map string_bytes words.now) before after result.0 }
+    // An audit of what is accepted says which of the two it is.
+    ensures audited { let before = world (S.state shelf) (W.state out.old) in
+        let after = world (S.state result.1) (W.state out.new) in
+        AuditsAccepted H.of (map string_bytes words.now) before after result.0 }
+    // Two strings that are shown as a collision are one.
+    ensures collides { let before = world (S.state shelf) (W.state out.old) in
+        let after = world (S.state result.1) (W.state out.new) in
+        CollidesRightly H.of (map string_bytes words.now) before after result.0 }
 {
     match read_words(words) {
         Some(command) => {

@@ -14,6 +14,7 @@ pub enum Command<'a> {
     /// Print the root digest of the records of a file.
     Root(&'a str),
     /// Write a map of the records of the second file to the first one, and print its root digest.
+    /// The nodes are laid out in preorder from page 1 on, and no page is free.
     Build(&'a str, &'a str),
     /// Print the records of the map in a file, in rising number.
     List(&'a str),
@@ -22,6 +23,8 @@ pub enum Command<'a> {
     Prove(&'a str, Query, &'a str),
     /// Print the answer that the proof in a file proves, against a root digest and for a query.
     Check([u8; 32], Query, &'a str),
+    /// Say what the proof in the second file is worth against the map in the first one, for a query.
+    Audit(&'a str, Query, &'a str),
 }
 
 // The command `root` on a file.
@@ -103,6 +106,19 @@ fn prove_words<'a>(map: &'a str, query: &str, proof: &'a str) -> Option<Command<
     Some(Command::Prove(map, asked, proof))
 }
 
+// The command `audit` on the file of a map, a query and the file of a proof.
+fn audit_words<'a>(map: &'a str, query: &str, proof: &'a str) -> Option<Command<'a>>
+    ensures { IsSpelled (codes "audit" ∷ map.now ∷ query.now ∷ proof.now ∷ []) result }
+{
+    let Ok(asked) = read_query(query) else {
+        return None;
+    };
+    if map.is_empty() || proof.is_empty() || proof == map {
+        return None;
+    }
+    Some(Command::Audit(map, asked, proof))
+}
+
 // The command of a name and one more word.
 fn two_words<'a>(name: &str, a: &'a str) -> Option<Command<'a>>
     ensures { IsSpelled (name.now ∷ a.now ∷ []) result }
@@ -132,6 +148,7 @@ fn four_words<'a>(name: &str, a: &'a str, b: &str, c: &'a str) -> Option<Command
     match name {
         "prove" => prove_words(a, b, c),
         "check" => check_words(a, b, c),
+        "audit" => audit_words(a, b, c),
         _ => None,
     }
 }

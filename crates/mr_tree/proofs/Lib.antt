@@ -7,6 +7,7 @@ pub mod Slim
 pub mod RootLengths
 pub mod Views
 pub mod Subtrees
+pub mod Counting
 pub mod Soundness
 pub mod Placements
 pub mod Reading

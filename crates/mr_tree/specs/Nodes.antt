@@ -88,11 +88,26 @@ pub record IsTop (hash : List ℕ → List ℕ) (s : Standing) (top : Top) : Typ
   pub count : IfSome s.tree (λ t. top.count ≡ length (records t))
   pub tree : IfSome s.tree (λ t. tree_under s top.root ≡ Some t)
 
--- why a node may be refused; `rose` says that the count of faults rose in the call
-abbrev pub HasCause : Standing → (rose : Type 0) → NodesErr → Type 0
-HasCause s rose (Changed page held found) = IsNone s.tree × (held ≢ found)
-HasCause s rose (Page page) = IsNone s.tree
-HasCause s rose (Outside page) = IsNone s.tree × (1 ≤ page → s.span ≤ page)
-HasCause s rose Missing = rose
-HasCause s rose Fault = rose
-HasCause s rose NoMemory = ⊤
+-- this is the id of a node that may be asked for
+abbrev pub IsId : Standing → ℕ → Type 0
+IsId s id = (1 ≤ id) × (id < s.span)
+
+-- Why this child may be refused; `rose` says that the count of faults rose in the call. What was
+-- read is blamed only where the tree is not told, and by the child's own page.
+abbrev pub HasCause : Standing → Child → (rose : Type 0) → NodesErr → Type 0
+HasCause s c rose (Changed page held found) =
+    IsNone s.tree × (page ≡ c.id) × (held ≡ c.digest) × (held ≢ found)
+HasCause s c rose (Page page) = IsNone s.tree × (page ≡ c.id)
+HasCause s c rose (Outside page) = IsNone s.tree × (1 ≤ page → s.span ≤ page)
+HasCause s c rose Missing = rose
+HasCause s c rose Fault = rose
+HasCause s c rose NoMemory = ⊤
+
+-- why some child may be refused that may be asked for
+abbrev pub HasSomeCause : Standing → (rose : Type 0) → NodesErr → Type 0
+HasSomeCause s rose (Changed page held found) = IsNone s.tree × IsId s page × (held ≢ found)
+HasSomeCause s rose (Page page) = IsNone s.tree × IsId s page
+HasSomeCause s rose (Outside page) = IsNone s.tree × (1 ≤ page → s.span ≤ page)
+HasSomeCause s rose Missing = rose
+HasSomeCause s rose Fault = rose
+HasSomeCause s rose NoMemory = ⊤

@@ -68,7 +68,7 @@ pub trait Nodes {
         ensures counted { fetches self.new ≡ next_count (fetches self.old) }
         ensures shows { OnOk result (Shows Self.Hash.of (stands self.old) child.now into.new) }
         ensures cause { IfErr result
-            (HasCause (stands self.old) (Rose (faults self.old) (faults self.new))) }
+            (HasCause (stands self.old) child.now (Rose (faults self.old) (faults self.new))) }
         ensures quiet { OnOk result (faults self.new ≡ faults self.old) };
 
     ghost kept_self: { (s : Self) → kept s s };

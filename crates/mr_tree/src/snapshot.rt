@@ -1,9 +1,10 @@
 //! A whole tree that is kept in memory, and readers of it.
 
-ghost use Rattle.std.specs.Prelude.{ℕ, ◌≡◌, ◌<◌, ◌≤◌, length, map, slice_get, All, IsOk, IfOk, IfErr, OnOk, Some};
+ghost use Rattle.std.specs.Prelude.{ℕ, ◌≡◌, ◌+◌, ◌<◌, ◌≤◌, length, map, slice_get, All, IsOk, IfOk, IfErr, OnOk, Some};
 ghost use Rattle.std.proofs.Props.{props};
 ghost use Rattle.std.specs.Coded.{Coded-set as set};
 ghost use Rattle.mr_outside.specs.Faults.{Rose, next_count};
+ghost use Rattle.mr_tree.specs.Tree.{nodes};
 ghost use Rattle.mr_tree.specs.WellFormed.{WellFormed};
 ghost use Rattle.mr_tree.specs.Nodes.{MayFetch, Shows, HasCause};
 ghost use Rattle.mr_tree.specs.Snapshot.{standing, standing_of, tree_of, node_of, HasShape, IsSnapshot};
@@ -39,7 +40,10 @@ impl<H: Hash32> Snapshot<H> {
     /// Keeps a copy of the tree of a map that stands at this batch.
     pub fn of(alloc: Global, tree: &Tree, batch: u64) -> Result<Snapshot<H>, AllocError>
         requires { WellFormed tree.now }
-        ensures { IfOk result (λ s. standing s.nodes.items s.top ≡ standing_of batch tree.now) }
+        ensures stands { IfOk result
+            (λ s. standing s.nodes.items s.top ≡ standing_of batch tree.now) }
+        ensures span { IfOk result
+            (λ s. (standing s.nodes.items s.top).span ≡ nodes tree.now + 1) }
     {
         let mut nodes = Vec::new(alloc);
         let root = rooted::<H>(alloc, tree, &mut nodes)?;
@@ -111,7 +115,8 @@ impl<'a, H: Hash32> Nodes for Reader<'a, H> {
             (standing self.old.snapshot.now.nodes.items self.old.snapshot.now.top)
             child.now into.new) }
         ensures cause { IfErr result (HasCause
-            (standing self.old.snapshot.now.nodes.items self.old.snapshot.now.top) (Rose 0 0)) }
+            (standing self.old.snapshot.now.nodes.items self.old.snapshot.now.top) child.now
+            (Rose 0 0)) }
         ensures quiet { let none : ℕ = 0 in OnOk result (none ≡ none) }
         ensures always { IsOk result }
     {

@@ -2,7 +2,7 @@ use Rattle.std.proofs.Common.{arith}
 use Rattle.mr_proof.proofs.FirstFault.{refuses_just}
 use Rattle.mr_proof.proofs.Halves.{accepts_just, one_half}
 use Rattle.mr_check.proofs.Checks.{proved_by, broken_by}
-use Rattle.mr_proof.proofs.Pairs.{one_pair}
+use Rattle.mr_proof.proofs.Pairs.{one_pair, finds_pair}
 use Rattle.mr_proof.proofs.Longer.{stays_refused}
 use Rattle.mr_check.proofs.client.check.Goals as goal
 
@@ -31,3 +31,6 @@ returns-clause-one_pair g c = one_pair c.args.proof.now
 
 pub returns-clause-longer : goal.returns-clause-longer
 returns-clause-longer g c = stays_refused g.H.Hashes.of c.args.root.now c.args.q.now c.args.proof.now
+
+pub returns-clause-pair : goal.returns-clause-pair
+returns-clause-pair g c = finds_pair c.args.proof.now (λ i. omega (arith, c.type_inv.proof i))

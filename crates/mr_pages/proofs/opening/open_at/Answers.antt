@@ -7,8 +7,8 @@ pub returns-in-Some : goal.returns-in-Some
 returns-in-Some g c =
     let p = c.in_ok-tree.ensures.1 in
     chain_stops g.H.Hashes.of (g.P.Pages.file c.args.pages.now)
-    (head_of c.args.head.now) c.requires.sealed c.in-Some.fault c.len-found.result p.none
-    (c.len-found.ensures.len ∙ p.saw.size) c.if-head-found.false
+    (head_of c.args.head.now) c.requires.sealed c.in-Some.fault c.count-found.result p.none
+    (c.count-found.ensures ∙ p.saw.met.count) c.if-head-found.false
     (c.in-Some.ensures _ _ p.saw)
 
 pub lost-requires : goal.lost-requires
@@ -19,8 +19,8 @@ returns-in-Some-lost g c =
     let p = c.in_ok-tree.ensures.1 in
     let q = c.in_default.ensures _ _ p.saw in
     lost_stops g.H.Hashes.of (g.P.Pages.file c.args.pages.now)
-    (head_of c.args.head.now) c.requires.sealed c.in-Some-lost.fault c.len-found.result p.none
-    (c.len-found.ensures.len ∙ p.saw.size) c.if-head-found.false
+    (head_of c.args.head.now) c.requires.sealed c.in-Some-lost.fault c.count-found.result p.none
+    (c.count-found.ensures ∙ p.saw.met.count) c.if-head-found.false
     q.0 (lost_of (g.P.Pages.file c.args.pages.now).pages c.count-2.result c.follow.new.seen _ c.count-2.ensures
     c.in-Some-lost.ensures _ _ q.1)
 
@@ -29,7 +29,7 @@ returns g c =
     let p = c.in_ok-tree.ensures.1 in
     let q = c.in_default.ensures _ _ p.saw in
     opens g.H.Hashes.of (g.P.Pages.file c.args.pages.now)
-    (head_of c.args.head.now) c.requires.sealed c.len-found.result c.in_ok-tree.tree p.none
-    (c.len-found.ensures.len ∙ p.saw.size) c.if-head-found.false
+    (head_of c.args.head.now) c.requires.sealed c.count-found.result c.in_ok-tree.tree p.none
+    (c.count-found.ensures ∙ p.saw.met.count) c.if-head-found.false
     q.0 (lost_of (g.P.Pages.file c.args.pages.now).pages c.count-2.result c.follow.new.seen _ c.count-2.ensures
     c.in_default-lost.ensures _ _ q.1) c.in_ok-tree.ensures.0

@@ -89,6 +89,7 @@ loop-next-preserved g t c =
           (g.N.Nodes.fetches c.open_node.new.nodes) (g.N.Nodes.fetches c.loop-next.nodes)
           (g.N.Nodes.fetches c.write_part.new.nodes) c.next-item.is c.loop-next-test.true
           (c.loop-next.invariant.fetched told) (few told);
+      still = c.in_ok-write_part.ensures.causes.still ∙ c.loop-next.invariant.still;
       quiet = c.in_ok-write_part.ensures.causes.quiet ∙ c.loop-next.invariant.quiet;
     }
 

@@ -18,5 +18,6 @@ invariant-loop-next g l = record {
   fetched : IsSome (g.N.Nodes.stands l.fn.nodes).tree →
       g.N.Nodes.fetches l.nodes ≤ g.N.Nodes.fetches l.initial.nodes + opened_in g.N.Hash.Hashes.of
       ((asks l.fn.q).region None) (g.N.Nodes.stands l.fn.nodes) (take l.next-index l.next-items);
+  still : g.N.Nodes.faults l.nodes ≡ g.N.Nodes.faults l.initial.nodes;
   quiet : (g.W.Sink.state l.out).faults ≡ (g.W.Sink.state l.initial.out).faults;
 }

@@ -7,7 +7,7 @@ pub returns-in-Ok : goal.returns-in-Ok
 returns-in-Ok g c =
     let e = c.in-Ok.ensures in
     opens_map g.H.Hashes.of c.args.name.now (g.S.Shelf.state c.args.shelf.now) (g.S.Shelf.state c.open_plain.new.shelf)
-    c.in-Ok.map (e.exact, e.some, e.causes, e.files, e.reads) e.well_formed
+    c.in-Ok.map (e.exact, e.some, e.causes, e.files, e.reads) e.well_formed c.is_word.ensures
 
 pub returns-in_ok-bad_map-in-Err-Map : goal.returns-in_ok-bad_map-in-Err-Map
 returns-in_ok-bad_map-in-Err-Map g c =

@@ -2,7 +2,7 @@ use Rattle.std.proofs.Common.{sym, subst, ◌∙◌}
 use Rattle.mr_tool.specs.Ending.{Saves, halt_of}
 use Rattle.mr_tool.specs.Outcome.{text}
 use Rattle.mr_tool.proofs.Going.{halted_is}
-use Rattle.mr_tool.proofs.Texts.{text_unmade, text_begun, text_put, text_unsynced, text_saved}
+use Rattle.mr_tool.proofs.Texts.{text_begun, text_put, text_unsynced, text_saved}
 use Rattle.mr_tool.proofs.proving.save.Goals as goal
 
 pub returns-in_err-append : goal.returns-in_err-append

@@ -1,31 +1,29 @@
-use Rattle.std.proofs.Common.{arith, ◌≡◌, length, cond, ◌+◌, ap, refl, take, ◌∙◌}
+use Rattle.std.proofs.Common.{arith, ◌≡◌, length, ap, refl, take, ◌∙◌}
 use Rattle.std.proofs.Math.Seq.{take-length}
-use Rattle.std.specs.BTreeSet.{btree_set_len}
+use Rattle.std.proofs.lemmas.Bool.{OnFalse_at}
 use Rattle.mr_pages.proofs.Meeting.{met_again, still_none, saw_more, met_all}
 use Rattle.mr_pages.proofs.seen.Seen.meet.Goals as goal
 
-pub returns-then-not-branch : goal.returns-then-not-branch
-returns-then-not-branch c = λ pages ps ns saw.
-    let so_far = c.loop-record.invariant pages ps ns saw in (
-      met_again pages ps ns c.loop-record.self c.args.records.now c.loop-record.record-index c.record-item.result
-          c.loop-record-test.true c.record-item.is so_far.none so_far.saw
-          (c.in_ok-insert.ensures.added) c.if-not-branch.true,
+pub returns-then-branch : goal.returns-then-branch
+returns-then-branch c = λ pages ps ns saw.
+    let so_far = c.loop-record.invariant pages ps ns saw in
+    let met = c.in_ok-meet.ensures _ so_far.saw.met in (
+      met_again ns c.args.records.now c.loop-record.record-index c.record-item.result
+          c.loop-record-test.true c.record-item.is so_far.none met.0 c.if-branch.true,
       tt,
     )
 
 pub loop-record-preserved : goal.loop-record-preserved
 loop-record-preserved c = λ pages ps ns saw.
     let so_far = c.loop-record.invariant pages ps ns saw in
+    let met = c.in_ok-meet.ensures _ so_far.saw.met in
     record {
-      none = still_none pages ps ns c.loop-record.self c.args.records.now c.loop-record.record-index
-          c.record-item.result c.loop-record-test.true c.record-item.is so_far.none so_far.saw
-          (c.in_ok-insert.ensures.added) c.if-not-branch.false;
+      none = still_none ns c.args.records.now c.loop-record.record-index c.record-item.result
+          c.loop-record-test.true c.record-item.is so_far.none met.0 c.if-branch.false;
       saw = saw_more pages ps ns c.loop-record.self (record
-          { reached = c.loop-record.self.reached; numbers = c.insert.new.self }) c.args.records.now
+          { reached = c.loop-record.self.reached; numbers = c.meet.new.self }) c.args.records.now
           c.loop-record.record-index c.record-item.result
-          c.loop-record-test.true c.record-item.is so_far.saw refl (λ q. c.in_ok-insert.ensures.updates.0 q)
-          (c.in_ok-insert.ensures.len ∙ ap (λ b. btree_set_len c.loop-record.self.numbers + cond b 1 0)
-          c.if-not-branch.false);
+          c.loop-record-test.true c.record-item.is so_far.saw refl (OnFalse_at c.if-branch.false met.1);
     }
 
 pub returns : goal.returns

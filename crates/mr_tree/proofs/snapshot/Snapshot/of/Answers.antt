@@ -1,6 +1,8 @@
-use Rattle.std.proofs.Common.{arith, subst, sym}
+use Rattle.std.proofs.Common.{◌+◌, length, arith, subst, sym, ap, ◌∙◌}
+use Rattle.mr_tree.specs.Nodes.{subtrees}
 use Rattle.mr_tree.specs.WellFormed.{WellFormed}
 use Rattle.mr_tree.proofs.Soundness.{sound_tree, nodes_fit}
+use Rattle.mr_tree.proofs.Counting.{length-subtrees}
 use Rattle.mr_tree.proofs.Reading.{snapshot_of}
 use Rattle.mr_tree.proofs.snapshot.Snapshot.of.Goals as goal
 
@@ -16,3 +18,7 @@ invariant_of-result g c = record {
       c.rooted.new.nodes.items c.in_ok-root.root c.in_ok-root.ensures;
   well_formed = ∣ subst WellFormed (sym c.in_ok-root.ensures.tree) c.requires ∣₁;
 }
+
+pub returns-clause-span : goal.returns-clause-span
+returns-clause-span g c =
+    ap (λ t. length (subtrees t) + 1) c.in_ok-root.ensures.tree ∙ ap (λ n. n + 1) (length-subtrees c.args.tree.now)

@@ -1,0 +1,4 @@
+pub mod Taking
+pub mod Nodes
+pub mod Walks
+pub mod Whole

@@ -1,0 +1,211 @@
+-- Bytes, records and cuts taken from the front of what is left.
+use Rattle.std.proofs.Common.{◌≡◌, ℕ, zero, suc, ◌+◌, ◌-◌, ◌≤◌, ◌<◌, List, [], ◌∷◌, ◌++◌, length, map, take, drop, refl, sym, ap, subst, ◌∙◌, append_assoc, arith}
+use Rattle.std.specs.Prelude.{All, Option, Some, None, Result, Ok, Err}
+use Rattle.std.specs.Int.{w128, to_be_bytes}
+use Rattle.std.specs.List.{flat_map, AllByRecursion}
+use Rattle.std.proofs.lemmas.List.Elements.{recursion_from_All}
+use Rattle.std.proofs.Math.Seq.{take-append_seam, drop-append_seam}
+use Rattle.std.proofs.lemmas.List.{map-append}
+use Rattle.mr_record.specs.Record.{IsRecord, record_bytes}
+use Rattle.mr_record.specs.declared.record.Record.{Record}
+use Rattle.mr_record.specs.declared.record_fault.RecordFault.{RecordFault}
+use Rattle.mr_tree.specs.Digest.{Entry as NodeEntry}
+use Rattle.mr_proof.specs.declared.head.Kind.{Kind}
+use Rattle.mr_proof.specs.declared.head.Kind.TheVariants as kind
+use Rattle.mr_proof.specs.Fields.{kind_byte}
+use Rattle.mr_proof.specs.Cut.{Cut, Cuts, no_more, first, count_of, entry, entries}
+use Rattle.mr_proof.specs.Spelling.{cut_bytes, cuts_bytes, radius_bytes, FitsCut, FitCuts}
+use Rattle.mr_clash.specs.declared.entry.Entry.{Entry}
+use Rattle.mr_clash.specs.Steps.{known, Passed, PassedAll}
+
+pub take_front : (n : ℕ) (x rest : List ℕ) → length x ≡ n → take n (x ++ rest) ≡ x
+take_front n x rest e = subst (λ k. take k (x ++ rest) ≡ x) e (take-append_seam x rest)
+
+pub drop_front : (n : ℕ) (x rest : List ℕ) → length x ≡ n → drop n (x ++ rest) ≡ rest
+drop_front n x rest e = subst (λ k. drop k (x ++ rest) ≡ rest) e (drop-append_seam x rest)
+
+take-all : {X : Type 0} (i : ℕ) (xs : List X) → length xs ≤ i → take i xs ≡ xs
+take-all zero [] le = refl
+take-all (suc i) [] le = refl
+take-all zero (x ∷ xs) le = absurd (omega arith)
+take-all (suc i) (x ∷ xs) le = ap (λ ys. x ∷ ys) (take-all i xs (omega arith))
+
+drop-all : {X : Type 0} (i : ℕ) (xs : List X) → length xs ≤ i → drop i xs ≡ []
+drop-all zero [] le = refl
+drop-all (suc i) [] le = refl
+drop-all zero (x ∷ xs) le = absurd (omega arith)
+drop-all (suc i) (x ∷ xs) le = drop-all i xs (omega arith)
+
+-- ---- records
+
+-- the record at this place
+pub record Next (rs : List Record) (i : ℕ) : Type 0 where
+  pub one : Record
+  pub is : IsRecord one
+  pub here : drop i rs ≡ one ∷ drop (suc i) rs
+  pub more : take (suc i) rs ≡ take i rs ++ one ∷ []
+
+next : (rs : List Record) (i : ℕ) → i < length rs → AllByRecursion IsRecord rs → Next rs i
+next [] i lt all = absurd (omega arith)
+next (r ∷ rs) zero lt all = record { one = r; is = all.0; here = refl; more = refl }
+next (r ∷ rs) (suc i) lt all =
+    let n = next rs i (omega arith) all.1 in
+    record { one = n.one; is = n.is; here = n.here; more = ap (λ xs. r ∷ xs) n.more }
+
+-- so many of them were taken
+pub record TookSome (rs : List Record) (rest : List ℕ) (i : ℕ) (list : List Record) (bytes : List ℕ)
+    : Type 0 where
+  pub list_is : list ≡ take i rs
+  pub left_is : bytes ≡ flat_map record_bytes (drop i rs) ++ rest
+
+pub record NextLeft (rs : List Record) (rest : List ℕ) (i : ℕ) (bytes : List ℕ) : Type 0 where
+  pub one : Record
+  pub is : IsRecord one
+  pub here : bytes ≡ record_bytes one ++ (flat_map record_bytes (drop (i + 1) rs) ++ rest)
+  pub more : take (i + 1) rs ≡ take i rs ++ one ∷ []
+
+pub next_left : (rs : List Record) (rest : List ℕ) (i : ℕ) (bytes : List ℕ) → i < length rs → All IsRecord rs
+    → bytes ≡ flat_map record_bytes (drop i rs) ++ rest → NextLeft rs rest i bytes
+next_left rs rest i bytes lt all e =
+    let n = next rs i lt (recursion_from_All IsRecord rs all) in
+    let plus : suc i ≡ i + 1 = omega arith in
+    record {
+      one = n.one;
+      is = n.is;
+      here = e ∙ ap (λ xs. flat_map record_bytes xs ++ rest) n.here
+          ∙ append_assoc (record_bytes n.one) (flat_map record_bytes (drop (suc i) rs)) rest
+          ∙ ap (λ k. record_bytes n.one ++ (flat_map record_bytes (drop k rs) ++ rest)) plus;
+      more = ap (λ k. take k rs) (sym plus) ∙ n.more;
+    }
+
+same_read : (a b : Record) (m n : ℕ) → ◌≡◌ {A = Result (Record × ℕ) RecordFault} (Ok (a, m)) (Ok (b, n))
+    → (a ≡ b) × (m ≡ n)
+same_read a b m n e =
+    let p : ◌≡◌ {A = Record × ℕ} (a, m) (b, n) = cc in
+    (ap (λ (q : Record × ℕ). q.0) p, ap (λ (q : Record × ℕ). q.1) p)
+
+-- one more was taken
+pub took_more : (rs : List Record) (rest : List ℕ) (i : ℕ) (list more : List Record) (bytes after : List ℕ)
+    (one : Record) (size : ℕ) (read : Result (Record × ℕ) RecordFault) → TookSome rs rest i list bytes
+    → (n : NextLeft rs rest i bytes) → read ≡ Ok (one, size) → read ≡ Ok (n.one, length (record_bytes n.one))
+    → more ≡ list ++ one ∷ []
+    → ((x behind : List ℕ) → length x ≡ size → bytes ≡ x ++ behind → after ≡ behind)
+    → TookSome rs rest (i + 1) more after
+took_more rs rest i list more bytes after one size read so n e f pushed took =
+    let same = same_read one n.one size (length (record_bytes n.one)) (sym e ∙ f) in
+    record {
+      list_is = pushed ∙ (λ j. so.list_is j ++ same.0 j ∷ []) ∙ sym n.more;
+      left_is = took (record_bytes n.one) (flat_map record_bytes (drop (i + 1) rs) ++ rest) (sym same.1) n.here;
+    }
+
+pub not_refused : {A : Type 0} (n : Record × ℕ) (f : RecordFault) (read : Result (Record × ℕ) RecordFault)
+    → read ≡ Err f → read ≡ Ok n → A
+not_refused n f read e g = absurd cc
+
+-- all of them were taken
+pub all_taken : (rs : List Record) (rest : List ℕ) (i : ℕ) (list : List Record) (bytes : List ℕ) → length rs ≤ i
+    → TookSome rs rest i list bytes → (list ≡ rs) × (bytes ≡ rest)
+all_taken rs rest i list bytes le so =
+    (so.list_is ∙ take-all i rs le, so.left_is ∙ ap (λ xs. flat_map record_bytes xs ++ rest) (drop-all i rs le))
+
+-- ---- a radius
+
+-- a flag and a radius were passed over
+pub radius_passed : (k : Kind) (r : Option ℕ) (rest : List ℕ) (b flag : ℕ) (before mid after : List ℕ)
+    → b ≡ kind_byte k → before ≡ radius_bytes k r ++ rest → b ≡ 75
+    → ((x : ℕ) (behind : List ℕ) → before ≡ x ∷ behind → (flag ≡ x) × (mid ≡ behind)) → flag ≡ 1
+    → ((x behind : List ℕ) → length x ≡ 16 → mid ≡ x ++ behind → after ≡ behind) → after ≡ rest
+radius_passed kind.W r rest b flag before mid after is here of byte one took = absurd (omega (arith, is, of))
+radius_passed kind.K None rest b flag before mid after is here of byte one took =
+    let t = byte 0 rest here in absurd (omega (arith, t.0, one))
+radius_passed kind.K (Some n) rest b flag before mid after is here of byte one took =
+    let t = byte 1 (to_be_bytes w128 n ++ rest) here in took (to_be_bytes w128 n) rest refl t.1
+
+-- a flag that says that there is none
+pub flag_passed : (k : Kind) (r : Option ℕ) (rest : List ℕ) (b flag : ℕ) (before mid : List ℕ)
+    → b ≡ kind_byte k → before ≡ radius_bytes k r ++ rest → b ≡ 75
+    → ((x : ℕ) (behind : List ℕ) → before ≡ x ∷ behind → (flag ≡ x) × (mid ≡ behind)) → (flag ≡ 1 → ⊥) → mid ≡ rest
+flag_passed kind.W r rest b flag before mid is here of byte none = absurd (omega (arith, is, of))
+flag_passed kind.K None rest b flag before mid is here of byte none = (byte 0 rest here).1
+flag_passed kind.K (Some n) rest b flag before mid is here of byte none =
+    absurd (none (byte 1 (to_be_bytes w128 n ++ rest) here).0)
+
+-- ---- cuts
+
+-- without the first ones
+abbrev pub drop_cuts : ℕ → Cuts → Cuts
+drop_cuts zero Ps = Ps
+drop_cuts (suc i) no_more = no_more
+drop_cuts (suc i) (first P Ps) = drop_cuts i Ps
+
+pub record NextCut (hash : List ℕ → List ℕ) (w : ℕ) (Ps : Cuts) (i : ℕ) : Type 0 where
+  pub cut : Cut
+  pub fits : FitsCut w cut
+  pub here : drop_cuts i Ps ≡ first cut (drop_cuts (suc i) Ps)
+  pub more : take (suc i) (entries hash w Ps) ≡ take i (entries hash w Ps) ++ entry hash w cut ∷ []
+
+pub next_cut : (hash : List ℕ → List ℕ) (w : ℕ) (Ps : Cuts) (i : ℕ) → i < count_of Ps → FitCuts w Ps
+    → NextCut hash w Ps i
+next_cut hash w no_more i lt fits = absurd (omega arith)
+next_cut hash w (first P Ps) zero lt fits = record { cut = P; fits = fits.0; here = refl; more = refl }
+next_cut hash w (first P Ps) (suc i) lt fits =
+    let n = next_cut hash w Ps i (omega arith) fits.1 in
+    record { cut = n.cut; fits = n.fits; here = n.here; more = ap (λ xs. entry hash w P ∷ xs) n.more }
+
+pub length-entries : (hash : List ℕ → List ℕ) (w : ℕ) (Ps : Cuts) → length (entries hash w Ps) ≡ count_of Ps
+length-entries hash w no_more = refl
+length-entries hash w (first P Ps) = let rest = length-entries hash w Ps in omega arith
+
+-- so many of them were passed over
+pub record PassedSome (hash : List ℕ → List ℕ) (w : ℕ) (Ps : Cuts) (rest : List ℕ) (i : ℕ) (xs : List Entry)
+    (bytes : List ℕ) : Type 0 where
+  pub knows : map (known w) xs ≡ take i (entries hash w Ps)
+  pub left_is : bytes ≡ cuts_bytes (drop_cuts i Ps) ++ rest
+
+pub record NextItem (hash : List ℕ → List ℕ) (w : ℕ) (Ps : Cuts) (rest : List ℕ) (i : ℕ) (bytes : List ℕ)
+    : Type 0 where
+  pub cut : Cut
+  pub fits : FitsCut w cut
+  pub here : bytes ≡ cut_bytes cut ++ (cuts_bytes (drop_cuts (i + 1) Ps) ++ rest)
+  pub more : take (i + 1) (entries hash w Ps) ≡ take i (entries hash w Ps) ++ entry hash w cut ∷ []
+
+pub next_item : (hash : List ℕ → List ℕ) (w : ℕ) (Ps : Cuts) (rest : List ℕ) (i : ℕ) (bytes : List ℕ)
+    → i < count_of Ps → FitCuts w Ps → bytes ≡ cuts_bytes (drop_cuts i Ps) ++ rest
+    → NextItem hash w Ps rest i bytes
+next_item hash w Ps rest i bytes lt fits e =
+    let n = next_cut hash w Ps i lt fits in
+    let plus : suc i ≡ i + 1 = omega arith in
+    record {
+      cut = n.cut;
+      fits = n.fits;
+      here = e ∙ ap (λ Qs. cuts_bytes Qs ++ rest) n.here
+          ∙ append_assoc (cut_bytes n.cut) (cuts_bytes (drop_cuts (suc i) Ps)) rest
+          ∙ ap (λ k. cut_bytes n.cut ++ (cuts_bytes (drop_cuts k Ps) ++ rest)) plus;
+      more = ap (λ k. take k (entries hash w Ps)) (sym plus) ∙ n.more;
+    }
+
+-- one more was passed over
+pub passed_more : (hash : List ℕ → List ℕ) (w : ℕ) (Ps : Cuts) (rest : List ℕ) (i : ℕ) (xs more : List Entry)
+    (bytes after : List ℕ) (x : Entry) → PassedSome hash w Ps rest i xs bytes
+    → (n : NextItem hash w Ps rest i bytes)
+    → Passed hash w n.cut (cuts_bytes (drop_cuts (i + 1) Ps) ++ rest) x after → more ≡ xs ++ x ∷ []
+    → PassedSome hash w Ps rest (i + 1) more after
+passed_more hash w Ps rest i xs more bytes after x so n one pushed = record {
+  knows = ap (map (known w)) pushed ∙ map-append (known w) xs (x ∷ [])
+      ∙ (λ j. so.knows j ++ one.knows j ∷ []) ∙ sym n.more;
+  left_is = one.behind;
+}
+
+pub drop_all : (Ps : Cuts) (i : ℕ) → count_of Ps ≤ i → drop_cuts i Ps ≡ no_more
+drop_all no_more zero le = refl
+drop_all no_more (suc i) le = refl
+drop_all (first P Ps) zero le = absurd (omega arith)
+drop_all (first P Ps) (suc i) le = drop_all Ps i (omega arith)
+
+-- all of them were passed over
+pub all_passed : (hash : List ℕ → List ℕ) (w : ℕ) (Ps : Cuts) (rest : List ℕ) (i : ℕ) (xs : List Entry)
+    (bytes : List ℕ) → count_of Ps ≤ i → PassedSome hash w Ps rest i xs bytes → PassedAll hash w Ps rest xs bytes
+all_passed hash w Ps rest i xs bytes le so = record {
+  knows = so.knows ∙ take-all i (entries hash w Ps) (omega (arith, le, length-entries hash w Ps));
+  behind = so.left_is ∙ ap (λ Qs. cuts_bytes Qs ++ rest) (drop_all Ps i le);
+}

@@ -1,0 +1,27 @@
+use Rattle.std.proofs.Common.{◌≡◌, ℕ, List, ◌++◌, ◌+◌, ◌*◌, length}
+use Rattle.mr_proof.specs.Cut.{Cuts, count_of}
+use Rattle.mr_proof.specs.Spelling.{cuts_bytes, FitCuts}
+use Rattle.mr_clash.specs.Steps.{left}
+use Rattle.mr_clash.proofs.Taking.{PassedSome}
+use Rattle.mr_clash.proofs.items.+items.Given as goal
+
+abbrev pub decreases-pass_children : goal.decreases-pass_children
+decreases-pass_children g l = 4 * l.level + 1
+
+abbrev pub decreases-pass_inner : goal.decreases-pass_inner
+decreases-pass_inner g l = 4 * l.level + 2
+
+abbrev pub decreases-pass_item : goal.decreases-pass_item
+decreases-pass_item g l = 4 * l.level + 3
+
+abbrev pub decreases-pass_items : goal.decreases-pass_items
+decreases-pass_items g l = 4 * l.level + 4
+
+-- so many items were passed over
+abbrev pub invariant-pass_items-loop : goal.invariant-pass_items-loop
+invariant-pass_items-loop g l = record {
+  passed : (Ps : Cuts) (rest : List ℕ) → FitCuts l.level Ps → count_of Ps ≡ l.count
+      → left l.initial.from ≡ cuts_bytes Ps ++ rest
+      → PassedSome g.H.Hashes.of l.level Ps rest l.counter l.list.items (left l.from);
+  few : length l.list.items ≡ l.counter;
+}

@@ -1,0 +1,5 @@
+-- what has to be believed
+pub mod Finding
+pub mod Causes
+-- what only private functions and proofs use
+pub mod Steps

@@ -1,0 +1,196 @@
+-- What the auditor's private functions do, one by one. Nothing of this has to be believed: no
+-- public contract cites it.
+use Rattle.std.specs.Prelude.{◌≡◌, ℕ, ◌+◌, ◌∷◌, ◌++◌, List, length, map, All, Option, Some, None, option_map, replicate, IfOk, IfSome, IsSome, Result, Ok, Err, Bool, true, false}
+use Rattle.std.specs.Global.{Vec}
+use Rattle.std.specs.List.{flat_map}
+use Rattle.mr_geom.specs.Rectangle.{Rectangle}
+use Rattle.mr_record.specs.Record.{IsRecord, record_bytes}
+use Rattle.mr_record.specs.declared.record.Record.{Record}
+use Rattle.mr_tree.specs.Digest.{Entry as NodeEntry, rect_bytes, root_preimage}
+use Rattle.mr_tree.specs.Nodes.{Standing}
+use Rattle.mr_tree.specs.View.{Node, entry_of, preimage_of}
+use Rattle.mr_tree.specs.declared.child.Child.{Child}
+use Rattle.mr_tree.specs.declared.nodes.Top.{Top}
+use Rattle.mr_tree.specs.declared.tree.Tree.{Tree}
+use Rattle.mr_proof.specs.declared.head.Head.{Head}
+use Rattle.mr_proof.specs.Cut.{Cut, Cuts, Pruned, Leaf, Inner, count_of, entry, entries, preimage}
+use Rattle.mr_proof.specs.Spelling.{cut_bytes, cuts_bytes, part_bytes, FitsCut, FitCuts, FitsPart, IsSpelled}
+use Rattle.mr_proof.specs.Accepted.{root_bytes, root_found}
+use Rattle.mr_proof.specs.Clash.{Pair, differ, node_clash, children_clash, clash, IsCollision}
+use Rattle.mr_check.specs.declared.error.CheckErr.{CheckErr}
+use Rattle.mr_check.specs.declared.error.CheckErr.TheVariants as errors
+use Rattle.mr_clash.specs.declared.entry.Entry.{Entry}
+use Rattle.mr_clash.specs.declared.error.AuditErr.{AuditErr}
+use Rattle.mr_clash.specs.declared.error.AuditErr.TheVariants as audits
+use Rattle.mr_clash.specs.declared.finding.Clash.{Clash}
+use Rattle.mr_clash.specs.declared.finding.Finding.{Finding}
+use Rattle.mr_clash.specs.declared.finding.Finding.TheVariants as findings
+use Rattle.mr_clash.specs.declared.rest.Rest.{Rest}
+use Rattle.mr_clash.specs.declared.root.Said.{Said}
+
+-- ---- values
+
+-- the bytes that are left
+abbrev pub left : Rest → List ℕ
+left r = r.bytes.now
+
+abbrev pub pair_of : Clash → Pair
+pair_of c = record { owned = c.owned.items; shown = c.shown.items }
+
+-- what the parent of a node of this level knows of it
+abbrev pub known : ℕ → Entry → NodeEntry
+known level x = record { level = level; rect = x.rect; digest = x.digest }
+
+abbrev pub rect_in : Entry → Option Rectangle
+rect_in x = x.rect
+
+-- the bytes of it in the preimage of its parent
+abbrev pub piece : Entry → List ℕ
+piece x = rect_bytes x.rect ++ x.digest
+
+-- what is held of a child
+abbrev pub held : Child → Entry
+held c = record { rect = Some c.rect; digest = c.digest }
+
+-- ---- the bytes of a proof, taken from the front
+
+abbrev pub GivesRecords : ℕ → (before after : List ℕ) → {E : Type 0} → Result (Vec Record) E → Type 0
+GivesRecords count before after result =
+    (rs : List Record) (rest : List ℕ) → length rs ≡ count → All IsRecord rs
+    → before ≡ flat_map record_bytes rs ++ rest
+    → IfOk result (λ v. (v.items ≡ rs) × (after ≡ rest))
+
+-- an item was passed over, and this is known of its node
+pub record Passed (hash : List ℕ → List ℕ) (level : ℕ) (P : Cut) (rest : List ℕ) (x : Entry)
+    (after : List ℕ) : Type 0 where
+  pub knows : known level x ≡ entry hash level P
+  pub behind : after ≡ rest
+
+-- whatever cut of this level stands next, and whatever behind it
+abbrev pub Passes : {E : Type 0} → (List ℕ → List ℕ) → ℕ → (before after : List ℕ)
+    → Result Entry E → Type 0
+Passes hash level before after result =
+    (P : Cut) (rest : List ℕ) → FitsCut level P → before ≡ cut_bytes P ++ rest
+    → IfOk result (λ x. Passed hash level P rest x after)
+
+pub record PassedAll (hash : List ℕ → List ℕ) (level : ℕ) (Ps : Cuts) (rest : List ℕ)
+    (xs : List Entry) (after : List ℕ) : Type 0 where
+  pub knows : map (known level) xs ≡ entries hash level Ps
+  pub behind : after ≡ rest
+
+abbrev pub PassesAll : {E : Type 0} → (List ℕ → List ℕ) → (level count : ℕ)
+    → (before after : List ℕ) → Result (Vec Entry) E → Type 0
+PassesAll hash level count before after result =
+    (Ps : Cuts) (rest : List ℕ) → FitCuts level Ps → count_of Ps ≡ count
+    → before ≡ cuts_bytes Ps ++ rest
+    → IfOk result (λ v. PassedAll hash level Ps rest v.items after)
+
+-- the string of the opened node that stands next
+abbrev pub Strings : {E : Type 0} → (List ℕ → List ℕ) → ℕ → List ℕ → Result (Vec ℕ) E → Type 0
+Strings hash level before result =
+    (P : Cut) (rest y : List ℕ) → FitsCut level P → before ≡ cut_bytes P ++ rest
+    → preimage hash level P ≡ Some y → IfOk result (λ v. v.items ≡ y)
+
+-- ---- a node of the map and a cut of it
+
+abbrev pub is_pruned : Cut → Bool
+is_pruned (Pruned part) = true
+is_pruned (Leaf records) = false
+is_pruned (Inner cuts) = false
+
+-- What was found of the node with this id and the cut of it that a proof shows: a pair is a
+-- collision, and where the map is told, the pair is that of the definition.
+pub record Compared (hash : List ℕ → List ℕ) (s : Standing) (id level : ℕ) (P : Cut)
+    (pair : Option Pair) : Type 0 where
+  pub collides : IfSome pair (IsCollision hash)
+  pub told : IsSome s.tree → IfSome (s.node id) (λ t. pair ≡ node_clash hash level t P)
+
+-- without a pair the item was passed over
+abbrev pub Compares : {E : Type 0} → (List ℕ → List ℕ) → Standing → Child
+    → (before after : List ℕ) → Result (Option Clash) E → Type 0
+Compares hash s c before after result =
+    (P : Cut) (rest : List ℕ) → FitsCut c.level P → before ≡ cut_bytes P ++ rest
+    → entry_of c ≡ entry hash c.level P
+    → IfOk result (λ o. Compared hash s c.id c.level P (option_map pair_of o)
+    × (o ≡ None → after ≡ rest))
+
+pub record ComparedAll (hash : List ℕ → List ℕ) (s : Standing) (level : ℕ) (cs : List Child)
+    (Ps : Cuts) (pair : Option Pair) : Type 0 where
+  pub collides : IfSome pair (IsCollision hash)
+  pub told : IsSome s.tree → (ts : List Tree)
+      → map (λ (c : Child). s.node c.id) cs ≡ map Some ts
+      → pair ≡ children_clash hash level ts Ps
+
+-- the same of some nodes of this level, side by side
+abbrev pub ComparesAll : {E : Type 0} → (List ℕ → List ℕ) → Standing → ℕ → List Child
+    → (before after : List ℕ) → Result (Option Clash) E → Type 0
+ComparesAll hash s level cs before after result =
+    (Ps : Cuts) (rest : List ℕ) → FitCuts level Ps → before ≡ cuts_bytes Ps ++ rest
+    → map entry_of cs ≡ entries hash level Ps
+    → IfOk result (λ o. ComparedAll hash s level cs Ps (option_map pair_of o)
+    × (o ≡ None → after ≡ rest))
+
+-- of a node that was fetched, and the opened cut of it that stands next: the two strings alone
+abbrev pub ComparesNode : {E : Type 0} → (List ℕ → List ℕ) → Child → Node → List ℕ
+    → Result (Option Clash) E → Type 0
+ComparesNode hash c n before result =
+    (P : Cut) (rest y : List ℕ) → FitsCut c.level P → before ≡ cut_bytes P ++ rest
+    → preimage hash c.level P ≡ Some y
+    → IfOk result (λ o. option_map pair_of o ≡ differ (preimage_of n) (Some y))
+
+-- ---- the whole
+
+-- what a head says was read
+pub record SaysOf (h : Head) (rest : List ℕ) (said : Said) (after : List ℕ) : Type 0 where
+  pub batch : said.batch ≡ h.batch
+  pub count : said.count ≡ h.count
+  pub level : said.level ≡ h.level
+  pub behind : after ≡ rest
+
+-- the same of the map itself
+abbrev pub level_at : Option Child → ℕ
+level_at None = 0
+level_at (Some c) = c.level
+
+abbrev pub said_by : Top → Said
+said_by top = record { batch = top.batch; count = top.count; level = level_at top.root }
+
+abbrev pub entry_at : Option Child → Entry
+entry_at None = record { rect = None; digest = replicate 32 0 }
+entry_at (Some c) = held c
+
+-- the string that its root digest is of
+abbrev pub root_at : Top → List ℕ
+root_at top = root_preimage top.batch top.count (known (level_at top.root) (entry_at top.root))
+
+-- what is known of the root node of whatever cut stands next gives the string of its root
+abbrev pub KnowsRoot : {E : Type 0} → (List ℕ → List ℕ) → Said → List ℕ → Result Entry E → Type 0
+KnowsRoot hash said before result =
+    (h : Head) (P : Option Cut) → FitsPart h P → said.count ≡ h.count → said.level ≡ h.level
+    → before ≡ part_bytes P
+    → IfOk result (λ x. root_preimage h.batch h.count (known h.level x) ≡ root_bytes hash h P)
+
+-- the two strings of the roots alone
+abbrev pub ComparesRoots : {E : Type 0} → (List ℕ → List ℕ) → Top → Said → List ℕ
+    → Result (Option Clash) E → Type 0
+ComparesRoots hash top said before result =
+    (h : Head) (P : Option Cut) → FitsPart h P → said.batch ≡ h.batch → said.count ≡ h.count
+    → said.level ≡ h.level → before ≡ part_bytes P
+    → IfOk result (λ o. option_map pair_of o ≡ differ (root_at top) (Some (root_bytes hash h P)))
+
+-- what was found of the map and the head and cut that bytes spell
+pub record ComparedMap (hash : List ℕ → List ℕ) (s : Standing) (bytes : List ℕ)
+    (pair : Option Pair) : Type 0 where
+  pub collides : IfSome pair (IsCollision hash)
+  pub told : IfSome s.tree (λ t. pair ≡ clash hash t s.batch bytes)
+
+abbrev pub ComparesMap : {E : Type 0} → (List ℕ → List ℕ) → Standing → Top → List ℕ
+    → Result (Option Clash) E → Type 0
+ComparesMap hash s top bytes result =
+    (h : Head) (P : Option Cut) → IsSpelled h P bytes → root_found hash h P ≡ hash (root_at top)
+    → IfOk result (λ o. ComparedMap hash s bytes (option_map pair_of o))
+
+-- what is answered where the check of a proof answers this error
+abbrev pub Refuses : CheckErr → Result Finding AuditErr → Type 0
+Refuses (errors.Fault f) result = result ≡ Ok (findings.Refused f)
+Refuses errors.NoMemory result = result ≡ Err audits.NoMemory

@@ -1,0 +1,16 @@
+//! The auditor's side: what the bytes of a proof show against the map itself.
+#![tactic(auto)]
+
+mod auditing;
+mod entry;
+mod error;
+mod finding;
+mod items;
+mod rest;
+mod root;
+mod strings;
+mod walking;
+
+pub use auditing::audit;
+pub use error::AuditErr;
+pub use finding::Finding;

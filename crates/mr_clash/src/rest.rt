@@ -1,0 +1,111 @@
+//! What is left of the bytes of a proof.
+
+ghost use Rattle.std.specs.Prelude.{◌≡◌, ◌<◌, ◌≤◌, ◌^◌, ◌∷◌, ◌++◌, ℕ, List, length, Some, IfOk};
+ghost use Rattle.std.specs.Int.{w64, to_be_bytes};
+ghost use Rattle.mr_geom.specs.Rectangle.{Rectangle, IsOrdered, FitsMap};
+ghost use Rattle.mr_record.specs.Record.{rectangle_bytes};
+ghost use Rattle.mr_clash.specs.Steps.{left, GivesRecords};
+
+use mr_geom::Rect;
+use mr_record::{Record, read_record, rect_of_bytes, u64_of_bytes};
+use std::alloc::{AllocError, Global};
+
+// What is left of the bytes of a proof.
+#[derive(Clone, Copy)]
+pub(crate) struct Rest<'a> {
+    pub(crate) bytes: &'a [u8],
+}
+
+// Takes so many bytes from the front, or all that are left.
+pub(crate) fn take<'a>(from: &mut Rest<'a>, size: usize) -> &'a [u8]
+    ensures { (x rest : List ℕ) → length x ≡ size → left from.old ≡ x ++ rest
+        → (result.now ≡ x) × (left from.new ≡ rest) }
+{
+    let size = size.min(from.bytes.len());
+    let (front, rest) = from.bytes.split_at(size);
+    from.bytes = rest;
+    front
+}
+
+// Takes one byte; 0 where none is left.
+pub(crate) fn byte(from: &mut Rest<'_>) -> u8
+    ensures { (x : ℕ) (rest : List ℕ) → left from.old ≡ x ∷ rest
+        → (result ≡ x) × (left from.new ≡ rest) }
+{
+    match from.bytes.split_first() {
+        Some((first, rest)) => {
+            from.bytes = rest;
+            *first
+        }
+        None => 0,
+    }
+}
+
+// A count, cut down to a limit.
+pub(crate) fn at_most(count: u8, limit: u8) -> u8
+    ensures few { result ≤ limit }
+    ensures same { count ≤ limit → result ≡ count }
+{
+    count.min(limit)
+}
+
+// Takes a number; 0 where 8 bytes are not left.
+pub(crate) fn number(from: &mut Rest<'_>) -> u64
+    ensures { (x : ℕ) (rest : List ℕ) → x < 2 ^ 64 → left from.old ≡ to_be_bytes w64 x ++ rest
+        → (result ≡ x) × (left from.new ≡ rest) }
+{
+    let bytes = take(from, 8);
+    if bytes.len() != 8 {
+        return 0;
+    }
+    u64_of_bytes(bytes)
+}
+
+// Takes a rectangle; none where no rectangle's bytes are left.
+pub(crate) fn rect(from: &mut Rest<'_>) -> Option<Rect>
+    ensures { (r : Rectangle) (rest : List ℕ) → IsOrdered r → FitsMap r
+        → left from.old ≡ rectangle_bytes r ++ rest
+        → (result ≡ Some r) × (left from.new ≡ rest) }
+{
+    let bytes = take(from, 16);
+    if bytes.len() != 16 {
+        return None;
+    }
+    rect_of_bytes(bytes)
+}
+
+// Takes a digest; zeros where 32 bytes are not left.
+pub(crate) fn digest(from: &mut Rest<'_>) -> [u8; 32]
+    ensures { (x rest : List ℕ) → length x ≡ 32 → left from.old ≡ x ++ rest
+        → (result ≡ x) × (left from.new ≡ rest) }
+{
+    let bytes = take(from, 32);
+    if bytes.len() != 32 {
+        return [0; 32];
+    }
+    let mut digest = [0; 32];
+    digest.copy_from_slice(bytes);
+    digest
+}
+
+// Takes so many records, or as many as stand there.
+pub(crate) fn records(
+    alloc: Global,
+    count: u8,
+    from: &mut Rest<'_>,
+) -> Result<Vec<Record>, AllocError>
+    ensures gives { GivesRecords count (left from.old) (left from.new) result }
+    ensures few { IfOk result (λ v. length v.items ≤ count) }
+{
+    let mut list = Vec::new(alloc);
+    for _ in 0..count {
+        match read_record(from.bytes) {
+            Ok((one, size)) => {
+                let _front = take(from, size);
+                list.push(one)?;
+            }
+            Err(_) => return Ok(list),
+        }
+    }
+    Ok(list)
+}

@@ -1,0 +1,51 @@
+//! The calls that each command makes on the shelf, in their order.
+
+use crate::bench::words;
+use crate::listed::Listed;
+use crate::maps::{BUILD, CHECK, LIST, PROVE, SEVENTEEN};
+use mr_outside::{MemShelf, MemSink, NoGate};
+use mr_tool::{Status, run};
+use mr_tree::XorHash;
+use std::alloc::{AllocError, Global};
+use std::test::Fail;
+use std::thread::Threads;
+
+// A command over the shelf that the one before left, and its calls. The pages of a map are synced
+// before its first page is written over the zeros that stand for it, and again after.
+const CALLS: [(&[&str], &str); 5] = [
+    (&["root", "r"], "size r\nread_at r\n"),
+    (
+        BUILD,
+        "size r\nread_at r\ncreate m\nappend m\nsync m\nwrite_at m\nsync m\n",
+    ),
+    (LIST, "size m\nread_at m\n"),
+    (PROVE, "size m\nread_at m\ncreate p\nappend p\nsync p\n"),
+    (CHECK, "size p\nread_at p\n"),
+];
+
+// A command's status, and the shelf that it leaves.
+fn called<R: Threads + Sync>(
+    rt: &R,
+    alloc: Global,
+    line: &[&str],
+    shelf: MemShelf,
+) -> Result<(Status, Listed), AllocError> {
+    let spoken = words(alloc, line)?;
+    let mut out = MemSink::new(alloc, Vec::new(alloc));
+    let shelf = Listed::new(alloc, shelf);
+    Ok(run::<XorHash, _, _, _, _>(rt, alloc, &spoken, shelf, &mut out, &NoGate))
+}
+
+#[test]
+fn the_calls_of_each_command(rt: HostRuntime) -> Result<(), Fail> {
+    let alloc = rt.alloc();
+    let mut shelf = MemShelf::new(alloc, Vec::new(alloc));
+    shelf.put("r", SEVENTEEN)?;
+    for (line, calls) in CALLS {
+        let (status, left) = called(&rt, alloc, line, shelf)?;
+        assert_eq!(rt; status, Status::Done);
+        assert!(rt; left.calls.as_str() == calls, "{line:?}");
+        shelf = left.shelf;
+    }
+    Ok(())
+}

@@ -1,0 +1,405 @@
+-- What a run promises of inputs that are in order, of honest proofs and of accepted ones: by what its command came
+-- to, and how that was printed.
+use Rattle.std.proofs.Common.{◌≡◌, ℕ, ◌<◌, ◌^◌, List, ◌++◌, refl, sym, ap, subst, ◌∙◌, inl, inr}
+use Rattle.std.specs.Prelude.{◌⊎◌, Option, Some, None, Result, Ok, Err}
+use Rattle.mr_outside.specs.Faults.{Rose}
+use Rattle.mr_outside.specs.Files.{Files}
+use Rattle.mr_outside.specs.Told.{OfFiles, Takes}
+use Rattle.mr_record.specs.Bytes.{AreBytes}
+use Rattle.mr_record.specs.RecordText.{records_of_text, text_of}
+use Rattle.mr_record.specs.declared.record.Record.{Record}
+use Rattle.mr_record.specs.declared.text_fault.TextFault.{TextFault}
+use Rattle.mr_tree.specs.Digest as digests
+use Rattle.mr_tree.specs.Tree.{records}
+use Rattle.mr_tree.specs.WellFormed.{WellFormed}
+use Rattle.mr_tree.specs.declared.tree.Tree.{Tree}
+use Rattle.mr_query.specs.Scan.{scan}
+use Rattle.mr_query.specs.declared.query.Query.{Query}
+use Rattle.mr_proof.specs.declared.rule.Fault.{Fault}
+use Rattle.mr_proof.specs.Clash.{Pair, clash, IsCollision, NoneAnd}
+use Rattle.mr_proof.specs.Headline.{IsHonest}
+use Rattle.mr_proof.specs.Honest.{proof}
+use Rattle.mr_proof.specs.Reading.{verdict}
+use Rattle.mr_proof.proofs.PreimageBytes.{IsSized}
+use Rattle.mr_proof.proofs.Complete.{accepts_honest}
+use Rattle.mr_proof.proofs.Completeness.{verdict_from}
+use Rattle.mr_proof.proofs.Halves.{accepts_just}
+use Rattle.mr_proof.proofs.SameNodes.{none_more}
+use Rattle.mr_proof.proofs.NoClash.{honest_quiet}
+use Rattle.mr_proof.proofs.Worth.{headline, accepted_headline}
+use Rattle.mr_clash.specs.Finding.{finding_of}
+use Rattle.mr_pages.specs.PageBytes.{first_form}
+use Rattle.mr_pages.specs.Law.{IsMap}
+use Rattle.mr_pages.proofs.PageLaws.{from_bytes}
+use Rattle.mr_tool.specs.Answer.{World, HasStopped, IsWhole}
+use Rattle.mr_tool.specs.Ending.{Comes, Ends, Finishes, FindsMap, IsTaken, IsWell, printed_of}
+use Rattle.mr_tool.specs.Found.{Found}
+use Rattle.mr_tool.specs.Outcome.{Outcome}
+use Rattle.mr_tool.specs.Plan.{Plan, comes, opens, Input, IsInput}
+use Rattle.mr_tool.specs.Promises.{Holds, HoldsRecords, HoldsMap, HoldsProof, IsInOrder, CompletesWords, AnswersHonest, PrintsScan, IsWorth, AcceptsHonestOrCollides, Delivers, SaysWorth, AuditsAccepted, CollidesRightly}
+use Rattle.mr_tool.specs.Say.{given, given_map, needs, needs_map, prints, say, say_root_of, say_build_of, say_list_of, say_prove_of, say_check, say_check_of, say_audit, say_audit_of, say_finding}
+use Rattle.mr_tool.specs.Lines.{sound_line, collision_lines}
+use Rattle.mr_tool.specs.Words.{Spells}
+use Rattle.mr_tool.specs.declared.ending.Ending.{Ending}
+use Rattle.mr_tool.specs.declared.ending.Halt.{Halt}
+use Rattle.mr_tool.specs.declared.ending.Halt.TheVariants as halts
+use Rattle.mr_tool.specs.declared.status.Status.{Status}
+use Rattle.mr_tool.specs.declared.status.Status.TheVariants.{Done, Refused, BadMap, Collision, Outside, NoMemory}
+use Rattle.mr_tool.specs.declared.words.Command.{Command}
+use Rattle.mr_tool.specs.declared.words.Command.TheVariants as commands
+use Rattle.mr_tool.proofs.Verdicts.{says_verdict, says_finding}
+
+-- ---- to the end, or stopped
+
+-- the plan came to its end, and its text was printed
+record HasRun (plan : Plan) (before after : World) (status : Status) : Type 0 where
+  text : List ℕ
+  ends : Ends plan before.shelf.files after.shelf.files status text
+  printed : Takes before.sink after.sink text
+
+-- what stopped the printing stopped the run
+stopped_printing : (before after : World) (status : Status)
+    → (status ≡ NoMemory) ⊎ ((status ≡ Outside) × Rose before.sink.faults after.sink.faults)
+    → HasStopped before after status
+stopped_printing before after status (inl none) = inl none
+stopped_printing before after status (inr failed) = inr (failed.0, inr failed.1)
+
+ran : (plan : Plan) (before after : World) (status : Status) (came : Result Ending Halt)
+    → Comes plan before.shelf after.shelf came → Finishes came before.sink after.sink status
+    → HasRun plan before after status ⊎ HasStopped before after status
+ran plan before after status (Ok ending) came ended = elim ended.printed [
+  | inl whole ↦ inl (record {
+    text = printed_of ending;
+    ends = subst (λ s. Ends plan before.shelf.files after.shelf.files s (printed_of ending)) (sym whole.0) came.came;
+    printed = whole.1;
+  })
+  | inr stop ↦ inr (stopped_printing before after status stop.0)
+]
+ran plan before after status (Err halts.Words) came ended = absurd came.came.0
+ran plan before after status (Err halts.Shelf) came ended = inr (elim ended.printed [
+  | inl whole ↦ inr (whole.0, inl came.came.0)
+  | inr stop ↦ stopped_printing before after status stop.0
+])
+ran plan before after status (Err halts.NoMemory) came ended = inr (inl ended.printed.0)
+
+-- ---- over files that are told
+
+input_is : (told : Option Files) (name bytes : List ℕ) (input : Input) → Holds told name bytes
+    → IsInput told name input → input ≡ Some bytes
+input_is None name bytes input held is = absurd held
+input_is (Some files) name bytes input held is = sym is ∙ held
+
+of_told : (told : Option Files) (name bytes : List ℕ) (P : Type 0) → Holds told name bytes
+    → OfFiles told (λ files. P) → P
+of_told None name bytes P held of = absurd held
+of_told (Some files) name bytes P held of = of
+
+-- a command that reads this file came to its end by its bytes
+module _ (name bytes : List ℕ) (before after : Option Files) (status : Status) (text : List ℕ)
+    (held : Holds before name bytes) where
+  taken_on : (next : List ℕ → Plan) → Ends (needs name next) before after status text
+      → IsTaken (next bytes) (Some bytes)
+  taken_on next ends = subst (λ input. IsTaken (given name next input) input)
+      (input_is before name bytes ends.0 held ends.1) ends.2
+
+  ends_on : (next : List ℕ → Plan) → Ends (needs name next) before after status text
+      → Ends (next bytes) before after status text
+  ends_on next ends = subst (λ input. Ends (given name next input) before after status text)
+      (input_is before name bytes ends.0 held ends.1) ends.3
+
+-- ---- a proof beside the map
+
+says_found : (hash : List ℕ → List ℕ) (q : Query) (t : Tree) (batch : ℕ) (bytes : List ℕ)
+    (r : Result (List Record) Fault) (o : Option Pair) → verdict hash (digests.root hash t batch) q bytes ≡ r
+    → clash hash t batch bytes ≡ o → say_audit_of hash q t batch bytes ≡ say_finding (finding_of r o)
+says_found hash q t batch bytes r o e d =
+    sym (says_finding hash q t batch bytes (finding_of r o) (λ i. finding_of (sym e i) (sym d i)))
+
+module _ (hash : List ℕ → List ℕ) (before after : Option Files) (status : Status) (text : List ℕ) (map : List ℕ)
+    (q : Query) (name : List ℕ) (t : Tree) (batch : ℕ) (held bytes : List ℕ) (map_held : Holds before map held)
+    (stands : IsMap first_form hash held t batch) (name_held : Holds before name bytes) where
+  audited_ends : Ends (say_audit hash map q name) before after status text
+      → Ends (comes (say_audit_of hash q t batch bytes)) before after status text
+  audited_ends ends =
+      let next : Tree → ℕ → Plan = λ tree batch. needs name (λ bytes. comes (say_audit_of hash q tree batch bytes)) in
+      let on = ends_on map held before after status text map_held (λ bytes. opens hash bytes (given_map next)) ends in
+      let finds = of_told before map held (FindsMap hash held on.0) map_held on.1.1 in
+      let mapped : Ends (next t batch) before after status text =
+      subst (λ found. Ends (given_map next found) before after status text) (finds t batch stands) on.3 in
+      ends_on name bytes before after status text name_held (λ bytes. comes (say_audit_of hash q t batch bytes)) mapped
+
+  audit_done : IsSized hash → bytes ≡ proof hash t batch q
+      → Ends (say_audit hash map q name) before after status text → status ≡ Done
+  audit_done sized own ends =
+      let low = stands.stands.batch_fits in
+      let accepted : verdict hash (digests.root hash t batch) q bytes ≡ Ok (scan (records t) q) =
+      ap (verdict hash (digests.root hash t batch) q) own ∙ accepts_honest hash sized q t batch stands.well low in
+      let quiet : clash hash t batch bytes ≡ None =
+      ap (clash hash t batch) own ∙ honest_quiet hash sized q t batch stands.well low in
+      (audited_ends ends).0
+      ∙ ap (λ (o : Outcome). o.status) (says_found hash q t batch bytes (Ok (scan (records t) q)) None accepted quiet)
+
+-- an outcome without a file, to its end
+whole_of : (said : Outcome) (other : Outcome) (before after : World) (status : Status) (text : List ℕ)
+    → said ≡ other → Ends (comes said) before.shelf.files after.shelf.files status text
+    → Takes before.sink after.sink text → IsWhole other before after status
+whole_of said other before after status text e on printed =
+    let there : Ends (comes other) before.shelf.files after.shelf.files status text =
+    subst (λ o. Ends (comes o) before.shelf.files after.shelf.files status text) e on in
+    record { status = there.0; printed = subst (Takes before.sink after.sink) there.1 printed; files = there.2 }
+
+module _ (hash : List ℕ → List ℕ) (before after : World) (status : Status) (map : List ℕ)
+    (q : Query) (name : List ℕ) (t : Tree) (batch : ℕ) (held bytes : List ℕ) (answer : List Record)
+    (map_held : Holds before.shelf.files map held) (stands : IsMap first_form hash held t batch)
+    (name_held : Holds before.shelf.files name bytes)
+    (accepted : verdict hash (digests.root hash t batch) q bytes ≡ Ok answer) where
+  delivered : (o : Option Pair) (other : Outcome) → clash hash t batch bytes ≡ o
+      → say_finding (finding_of (Ok answer) o) ≡ other
+      → HasRun (say_audit hash map q name) before after status ⊎ HasStopped before after status
+      → Delivers other before after status
+  delivered o other d e (inr stop) = inr stop
+  delivered o other d e (inl run) =
+      inl (whole_of (say_audit_of hash q t batch bytes) other before after status run.text
+      (says_found hash q t batch bytes (Ok answer) o accepted d ∙ e)
+      (audited_ends hash before.shelf.files after.shelf.files status run.text map q name t batch held bytes map_held
+      stands name_held run.ends) run.printed)
+
+  says_worth : (o : Option Pair) → clash hash t batch bytes ≡ o → NoneAnd hash o (IsHonest hash t batch q bytes answer)
+      → HasRun (say_audit hash map q name) before after status ⊎ HasStopped before after status
+      → SaysWorth hash t batch q bytes o before after status
+  says_worth None d own run = (
+    own.own,
+    delivered None (prints (sound_line ++ text_of (scan (records t) q))) d
+        (ap (λ rs. prints (sound_line ++ text_of rs)) own.complete) run,
+  )
+  says_worth (Some p) d collides run = (collides, delivered (Some p) _ d refl run)
+
+-- ---- two strings that are printed
+
+-- a status that is not that of a collision
+other_status : {A : Type 0} (status other : Status) → status ≡ Collision → status ≡ other → (Collision ≡ other → ⊥) → A
+other_status status other is was not = absurd (not (sym is ∙ was))
+
+-- the two strings that the text names
+record Shown (hash : List ℕ → List ℕ) (text : List ℕ) : Type 0 where
+  pair : Pair
+  collides : IsCollision hash pair
+  is : text ≡ collision_lines pair.owned pair.shown
+
+module _ (hash : List ℕ → List ℕ) (sized : IsSized hash) (q : Query) (t : Tree) (batch : ℕ) (bytes : List ℕ)
+    (well : WellFormed t) (low : batch < 2 ^ 64) (all : AreBytes bytes) (before after : Option Files) (status : Status)
+    (text : List ℕ) where
+  shown_by : (r : Result (List Record) Fault) (o : Option Pair)
+      → verdict hash (digests.root hash t batch) q bytes ≡ r → clash hash t batch bytes ≡ o → status ≡ Collision
+      → Ends (comes (say_finding (finding_of r o))) before after status text → Shown hash text
+  shown_by (Err f) o e d is ends = other_status status Refused is ends.0 (λ c. cc)
+  shown_by (Ok answer) None e d is ends = other_status status Done is ends.0 (λ c. cc)
+  shown_by (Ok answer) (Some p) e d is ends = record {
+    pair = p;
+    collides = subst (λ o. NoneAnd hash o (IsHonest hash t batch q bytes answer)) d
+        (accepted_headline hash sized.long q bytes (from_bytes bytes all) t batch answer well low e);
+    is = ends.1;
+  }
+
+  shown_of : status ≡ Collision → Ends (comes (say_audit_of hash q t batch bytes)) before after status text
+      → Shown hash text
+  shown_of is ends =
+      let r = verdict hash (digests.root hash t batch) q bytes in
+      let o = clash hash t batch bytes in
+      shown_by r o refl refl is
+      (subst (λ said. Ends (comes said) before after status text) (says_found hash q t batch bytes r o refl refl) ends)
+
+module _ (hash : List ℕ → List ℕ) (sized : IsSized hash) (q : Query) (name : List ℕ) (before after : Option Files)
+    (status : Status) (text : List ℕ) (is : status ≡ Collision) where
+  shown_with : (t : Tree) (batch : ℕ) → WellFormed t → batch < 2 ^ 64 → (input : Input)
+      → IsTaken (given name (λ bytes. comes (say_audit_of hash q t batch bytes)) input) input
+      → Ends (given name (λ bytes. comes (say_audit_of hash q t batch bytes)) input) before after status text
+      → Shown hash text
+  shown_with t batch well low None taken ends = other_status status Outside is ends.0 (λ c. cc)
+  shown_with t batch well low (Some bytes) taken ends =
+      shown_of hash sized q t batch bytes well low taken before after status text is ends
+
+  shown_found : (found : Found) → IsWell found
+      → Ends (given_map (λ tree batch. needs name (λ bytes. comes (say_audit_of hash q tree batch bytes))) found) before
+      after status text → Shown hash text
+  shown_found (Ok map) well ends = shown_with map.0 map.1 well.0 well.1 ends.0 ends.2 ends.3
+  shown_found (Err fault) well ends = other_status status BadMap is ends.0 (λ c. cc)
+
+  shown_opened : (map : List ℕ) (input : Input)
+      → Ends (given map (λ bytes. opens hash bytes (given_map (λ tree batch. needs name
+      (λ bytes. comes (say_audit_of hash q tree batch bytes))))) input) before after status text → Shown hash text
+  shown_opened map None ends = other_status status Outside is ends.0 (λ c. cc)
+  shown_opened map (Some bytes) ends = shown_found ends.0 ends.2 ends.3
+
+  shown_audit : (map : List ℕ) → Ends (say_audit hash map q name) before after status text → Shown hash text
+  shown_audit map ends = shown_opened map ends.0 ends.3
+
+-- what stopped a run was no collision
+not_collided : {A : Type 0} (before after : World) (status : Status) → status ≡ Collision
+    → HasStopped before after status → A
+not_collided before after status is (inl none) = other_status status NoMemory is none (λ c. cc)
+not_collided before after status is (inr failed) = other_status status Outside is failed.0 (λ c. cc)
+
+-- ---- inputs that are in order
+
+prove_done : (hash : List ℕ → List ℕ) (q : Query) (name : List ℕ) (tree : Tree) (batch : ℕ)
+    → (say_prove_of hash q name tree batch).status ≡ Done
+unfolding say_prove_of
+prove_done hash q name tree batch = refl
+
+module _ (hash : List ℕ → List ℕ) (before after : Option Files) (status : Status) (text : List ℕ) where
+  text_done : (name : List ℕ) (said : Result (List Record) TextFault → Outcome)
+      → ((list : List Record) → (said (Ok list)).status ≡ Done) → HoldsRecords before name
+      → Ends (needs name (λ bytes. comes (said (records_of_text bytes)))) before after status text → status ≡ Done
+  text_done name said done holds ends =
+      let on = ends_on name holds.bytes before after status text holds.held
+      (λ bytes. comes (said (records_of_text bytes))) ends in
+      on.0 ∙ ap (λ r. (said r).status) holds.right ∙ done holds.list
+
+  map_done : (name : List ℕ) (said : Tree → ℕ → Outcome)
+      → ((tree : Tree) (batch : ℕ) → (said tree batch).status ≡ Done) → HoldsMap hash before name
+      → Ends (needs_map hash name (λ tree batch. comes (said tree batch))) before after status text → status ≡ Done
+  map_done name said done holds ends =
+      let next : Tree → ℕ → Plan = λ tree batch. comes (said tree batch) in
+      let on = ends_on name holds.bytes before after status text holds.held
+      (λ bytes. opens hash bytes (given_map next)) ends in
+      let finds = of_told before name holds.bytes (FindsMap hash holds.bytes on.0) holds.held on.1.1 in
+      let mapped : Ends (next holds.tree holds.batch) before after status text =
+      subst (λ found. Ends (given_map next found) before after status text)
+      (finds holds.tree holds.batch holds.stands) on.3 in
+      mapped.0 ∙ done holds.tree holds.batch
+
+  check_done : (root : List ℕ) (q : Query) (name : List ℕ) → HoldsProof hash before root q name
+      → Ends (say_check hash root q name) before after status text → status ≡ Done
+  check_done root q name holds ends =
+      let on = ends_on name holds.bytes before after status text holds.held
+      (λ bytes. comes (say_check_of hash root q bytes)) ends in
+      let proved = verdict_from hash root q holds.bytes holds.answer holds.proves in
+      on.0 ∙ ap (λ (o : Outcome). o.status) (says_verdict hash root q holds.bytes (Ok holds.answer) proved)
+
+  done : IsSized hash → (command : Command) → IsInOrder hash before command
+      → Ends (say hash (Some command)) before after status text → status ≡ Done
+  done sized (commands.Root name) holds ends = text_done name.now (say_root_of hash) (λ list. refl) holds ends
+  done sized (commands.Build map name) holds ends =
+      text_done name.now (say_build_of hash map.now) (λ list. refl) holds ends
+  done sized (commands.List map) holds ends =
+      map_done map.now (λ tree batch. say_list_of tree) (λ tree batch. refl) holds ends
+  done sized (commands.Prove map q name) holds ends =
+      map_done map.now (say_prove_of hash q name.now) (prove_done hash q name.now) holds ends
+  done sized (commands.Check root q name) holds ends = check_done root q name.now holds ends
+  done sized (commands.Audit map q name) holds ends =
+      audit_done hash before after status text map.now q name.now holds.tree holds.batch holds.bytes
+      (proof hash holds.tree holds.batch q) holds.held holds.stands holds.own sized refl ends
+
+-- ---- the proofs of a map, checked against its root digest
+
+-- what stopped a run was not that all was done
+not_stopped : {A : Type 0} (before after : World) (status : Status) → status ≡ Done
+    → HasStopped before after status → A
+not_stopped before after status done (inl none) = absurd (cc)
+not_stopped before after status done (inr failed) =
+    let outside : status ≡ Outside = failed.0 in absurd (cc)
+
+not_refused : {A : Type 0} (status : Status) → status ≡ Done → status ≡ Refused → A
+not_refused status done refused = absurd (cc)
+
+module _ (hash : List ℕ → List ℕ) (sized : IsSized hash) (before after : World) (status : Status) (t : Tree)
+    (batch : ℕ) (root : List ℕ) (q : Query) (name : List ℕ) (well : WellFormed t) (low : batch < 2 ^ 64)
+    (is_root : root ≡ digests.root hash t batch)
+    (run : HasRun (say_check hash root q name) before after status) where
+  says_honest : say_check_of hash root q (proof hash t batch q) ≡ prints (text_of (scan (records t) q))
+  says_honest = says_verdict hash root q (proof hash t batch q) (Ok (scan (records t) q))
+      (subst (λ held. verdict hash held q (proof hash t batch q) ≡ Ok (scan (records t) q)) (sym is_root)
+      (accepts_honest hash sized q t batch well low))
+
+  whole_honest : Holds before.shelf.files name (proof hash t batch q)
+      → IsWhole (prints (text_of (scan (records t) q))) before after status
+  whole_honest held =
+      let on = ends_on name (proof hash t batch q) before.shelf.files after.shelf.files status run.text held
+      (λ bytes. comes (say_check_of hash root q bytes)) run.ends in
+      let said : Ends (comes (prints (text_of (scan (records t) q)))) before.shelf.files after.shelf.files status
+      run.text =
+      subst (λ o. Ends (comes o) before.shelf.files after.shelf.files status run.text) says_honest on in
+      record {
+        status = said.0;
+        printed = subst (Takes before.sink after.sink) said.1 run.printed;
+        files = said.2;
+      }
+
+  -- by the verdict on the bytes
+  worth_by : (bytes : List ℕ) → AreBytes bytes → status ≡ Done
+      → Ends (comes (say_check_of hash root q bytes)) before.shelf.files after.shelf.files status run.text
+      → (v : Result (List Record) Fault) → verdict hash root q bytes ≡ v
+      → IsWorth hash t batch q bytes before after
+  worth_by bytes all done on (Err fault) e =
+      not_refused status done (on.0 ∙ ap (λ (o : Outcome). o.status) (says_verdict hash root q bytes (Err fault) e))
+  worth_by bytes all done on (Ok answer) e =
+      let accepted : verdict hash (digests.root hash t batch) q bytes ≡ Ok answer =
+      subst (λ held. verdict hash held q bytes ≡ Ok answer) is_root e in
+      let said = ap (λ (o : Outcome). o.printed) (says_verdict hash root q bytes (Ok answer) e) in
+      record {
+        answer = answer;
+        proves = (accepts_just hash (digests.root hash t batch) q bytes (from_bytes bytes all) answer).0 accepted;
+        worth = none_more hash (clash hash t batch bytes) (IsHonest hash t batch q bytes answer)
+            (PrintsScan hash t batch q bytes before after)
+            (accepted_headline hash sized.long q bytes (from_bytes bytes all) t batch answer well low accepted)
+            (λ own. record {
+              own = own.own;
+              printed = subst (Takes before.sink after.sink) (on.1 ∙ said ∙ ap text_of own.complete) run.printed;
+            });
+      }
+
+  worth : (bytes : List ℕ) → Holds before.shelf.files name bytes → status ≡ Done
+      → IsWorth hash t batch q bytes before after
+  worth bytes held done =
+      let next : List ℕ → Plan = λ bytes. comes (say_check_of hash root q bytes) in
+      worth_by bytes
+      (taken_on name bytes before.shelf.files after.shelf.files status run.text held next run.ends) done
+      (ends_on name bytes before.shelf.files after.shelf.files status run.text held next run.ends)
+      (verdict hash root q bytes) refl
+
+-- ---- whatever command the words spell
+
+module _ (hash : List ℕ → List ℕ) (words : List (List ℕ)) (before after : World) (status : Status) (plan : Plan)
+    (came : Result Ending Halt) (same : (command : Command) → Spells words command → say hash (Some command) ≡ plan)
+    (carried : Comes plan before.shelf after.shelf came) (ended : Finishes came before.sink after.sink status) where
+  ran_as : (command : Command) → Spells words command
+      → HasRun (say hash (Some command)) before after status ⊎ HasStopped before after status
+  ran_as command spells = subst (λ p. HasRun p before after status ⊎ HasStopped before after status)
+      (sym (same command spells)) (ran plan before after status came carried ended)
+
+  pub completes : IsSized hash → CompletesWords hash words before after status
+  completes sized command spells order = elim (ran_as command spells) [
+    | inl run ↦ inl (done hash before.shelf.files after.shelf.files status run.text sized command order run.ends)
+    | inr stop ↦ inr stop
+  ]
+
+  pub honest_answered : IsSized hash → AnswersHonest hash words before after status
+  honest_answered sized t batch root q name well low is_root spells held =
+      elim (ran_as (commands.Check root q name) spells) [
+        | inl run ↦ inl (whole_honest hash sized before after status t batch root q name.now well low is_root run held)
+        | inr stop ↦ inr stop
+      ]
+
+  pub accepted_worth : IsSized hash → AcceptsHonestOrCollides hash words before after status
+  accepted_worth sized t batch root q name bytes well low is_root spells held done =
+      elim (ran_as (commands.Check root q name) spells) [
+        | inl run ↦ worth hash sized before after status t batch root q name.now well low is_root run bytes held done
+        | inr stop ↦ not_stopped before after status done stop
+      ]
+
+  pub accepted_audited : IsSized hash → AuditsAccepted hash words before after status
+  accepted_audited sized t batch map q name held bytes answer spells map_held stands name_held proves =
+      says_worth hash before after status map.now q name.now t batch held bytes answer map_held stands name_held
+      (verdict_from hash (digests.root hash t batch) q bytes answer proves) (clash hash t batch bytes) refl
+      (headline hash sized.long q bytes t batch answer stands.well stands.stands.batch_fits proves)
+      (ran_as (commands.Audit map q name) spells)
+
+  pub collided_rightly : IsSized hash → CollidesRightly hash words before after status
+  collided_rightly sized map q name spells is = elim (ran_as (commands.Audit map q name) spells) [
+    | inl run ↦
+        let x = shown_audit hash sized q name.now before.shelf.files after.shelf.files status run.text is map.now run.ends
+        in
+        (x.pair, x.collides, subst (Takes before.sink after.sink) x.is run.printed)
+    | inr stop ↦ not_collided before after status is stop
+  ]

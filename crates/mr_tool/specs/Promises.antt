@@ -1,0 +1,154 @@
+-- What a run promises of inputs that are in order, of honest proofs and of accepted ones: theorems
+-- over what it answers, in the form in which they are quoted. They speak of files that are told.
+use Rattle.std.specs.Prelude.{◌≡◌, ◌⊎◌, ℕ, ◌^◌, ◌<◌, List, ◌++◌, Option, Some, None, Ok}
+use Rattle.std.specs.Borrow.{Bor}
+use Rattle.mr_outside.specs.Files.{Files, file}
+use Rattle.mr_outside.specs.Told.{Takes}
+use Rattle.mr_record.specs.RecordText.{records_of_text, text_of}
+use Rattle.mr_record.specs.declared.record.Record.{Record}
+use Rattle.mr_tree.specs.Digest as digests
+use Rattle.mr_tree.specs.Tree.{records}
+use Rattle.mr_tree.specs.WellFormed.{WellFormed}
+use Rattle.mr_tree.specs.declared.tree.Tree.{Tree}
+use Rattle.mr_pages.specs.PageBytes.{first_form}
+use Rattle.mr_pages.specs.Law.{IsMap}
+use Rattle.mr_query.specs.Scan.{scan}
+use Rattle.mr_query.specs.declared.query.Query.{Query}
+use Rattle.mr_proof.specs.Accepted.{Proves}
+use Rattle.mr_proof.specs.Clash.{Pair, clash, IsCollision, NoneAnd}
+use Rattle.mr_proof.specs.Honest as honest
+use Rattle.mr_proof.specs.Tight.{asks}
+use Rattle.mr_tool.specs.Answer.{World, IsWhole, HasStopped}
+use Rattle.mr_tool.specs.Outcome.{Outcome}
+use Rattle.mr_tool.specs.Lines.{sound_line, collision_lines}
+use Rattle.mr_tool.specs.Say.{ends, prints}
+use Rattle.mr_tool.specs.Words.{Spells}
+use Rattle.mr_tool.specs.declared.status.Status.{Status}
+use Rattle.mr_tool.specs.declared.status.Status.TheVariants.{Done, Collision}
+use Rattle.mr_tool.specs.declared.words.Command.{Command}
+use Rattle.mr_tool.specs.declared.words.Command.TheVariants as commands
+
+-- the files are told, and the named one holds these bytes
+abbrev pub Holds : Option Files → List ℕ → List ℕ → Type 0
+Holds None name bytes = ⊥
+Holds (Some files) name bytes = file files name ≡ Some bytes
+
+-- it holds a text of records without a fault
+pub record HoldsRecords (told : Option Files) (name : List ℕ) : Type 0 where
+  pub bytes : List ℕ
+  pub held : Holds told name bytes
+  pub list : List Record
+  pub right : records_of_text bytes ≡ Ok list
+
+-- it stands for a map
+pub record HoldsMap (hash : List ℕ → List ℕ) (told : Option Files) (name : List ℕ) : Type 0 where
+  pub bytes : List ℕ
+  pub held : Holds told name bytes
+  pub tree : Tree
+  pub batch : ℕ
+  pub stands : IsMap first_form hash bytes tree batch
+
+-- it proves an answer
+pub record HoldsProof (hash : List ℕ → List ℕ) (told : Option Files) (root : List ℕ) (q : Query)
+    (name : List ℕ) : Type 0 where
+  pub bytes : List ℕ
+  pub held : Holds told name bytes
+  pub answer : List Record
+  pub proves : Proves hash root (asks q) bytes answer
+
+-- a map, and the honest proof of the answer to a query on it
+pub record HoldsHonest (hash : List ℕ → List ℕ) (told : Option Files) (map : List ℕ) (q : Query)
+    (name : List ℕ) : Type 0 where
+  pub bytes : List ℕ
+  pub held : Holds told map bytes
+  pub tree : Tree
+  pub batch : ℕ
+  pub stands : IsMap first_form hash bytes tree batch
+  pub own : Holds told name (honest.proof hash tree batch q)
+
+-- the inputs of a command are there, and each is in order
+abbrev pub IsInOrder : (List ℕ → List ℕ) → Option Files → Command → Type 0
+IsInOrder hash told (commands.Root name) = HoldsRecords told name.now
+IsInOrder hash told (commands.Build map name) = HoldsRecords told name.now
+IsInOrder hash told (commands.List map) = HoldsMap hash told map.now
+IsInOrder hash told (commands.Prove map q proof) = HoldsMap hash told map.now
+IsInOrder hash told (commands.Check root q proof) = HoldsProof hash told root q proof.now
+IsInOrder hash told (commands.Audit map q proof) = HoldsHonest hash told map.now q proof.now
+
+-- a command whose inputs are in order ends with status 0, unless memory ran out or something
+-- outside failed
+abbrev pub CompletesWords : (List ℕ → List ℕ) → List (List ℕ) → World → World → Status → Type 0
+CompletesWords hash words before after status =
+    (command : Command) → Spells words command → IsInOrder hash before.shelf.files command
+    → (status ≡ Done) ⊎ HasStopped before after status
+
+-- all this was done, unless memory ran out or something outside failed
+abbrev pub Delivers : Outcome → World → World → Status → Type 0
+Delivers said before after status = IsWhole said before after status
+    ⊎ HasStopped before after status
+
+-- `check` of the proof that an honest server gives, against the root digest of its map, prints
+-- what a scan of the map's records gives; for every map and query.
+abbrev pub AnswersHonest : (List ℕ → List ℕ) → List (List ℕ) → World → World → Status → Type 0
+AnswersHonest hash words before after status =
+    (t : Tree) (batch : ℕ) (root : List ℕ) (q : Query) (proof : Bor (List ℕ))
+    → WellFormed t → batch < 2 ^ 64 → root ≡ digests.root hash t batch
+    → Spells words (commands.Check root q proof)
+    → Holds before.shelf.files proof.now (honest.proof hash t batch q)
+    → Delivers (prints (text_of (scan (records t) q))) before after status
+
+-- the bytes are those that an honest server gives, and what was printed is what a scan of the map's
+-- records gives
+pub record PrintsScan (hash : List ℕ → List ℕ) (t : Tree) (batch : ℕ) (q : Query)
+    (bytes : List ℕ) (before after : World) : Type 0 where
+  pub own : bytes ≡ honest.proof hash t batch q
+  pub printed : Takes before.sink after.sink (text_of (scan (records t) q))
+
+-- the bytes prove an answer; and no two strings stand at one place of the map and of the bytes and
+-- differ, the bytes are the honest proof and what was printed is the scan, or the first two that do
+-- differ have one hash
+pub record IsWorth (hash : List ℕ → List ℕ) (t : Tree) (batch : ℕ) (q : Query)
+    (bytes : List ℕ) (before after : World) : Type 0 where
+  pub answer : List Record
+  pub proves : Proves hash (digests.root hash t batch) (asks q) bytes answer
+  pub worth : NoneAnd hash (clash hash t batch bytes) (PrintsScan hash t batch q bytes before after)
+
+-- What it is worth that `check` accepts bytes against the root digest of a map, for every map,
+-- query and bytes.
+abbrev pub AcceptsHonestOrCollides : (List ℕ → List ℕ) → List (List ℕ) → World → World → Status
+    → Type 0
+AcceptsHonestOrCollides hash words before after status =
+    (t : Tree) (batch : ℕ) (root : List ℕ) (q : Query) (proof : Bor (List ℕ)) (bytes : List ℕ)
+    → WellFormed t → batch < 2 ^ 64 → root ≡ digests.root hash t batch
+    → Spells words (commands.Check root q proof) → Holds before.shelf.files proof.now bytes
+    → status ≡ Done → IsWorth hash t batch q bytes before after
+
+-- What `audit` says of accepted bytes, by the first two strings that differ: that they are the
+-- honest proof, and the scan; or the two strings, which have one hash.
+abbrev pub SaysWorth : (List ℕ → List ℕ) → Tree → (batch : ℕ) → Query → List ℕ → Option Pair
+    → World → World → Status → Type 0
+SaysWorth hash t batch q bytes None before after status =
+    (bytes ≡ honest.proof hash t batch q)
+    × Delivers (prints (sound_line ++ text_of (scan (records t) q))) before after status
+SaysWorth hash t batch q bytes (Some p) before after status =
+    IsCollision hash p × Delivers (ends Collision (collision_lines p.owned p.shown)) before after status
+
+-- So it says of each proof that is accepted against the root digest of the map that a file stands
+-- for.
+abbrev pub AuditsAccepted : (List ℕ → List ℕ) → List (List ℕ) → World → World → Status → Type 0
+AuditsAccepted hash words before after status =
+    (t : Tree) (batch : ℕ) (map : Bor (List ℕ)) (q : Query) (proof : Bor (List ℕ))
+    (held bytes : List ℕ) (answer : List Record)
+    → Spells words (commands.Audit map q proof) → Holds before.shelf.files map.now held
+    → IsMap first_form hash held t batch → Holds before.shelf.files proof.now bytes
+    → Proves hash (digests.root hash t batch) (asks q) bytes answer
+    → SaysWorth hash t batch q bytes (clash hash t batch bytes) before after status
+
+-- Two strings that `audit` shows as a collision differ and have one hash, whether files are told or
+-- not; that they are the printed ones is known where the sink tells what it takes.
+abbrev pub CollidesRightly : (List ℕ → List ℕ) → List (List ℕ) → World → World → Status → Type 0
+CollidesRightly hash words before after status =
+    (map : Bor (List ℕ)) (q : Query) (proof : Bor (List ℕ)) → Spells words (commands.Audit map q proof)
+    → status ≡ Collision
+    → (p : Pair) × IsCollision hash p
+    × Takes before.sink after.sink (collision_lines p.owned p.shown)

@@ -1,0 +1,111 @@
+ghost use Rattle.std.specs.Prelude.{◌≡◌, IfOk};
+ghost use Rattle.mr_tree.specs.WellFormed.{WellFormed};
+ghost use Rattle.mr_clash.specs.Finding.{found};
+ghost use Rattle.mr_tool.specs.Ending.{Comes, Gives};
+ghost use Rattle.mr_tool.specs.Plan.{comes};
+ghost use Rattle.mr_tool.specs.Say.{needs, say_audit, say_audit_of, say_finding};
+
+use crate::Status;
+use crate::ending::{Ending, Halt};
+use crate::input::{missing, read};
+use crate::lines::{collision_lines, refused_line, sound_line};
+use crate::opening::open_map;
+use mr_clash::{Finding, audit};
+use mr_outside::Shelf;
+use mr_query::Query;
+use mr_tree::{Hash32, Snapshot, Tree};
+use std::alloc::{AllocError, Global};
+
+// What is found of the bytes of a proof, by a map in memory: its nodes do not fail, except for want
+// of memory.
+fn finding_of<H: Hash32>(
+    alloc: Global,
+    tree: &Tree,
+    batch: u64,
+    query: &Query,
+    bytes: &[u8],
+) -> Result<Finding, AllocError>
+    requires { WellFormed tree.now }
+    ensures { IfOk result (λ f. f ≡ found H.of tree.now batch query.now bytes.now) }
+{
+    let snapshot = Snapshot::<H>::of(alloc, tree, batch)?;
+    match audit(alloc, &mut snapshot.reader(), query, bytes) {
+        Ok(finding) => Ok(finding),
+        Err(_) => Err(AllocError),
+    }
+}
+
+// The ending over a finding.
+fn say_found(alloc: Global, finding: Finding) -> Result<Ending, AllocError>
+    ensures { IfOk result (λ e. Gives (say_finding finding) e) }
+{
+    match finding {
+        Finding::Refused(fault) => Ok(Ending::line(
+            alloc,
+            Status::Refused,
+            refused_line(alloc, &fault)?,
+        )),
+        Finding::Sound(answer) => Ok(Ending::both(
+            Status::Done,
+            sound_line(alloc)?,
+            answer.into_vec(),
+        )),
+        Finding::Collision(owned, shown) => Ok(Ending::line(
+            alloc,
+            Status::Collision,
+            collision_lines(alloc, owned.as_slice(), shown.as_slice())?,
+        )),
+    }
+}
+
+// What the bytes of a proof are worth.
+fn audit_bytes<H: Hash32>(
+    alloc: Global,
+    tree: &Tree,
+    batch: u64,
+    query: &Query,
+    bytes: &[u8],
+) -> Result<Ending, AllocError>
+    requires { WellFormed tree.now }
+    ensures { IfOk result (λ e. Gives (say_audit_of H.of query.now tree.now batch bytes.now) e) }
+{
+    let finding = finding_of::<H>(alloc, tree, batch, query, bytes)?;
+    say_found(alloc, finding)
+}
+
+// What the proof in a file is worth against a map.
+fn audit_file<H: Hash32, S: Shelf>(
+    alloc: Global,
+    tree: &Tree,
+    batch: u64,
+    query: &Query,
+    name: &str,
+    shelf: &mut S,
+) -> Result<Ending, Halt>
+    requires { WellFormed tree.now }
+    ensures { Comes (needs name.now
+        (λ bytes. comes (say_audit_of H.of query.now tree.now batch bytes)))
+        (S.state shelf.old) (S.state shelf.new) result }
+{
+    let Some(bytes) = read(alloc, name, shelf)? else {
+        return Ok(missing(alloc, name)?);
+    };
+    Ok(audit_bytes::<H>(alloc, tree, batch, query, &bytes)?)
+}
+
+/// What the proof in a file is worth against the map in another one, for a query.
+pub(crate) fn audit_query<H: Hash32, S: Shelf>(
+    alloc: Global,
+    map: &str,
+    query: &Query,
+    proof: &str,
+    shelf: &mut S,
+) -> Result<Ending, Halt>
+    ensures { Comes (say_audit H.of map.now query.now proof.now) (S.state shelf.old)
+        (S.state shelf.new) result }
+{
+    match open_map::<H, S>(alloc, map, shelf)? {
+        Ok((tree, batch)) => audit_file::<H, S>(alloc, &tree, batch, query, proof, shelf),
+        Err(ending) => Ok(ending),
+    }
+}

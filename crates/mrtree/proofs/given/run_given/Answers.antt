@@ -1,0 +1,32 @@
+use Rattle.std.proofs.Common.{◌≡◌, sym, subst}
+use Rattle.std.specs.Prelude.{IfOk, map}
+use Rattle.std.specs.String.{string_bytes}
+use Rattle.mr_tool.specs.Answer.{world}
+use Rattle.mr_tool.specs.Run.{IsRun}
+use Rattle.mr_tool.specs.Status.{code_of}
+use Rattle.mr_tool.specs.declared.status.Status.{Status}
+use Rattle.mrtree.proofs.given.run_given.Goals as goal
+
+pub returns-in-Ok-clause-given : goal.returns-in-Ok-clause-given
+returns-in-Ok-clause-given g c =
+    let hash = g.H.Hashes.of in
+    let before = world (g.S.Shelf.state c.args.shelf) (g.W.Sink.state c.args.out.now) in
+    let after = world (g.S.Shelf.state c.run-status.result.1) (g.W.Sink.state c.run-status.new.out) in
+    let e = c.run-status.ensures in
+    let is : IsRun hash (map string_bytes c.deref.result.now) before after c.run-status.result.0 = record {
+      answer = e.answer;
+      outside = e.outside;
+      counts = e.counts;
+      quiet = e.quiet;
+      complete = e.complete;
+      honest = e.honest;
+      worth = e.worth;
+      audited = e.audited;
+      collides = e.collides;
+    } in
+    subst (λ given. IfOk given (λ ws. (status : Status) × (c.code.result ≡ code_of status)
+    × IsRun hash (map string_bytes ws.items) before after status)) (sym c.in-Ok.is) (
+      c.run-status.result.0,
+      c.code.ensures,
+      subst (λ ws. IsRun hash (map string_bytes ws) before after c.run-status.result.0) c.deref.ensures.value is,
+    )
