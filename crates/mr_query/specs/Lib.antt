@@ -1,3 +1,5 @@
+pub mod Nearest
+pub mod Radius
 pub mod Region
 pub mod Scan
 pub mod Word
