@@ -1,3 +1,5 @@
+pub mod Counts
+pub mod Kth
 pub mod Parts
 pub mod Scans
 pub mod Sorting
