@@ -3,7 +3,7 @@ use Rattle.std.proofs.Common.{◌≡◌, ℕ, ◌<◌, eqb, List, [], ◌∷◌,
 use Rattle.std.proofs.lemmas.List.Splits.{slice_split_none, slice_split_at, length-slice_split}
 use Rattle.mr_record.specs.Lines.{Lacks, IsCutAt}
 use Rattle.mr_query.specs.declared.query.QueryFault.TheVariants as faults
-use Rattle.mr_query.specs.Word.{parts_of, window_of_parts}
+use Rattle.mr_query.specs.Word.{parts_of, window_of_parts, nearest_of_parts}
 
 pub part_cut : (text front back : List ℕ) → IsCutAt 44 text front back → parts_of text ≡ front ∷ parts_of back
 part_cut text front back cut = rw cut.parts (slice_split_at (λ b. eqb b 44) front 44 back cut.first refl)
@@ -20,3 +20,13 @@ more_than_four a b c d (e ∷ others) filled = refl
 pub five_parts : (a b c d rest : List ℕ) → window_of_parts (a ∷ b ∷ c ∷ d ∷ parts_of rest) ≡ Err faults.Parts
 five_parts a b c d rest =
     more_than_four a b c d (parts_of rest) (omega (arith, length-slice_split (λ x. eqb x 44) rest))
+
+more_than_three : (a b c : List ℕ) (others : List (List ℕ)) → 0 < length others →
+    nearest_of_parts (a ∷ b ∷ c ∷ others) ≡ Err faults.Parts
+unfolding nearest_of_parts
+more_than_three a b c [] filled = absurd (omega arith)
+more_than_three a b c (d ∷ others) filled = refl
+
+pub four_parts : (a b c rest : List ℕ) → nearest_of_parts (a ∷ b ∷ c ∷ parts_of rest) ≡ Err faults.Parts
+four_parts a b c rest =
+    more_than_three a b c (parts_of rest) (omega (arith, length-slice_split (λ x. eqb x 44) rest))

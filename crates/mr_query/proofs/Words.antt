@@ -1,29 +1,30 @@
 -- A query's word is read as that query, and what is read is written so.
-use Rattle.std.proofs.Common.{◌≡◌, ℕ, suc, ◌^◌, ◌<◌, ◌≤◌, ℤ, Bool, true, false, T, cond, eqb, leb, ◌&&◌, List, [], ◌∷◌, ◌++◌, get_or, take, drop, Option, Some, None, Result, Ok, Err, refl, sym, ap, subst, ◌∙◌, arith, lit≤}
-use Rattle.std.specs.Prelude.{pos, negsuc, All, IfOk, int_le, ok_or, FitsSigned, decimal, bytes_eq}
+use Rattle.std.proofs.Common.{◌≡◌, ℕ, suc, ◌^◌, ◌<◌, ◌≤◌, ℤ, Bool, true, false, T, cond, eqb, leb, ◌&&◌, List, [], ◌∷◌, ◌++◌, get_or, take, drop, Option, Some, None, Result, Ok, Err, refl, sym, ap, subst, ◌∙◌, ◌⊎◌, inl, inr, arith, lit≤}
+use Rattle.std.specs.Prelude.{pos, negsuc, All, IfOk, IfSome, int_le, nat_le, ok_or, option_and_then, FitsSigned, decimal, bytes_eq}
 use Rattle.std.specs.List.{join_with_byte}
 use Rattle.std.specs.Int.{w32}
 use Rattle.std.specs.Char.{is_ascii_digit}
 use Rattle.std.specs.Fmt.{signed_decimal}
-use Rattle.std.proofs.lemmas.Bool.{and_parts, leb-true, ne_eqb}
+use Rattle.std.proofs.lemmas.Bool.{and_parts, leb-true, le-leb, ne_eqb}
 use Rattle.std.proofs.lemmas.Float.{T_from_true}
 use Rattle.std.proofs.lemmas.List.{take-append-drop}
 use Rattle.std.proofs.lemmas.List.Elements.{All-cons}
 use Rattle.std.proofs.lemmas.List.Splits.{slice_split_at, slice_split_none, join_with_byte-slice_split}
 use Rattle.std.proofs.lemmas.List.Sums.{AllPass-from_list_all}
 use Rattle.std.proofs.lemmas.Slice.Eq.{bytes_eq-Decides}
+use Rattle.mr_geom.specs.declared.point.Point.{Point}
 use Rattle.mr_geom.specs.Rectangle.{Rectangle, IsOrdered, FitsMap, rectangle_of}
 use Rattle.mr_geom.proofs.Rectangles.{rectangle_of_some, true_from_T}
-use Rattle.mr_record.specs.Decimal.{i32_of}
+use Rattle.mr_record.specs.Decimal.{i32_of, u64_of}
 use Rattle.mr_record.specs.Lines.{Lacks}
 use Rattle.mr_record.specs.Results.{◌>>=◌}
 use Rattle.mr_record.proofs.Results.{bind_ok}
 use Rattle.mr_query.specs.declared.query.Query.{Query}
-use Rattle.mr_query.specs.declared.query.Query.TheVariants.{Window}
+use Rattle.mr_query.specs.declared.query.Query.TheVariants.{Window, Nearest}
 use Rattle.mr_query.specs.declared.query.QueryFault.{QueryFault}
 use Rattle.mr_query.specs.declared.query.QueryFault.TheVariants as faults
-use Rattle.mr_query.specs.Word.{parts_of, number_of, window_of, window_of_parts, window_word, query_of, IsQuery, word_of}
-use Rattle.mr_record.proofs.Decimals.{is_canonical-decimal, are_digits-canonical, i32_of-written, i32_of-signed}
+use Rattle.mr_query.specs.Word.{parts_of, number_of, window_of, window_of_parts, neighbour_limit, if_askable, count_of, point_at, nearest_of, nearest_of_parts, window_word, nearest_word, nearest_query_of, query_of, FitsPoint, IsQuery, word_of}
+use Rattle.mr_record.proofs.Decimals.{is_canonical-decimal, are_digits-canonical, u64_of-written, u64_of-decimal, i32_of-written, i32_of-signed}
 
 abbrev Read : Type 0
 Read = Result Query QueryFault
@@ -49,13 +50,18 @@ rectangle_from : (o : Option Rectangle) (r : Rectangle) → ok_or o faults.Order
 rectangle_from (Some s) r e = cc
 rectangle_from None r e = absurd cc
 
--- the four parts of a query's word
+-- the parts of a query's word
 abbrev spelled : Query → List (List ℕ)
 spelled (Window w) = signed_decimal w.x0 ∷ signed_decimal w.y0 ∷ signed_decimal w.x1 ∷ signed_decimal w.y1 ∷ []
+spelled (Nearest p k) = signed_decimal p.x ∷ signed_decimal p.y ∷ decimal k ∷ []
+
+-- the query is a window whose parts are these
+abbrev IsWindowOf : List (List ℕ) → Query → Type 0
+IsWindowOf parts q = (w : Rectangle) × (q ≡ Window w) × IsQuery (Window w) × (parts ≡ spelled (Window w))
 
 window_made : (a b c d : List ℕ) (x0 y0 x1 y1 : ℤ) (w : Rectangle) (q : Query) →
     number_of 1 a ≡ Ok x0 → number_of 2 b ≡ Ok y0 → number_of 3 c ≡ Ok x1 → number_of 4 d ≡ Ok y1 →
-    rectangle_of x0 y0 x1 y1 ≡ Some w → read_as (Window w) ≡ read_as q → IsQuery q × (a ∷ b ∷ c ∷ d ∷ [] ≡ spelled q)
+    rectangle_of x0 y0 x1 y1 ≡ Some w → read_as (Window w) ≡ read_as q → IsWindowOf (a ∷ b ∷ c ∷ d ∷ []) q
 window_made a b c d x0 y0 x1 y1 w q ea eb ec ed ew e =
     let whole = rectangle_of_some x0 y0 x1 y1 w ew in
     let left = number_written 1 a x0 ea in
@@ -65,11 +71,9 @@ window_made a b c d x0 y0 x1 y1 w q ea eb ec ed ew e =
     let made : Rectangle = record { x0 = x0; y0 = y0; x1 = x1; y1 = y1 } in
     let fits : FitsMap made = record { x0 = left.1; y0 = low.1; x1 = right.1; y1 = high.1 } in
     let same : Window made ≡ q = ap Window whole.1 ∙ same_query (Window w) q e in
-    subst (λ (p : Query). IsQuery p × (a ∷ b ∷ c ∷ d ∷ [] ≡ spelled p)) same
-    ((whole.0, fits), λ i. left.0 i ∷ low.0 i ∷ right.0 i ∷ high.0 i ∷ [])
+    (made, sym same, (whole.0, fits), λ i. left.0 i ∷ low.0 i ∷ right.0 i ∷ high.0 i ∷ [])
 
-window_written : (a b c d : List ℕ) (q : Query) → window_of a b c d ≡ Ok q →
-    IsQuery q × (a ∷ b ∷ c ∷ d ∷ [] ≡ spelled q)
+window_written : (a b c d : List ℕ) (q : Query) → window_of a b c d ≡ Ok q → IsWindowOf (a ∷ b ∷ c ∷ d ∷ []) q
 unfolding window_of
 window_written a b c d q e =
     let made = λ (x0 y0 x1 y1 : ℤ). ok_or (rectangle_of x0 y0 x1 y1) faults.Order >>= λ w. read_as (Window w) in
@@ -83,28 +87,120 @@ window_written a b c d q e =
     window_made a b c d x0.0 y0.0 x1.0 y1.0 found.0 q x0.1 y0.1 x1.1 y1.1
     (rectangle_from (rectangle_of x0.0 y0.0 x1.0 y1.0) found.0 found.1) found.2
 
-parts_written : (parts : List (List ℕ)) (q : Query) → window_of_parts parts ≡ Ok q → IsQuery q × (parts ≡ spelled q)
+window_parts_written : (parts : List (List ℕ)) (q : Query) → window_of_parts parts ≡ Ok q → IsWindowOf parts q
 unfolding window_of_parts
-parts_written (a ∷ b ∷ c ∷ d ∷ []) q e = window_written a b c d q e
-parts_written _ q e = absurd cc
+window_parts_written (a ∷ b ∷ c ∷ d ∷ []) q e = window_written a b c d q e
+window_parts_written _ q e = absurd cc
 
-chosen : (b : Bool) (r : Read) (q : Query) → cond b r (Err faults.Kind) ≡ read_as q → (b ≡ true) × (r ≡ Ok q)
-chosen true r q e = (refl, e)
-chosen false r q e = absurd cc
+-- ---- of nearest records
 
-joined : (q : Query) → window_word ++ join_with_byte 44 (spelled q) ≡ word_of q
+counted : (k : ℕ) (b : Bool) (n : ℕ) → cond b (Some k) None ≡ Some n → (b ≡ true) × (k ≡ n)
+counted k true n e = (refl, cc)
+counted k false n e = absurd cc
+
+count_in_range : (k n : ℕ) → if_askable k ≡ Some n → (k ≡ n) × (1 ≤ n) × (n ≤ neighbour_limit)
+count_in_range k n e =
+    let c = counted k (leb 1 k && leb k neighbour_limit) n e in
+    let both = and_parts (leb 1 k) (leb k neighbour_limit) c.0 in
+    let low : 1 ≤ k = leb-true 1 k both.0 in
+    let high : k ≤ neighbour_limit = leb-true k neighbour_limit both.1 in
+    let same : k ≡ n = c.1 in
+    (same, subst (λ m. 1 ≤ m) same low, subst (λ m. m ≤ neighbour_limit) same high)
+
+count_from : (o : Option ℕ) (f : QueryFault) (n : ℕ) → ok_or o f ≡ Ok n → o ≡ Some n
+count_from (Some y) f n e = cc
+count_from None f n e = absurd cc
+
+asked_of : (text : List ℕ) (o : Option ℕ) (n : ℕ) → IfSome o (λ m. (text ≡ decimal m) × (m < 2 ^ 64))
+    → option_and_then if_askable o ≡ Some n → (text ≡ decimal n) × (1 ≤ n) × (n ≤ neighbour_limit)
+asked_of text None n w e = absurd cc
+asked_of text (Some m) n w e =
+    let r = count_in_range m n e in
+    (w.0 ∙ ap decimal r.0, r.1, r.2)
+
+count_written : (part : ℕ) (text : List ℕ) (n : ℕ) → count_of part text ≡ Ok n
+    → (text ≡ decimal n) × (1 ≤ n) × (n ≤ neighbour_limit)
+count_written part text n e =
+    asked_of text (u64_of text) n (u64_of-written text)
+    (count_from (option_and_then if_askable (u64_of text)) (faults.Number part) n e)
+
+-- the query is for nearest records and its parts are these
+abbrev IsNearestOf : List (List ℕ) → Query → Type 0
+IsNearestOf parts q =
+    (p : Point) × (n : ℕ) × (q ≡ Nearest p n) × IsQuery (Nearest p n) × (parts ≡ spelled (Nearest p n))
+
+nearest_made : (a b c : List ℕ) (x y : ℤ) (k : ℕ) (q : Query) → number_of 1 a ≡ Ok x → number_of 2 b ≡ Ok y
+    → count_of 3 c ≡ Ok k → read_as (Nearest (point_at x y) k) ≡ read_as q
+    → IsNearestOf (a ∷ b ∷ c ∷ []) q
+nearest_made a b c x y k q ea eb ec e =
+    let left = number_written 1 a x ea in
+    let low = number_written 2 b y eb in
+    let few = count_written 3 c k ec in
+    let fits : FitsPoint (point_at x y) = record { x = left.1; y = low.1 } in
+    (point_at x y, k, sym (same_query (Nearest (point_at x y) k) q e), (fits, (few.1, few.2)),
+    λ i. left.0 i ∷ low.0 i ∷ few.0 i ∷ [])
+
+nearest_written : (a b c : List ℕ) (q : Query) → nearest_of a b c ≡ Ok q
+    → IsNearestOf (a ∷ b ∷ c ∷ []) q
+unfolding nearest_of
+nearest_written a b c q e =
+    let made = λ (x y : ℤ) (k : ℕ). read_as (Nearest (point_at x y) k) in
+    let x = bind_ok (number_of 1 a) (λ x. number_of 2 b >>= λ y. count_of 3 c >>= λ k. made x y k) q e in
+    let y = bind_ok (number_of 2 b) (λ y. count_of 3 c >>= λ k. made x.0 y k) q x.2 in
+    let k = bind_ok (count_of 3 c) (λ k. made x.0 y.0 k) q y.2 in
+    nearest_made a b c x.0 y.0 k.0 q x.1 y.1 k.1 k.2
+
+nearest_parts_written : (parts : List (List ℕ)) (q : Query) → nearest_of_parts parts ≡ Ok q → IsNearestOf parts q
+unfolding nearest_of_parts
+nearest_parts_written (a ∷ b ∷ c ∷ []) q e = nearest_written a b c q e
+nearest_parts_written _ q e = absurd cc
+
+-- ---- of both
+
+refused : (b : Bool) (r : Read) (q : Query) → cond b r (Err faults.Kind) ≡ read_as q → (b ≡ true) × (r ≡ Ok q)
+refused true r q e = (refl, e)
+refused false r q e = absurd cc
+
+chosen : (b : Bool) (r s : Read) (q : Query) → cond b r s ≡ read_as q
+    → ((b ≡ true) × (r ≡ Ok q)) ⊎ ((b ≡ false) × (s ≡ Ok q))
+chosen true r s q e = inl (refl, e)
+chosen false r s q e = inr (refl, e)
+
+-- a word that begins so, and goes on with these parts
+word_with : (n : ℕ) (word name : List ℕ) (parts : List (List ℕ)) → bytes_eq (take n word) name ≡ true
+    → parts_of (drop n word) ≡ parts → word ≡ name ++ join_with_byte 44 parts
+word_with n word name parts t e =
+    let front : take n word ≡ name = (bytes_eq-Decides (take n word) name).0 t in
+    let back : drop n word ≡ join_with_byte 44 parts = sym (join_with_byte-slice_split 44 (drop n word))
+    ∙ ap (join_with_byte 44) e in
+    sym (take-append-drop n word) ∙ (λ i. front i ++ back i)
+
+window_joined : (w : Rectangle) → window_word ++ join_with_byte 44 (spelled (Window w)) ≡ word_of (Window w)
 unfolding word_of
-joined (Window w) = refl
+window_joined w = refl
+
+nearest_joined : (p : Point) (k : ℕ) → nearest_word ++ join_with_byte 44 (spelled (Nearest p k)) ≡ word_of (Nearest p k)
+unfolding word_of
+nearest_joined p k = refl
+
+abbrev IsWritten : List ℕ → Query → Type 0
+IsWritten word q = IsQuery q × (word ≡ word_of q)
 
 pub query_written : (word : List ℕ) (q : Query) → query_of word ≡ Ok q → IsQuery q × (word ≡ word_of q)
-unfolding query_of
+unfolding query_of nearest_query_of
 query_written word q e =
-    let c = chosen (bytes_eq (take 7 word) window_word) (window_of_parts (parts_of (drop 7 word))) q e in
-    let w = parts_written (parts_of (drop 7 word)) q c.1 in
-    let front : take 7 word ≡ window_word = (bytes_eq-Decides (take 7 word) window_word).0 c.0 in
-    let back : drop 7 word ≡ join_with_byte 44 (spelled q) = sym (join_with_byte-slice_split 44 (drop 7 word))
-    ∙ ap (join_with_byte 44) w.1 in
-    (w.0, sym (take-append-drop 7 word) ∙ (λ i. front i ++ back i) ∙ joined q)
+    elim (chosen (bytes_eq (take 7 word) window_word) (window_of_parts (parts_of (drop 7 word)))
+    (cond (bytes_eq (take 8 word) nearest_word) (nearest_of_parts (parts_of (drop 8 word))) (Err faults.Kind)) q e) [
+      | inl c ↦
+          let w = window_parts_written (parts_of (drop 7 word)) q c.1 in
+          subst (IsWritten word) (sym w.1)
+          (w.2, word_with 7 word window_word (spelled (Window w.0)) c.0 w.3 ∙ window_joined w.0)
+      | inr c ↦
+          let d = refused (bytes_eq (take 8 word) nearest_word) (nearest_of_parts (parts_of (drop 8 word))) q c.1 in
+          let w = nearest_parts_written (parts_of (drop 8 word)) q d.1 in
+          subst (IsWritten word) (sym w.2)
+          (w.3, word_with 8 word nearest_word (spelled (Nearest w.0 w.1)) d.0 w.4 ∙ nearest_joined w.0 w.1)
+    ]
 
 pub result_written : (word : List ℕ) (answer : Read) → answer ≡ query_of word →
     IfOk answer (λ q. IsQuery q × (word ≡ word_of q))
@@ -161,6 +257,33 @@ spelled_read w is =
       true_from_T _ is.0.y.le,
     ) refl
 
+-- ---- nearest records
+
+spelled_three : (p : Point) (k : ℕ) → IsQuery (Nearest p k) →
+    parts_of (signed_decimal p.x ++ 44 ∷ (signed_decimal p.y ++ 44 ∷ decimal k)) ≡ spelled (Nearest p k)
+spelled_three p k is =
+    let x = signed_decimal p.x in
+    let y = signed_decimal p.y in
+    let n = decimal k in
+    let high : k ≤ neighbour_limit = is.1.1 in
+    let low : k < 2 ^ 64 = omega arith in
+    part_split x (y ++ 44 ∷ n) (signed_ink p.x is.0.x)
+    ∙ ap (λ (t : List (List ℕ)). x ∷ t) (part_split y n (signed_ink p.y is.0.y))
+    ∙ ap (λ (t : List (List ℕ)). x ∷ y ∷ t)
+    (slice_split_none (λ b. eqb b 44) n (lacks_comma n (decimal_ink k low)))
+
+count_read : (part k : ℕ) → 1 ≤ k → k ≤ neighbour_limit → count_of part (decimal k) ≡ Ok k
+count_read part k some few =
+    let low : k < 2 ^ 64 = omega arith in
+    rw (u64_of-decimal k low, le-leb 1 k some, le-leb k neighbour_limit few) refl
+
+nearest_spelled_read : (p : Point) (k : ℕ) → IsQuery (Nearest p k)
+    → nearest_of_parts (spelled (Nearest p k)) ≡ Ok (Nearest p k)
+unfolding nearest_of_parts nearest_of
+nearest_spelled_read p k is =
+    rw (i32_of-signed p.x is.0.x, i32_of-signed p.y is.0.y, count_read 3 k is.1.0 is.1.1) refl
+
 pub query_read : (q : Query) → IsQuery q → query_of (word_of q) ≡ Ok q
-unfolding query_of word_of
+unfolding query_of nearest_query_of word_of
 query_read (Window w) is = ap window_of_parts (spelled_parts w is.1) ∙ spelled_read w is
+query_read (Nearest p k) is = ap nearest_of_parts (spelled_three p k is) ∙ nearest_spelled_read p k is

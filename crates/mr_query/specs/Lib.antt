@@ -1,5 +1,8 @@
+-- what has to be believed, in reading order
+pub mod Word
 pub mod Nearest
-pub mod Radius
 pub mod Region
 pub mod Scan
-pub mod Word
+-- what only private functions and proofs use
+pub mod Radius
+pub mod Circles

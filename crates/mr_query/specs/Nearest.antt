@@ -1,6 +1,6 @@
 -- The records that are nearest to a point.
 use Rattle.std.specs.Prelude.{ℕ, ◌-◌, Bool, true, nat_lt, nat_le, List, map, take, Option, Some, None}
-use Rattle.std.specs.List.{slice_get}
+use Rattle.std.specs.List.{slice_get, count_by}
 use Rattle.std.specs.Ordering.{ordering_then, is_lt, nat_cmp}
 use Rattle.mr_geom.specs.Rectangle.{Rectangle}
 use Rattle.mr_geom.specs.Distance.{least_squared_distance}
@@ -26,6 +26,13 @@ kth_least k numbers = slice_get (sorted_by nat_lt numbers) (k - 1)
 abbrev pub is_within : Point → Option ℕ → Rectangle → Bool
 is_within p None r = true
 is_within p (Some radius) r = nat_le (least_squared_distance r p) radius
+
+-- how many records are nearer than this squared distance, and how many are not farther
+abbrev pub nearer_than : Point → ℕ → List Record → ℕ
+nearer_than p n records = count_by (λ r. nat_lt (distance p r) n) records
+
+abbrev pub not_farther_than : Point → ℕ → List Record → ℕ
+not_farther_than p n records = count_by (λ r. nat_le (distance p r) n) records
 
 -- ---- the nearest records
 

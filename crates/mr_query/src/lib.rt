@@ -1,6 +1,7 @@
 //! Queries: their words, the part of the map that they ask for, and what a scan answers.
 #![tactic(auto)]
 
+mod circle;
 mod comma;
 mod query;
 mod selection;
@@ -8,8 +9,11 @@ mod selection;
 mod tests;
 mod window;
 mod word;
+mod write;
 
-pub use query::{Query, QueryFault};
-pub use selection::answer;
+pub use circle::{Circle, Everywhere};
+pub use query::{NEIGHBOUR_LIMIT, Query, QueryFault, is_query};
+pub use selection::{answer, rank};
 pub use window::Window;
 pub use word::read_query;
+pub use write::write_query;

@@ -1,26 +1,68 @@
 ghost use Rattle.std.specs.Prelude.{◌≡◌};
 ghost use Rattle.mr_query.specs.Region.{reaches};
+ghost use Rattle.mr_query.specs.Word.{FitsPoint, IsAskable, IsQuery};
+ghost use Rattle.mr_query.specs.declared.query.Query.TheVariants as queries;
 
-use crate::Window;
-use mr_geom::{Rect, Region};
+use crate::{Circle, Everywhere, Window};
+use mr_geom::{Point, Rect, Region};
+
+/// As many records as a query for the nearest may ask for.
+pub const NEIGHBOUR_LIMIT: u16 = 1024;
 
 /// What is asked of a map.
 #[derive(Clone, Copy, Debug, PartialEq, Eq)]
 pub enum Query {
     /// The records whose rectangle shares a point with this one.
     Window(Rect),
+    /// The `k` records that are nearest to the point, `k` from 1 to 1,024; of equally near ones
+    /// those of lesser number.
+    Nearest { center: Point, k: u16 },
 }
 
 impl Query {
-    /// Whether the region of the query meets the rectangle. For a window the squared radius does
-    /// not matter.
+    /// Whether the region of the query meets the rectangle. For a window the squared radius, in
+    /// squared map units, does not matter; for nearest records without one the region is
+    /// everything.
     #[tactic(auto, unfolding(crate::specs::Region::reaches))]
     pub fn meets(&self, radius: Option<u128>, rect: &Rect) -> bool
         ensures { result ≡ reaches self.now radius rect.now }
     {
         match self {
             Query::Window(window) => Window { rect: *window }.meets(rect),
+            Query::Nearest { center, k: _ } => match radius {
+                Some(r2) => Circle {
+                    center: *center,
+                    r2,
+                }
+                .meets(rect),
+                None => Everywhere.meets(rect),
+            },
         }
+    }
+}
+
+fn is_window(one: &Rect)
+    ensures { IsQuery (queries.Window one.now) }
+{
+    let _corners = one.corners();
+}
+
+fn is_point(one: &Point)
+    ensures { FitsPoint one.now }
+{
+    let _x = one.x;
+    let _y = one.y;
+}
+
+/// Does nothing: it is there for proofs, which learn that each value of the type is a query, if it
+/// asks for as many records as it may.
+pub fn is_query(one: &Query)
+    requires { IsAskable one.now }
+    ensures { IsQuery one.now }
+{
+    match one {
+        Query::Window(window) => is_window(window),
+        Query::Nearest { center, k: _ } => is_point(center),
     }
 }
 

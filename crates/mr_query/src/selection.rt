@@ -1,20 +1,26 @@
 //! The answer to a query among some records.
 
-ghost use Rattle.std.specs.Prelude.{◌≡◌, IfOk, OnOk, filter, None};
+ghost use Rattle.std.specs.Prelude.{◌≡◌, ◌≤◌, IfOk, OnOk, filter};
+ghost use Rattle.mr_geom.specs.Plane.{touches};
 ghost use Rattle.mr_record.specs.declared.record.Record as types;
-ghost use Rattle.mr_query.specs.Region.{reaches};
+ghost use Rattle.mr_query.specs.Nearest.{nearest, ranked};
 ghost use Rattle.mr_query.specs.Scan.{by_number, scan};
+ghost use Rattle.mr_query.specs.declared.query.Query.TheVariants as queries;
 
-use crate::Query;
+use crate::{Query, Window};
+use mr_geom::{Point, Rect, Region};
 use mr_record::Record;
-use std::alloc::AllocError;
+use std::alloc::{AllocError, Global};
 
-// The records that the region of the query meets.
-fn reached(records: &mut Vec<Record>, q: &Query)
+// ---- a window
+
+// The records that the window meets.
+fn reached(records: &mut Vec<Record>, window: &Rect)
     ensures { records.new.items ≡ filter
-        (λ (r : types.Record). reaches q.now None r.rect) records.old.items }
+        (λ (r : types.Record). touches window.now r.rect) records.old.items }
 {
-    records.retain(|r| q.meets(None, &r.rect));
+    let window = Window { rect: *window };
+    records.retain(|r| window.meets(&r.rect));
 }
 
 // In rising number; equal ones keep their order.
@@ -25,14 +31,60 @@ fn sorted(records: &mut Vec<Record>) -> Result<(), AllocError>
     Ok(())
 }
 
-/// The answer to the query among these records: for a window those that it meets, in rising number.
-/// Equal numbers keep their order.
-#[tactic(auto, using(crate::proofs::Scans::scan_is))]
+#[tactic(auto, unfolding(crate::specs::Scan::scan))]
+fn answer_window(records: &mut Vec<Record>, window: &Rect) -> Result<(), AllocError>
+    ensures { OnOk result (records.new.items ≡ scan records.old.items (queries.Window window.now)) }
+{
+    reached(records, window);
+    sorted(records)
+}
+
+// ---- nearest records
+
+// By rising distance, and of one distance by rising number; equal ones keep their order.
+fn by_distance(records: &mut Vec<Record>, center: &Point) -> Result<(), AllocError>
+    ensures { OnOk result (records.new.items ≡ ranked center.now records.old.items) }
+{
+    records.sort_by_key(|r| (r.rect.dist2(center), r.number))?;
+    Ok(())
+}
+
+#[tactic(auto, unfolding(crate::specs::Nearest::nearest))]
+fn keep_nearest(records: &mut Vec<Record>, center: &Point, k: u16) -> Result<(), AllocError>
+    ensures { OnOk result (records.new.items ≡ nearest center.now k records.old.items) }
+{
+    by_distance(records, center)?;
+    records.truncate(usize::from(k));
+    Ok(())
+}
+
+/// The `k` of these records that are nearest to the point, or all where there are fewer: by rising
+/// distance, and of one distance by rising number. Equal ones keep their order.
+pub fn rank(
+    alloc: Global,
+    list: &[Record],
+    center: &Point,
+    k: u16,
+) -> Result<Vec<Record>, AllocError>
+    ensures { IfOk result (λ v. v.items ≡ nearest center.now k list.now) }
+{
+    let mut records = Vec::from_slice(alloc, list)?;
+    keep_nearest(&mut records, center, k)?;
+    Ok(records)
+}
+
+// ---- both
+
+/// The answer to the query among these records: for a window those that it meets, in rising number,
+/// of which equal ones keep their order; or the nearest, as `rank` has them.
+#[tactic(auto, unfolding(crate::specs::Scan::scan))]
 pub fn answer(records: Vec<Record>, q: &Query) -> Result<Vec<Record>, AllocError>
     ensures { IfOk result (λ v. v.items ≡ scan records.items q.now) }
 {
     let mut records = records;
-    reached(&mut records, q);
-    sorted(&mut records)?;
+    match q {
+        Query::Window(window) => answer_window(&mut records, window)?,
+        Query::Nearest { center, k } => keep_nearest(&mut records, center, *k)?,
+    }
     Ok(records)
 }

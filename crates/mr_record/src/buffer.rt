@@ -7,7 +7,7 @@ use std::marker::Model;
 /// Up to 512 bytes of a line, kept inline until the line goes to a sink whole, since each write is
 /// dear. Contracts see the list of the bytes so far.
 #[derive(Drop)]
-pub(crate) struct LineBuffer {
+pub struct LineBuffer {
     len: usize,
     places: [u8; 512],
 }
@@ -32,7 +32,8 @@ fn write_at(places: &mut [u8], at: usize, piece: &[u8])
 }
 
 impl LineBuffer {
-    pub(crate) fn new() -> LineBuffer
+    /// A line without bytes.
+    pub fn new() -> LineBuffer
         ensures { result ≡ [] }
     {
         LineBuffer {
@@ -42,7 +43,7 @@ impl LineBuffer {
     }
 
     /// Puts the piece behind the bytes so far.
-    pub(crate) fn put(&mut self, piece: &[u8])
+    pub fn put(&mut self, piece: &[u8])
         requires { length self.old + length piece.now ≤ 512 }
         ensures { self.new ≡ self.old ++ piece.now }
     {
@@ -50,7 +51,8 @@ impl LineBuffer {
         self.len += piece.len();
     }
 
-    pub(crate) fn bytes(&self) -> &[u8]
+    /// The bytes so far.
+    pub fn bytes(&self) -> &[u8]
         ensures { result.now ≡ self.now }
     {
         &self.places[..self.len]

@@ -14,6 +14,7 @@ mod record_fault;
 mod text;
 mod text_fault;
 
+pub use buffer::LineBuffer;
 pub use bytes::{
     coordinate_of_bytes, rect_bytes, rect_of_bytes, u32_of_bytes, u64_of_bytes, u128_of_bytes,
 };
@@ -22,7 +23,7 @@ pub use decimal::{read_i32, read_u64};
 pub use encoding::{read_record, write_record};
 pub use line::read_line;
 pub use payload::{PAYLOAD_LIMIT, Payload};
-pub use print::{write_line, write_lines};
+pub use print::{put_coordinate, put_number, write_line, write_lines};
 pub use record::{Record, are_records, is_record};
 pub use record_fault::{RecordFault, RecordRule};
 pub use text::read_lines;

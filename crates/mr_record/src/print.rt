@@ -31,7 +31,8 @@ fn write_digits(places: &mut [u8; 20], number: u64) -> usize
     at
 }
 
-fn put_number(line: &mut LineBuffer, number: u64)
+/// Puts a number in decimal, at most 20 digits.
+pub fn put_number(line: &mut LineBuffer, number: u64)
     requires { length line.old + 20 ≤ 512 }
     ensures put { line.new ≡ line.old ++ decimal number }
     ensures within { length line.new ≤ length line.old + 20 }
@@ -42,7 +43,8 @@ fn put_number(line: &mut LineBuffer, number: u64)
     line.put(digits);
 }
 
-fn put_coordinate(line: &mut LineBuffer, coordinate: i32)
+/// Puts a coordinate in decimal, with a `-` before one that is below 0: at most 11 bytes.
+pub fn put_coordinate(line: &mut LineBuffer, coordinate: i32)
     requires { length line.old + 21 ≤ 512 }
     ensures put { line.new ≡ line.old ++ signed_decimal coordinate }
     ensures within { length line.new ≤ length line.old + 21 }

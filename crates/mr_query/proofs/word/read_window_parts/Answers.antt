@@ -1,6 +1,6 @@
 use Rattle.std.proofs.Common.{sym}
 use Rattle.mr_query.proofs.Parts.{five_parts}
-use Rattle.mr_query.proofs.word.read_parts.Goals as goal
+use Rattle.mr_query.proofs.word.read_window_parts.Goals as goal
 
 pub returns-in-Ok : goal.returns-in-Ok
 returns-in-Ok c =

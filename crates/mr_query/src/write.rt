@@ -1,0 +1,92 @@
+//! A query's word, written to a sink.
+
+ghost use Rattle.std.specs.Prelude.{◌≡◌, ◌+◌, ◌≤◌, ◌++◌, ◌∷◌, decimal, length, OnOk};
+ghost use Rattle.std.specs.Fmt.{signed_decimal};
+ghost use Rattle.mr_outside.specs.Causes.{SinkCauses};
+ghost use Rattle.mr_outside.specs.Told.{Takes, TakesFront};
+ghost use Rattle.mr_query.specs.Word.{window_word, nearest_word, IsAskable, IsQuery, word_of};
+ghost use Rattle.mr_query.specs.declared.query.Query.TheVariants as queries;
+
+use crate::{Query, is_query};
+use mr_geom::{Point, Rect};
+use mr_outside::{Sink, SinkErr, write_all};
+use mr_record::{LineBuffer, put_coordinate, put_number};
+
+// Puts a comma and a coordinate.
+#[tactic(auto, using(std::proofs::Common::append_assoc))]
+fn put_next(word: &mut LineBuffer, coordinate: i32)
+    requires { length word.old + 22 ≤ 512 }
+    ensures put { word.new ≡ word.old ++ 44 ∷ signed_decimal coordinate }
+    ensures within { length word.new ≤ length word.old + 22 }
+{
+    word.put(b",");
+    put_coordinate(word, coordinate);
+}
+
+// Puts three coordinates, each behind a comma.
+#[tactic(auto, using(std::proofs::Common::append_assoc))]
+fn put_rest(word: &mut LineBuffer, y0: i32, x1: i32, y1: i32)
+    requires { length word.old + 66 ≤ 512 }
+    ensures put { word.new ≡ word.old ++ 44 ∷ (signed_decimal y0
+        ++ 44 ∷ (signed_decimal x1 ++ 44 ∷ signed_decimal y1)) }
+    ensures within { length word.new ≤ length word.old + 66 }
+{
+    put_next(word, y0);
+    put_next(word, x1);
+    put_next(word, y1);
+}
+
+#[tactic(auto, unfolding(crate::specs::Word::word_of), using(std::proofs::Common::append_assoc))]
+fn sides_text(x0: i32, y0: i32, x1: i32, y1: i32) -> LineBuffer
+    ensures { result ≡ word_of
+        (queries.Window (record { x0 = x0; y0 = y0; x1 = x1; y1 = y1 })) }
+{
+    let mut word = LineBuffer::new();
+    word.put(b"window:");
+    put_coordinate(&mut word, x0);
+    put_rest(&mut word, y0, x1, y1);
+    word
+}
+
+fn window_text(window: &Rect) -> LineBuffer
+    ensures { result ≡ word_of (queries.Window window.now) }
+{
+    let (x0, y0, x1, y1) = window.corners();
+    sides_text(x0, y0, x1, y1)
+}
+
+#[tactic(auto, unfolding(crate::specs::Word::word_of), using(std::proofs::Common::append_assoc))]
+fn nearest_text(center: &Point, k: u16) -> LineBuffer
+    ensures { result ≡ word_of (queries.Nearest center.now k) }
+{
+    let mut word = LineBuffer::new();
+    word.put(b"nearest:");
+    put_coordinate(&mut word, center.x);
+    put_next(&mut word, center.y);
+    word.put(b",");
+    put_number(&mut word, u64::from(k));
+    word
+}
+
+fn text(q: &Query) -> LineBuffer
+    ensures { result ≡ word_of q.now }
+{
+    match q {
+        Query::Window(window) => window_text(window),
+        Query::Nearest { center, k } => nearest_text(center, *k),
+    }
+}
+
+/// Writes the word of the query, as `read_query` reads it. After a refusal some front of the word
+/// was taken.
+pub fn write_query<W: Sink>(out: &mut W, q: &Query) -> Result<(), SinkErr>
+    requires { IsAskable q.now }
+    ensures query { IsQuery q.now }
+    ensures whole { OnOk result (Takes (W.state out.old) (W.state out.new) (word_of q.now)) }
+    ensures front { TakesFront (W.state out.old) (W.state out.new) (word_of q.now) }
+    ensures causes { SinkCauses (W.state out.old) (W.state out.new) result }
+{
+    is_query(q);
+    let word = text(q);
+    write_all(out, word.bytes())
+}
