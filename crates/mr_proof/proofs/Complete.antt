@@ -2,7 +2,7 @@
 use Rattle.std.proofs.Common.{◌≡◌, ℕ, ◌+◌, ◌-◌, ◌<◌, ◌≤◌, ◌^◌, Bool, true, false, eqb, List, [], ◌∷◌, ◌++◌, map, length, Option, Some, None, Ok, refl, sym, ap, subst, ◌∙◌, inl, inr, arith}
 use Rattle.std.specs.Prelude.{IfSome}
 use Rattle.std.specs.List.{AllByRecursion}
-use Rattle.std.specs.Int.{w64, to_be_bytes}
+use Rattle.std.specs.Int.{w64, w128, to_be_bytes}
 use Rattle.std.proofs.lemmas.List.{length-append}
 use Rattle.std.proofs.lemmas.Bool.{cases_Bool, eq-eqb, ne_eqb}
 use Rattle.std.proofs.lemmas.List.Elements.{All-from_recursion, recursion_from_All}
@@ -23,21 +23,24 @@ use Rattle.mr_tree.specs.declared.tree.Tree.TheFolds.{every-Tree}
 use Rattle.mr_tree.proofs.Equations.{level-Leaf, level-Inner, level-Empty, records-Empty, digest_of_preimage, entry_rect, entry_level}
 use Rattle.mr_tree.proofs.Induction.{tree_induction, here-Leaf, here-Inner, every_child}
 use Rattle.mr_tree.proofs.Slim.{slim_tree}
+use Rattle.mr_query.specs.Word.{IsQuery}
 use Rattle.mr_query.specs.declared.query.Query.{Query}
-use Rattle.mr_query.specs.declared.query.Query.TheVariants.{Window}
 use Rattle.mr_query.specs.Scan.{scan}
-use Rattle.mr_proof.specs.declared.head.Head.{Head}
+use Rattle.mr_proof.specs.declared.head.Kind.{Kind}
+use Rattle.mr_proof.specs.declared.head.Kind.TheVariants as kind
 use Rattle.mr_proof.specs.declared.shown.Shown.{Shown}
+use Rattle.mr_proof.specs.Cut as cut
 use Rattle.mr_proof.specs.Cut.{Cut, Cuts, Pruned, Leaf, Inner, no_more, first, count_of, entry, entries, CutOf, CutsOf}
-use Rattle.mr_proof.specs.Spelling.{FitsCut, FitCuts, FitsShown, FitsLeaf, FitsInner, FitsHead, FitsPart, head_bytes, cut_bytes, part_bytes, level_bytes, opened_records, IsSpelled}
-use Rattle.mr_proof.specs.Tight.{Seen, asks, IsTight}
+use Rattle.mr_proof.specs.Spelling.{FitsCut, FitCuts, FitsShown, FitsLeaf, FitsInner, FitsHead, FitsPart, head_bytes, cut_bytes, part_bytes, radius_bytes, level_bytes, opened_records, IsSpelled}
+use Rattle.mr_proof.specs.Tight.{Seen, Asks, asks, IsTight, IsTightCut}
 use Rattle.mr_proof.specs.Accepted.{root_found, Proves}
-use Rattle.mr_proof.specs.Honest.{Part, pruned_cut, part, honest_cut, honest_head, honest_part, proof}
+use Rattle.mr_proof.specs.Honest.{Part, pruned_cut, part, region_of, honest_cut, honest_head, honest_part, proof}
 use Rattle.mr_proof.specs.Reading.{verdict}
 use Rattle.mr_proof.specs.Halves.{IsHonestProof, AcceptsHonest}
 use Rattle.mr_proof.proofs.Full.{IsFull, IsFullNode, there_tree, some_record, not_full_empty, empty_or_full}
 use Rattle.mr_proof.proofs.HonestCut.{meets, known_out, honest_cuts, honest_missed, honest_met, honest_good}
-use Rattle.mr_proof.proofs.KeptRecords.{plain_region, same_scan}
+use Rattle.mr_proof.proofs.KeptRecords.{kept}
+use Rattle.mr_proof.proofs.Laws.{askable, SameAsked, IsLocal, is_local, radius_fits}
 use Rattle.mr_proof.proofs.HonestSize.{cut_short}
 use Rattle.mr_proof.proofs.PreimageBytes.{IsSized, digest_are_bytes}
 use Rattle.mr_proof.proofs.Completeness.{verdict_from}
@@ -177,67 +180,85 @@ level_short count v = elim (cases_Bool (eqb count 0)) [
   | inr f ↦ rw f (omega arith)
 ]
 
-head_short : (t : Tree) (b : ℕ) (w : Rectangle) → length (head_bytes (honest_head (asks (Window w)) t b)) ≤ 23
-head_short t b w =
+wide_long : (n : ℕ) → length (to_be_bytes w128 n) ≡ 16
+wide_long n = refl
+
+radius_short : (k : Kind) (r : Option ℕ) → length (radius_bytes k r) ≤ 17
+radius_short kind.W r = omega arith
+radius_short kind.K None = omega arith
+radius_short kind.K (Some n) = omega (arith, wide_long n)
+
+head_short : (a : Asks) (t : Tree) (b : ℕ) → length (head_bytes (honest_head a t b)) ≤ 40
+head_short a t b =
+    let far = radius_bytes a.kind (a.radius (records t)) in
     let last = level_bytes (length (records t)) (level t) in
     omega (
       arith,
-      length-append (to_be_bytes w64 b) (to_be_bytes w64 (length (records t)) ++ last),
-      length-append (to_be_bytes w64 (length (records t))) last,
+      length-append (to_be_bytes w64 b) (to_be_bytes w64 (length (records t)) ++ (far ++ last)),
+      length-append (to_be_bytes w64 (length (records t))) (far ++ last),
+      length-append far last,
       word_long b,
       word_long (length (records t)),
+      radius_short a.kind (a.radius (records t)),
       level_short (length (records t)) (level t),
     )
 
 -- ---- the honest proof
 
-some_part : (hash : List ℕ → List ℕ) (w : Rectangle) (t : Tree) → 1 ≤ length (records t)
-    → honest_part hash (asks (Window w)) t ≡ Some (honest_cut hash (plain_region (Window w)) t)
-some_part hash w t some = rw (ne_eqb (length (records t)) 0 (λ z. omega arith)) refl
+some_part : (hash : List ℕ → List ℕ) (a : Asks) (t : Tree) → 1 ≤ length (records t)
+    → honest_part hash a t ≡ Some (honest_cut hash (region_of a t) t)
+some_part hash a t some = rw (ne_eqb (length (records t)) 0 (λ z. omega arith)) refl
 
-no_part : (hash : List ℕ → List ℕ) (w : Rectangle) (t : Tree) → length (records t) ≡ 0
-    → honest_part hash (asks (Window w)) t ≡ None
-no_part hash w t none = rw (eq-eqb (length (records t)) 0 none) refl
+no_part : (hash : List ℕ → List ℕ) (a : Asks) (t : Tree) → length (records t) ≡ 0 → honest_part hash a t ≡ None
+no_part hash a t none = rw (eq-eqb (length (records t)) 0 none) refl
 
 -- what is shown of the honest proof, whose cut this is
-record IsOwn (hash : List ℕ → List ℕ) (t : Tree) (b : ℕ) (w : Rectangle) (P : Option Cut) : Type 0 where
-  same : honest_part hash (asks (Window w)) t ≡ P
-  spelled : IsSpelled (honest_head (asks (Window w)) t b) P (proof hash t b (Window w))
-  tight : IsTight (asks (Window w)) (honest_head (asks (Window w)) t b) P
+record IsOwn (hash : List ℕ → List ℕ) (t : Tree) (b : ℕ) (q : Query) (P : Option Cut) : Type 0 where
+  same : honest_part hash (asks q) t ≡ P
+  spelled : IsSpelled (honest_head (asks q) t b) P (proof hash t b q)
+  tight : IsTight (asks q) (honest_head (asks q) t b) P
   cut : IfSome P (λ C. CutOf hash C t)
-  held : root_found hash (honest_head (asks (Window w)) t b) P ≡ root hash t b
-  scanned : scan (records t) (Window w) ≡ scan (opened_records P) (Window w)
-  short : length (proof hash t b (Window w)) < 2 ^ 30
+  held : root_found hash (honest_head (asks q) t b) P ≡ root hash t b
+  scanned : scan (records t) q ≡ scan (opened_records P) q
+  short : length (proof hash t b q) < 2 ^ 30
 
-filled_own : (hash : List ℕ → List ℕ) → IsSized hash → (t : Tree) (b : ℕ) (w : Rectangle) → WellFormed t → IsFull t
-    → b < 2 ^ 64 → IsOwn hash t b w (Some (honest_cut hash (plain_region (Window w)) t))
-filled_own hash h t b w well full low =
-    let region = plain_region (Window w) in
-    let head = honest_head (asks (Window w)) t b in
+-- the honest cut of a tree with records has the radius and the answer of all of them
+opened_same : (hash : List ℕ → List ℕ) (a : Asks) → IsLocal a → (t : Tree) (P : Cut) → IsFull t → CutOf hash P t
+    → IsTightCut (region_of a t) P → SameAsked a (records t) (cut.records P)
+opened_same hash a law t P full c tight =
+    law.same (records t) (cut.records P)
+    (sym (kept hash (region_of a t) (law.misses (a.radius (records t))) P t full c tight))
+
+filled_own : (hash : List ℕ → List ℕ) → IsSized hash → (t : Tree) (b : ℕ) (q : Query) → IsQuery q → WellFormed t
+    → IsFull t → b < 2 ^ 64 → IsOwn hash t b q (Some (honest_cut hash (region_of (asks q) t) t))
+filled_own hash h t b q is well full low =
+    let region = region_of (asks q) t in
+    let head = honest_head (asks q) t b in
     let P = honest_cut hash region t in
     let good = honest_good hash region t full in
     let some = some_record t full in
-    let same = some_part hash w t some in
+    let same = some_part hash (asks q) t some in
     let own : entry hash (level t) P ≡ digests.entry hash t =
     entry_cut hash (level t) P t good.cut well.one_level refl in
     let few = well.few in
     let fits = honest_fits hash region h t full (slim_tree t well) well.one_level (level t) refl in
     let whole = ap (λ (o : Option Cut). head_bytes head ++ part_bytes o) same in
-    let front = head_short t b w in
+    let front = head_short (asks q) t b in
     let behind = cut_short hash (level t) P t full fits good.cut in
-    let size : length (proof hash t b (Window w)) ≡ length (head_bytes head) + length (cut_bytes P) =
+    let size : length (proof hash t b q) ≡ length (head_bytes head) + length (cut_bytes P) =
     ap length whole ∙ length-append (head_bytes head) (cut_bytes P) in
     let shallow : FitsHead head = record {
       batch = low;
       count = few;
-      radius = refl;
+      radius = radius_fits q (records t) is well.each;
       level = well.shallow;
       empty = λ z. absurd (omega arith);
     } in
+    let all = opened_same hash (asks q) (is_local q (askable q is)) t P full good.cut good.tight in
     record {
       same = same;
       spelled = record { head = shallow; part = (some, fits); whole = whole; short = omega arith };
-      tight = record { parts = good.tight; radius = refl };
+      tight = record { parts = good.tight; radius = all.radius };
       cut = good.cut;
       held = ap hash (λ i. root_preimage b (length (records t)) (record {
         level = level t;
@@ -248,54 +269,53 @@ filled_own hash h t b w well full low =
         rect = (digests.entry hash t).rect;
         digest = digest hash t;
       }));
-      scanned = sym (same_scan hash w P t full good.cut good.tight);
+      scanned = all.answer;
       short = omega arith;
     }
 
-empty_own : (hash : List ℕ → List ℕ) (t : Tree) (b : ℕ) (w : Rectangle) → t ≡ tree.Empty → b < 2 ^ 64
-    → IsOwn hash t b w None
-empty_own hash t b w e low =
-    let head = honest_head (asks (Window w)) t b in
+empty_own : (hash : List ℕ → List ℕ) (t : Tree) (b : ℕ) (q : Query) → IsQuery q → WellFormed t → t ≡ tree.Empty
+    → b < 2 ^ 64 → IsOwn hash t b q None
+empty_own hash t b q is well e low =
+    let head = honest_head (asks q) t b in
     let none : records t ≡ [] = ap records e ∙ records-Empty in
     let zero : length (records t) ≡ 0 = ap length none in
     let flat : level t ≡ 0 = ap level e ∙ level-Empty in
-    let same = no_part hash w t zero in
+    let same = no_part hash (asks q) t zero in
     let whole = ap (λ (o : Option Cut). head_bytes head ++ part_bytes o) same in
-    let front = head_short t b w in
-    let size : length (proof hash t b (Window w)) ≡ length (head_bytes head) + 0 =
+    let front = head_short (asks q) t b in
+    let size : length (proof hash t b q) ≡ length (head_bytes head) + 0 =
     ap length whole ∙ length-append (head_bytes head) [] in
     let fits : FitsHead head = record {
       batch = low;
       count = omega arith;
-      radius = refl;
+      radius = radius_fits q (records t) is well.each;
       level = omega arith;
       empty = λ z. flat;
     } in
     record {
       same = same;
       spelled = record { head = fits; part = zero; whole = whole; short = omega arith };
-      tight = record { parts = tt; radius = refl };
+      tight = record { parts = tt; radius = ap (asks q).radius none };
       cut = tt;
       held = ap hash (sym (ap (λ (n : ℕ). root_preimage b n (digests.entry hash t)) zero));
-      scanned = ap (λ (rs : List Record). scan rs (Window w)) none;
+      scanned = ap (λ (rs : List Record). scan rs q) none;
       short = omega arith;
     }
 
-own_part : (hash : List ℕ → List ℕ) → IsSized hash → (t : Tree) (b : ℕ) (w : Rectangle) → WellFormed t → b < 2 ^ 64
-    → (P : Option Cut) × IsOwn hash t b w P
-own_part hash h t b w well low = elim (empty_or_full t well) [
-  | inl e ↦ (None, empty_own hash t b w e low)
-  | inr full ↦ (Some (honest_cut hash (plain_region (Window w)) t), filled_own hash h t b w well full low)
+own_part : (hash : List ℕ → List ℕ) → IsSized hash → (t : Tree) (b : ℕ) (q : Query) → IsQuery q → WellFormed t
+    → b < 2 ^ 64 → (P : Option Cut) × IsOwn hash t b q P
+own_part hash h t b q is well low = elim (empty_or_full t well) [
+  | inl e ↦ (None, empty_own hash t b q is well e low)
+  | inr full ↦ (Some (honest_cut hash (region_of (asks q) t) t), filled_own hash h t b q is well full low)
 ]
 
 -- the honest proof proves the answer of a scan
-honest_proves : (hash : List ℕ → List ℕ) → IsSized hash → (t : Tree) (b : ℕ) (w : Rectangle) → WellFormed t
-    → b < 2 ^ 64
-    → Proves hash (root hash t b) (asks (Window w)) (proof hash t b (Window w)) (scan (records t) (Window w))
-honest_proves hash h t b w well low =
-    let p = own_part hash h t b w well low in
+honest_proves : (hash : List ℕ → List ℕ) → IsSized hash → (t : Tree) (b : ℕ) (q : Query) → IsQuery q → WellFormed t
+    → b < 2 ^ 64 → Proves hash (root hash t b) (asks q) (proof hash t b q) (scan (records t) q)
+honest_proves hash h t b q is well low =
+    let p = own_part hash h t b q is well low in
     record {
-      head = honest_head (asks (Window w)) t b;
+      head = honest_head (asks q) t b;
       part = p.0;
       spelled = p.1.spelled;
       kind = refl;
@@ -304,21 +324,19 @@ honest_proves hash h t b w well low =
       scanned = p.1.scanned;
     }
 
-pub accepts_honest : (hash : List ℕ → List ℕ) → IsSized hash → (q : Query) → AcceptsHonest hash q
-accepts_honest hash h (Window w) = λ t b well low. verdict_from hash (root hash t b) (Window w)
-    (proof hash t b (Window w)) (scan (records t) (Window w)) (honest_proves hash h t b w well low)
+pub accepts_honest : (hash : List ℕ → List ℕ) → IsSized hash → (q : Query) → IsQuery q → AcceptsHonest hash q
+accepts_honest hash h q is = λ t b well low. verdict_from hash (root hash t b) q (proof hash t b q) (scan (records t) q)
+    (askable q is) (honest_proves hash h t b q is well low)
 
-pub honest_stands : (hash : List ℕ → List ℕ) → IsSized hash → (q : Query) (t : Tree) (b : ℕ) → WellFormed t
-    → b < 2 ^ 64 → IsHonestProof hash t b q
-honest_stands hash h (Window w) t b well low =
-    let p = own_part hash h t b w well low in
-    let is = sym p.1.same in
+pub honest_stands : (hash : List ℕ → List ℕ) → IsSized hash → (q : Query) → IsQuery q → (t : Tree) (b : ℕ)
+    → WellFormed t → b < 2 ^ 64 → IsHonestProof hash t b q
+honest_stands hash h q is t b well low =
+    let p = own_part hash h t b q is well low in
+    let same = sym p.1.same in
     record {
-      spelled = subst (λ (o : Option Cut). IsSpelled (honest_head (asks (Window w)) t b) o (proof hash t b (Window w))) is
-          p.1.spelled;
-      tight = subst (λ (o : Option Cut). IsTight (asks (Window w)) (honest_head (asks (Window w)) t b) o) is p.1.tight;
-      cut = subst (λ (o : Option Cut). IfSome o (λ C. CutOf hash C t)) is p.1.cut;
-      held = subst (λ (o : Option Cut). root_found hash (honest_head (asks (Window w)) t b) o ≡ root hash t b) is
-          p.1.held;
+      spelled = subst (λ (o : Option Cut). IsSpelled (honest_head (asks q) t b) o (proof hash t b q)) same p.1.spelled;
+      tight = subst (λ (o : Option Cut). IsTight (asks q) (honest_head (asks q) t b) o) same p.1.tight;
+      cut = subst (λ (o : Option Cut). IfSome o (λ C. CutOf hash C t)) same p.1.cut;
+      held = subst (λ (o : Option Cut). root_found hash (honest_head (asks q) t b) o ≡ root hash t b) same p.1.held;
       short = p.1.short;
     }

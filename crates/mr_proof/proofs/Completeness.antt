@@ -11,8 +11,8 @@ use Rattle.std.proofs.lemmas.List.Elements.{recursion_from_All}
 use Rattle.mr_geom.specs.Rectangle.{Rectangle, IsOrdered, FitsMap}
 use Rattle.mr_record.specs.Record.{IsRecord, record_bytes, rectangle_bytes}
 use Rattle.mr_record.specs.declared.record.Record.{Record}
+use Rattle.mr_query.specs.Word.{IsAskable}
 use Rattle.mr_query.specs.declared.query.Query.{Query}
-use Rattle.mr_query.specs.declared.query.Query.TheVariants.{Window}
 use Rattle.std.proofs.Math.Dec.{eqb-suc-zero}
 use Rattle.mr_proof.specs.declared.head.Kind.{Kind}
 use Rattle.mr_proof.specs.declared.head.Kind.TheVariants as kind
@@ -38,6 +38,7 @@ use Rattle.mr_proof.specs.Refused.{has_other_radius}
 use Rattle.mr_proof.specs.Reading.{past, walk, ending, checked, verdict}
 use Rattle.mr_record.proofs.Encodings.{sides_again}
 use Rattle.mr_geom.proofs.Rectangles.{is_in_order}
+use Rattle.mr_proof.proofs.Laws.{radius_stands}
 use Rattle.mr_proof.proofs.Values.{bytes_same}
 use Rattle.mr_proof.proofs.Wide.{wide_again}
 
@@ -636,25 +637,20 @@ unfolding ending
 ending_again hash root q x s left same right =
     rw (left, bytes_same (root_found hash x.head x.part) root same, right) refl
 
--- the radius of the opened records breaks no rule
-radius_stands : (q : Query) (r : Option ℕ) (P : Option Cut) → r ≡ (asks q).radius (opened_records P)
-    → has_other_radius q r (opened_records P) ≡ false
-radius_stands (Window w) r P e = refl
-
 pub checked_from : (hash : List ℕ → List ℕ) (root : List ℕ) (q : Query) (bytes : List ℕ) (answer : List Record)
-    → (p : Proves hash root (asks q) bytes answer) → checked hash root q bytes ≡ Ok (said p.head p.part)
+    → IsAskable q → (p : Proves hash root (asks q) bytes answer) → checked hash root q bytes ≡ Ok (said p.head p.part)
 unfolding checked
-checked_from hash root q bytes answer p =
+checked_from hash root q bytes answer may p =
     let x = whole_again true (ending hash root q) (asks q).region bytes p.head p.part p.spelled (λ _. p.tight.parts) in
     let of_kind : walk true (ending hash root q) (whole p.head.kind (asks q).region) (start bytes) ≡ Ok
     (said p.head p.part) =
     x.same ∙ ending_again hash root q (said p.head p.part) x.end x.left p.held
-    (radius_stands q p.head.radius p.part p.tight.radius) in
+    (radius_stands q p.head.radius (opened_records p.part) may p.tight.radius) in
     subst (λ (k : Kind). walk true (ending hash root q) (whole k (asks q).region) (start bytes) ≡ Ok
     (said p.head p.part)) p.kind of_kind
 
 pub verdict_from : (hash : List ℕ → List ℕ) (root : List ℕ) (q : Query) (bytes : List ℕ) (answer : List Record)
-    → Proves hash root (asks q) bytes answer → verdict hash root q bytes ≡ Ok answer
+    → IsAskable q → Proves hash root (asks q) bytes answer → verdict hash root q bytes ≡ Ok answer
 unfolding verdict
-verdict_from hash root q bytes answer p =
-    rw (checked_from hash root q bytes answer p) (ap (λ (x : List Record). Ok x) (sym p.scanned))
+verdict_from hash root q bytes answer may p =
+    rw (checked_from hash root q bytes answer may p) (ap (λ (x : List Record). Ok x) (sym p.scanned))

@@ -1,14 +1,16 @@
--- A tight cut of a tree has each record of the tree that the region meets, so a scan of its records is
--- one of the tree's.
-use Rattle.std.proofs.Common.{◌≡◌, ℕ, Bool, true, false, List, [], ◌∷◌, ◌++◌, map, refl, sym, ap, subst, ◌∙◌, arith}
-use Rattle.std.specs.Prelude.{Some, None, fold, filter}
+-- A tight cut of a tree has each record of the tree that the region meets.
+use Rattle.std.proofs.Common.{◌≡◌, ℕ, ◌≤◌, Bool, true, false, leb, List, [], ◌∷◌, ◌++◌, map, refl, sym, ap, subst, ◌∙◌, arith}
+use Rattle.std.specs.Prelude.{Option, Some, None, fold, filter}
 use Rattle.std.specs.List.{AllByRecursion}
-use Rattle.std.proofs.lemmas.Bool.{false≢true}
+use Rattle.std.proofs.lemmas.Bool.{false≢true, leb-false, lt-leb}
 use Rattle.std.proofs.lemmas.List.Elements.{filter-append}
 use Rattle.std.proofs.lemmas.Int.{ints, clamps}
 use Rattle.mr_geom.specs.Rectangle.{Rectangle, IsOrdered, union, join, union_of}
+use Rattle.mr_geom.specs.Distance.{least_squared_distance}
+use Rattle.mr_geom.specs.declared.point.Point.{Point}
+use Rattle.mr_geom.proofs.Distances.{least_squared_distance-Inside}
 use Rattle.mr_geom.proofs.Rectangles.{IsOrdered-union}
-use Rattle.mr_geom.proofs.Planes.{SidesMeet, touches-sides, sides-touches}
+use Rattle.mr_geom.proofs.Planes.{SidesMeet, touches-sides, sides-touches, Inside-union_first, Inside-union_second}
 use Rattle.mr_record.specs.Record.{IsRecord}
 use Rattle.mr_record.specs.declared.record.Record.{Record}
 use Rattle.mr_tree.specs.Tree as trees
@@ -16,11 +18,9 @@ use Rattle.mr_tree.specs.declared.tree.Tree.{Tree}
 use Rattle.mr_tree.proofs.Equations.{records-Leaf, records-Inner}
 use Rattle.mr_tree.proofs.Induction.{every_child}
 use Rattle.mr_tree.proofs.Joins.{rects_of, rect_round}
-use Rattle.mr_query.specs.declared.query.Query.{Query}
-use Rattle.mr_query.specs.declared.query.Query.TheVariants.{Window}
+use Rattle.mr_query.specs.declared.query.Query.TheVariants.{Window, Nearest}
 use Rattle.mr_query.specs.Region.{touches, reaches}
-use Rattle.mr_query.specs.Scan.{by_number, scan}
-use Rattle.mr_query.proofs.Scans.{scan_is}
+use Rattle.mr_query.specs.Nearest.{is_within}
 use Rattle.mr_proof.specs.Cut.{Cut, Cuts, Pruned, Leaf, Inner, no_more, first, records, all_records, CutOf, CutsOf}
 use Rattle.mr_proof.specs.Tight.{Seen, seen_at, asks, IsTightCut, AreTightCuts}
 use Rattle.mr_proof.proofs.Full.{IsFull, IsFullNode, full_records, flat}
@@ -102,14 +102,10 @@ missed_by : (test whole : Bool) → whole ≡ false → (test ≡ true → whole
 missed_by true whole f up = absurd (false≢true (sym f ∙ up refl))
 missed_by false whole f up = refl
 
--- the region of a query without a radius
-abbrev pub plain_region : Query → Seen → Bool
-plain_region q = (asks q).region None
-
 -- a window that misses a union misses both parts
-pub window_law : (w : Rectangle) → MissesParts (plain_region (Window w))
+pub window_law : (w : Rectangle) (r : Option ℕ) → MissesParts ((asks (Window w)).region r)
 unfolding reaches
-window_law w = record {
+window_law w r = record {
   parts = λ a b o q f. (
     missed_by (touches w a) (touches w (union a b)) f
         (λ t. touches-sides w (union a b) (first_sides w a b (sides-touches w a t))),
@@ -118,10 +114,22 @@ window_law w = record {
   );
 }
 
-pub same_scan : (hash : List ℕ → List ℕ) (w : Rectangle) (P : Cut) (t : Tree) → IsFull t → CutOf hash P t
-    → IsTightCut (plain_region (Window w)) P
-    → scan (records P) (Window w) ≡ scan (trees.records t) (Window w)
-same_scan hash w P t full c tight =
-    scan_is (records P) (Window w)
-    ∙ ap by_number (kept hash (plain_region (Window w)) (window_law w) P t full c tight)
-    ∙ sym (scan_is (trees.records t) (Window w))
+-- ---- circles
+
+farther : (m k n : ℕ) → m ≤ k → leb m n ≡ false → leb k n ≡ false
+farther m k n le f = let lt = leb-false m n f in lt-leb k n (omega arith)
+
+circle_parts : (p : Point) (radius : Option ℕ) (a b : Rectangle) → IsOrdered a → IsOrdered b
+    → is_within p radius (union a b) ≡ false → (is_within p radius a ≡ false) × (is_within p radius b ≡ false)
+circle_parts p None a b o q f = absurd (false≢true (sym f))
+circle_parts p (Some n) a b o q f = (
+  farther (least_squared_distance (union a b) p) (least_squared_distance a p) n
+      (least_squared_distance-Inside a (union a b) p o (Inside-union_first a b)) f,
+  farther (least_squared_distance (union a b) p) (least_squared_distance b p) n
+      (least_squared_distance-Inside b (union a b) p q (Inside-union_second a b)) f,
+)
+
+-- so does a circle
+pub circle_law : (p : Point) (k : ℕ) (r : Option ℕ) → MissesParts ((asks (Nearest p k)).region r)
+unfolding reaches
+circle_law p k r = record { parts = λ a b o q f. circle_parts p r a b o q f }

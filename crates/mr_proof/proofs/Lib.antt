@@ -12,6 +12,7 @@ pub mod Preimages
 pub mod Full
 pub mod HonestCut
 pub mod KeptRecords
+pub mod Laws
 pub mod HonestSize
 pub mod PreimageBytes
 pub mod Complete

@@ -11,6 +11,7 @@ use Rattle.mr_tree.specs.declared.tree.Tree.TheOpen as node
 use Rattle.mr_tree.specs.declared.tree.Tree.TheFolds.{every-Tree}
 use Rattle.mr_tree.proofs.Equations.{entry_level}
 use Rattle.mr_tree.proofs.Induction.{every_child}
+use Rattle.mr_query.specs.Word.{IsQuery}
 use Rattle.mr_query.specs.declared.query.Query.{Query}
 use Rattle.mr_proof.specs.Cut.{Cut, Cuts, Pruned, Leaf, Inner, no_more, first, entry, entries, CutOf, CutsOf}
 use Rattle.mr_proof.specs.Spelling.{FitsPart}
@@ -76,9 +77,9 @@ part_quiet : (hash : List ℕ → List ℕ) (t : Tree) (P : Option Cut) → Well
 part_quiet hash t None well c = refl
 part_quiet hash t (Some P) well c = no_clash hash (level t) P t c well.one_level refl
 
-pub honest_quiet : (hash : List ℕ → List ℕ) → IsSized hash → (q : Query) → HonestIsQuiet hash q
-honest_quiet hash h q = λ t b well low.
-    let s = honest_stands hash h q t b well low in
+pub honest_quiet : (hash : List ℕ → List ℕ) → IsSized hash → (q : Query) → IsQuery q → HonestIsQuiet hash q
+honest_quiet hash h q is = λ t b well low.
+    let s = honest_stands hash h q is t b well low in
     let head = honest_head (asks q) t b in
     let part = honest_part hash (asks q) t in
     let same = root_same hash (asks q) t b part well s.spelled.part s.cut in

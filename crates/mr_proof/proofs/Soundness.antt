@@ -11,8 +11,8 @@ use Rattle.mr_geom.specs.Rectangle.{Rectangle, IsOrdered, FitsMap}
 use Rattle.mr_record.specs.Bytes.{AreBytes}
 use Rattle.mr_record.specs.Record.{IsRecord, record_bytes, rectangle_bytes}
 use Rattle.mr_record.specs.declared.record.Record.{Record}
+use Rattle.mr_query.specs.Word.{IsAskable}
 use Rattle.mr_query.specs.declared.query.Query.{Query}
-use Rattle.mr_query.specs.declared.query.Query.TheVariants.{Window}
 use Rattle.std.proofs.Math.Dec.{eqb-suc-zero}
 use Rattle.mr_proof.specs.declared.head.Kind.{Kind}
 use Rattle.mr_proof.specs.declared.head.Kind.TheVariants as kind
@@ -32,6 +32,7 @@ use Rattle.mr_proof.specs.Layout.{fault, Stand, start, behind}
 use Rattle.mr_proof.specs.Refused.{has_other_radius}
 use Rattle.mr_proof.specs.Reading.{past, walk, ending, checked, verdict}
 use Rattle.mr_record.proofs.Encodings.{IsBytes, AreBytes-from}
+use Rattle.mr_proof.proofs.Laws.{right_radius}
 use Rattle.mr_proof.proofs.Values.{same_bytes}
 use Rattle.mr_proof.proofs.FieldsTaken.{same_value, Took, took_none, took_both, took_as, Taken, behind_step, take_reads, passed, length_meant, level_meant, flag_meant, leaf_count_meant, inner_count_meant, number_meant, batch_meant, count_meant, radius_meant, rect_meant, payload_meant, digest_meant, tag_meant, magic_meant, version_meant, kind_meant}
 
@@ -505,15 +506,10 @@ take_end hash root q x s y is =
     let o = not_failed other (fault rule.WrongRadius end) (Ok x) y r.1 in
     (nothing_left s.rest t.0, same_bytes found root (not_false (bytes_eq found root) r.0), o.0, same_value x y o.1)
 
--- a head of the query's kind that does not break the rule on the radius has that of the opened records
-right_radius : (q : Query) (h : Head) (P : Option Cut) → h.kind ≡ (asks q).kind → FitsHead h
-    → has_other_radius q h.radius (opened_records P) ≡ false → h.radius ≡ (asks q).radius (opened_records P)
-right_radius (Window w) h P k fits right = subst (λ (k : Kind). FitsRadius k h.radius) k fits.radius
-
 pub proves_from : (hash : List ℕ → List ℕ) (root : List ℕ) (q : Query) (bytes : List ℕ) (answer : List Record)
-    → IsBytes bytes → verdict hash root q bytes ≡ Ok answer → Proves hash root (asks q) bytes answer
+    → IsAskable q → IsBytes bytes → verdict hash root q bytes ≡ Ok answer → Proves hash root (asks q) bytes answer
 unfolding verdict checked
-proves_from hash root q bytes answer fits is =
+proves_from hash root q bytes answer may fits is =
     let c = behind_step (walk true (ending hash root q) (whole (asks q).kind (asks q).region) (start bytes))
     (λ x. Ok ((asks q).answer (opened_records x.part))) answer is in
     let x = take_whole true (ending hash root q) (asks q).kind (asks q).region bytes c.0 fits c.1 in
@@ -523,7 +519,8 @@ proves_from hash root q bytes answer fits is =
       part = x.value.part;
       spelled = spelled_whole true (ending hash root q) (asks q).kind (asks q).region bytes c.0 x z.0;
       kind = x.kind;
-      tight = record { parts = x.tight refl; radius = right_radius q x.value.head x.value.part x.kind x.fits z.2 };
+      tight = record { parts = x.tight refl; 
+        radius = right_radius q x.value.head (opened_records x.value.part) may x.kind x.fits z.2 };
       held = z.1;
       scanned = sym (same_value ((asks q).answer (opened_records c.0.part)) answer c.2)
           ∙ ap (λ (y : Said). (asks q).answer (opened_records y.part)) (sym z.3);

@@ -1,9 +1,6 @@
--- An accepted proof is the honest one, or it shows a collision: for queries of every kind by one law of each
--- kind, and then for windows.
+-- An accepted proof is the honest one, or it shows a collision: for queries of every kind, by one law of each.
 use Rattle.std.proofs.Common.{◌≡◌, ◌≢◌, ◌⊎◌, ℕ, ◌<◌, ◌≤◌, ◌^◌, List, [], ◌++◌, length, Option, Some, None, Result, Ok, Err, refl, sym, ap, subst, ◌∙◌, inl, inr, arith}
-use Rattle.std.specs.Prelude.{filter}
 use Rattle.std.proofs.lemmas.Bool.{eq-eqb, ne_eqb}
-use Rattle.mr_geom.specs.Rectangle.{Rectangle}
 use Rattle.mr_record.specs.declared.record.Record.{Record}
 use Rattle.mr_record.proofs.Encodings.{IsBytes}
 use Rattle.mr_tree.specs.Tree.{level, records}
@@ -13,61 +10,28 @@ use Rattle.mr_tree.specs.WellFormed.{WellFormed}
 use Rattle.mr_tree.specs.declared.tree.Tree.{Tree}
 use Rattle.mr_tree.specs.declared.tree.Tree.TheVariants as tree
 use Rattle.mr_tree.proofs.Equations.{entry_level, records-Empty, level-Empty}
+use Rattle.mr_query.specs.Word.{IsAskable}
 use Rattle.mr_query.specs.declared.query.Query.{Query}
-use Rattle.mr_query.specs.declared.query.Query.TheVariants.{Window}
-use Rattle.mr_query.specs.Region.{reaches}
-use Rattle.mr_query.specs.Scan.{by_number}
-use Rattle.mr_query.proofs.Scans.{scan_is}
 use Rattle.mr_proof.specs.declared.head.Head.{Head}
 use Rattle.mr_proof.specs.declared.rule.Fault.{Fault}
 use Rattle.mr_proof.specs.Cut.{Cut, CutOf}
 use Rattle.mr_proof.specs.Cut as cut
 use Rattle.mr_proof.specs.Spelling.{head_bytes, part_bytes, opened_records, IsSpelled}
-use Rattle.mr_proof.specs.Tight.{seen_at, Asks, asks, IsTight, IsTightCut}
+use Rattle.mr_proof.specs.Tight.{Asks, asks, IsTight, IsTightCut}
 use Rattle.mr_proof.specs.Accepted.{root_bytes, Proves}
 use Rattle.mr_proof.specs.Honest.{region_of, honest_cut, honest_head, honest_part, proof}
 use Rattle.mr_proof.specs.Reading.{verdict}
 use Rattle.mr_proof.specs.Clash.{Pair, differ, node_clash, part_clash, pair_clash, if_said, clash, IsCollision, NoneAnd}
 use Rattle.mr_proof.specs.Headline.{IsHonest, Headline, AcceptedIsHonest, OthersFail}
 use Rattle.mr_proof.proofs.Full.{IsFull, IsThere, some_record, empty_or_full}
-use Rattle.mr_proof.proofs.KeptRecords.{MissesParts, kept, window_law}
+use Rattle.mr_proof.proofs.KeptRecords.{kept}
+use Rattle.mr_proof.proofs.Laws.{IsLocal, is_local}
 use Rattle.mr_proof.proofs.Preimages.{entry-rect}
 use Rattle.mr_proof.proofs.Pairs.{pair_found}
 use Rattle.mr_proof.proofs.Soundness.{proves_from}
 use Rattle.mr_proof.proofs.UniqueCut.{is_honest}
 use Rattle.mr_proof.proofs.SameNodes.{SameEntry, named_tree, named_cut, cut_or_clash, none_differ, none_both, none_more}
 use Rattle.mr_proof.proofs.SameRoots.{same_root, same_empty, empty_filled}
-
--- ---- the law of a kind
-
-pub record SameAsked (a : Asks) (rs ss : List Record) : Type 0 where
-  pub radius : a.radius rs ≡ a.radius ss
-  pub answer : a.answer rs ≡ a.answer ss
-
--- A region that misses a union misses both parts. Equal records in the region of their own radius give
--- equal radius and answer.
-pub record IsLocal (a : Asks) : Type 0 where
-  pub misses : (r : Option ℕ) → MissesParts (a.region r)
-  pub same : (rs ss : List Record)
-      → filter (λ (r : Record). a.region (a.radius rs) (seen_at r.rect)) rs
-      ≡ filter (λ (r : Record). a.region (a.radius rs) (seen_at r.rect)) ss → SameAsked a rs ss
-
-any_radius : (w : Rectangle) (r : Option ℕ) → MissesParts ((asks (Window w)).region r)
-unfolding reaches
-any_radius w r = window_law w
-
-pub window_is_local : (w : Rectangle) → IsLocal (asks (Window w))
-unfolding reaches
-window_is_local w = record {
-  misses = any_radius w;
-  same = λ rs ss e. record {
-    radius = refl;
-    answer = scan_is rs (Window w) ∙ ap by_number e ∙ sym (scan_is ss (Window w));
-  };
-}
-
-pub is_local : (q : Query) → IsLocal (asks q)
-is_local (Window w) = window_is_local w
 
 -- ---- what is shown, for what any query asks
 
@@ -185,16 +149,16 @@ general_headline hash sized a law t b bytes answer well low p =
 -- ---- for the queries that there are
 
 pub headline : (hash : List ℕ → List ℕ) → ((m : List ℕ) → length (hash m) ≡ 32) → (q : Query) (bytes : List ℕ)
-    → Headline hash q bytes
-headline hash sized q bytes = λ t b answer well low p.
+    → IsAskable q → Headline hash q bytes
+headline hash sized q bytes may = λ t b answer well low p.
     none_more hash (clash hash t b bytes) (IsOwn hash (asks q) t b bytes answer) (IsHonest hash t b q bytes answer)
-    (general_headline hash sized (asks q) (is_local q) t b bytes answer well low p)
+    (general_headline hash sized (asks q) (is_local q may) t b bytes answer well low p)
     (λ own. record { complete = own.complete; own = own.own })
 
 pub accepted_headline : (hash : List ℕ → List ℕ) → ((m : List ℕ) → length (hash m) ≡ 32) → (q : Query) (bytes : List ℕ)
-    → IsBytes bytes → AcceptedIsHonest hash q bytes
-accepted_headline hash sized q bytes fits = λ t b answer well low e.
-    headline hash sized q bytes t b answer well low (proves_from hash (root hash t b) q bytes answer fits e)
+    → IsAskable q → IsBytes bytes → AcceptedIsHonest hash q bytes
+accepted_headline hash sized q bytes may fits = λ t b answer well low e.
+    headline hash sized q bytes may t b answer well low (proves_from hash (root hash t b) q bytes answer may fits e)
 
 abbrev Fails : (List ℕ → List ℕ) → (Option Pair) → Result (List Record) Fault → Type 0
 Fails hash c r = ((f : Fault) × (r ≡ Err f)) ⊎ ((p : Pair) × (c ≡ Some p) × IsCollision hash p)
@@ -205,16 +169,17 @@ fails_so hash None r K k not = absurd (not k)
 fails_so hash (Some p) r K k not = inr (p, refl, k)
 
 others : (hash : List ℕ → List ℕ) → ((m : List ℕ) → length (hash m) ≡ 32) → (q : Query) (bytes : List ℕ)
-    → IsBytes bytes → (t : Tree) (b : ℕ) → WellFormed t → b < 2 ^ 64 → bytes ≢ proof hash t b q
+    → IsAskable q → IsBytes bytes → (t : Tree) (b : ℕ) → WellFormed t → b < 2 ^ 64 → bytes ≢ proof hash t b q
     → (r : Result (List Record) Fault) → verdict hash (root hash t b) q bytes ≡ r
     → Fails hash (clash hash t b bytes) r
-others hash sized q bytes fits t b well low other (Err f) e = inl (f, refl)
-others hash sized q bytes fits t b well low other (Ok answer) e =
+others hash sized q bytes may fits t b well low other (Err f) e = inl (f, refl)
+others hash sized q bytes may fits t b well low other (Ok answer) e =
     fails_so hash (clash hash t b bytes) (Ok answer) (IsHonest hash t b q bytes answer)
-    (headline hash sized q bytes t b answer well low (proves_from hash (root hash t b) q bytes answer fits e))
+    (headline hash sized q bytes may t b answer well low
+    (proves_from hash (root hash t b) q bytes answer may fits e))
     (λ own. other own.own)
 
 pub others_fail : (hash : List ℕ → List ℕ) → ((m : List ℕ) → length (hash m) ≡ 32) → (q : Query) (bytes : List ℕ)
-    → IsBytes bytes → OthersFail hash q bytes
-others_fail hash sized q bytes fits = λ t b well low other.
-    others hash sized q bytes fits t b well low other (verdict hash (root hash t b) q bytes) refl
+    → IsAskable q → IsBytes bytes → OthersFail hash q bytes
+others_fail hash sized q bytes may fits = λ t b well low other.
+    others hash sized q bytes may fits t b well low other (verdict hash (root hash t b) q bytes) refl

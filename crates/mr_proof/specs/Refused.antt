@@ -1,10 +1,11 @@
 -- The refusing half: all rules that a byte string breaks as a proof, and which of them is its
 -- fault.
-use Rattle.std.specs.Prelude.{◌≡◌, ◌⊎◌, ℕ, ◌+◌, ◌<◌, Bool, false, not, nat_lt, if◌then◌else◌, List, [], ◌∷◌, ◌++◌, length, All, bytes_eq, Option, Result, Ok, Err}
+use Rattle.std.specs.Prelude.{◌≡◌, ◌⊎◌, ℕ, ◌+◌, ◌<◌, Bool, false, not, ◌||◌, nat_lt, nat_le, if◌then◌else◌, List, [], ◌∷◌, ◌++◌, length, All, bytes_eq, Option, Some, None, Result, Ok, Err}
 use Rattle.std.specs.List.{Contains}
 use Rattle.mr_record.specs.declared.record.Record.{Record}
 use Rattle.mr_query.specs.declared.query.Query.{Query}
-use Rattle.mr_query.specs.declared.query.Query.TheVariants.{Window}
+use Rattle.mr_query.specs.declared.query.Query.TheVariants.{Window, Nearest}
+use Rattle.mr_query.specs.Nearest.{nearer_than, not_farther_than}
 use Rattle.mr_proof.specs.declared.rule.Rule.{Rule}
 use Rattle.mr_proof.specs.declared.rule.Rule.TheVariants as rule
 use Rattle.mr_proof.specs.declared.rule.Fault.{Fault}
@@ -69,9 +70,14 @@ faults ending (done x) s = ending x s
 faults ending (reads w next) s = with_field (field_at w s) (λ value t. faults ending (next value) t)
 faults ending (notes n next) s = note_faults n s.last ++ faults ending next s
 
--- whether the squared radius is another than that of the opened records; for a window there is none
+-- Whether the squared radius is another than that of the opened records. For a window there is none.
+-- For the k nearest records: without one, at least k are opened; with one, at least k are nearer
+-- than it, or fewer than k are not farther.
 abbrev pub has_other_radius : Query → Option ℕ → List Record → Bool
 has_other_radius (Window w) radius records = false
+has_other_radius (Nearest p k) None records = nat_le k (length records)
+has_other_radius (Nearest p k) (Some n) records =
+    nat_le k (nearer_than p n records) || nat_lt (not_farther_than p n records) k
 
 -- what is found after a layout that reached its last field
 abbrev pub last_faults : (List ℕ → List ℕ) → List ℕ → Query → Said → Stand → List Fault

@@ -3,7 +3,8 @@ use Rattle.std.specs.Prelude.{◌≡◌, ℕ, ⊤, Bool, true, false, List, Opti
 use Rattle.mr_geom.specs.Rectangle.{Rectangle}
 use Rattle.mr_record.specs.declared.record.Record.{Record}
 use Rattle.mr_query.specs.declared.query.Query.{Query}
-use Rattle.mr_query.specs.declared.query.Query.TheVariants.{Window}
+use Rattle.mr_query.specs.declared.query.Query.TheVariants.{Window, Nearest}
+use Rattle.mr_query.specs.Nearest.{distances, kth_least}
 use Rattle.mr_query.specs.Region.{reaches}
 use Rattle.mr_query.specs.Scan.{scan}
 use Rattle.mr_proof.specs.declared.head.Kind.{Kind}
@@ -42,10 +43,13 @@ pub record Asks : Type 0 where
 
 abbrev pub kind_of : Query → Kind
 kind_of (Window w) = kind.W
+kind_of (Nearest p k) = kind.K
 
--- a window has none
+-- a window has none; for the k nearest records it is the kth least squared distance, where there are
+-- as many
 abbrev pub radius_of : Query → List Record → Option ℕ
 radius_of (Window w) records = None
+radius_of (Nearest p k) records = kth_least k (distances p records)
 
 abbrev pub asks : Query → Asks
 asks q = record {

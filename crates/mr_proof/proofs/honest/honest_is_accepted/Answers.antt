@@ -5,9 +5,9 @@ use Rattle.mr_proof.proofs.honest.honest_is_accepted.Goals as goal
 pub returns-clause-accepted : goal.returns-clause-accepted
 returns-clause-accepted g c =
     let sized : IsSized g.H.Hashes.of = record { long = g.met.H.Hashes.sized; bytes = g.met.H.Hashes.bytes } in
-    accepts_honest g.H.Hashes.of sized c.args._q.now
+    accepts_honest g.H.Hashes.of sized c.args.q.now c.is_query.ensures
 
 pub returns-clause-honest : goal.returns-clause-honest
 returns-clause-honest g c =
     let sized : IsSized g.H.Hashes.of = record { long = g.met.H.Hashes.sized; bytes = g.met.H.Hashes.bytes } in
-    λ t batch well low. honest_stands g.H.Hashes.of sized c.args._q.now t batch well low
+    λ t batch well low. honest_stands g.H.Hashes.of sized c.args.q.now c.is_query.ensures t batch well low
