@@ -12,7 +12,7 @@ use Rattle.mr_record.specs.Record.{record_bytes}
 use Rattle.mr_record.specs.declared.record.Record.{Record}
 use Rattle.mr_tree.specs.Tree.{join, union_of, first_level}
 use Rattle.mr_tree.specs.Digest.{Entry as NodeEntry, rect_bytes, entry_bytes}
-use Rattle.mr_query.specs.declared.query.Query.{Query}
+use Rattle.mr_query.specs.declared.area.Area.{Area}
 use Rattle.mr_proof.specs.declared.rule.Rule.{Rule}
 use Rattle.mr_proof.specs.declared.rule.Rule.TheVariants as rule
 use Rattle.mr_proof.specs.declared.rule.Fault.{Fault}
@@ -47,31 +47,31 @@ missed_stops false at w e = refl
 
 -- ---- a leaf
 
-pub leaf_took : (hash : List ℕ → List ℕ) (q : Query) (s a t : Stand) (count : ℕ) (rs : List Record) (x : Entry)
+pub leaf_took : (hash : List ℕ → List ℕ) (z : Area) (s a t : Stand) (count : ℕ) (rs : List Record) (x : Entry)
     (old new : List Record) → field_at want.LeafCount s ≡ Ok (field.Num count, a) → Goes (some_records count) a rs t
-    → met_by (region q) (option_map seen_at x.rect) ≡ true → x.rect ≡ rect (Leaf rs)
-    → x.digest ≡ hash (0x4c ∷ length rs ∷ flat_map record_bytes rs) → new ≡ old ++ filter (asked q) rs
-    → Took hash q 0 (leaf (region q)) x s t old new
-leaf_took hash q s a t count rs x old new read goes met place same kept =
-    let here : met_by (region q) (seen (Leaf rs)) ≡ true = ap
-    (λ (o : Option Rectangle). met_by (region q) (option_map seen_at o)) (sym place) ∙ met in
+    → met_by (region z) (option_map seen_at x.rect) ≡ true → x.rect ≡ rect (Leaf rs)
+    → x.digest ≡ hash (0x4c ∷ length rs ∷ flat_map record_bytes rs) → new ≡ old ++ filter (asked z) rs
+    → Took hash z 0 (leaf (region z)) x s t old new
+leaf_took hash z s a t count rs x old new read goes met place same kept =
+    let here : met_by (region z) (seen (Leaf rs)) ≡ true = ap
+    (λ (o : Option Rectangle). met_by (region z) (option_map seen_at o)) (sym place) ∙ met in
     record {
       cut = Leaf rs;
-      goes = λ e next. rw read (goes e (λ rs. opened (region q) (Leaf rs) next)
-          ∙ met_goes (met_by (region q) (seen (Leaf rs))) t.last (walk true e (next (Leaf rs)) t) here);
+      goes = λ e next. rw read (goes e (λ rs. opened (region z) (Leaf rs) next)
+          ∙ met_goes (met_by (region z) (seen (Leaf rs))) t.last (walk true e (next (Leaf rs)) t) here);
       knows = λ i. record { level = 0; rect = sym place i; digest = sym same i };
       kept = kept;
     }
 
-pub leaf_stops : (q : Query) (s a t : Stand) (count : ℕ) (rs : List Record) (place : Option Rectangle)
+pub leaf_stops : (z : Area) (s a t : Stand) (count : ℕ) (rs : List Record) (place : Option Rectangle)
     → field_at want.LeafCount s ≡ Ok (field.Num count, a) → Goes (some_records count) a rs t
-    → met_by (region q) (option_map seen_at place) ≡ false → place ≡ rect (Leaf rs)
-    → Stops (leaf (region q)) s (fault rule.Needless t.last)
-leaf_stops q s a t count rs place read goes missed is =
-    let here : met_by (region q) (seen (Leaf rs)) ≡ false = ap
-    (λ (o : Option Rectangle). met_by (region q) (option_map seen_at o)) (sym is) ∙ missed in
-    λ e next. rw read (goes e (λ rs. opened (region q) (Leaf rs) next)
-    ∙ missed_stops (met_by (region q) (seen (Leaf rs))) t.last (walk true e (next (Leaf rs)) t) here)
+    → met_by (region z) (option_map seen_at place) ≡ false → place ≡ rect (Leaf rs)
+    → Stops (leaf (region z)) s (fault rule.Needless t.last)
+leaf_stops z s a t count rs place read goes missed is =
+    let here : met_by (region z) (seen (Leaf rs)) ≡ false = ap
+    (λ (o : Option Rectangle). met_by (region z) (option_map seen_at o)) (sym is) ∙ missed in
+    λ e next. rw read (goes e (λ rs. opened (region z) (Leaf rs) next)
+    ∙ missed_stops (met_by (region z) (seen (Leaf rs))) t.last (walk true e (next (Leaf rs)) t) here)
 
 -- ---- children
 
@@ -110,22 +110,22 @@ levels_of es = map (λ (e : NodeEntry). e.level) es
 
 -- Of a node with so many children, of this level, so many were read: a cut of each, the hasher that was fed their
 -- entries, the rectangle round them, and the records that are kept.
-pub record ChildrenSo (hash : List ℕ → List ℕ) (holds : List ℕ → Type 0) (q : Query) (w v count i : ℕ) (s t : Stand)
+pub record ChildrenSo (hash : List ℕ → List ℕ) (holds : List ℕ → Type 0) (z : Area) (w v count i : ℕ) (s t : Stand)
     (place : Option Rectangle) (old kept : List Record) : Type 0 where
   pub front : List Cut
   pub counted : length front ≡ i
   pub goes : (e : Said → Stand → Result Said Fault) (next : Cuts → Grammar Said)
-      → walk true e (some_items (item (region q) w) count next) s ≡ walk true e
-      (some_items (item (region q) w) (count - i) (λ Ps. next (with_front front Ps))) t
+      → walk true e (some_items (item (region z) w) count next) s ≡ walk true e
+      (some_items (item (region z) w) (count - i) (λ Ps. next (with_front front Ps))) t
   pub fed : holds (0x4e ∷ v ∷ count ∷ flat_map entry_bytes (known_of hash w front))
   pub union : place ≡ union_over (known_of hash w front)
   pub level : 0 < i → first_level (levels_of (known_of hash w front)) ≡ w
-  pub kept_so : kept ≡ old ++ filter (asked q) (flat_map records front)
+  pub kept_so : kept ≡ old ++ filter (asked z) (flat_map records front)
 
-pub children_begin : (hash : List ℕ → List ℕ) (holds : List ℕ → Type 0) (q : Query) (w v count : ℕ) (s : Stand)
+pub children_begin : (hash : List ℕ → List ℕ) (holds : List ℕ → Type 0) (z : Area) (w v count : ℕ) (s : Stand)
     (place : Option Rectangle) (old : List Record) → holds (0x4e ∷ v ∷ count ∷ []) → place ≡ None
-    → ChildrenSo hash holds q w v count 0 s s place old old
-children_begin hash holds q w v count s place old fed none = record {
+    → ChildrenSo hash holds z w v count 0 s s place old old
+children_begin hash holds z w v count s place old fed none = record {
   front = [];
   counted = refl;
   goes = λ e next. let all : count - 0 ≡ count = omega arith in rw all refl;
@@ -145,13 +145,13 @@ length-known : (hash : List ℕ → List ℕ) (w : ℕ) (front : List Cut) → l
 length-known hash w [] = refl
 length-known hash w (P ∷ front) = ap suc (length-known hash w front)
 
-pub children_go_on : (hash : List ℕ → List ℕ) (before after : List ℕ → Type 0) (q : Query) (w v count i : ℕ)
+pub children_go_on : (hash : List ℕ → List ℕ) (before after : List ℕ → Type 0) (z : Area) (w v count i : ℕ)
     (s t u : Stand) (place : Option Rectangle) (old kept more : List Record) (x : Entry) (around : Option Rectangle)
     → i < count
-    → ChildrenSo hash before q w v count i s t place old kept → Took hash q w (item (region q) w) x t u kept more
+    → ChildrenSo hash before z w v count i s t place old kept → Took hash z w (item (region z) w) x t u kept more
     → ((fed : List ℕ) → before fed → after (fed ++ (rect_bytes x.rect ++ x.digest))) → around ≡ join place x.rect
-    → ChildrenSo hash after q w v count (i + 1) s u around old more
-children_go_on hash before after q w v count i s t u place old kept more x around lt so one feeds joins =
+    → ChildrenSo hash after z w v count (i + 1) s u around old more
+children_go_on hash before after z w v count i s t u place old kept more x around lt so one feeds joins =
     let es = known_of hash w so.front in
     let all = so.front ++ one.cut ∷ [] in
     let new : known_of hash w all ≡ es ++ known w x ∷ [] = map-append (entry hash w) so.front (one.cut ∷ [])
@@ -161,13 +161,13 @@ children_go_on hash before after q w v count i s t u place old kept more x aroun
       front = all;
       counted = omega (arith, so.counted, length-append so.front (one.cut ∷ []));
       goes = λ e next.
-          let here : walk true e (some_items (item (region q) w) (count - i) (λ Ps. next (with_front so.front Ps)))
-          t ≡ walk true e (some_items (item (region q) w) (count - (i + 1))
+          let here : walk true e (some_items (item (region z) w) (count - i) (λ Ps. next (with_front so.front Ps)))
+          t ≡ walk true e (some_items (item (region z) w) (count - (i + 1))
           (λ Ps. next (with_front so.front (first one.cut Ps)))) u =
-          rw left (one.goes e (λ P. some_items (item (region q) w) (count - (i + 1))
+          rw left (one.goes e (λ P. some_items (item (region z) w) (count - (i + 1))
           (λ Ps. next (with_front so.front (first P Ps))))) in
           so.goes e next ∙ here ∙ (λ j. walk true e
-          (some_items (item (region q) w) (count - (i + 1)) (λ Ps. next (with_front-append so.front one.cut Ps j)))
+          (some_items (item (region z) w) (count - (i + 1)) (λ Ps. next (with_front-append so.front one.cut Ps j)))
           u);
       fed =
           let text = 0x4e ∷ v ∷ count ∷ flat_map entry_bytes es in
@@ -191,56 +191,56 @@ children_go_on hash before after q w v count i s t u place old kept more x aroun
           ∙ first_stays w i es (known w x) (length-known hash w so.front ∙ so.counted) so.level refl;
       kept_so =
           let last : flat_map records (one.cut ∷ []) ≡ records one.cut = append-nil (records one.cut) in
-          let mine : filter (asked q) (flat_map records all) ≡ filter (asked q) (flat_map records so.front) ++ filter
-          (asked q) (records one.cut) =
-          ap (filter (asked q)) (flat_map-append records so.front (one.cut ∷ [])
+          let mine : filter (asked z) (flat_map records all) ≡ filter (asked z) (flat_map records so.front) ++ filter
+          (asked z) (records one.cut) =
+          ap (filter (asked z)) (flat_map-append records so.front (one.cut ∷ [])
           ∙ ap (λ (rs : List Record). flat_map records so.front ++ rs) last)
-          ∙ filter-append (asked q) (flat_map records so.front) (records one.cut) in
-          one.kept ∙ ap (λ (rs : List Record). rs ++ filter (asked q) (records one.cut)) so.kept_so
-          ∙ append_assoc old (filter (asked q) (flat_map records so.front)) (filter (asked q) (records one.cut))
+          ∙ filter-append (asked z) (flat_map records so.front) (records one.cut) in
+          one.kept ∙ ap (λ (rs : List Record). rs ++ filter (asked z) (records one.cut)) so.kept_so
+          ∙ append_assoc old (filter (asked z) (flat_map records so.front)) (filter (asked z) (records one.cut))
           ∙ ap (λ (rs : List Record). old ++ rs) (sym mine);
     }
 
 -- ---- an inner node
 
 -- its piece, behind its number of children
-behind_count : (q : Query) (w : ℕ) (e : Said → Stand → Result Said Fault) (next : Cut → Grammar Said) (s a : Stand)
+behind_count : (z : Area) (w : ℕ) (e : Said → Stand → Result Said Fault) (next : Cut → Grammar Said) (s a : Stand)
     (count : ℕ) → field_at want.InnerCount s ≡ Ok (field.Num count, a)
-    → walk true e (inner (region q) (item (region q) w) next) s ≡ walk true e
-    (some_items (item (region q) w) count (λ Ps. opened (region q) (Inner Ps) next)) a
-behind_count q w e next s a count read = rw read refl
+    → walk true e (inner (region z) (item (region z) w) next) s ≡ walk true e
+    (some_items (item (region z) w) count (λ Ps. opened (region z) (Inner Ps) next)) a
+behind_count z w e next s a count read = rw read refl
 
 -- a child stops the reading
-pub inner_stops : (hash : List ℕ → List ℕ) (holds : List ℕ → Type 0) (q : Query) (w v count i : ℕ) (s a t : Stand)
+pub inner_stops : (hash : List ℕ → List ℕ) (holds : List ℕ → Type 0) (z : Area) (w v count i : ℕ) (s a t : Stand)
     (place : Option Rectangle) (old kept : List Record) (e : CheckErr) → i < count
     → field_at want.InnerCount s ≡ Ok (field.Num count, a)
-    → ChildrenSo hash holds q w v count i a t place old kept → StopsOr (item (region q) w) t e
-    → StopsOr (inner (region q) (item (region q) w)) s e
-inner_stops hash holds q w v count i s a t place old kept (errors.Fault f) lt read so stops = λ e next.
+    → ChildrenSo hash holds z w v count i a t place old kept → StopsOr (item (region z) w) t e
+    → StopsOr (inner (region z) (item (region z) w)) s e
+inner_stops hash holds z w v count i s a t place old kept (errors.Fault f) lt read so stops = λ e next.
     let left : count - i ≡ suc (count - (i + 1)) = omega arith in
-    let opening = λ (Ps : Cuts). opened (region q) (Inner Ps) next in
-    let here : walk true e (some_items (item (region q) w) (count - i) (λ Ps. opening (with_front so.front Ps))) t ≡ Err
+    let opening = λ (Ps : Cuts). opened (region z) (Inner Ps) next in
+    let here : walk true e (some_items (item (region z) w) (count - i) (λ Ps. opening (with_front so.front Ps))) t ≡ Err
     f =
-    rw left (stops e (λ P. some_items (item (region q) w) (count - (i + 1))
+    rw left (stops e (λ P. some_items (item (region z) w) (count - (i + 1))
     (λ Ps. opening (with_front so.front (first P Ps))))) in
-    behind_count q w e next s a count read ∙ so.goes e opening ∙ here
-inner_stops hash holds q w v count i s a t place old kept errors.NoMemory lt read so stops = tt
+    behind_count z w e next s a count read ∙ so.goes e opening ∙ here
+inner_stops hash holds z w v count i s a t place old kept errors.NoMemory lt read so stops = tt
 
 -- all children were read
-all_read : (hash : List ℕ → List ℕ) (holds : List ℕ → Type 0) (q : Query) (w v count i : ℕ) (s a t : Stand)
+all_read : (hash : List ℕ → List ℕ) (holds : List ℕ → Type 0) (z : Area) (w v count i : ℕ) (s a t : Stand)
     (place : Option Rectangle) (old kept : List Record) → count ≤ i
     → field_at want.InnerCount s ≡ Ok (field.Num count, a)
-    → (so : ChildrenSo hash holds q w v count i a t place old kept)
+    → (so : ChildrenSo hash holds z w v count i a t place old kept)
     → (e : Said → Stand → Result Said Fault) (next : Cut → Grammar Said)
-    → walk true e (inner (region q) (item (region q) w) next) s ≡ walk true e
-    (opened (region q) (Inner (cuts_of so.front)) next) t
-all_read hash holds q w v count i s a t place old kept le read so e next =
+    → walk true e (inner (region z) (item (region z) w) next) s ≡ walk true e
+    (opened (region z) (Inner (cuts_of so.front)) next) t
+all_read hash holds z w v count i s a t place old kept le read so e next =
     let none : count - i ≡ 0 = omega arith in
-    let opening = λ (Ps : Cuts). opened (region q) (Inner Ps) next in
-    let here : walk true e (some_items (item (region q) w) (count - i) (λ Ps. opening (with_front so.front Ps)))
+    let opening = λ (Ps : Cuts). opened (region z) (Inner Ps) next in
+    let here : walk true e (some_items (item (region z) w) (count - i) (λ Ps. opening (with_front so.front Ps)))
     t ≡ walk true e (opening (cuts_of so.front)) t =
     rw none (ap (λ (Ps : Cuts). walk true e (opening Ps) t) (with_front-none so.front)) in
-    behind_count q w e next s a count read ∙ so.goes e opening ∙ here
+    behind_count z w e next s a count read ∙ so.goes e opening ∙ here
 
 rect_of_all : (hash : List ℕ → List ℕ) (w : ℕ) (front : List Cut)
     → union_over (known_of hash w front) ≡ rect (Inner (cuts_of front))
@@ -255,19 +255,19 @@ inner_known hash es = record {
       (0x4e ∷ (first_level (levels_of es) + 1) ∷ length es ∷ flat_map entry_bytes es);
 }
 
-pub inner_took : (hash : List ℕ → List ℕ) (holds : List ℕ → Type 0) (q : Query) (w v count i : ℕ) (s a t : Stand)
+pub inner_took : (hash : List ℕ → List ℕ) (holds : List ℕ → Type 0) (z : Area) (w v count i : ℕ) (s a t : Stand)
     (place : Option Rectangle) (old kept : List Record) (x : Entry) → count ≤ i → i ≤ count → 1 ≤ count → w ≡ v - 1
     → 0 < v
-    → field_at want.InnerCount s ≡ Ok (field.Num count, a) → ChildrenSo hash holds q w v count i a t place old kept
+    → field_at want.InnerCount s ≡ Ok (field.Num count, a) → ChildrenSo hash holds z w v count i a t place old kept
     → x.rect ≡ place → ((fed : List ℕ) → holds fed → x.digest ≡ hash fed)
-    → met_by (region q) (option_map seen_at x.rect) ≡ true
-    → Took hash q v (inner (region q) (item (region q) w)) x s t old kept
-inner_took hash holds q w v count i s a t place old kept x le ge some below above read so around digests met =
+    → met_by (region z) (option_map seen_at x.rect) ≡ true
+    → Took hash z v (inner (region z) (item (region z) w)) x s t old kept
+inner_took hash holds z w v count i s a t place old kept x le ge some below above read so around digests met =
     let Ps = cuts_of so.front in
     let es = known_of hash w so.front in
     let place_is : x.rect ≡ rect (Inner Ps) = around ∙ so.union ∙ rect_of_all hash w so.front in
-    let here : met_by (region q) (seen (Inner Ps)) ≡ true = ap
-    (λ (o : Option Rectangle). met_by (region q) (option_map seen_at o)) (sym place_is) ∙ met in
+    let here : met_by (region z) (seen (Inner Ps)) ≡ true = ap
+    (λ (o : Option Rectangle). met_by (region z) (option_map seen_at o)) (sym place_is) ∙ met in
     let level_is : first_level (levels_of es) + 1 ≡ v = let first = so.level (omega arith) in omega arith in
     let long : length es ≡ count = length-known hash w so.front ∙ so.counted ∙ omega arith in
     let children : entries hash (v - 1) Ps ≡ es = ap (λ (k : ℕ). entries hash k Ps) (sym below)
@@ -278,131 +278,131 @@ inner_took hash holds q w v count i s a t place old kept x le ge some below abov
     let place_known : x.rect ≡ union_over es = around ∙ so.union in
     record {
       cut = Inner Ps;
-      goes = λ e next. all_read hash holds q w v count i s a t place old kept le read so e next
-          ∙ met_goes (met_by (region q) (seen (Inner Ps))) t.last (walk true e (next (Inner Ps)) t) here;
+      goes = λ e next. all_read hash holds z w v count i s a t place old kept le read so e next
+          ∙ met_goes (met_by (region z) (seen (Inner Ps))) t.last (walk true e (next (Inner Ps)) t) here;
       knows = ap (inner_known hash) children ∙
           (λ j. record { level = level_is j; rect = sym place_known j; digest = sym fed_is j });
-      kept = so.kept_so ∙ ap (λ (rs : List Record). old ++ filter (asked q) rs) (sym (records-cuts_of so.front));
+      kept = so.kept_so ∙ ap (λ (rs : List Record). old ++ filter (asked z) rs) (sym (records-cuts_of so.front));
     }
 
-pub inner_missed : (hash : List ℕ → List ℕ) (holds : List ℕ → Type 0) (q : Query) (w v count i : ℕ) (s a t : Stand)
+pub inner_missed : (hash : List ℕ → List ℕ) (holds : List ℕ → Type 0) (z : Area) (w v count i : ℕ) (s a t : Stand)
     (place here : Option Rectangle) (old kept : List Record) → count ≤ i
     → field_at want.InnerCount s ≡ Ok (field.Num count, a)
-    → ChildrenSo hash holds q w v count i a t place old kept → here ≡ place
-    → met_by (region q) (option_map seen_at here) ≡ false
-    → Stops (inner (region q) (item (region q) w)) s (fault rule.Needless t.last)
-inner_missed hash holds q w v count i s a t place here old kept le read so around missed = λ e next.
+    → ChildrenSo hash holds z w v count i a t place old kept → here ≡ place
+    → met_by (region z) (option_map seen_at here) ≡ false
+    → Stops (inner (region z) (item (region z) w)) s (fault rule.Needless t.last)
+inner_missed hash holds z w v count i s a t place here old kept le read so around missed = λ e next.
     let Ps = cuts_of so.front in
     let place_is : here ≡ rect (Inner Ps) = around ∙ so.union ∙ rect_of_all hash w so.front in
-    let none : met_by (region q) (seen (Inner Ps)) ≡ false = ap
-    (λ (o : Option Rectangle). met_by (region q) (option_map seen_at o)) (sym place_is) ∙ missed in
-    all_read hash holds q w v count i s a t place old kept le read so e next
-    ∙ missed_stops (met_by (region q) (seen (Inner Ps))) t.last (walk true e (next (Inner Ps)) t) none
+    let none : met_by (region z) (seen (Inner Ps)) ≡ false = ap
+    (λ (o : Option Rectangle). met_by (region z) (option_map seen_at o)) (sym place_is) ∙ missed in
+    all_read hash holds z w v count i s a t place old kept le read so e next
+    ∙ missed_stops (met_by (region z) (seen (Inner Ps))) t.last (walk true e (next (Inner Ps)) t) none
 
 -- ---- an item, by its tag
 
-pub pruned_took : (hash : List ℕ → List ℕ) (q : Query) (v b : ℕ) (s a t : Stand) (x : Shown) (old : List Record)
-    → field_at (want.Tag v) s ≡ Ok (field.Tag b, a) → b ≡ pruned_tag → Goes (pruned (region q)) a (Pruned x) t
-    → Took hash q v (item (region q) v) (record { rect = Some x.rect; digest = x.digest }) s t old old
-pruned_took hash q zero b s a t x old read is goes = record
+pub pruned_took : (hash : List ℕ → List ℕ) (z : Area) (v b : ℕ) (s a t : Stand) (x : Shown) (old : List Record)
+    → field_at (want.Tag v) s ≡ Ok (field.Tag b, a) → b ≡ pruned_tag → Goes (pruned (region z)) a (Pruned x) t
+    → Took hash z v (item (region z) v) (record { rect = Some x.rect; digest = x.digest }) s t old old
+pruned_took hash z zero b s a t x old read is goes = record
     { cut = Pruned x; goes = λ e next. rw (read, is) (goes e next); knows = refl; kept = sym (append-nil old) }
-pruned_took hash q (suc w) b s a t x old read is goes = record
+pruned_took hash z (suc w) b s a t x old read is goes = record
     { cut = Pruned x; goes = λ e next. rw (read, is) (goes e next); knows = refl; kept = sym (append-nil old) }
 
-pub pruned_stops : (q : Query) (v b : ℕ) (s a : Stand) (f : Fault) → field_at (want.Tag v) s ≡ Ok (field.Tag b, a)
-    → b ≡ pruned_tag → Stops (pruned (region q)) a f → Stops (item (region q) v) s f
-pruned_stops q zero b s a f read is stops = λ e next. rw (read, is) (stops e next)
-pruned_stops q (suc w) b s a f read is stops = λ e next. rw (read, is) (stops e next)
+pub pruned_stops : (z : Area) (v b : ℕ) (s a : Stand) (f : Fault) → field_at (want.Tag v) s ≡ Ok (field.Tag b, a)
+    → b ≡ pruned_tag → Stops (pruned (region z)) a f → Stops (item (region z) v) s f
+pruned_stops z zero b s a f read is stops = λ e next. rw (read, is) (stops e next)
+pruned_stops z (suc w) b s a f read is stops = λ e next. rw (read, is) (stops e next)
 
-pub tag_stops : (q : Query) (v : ℕ) (s : Stand) (f : Fault) → field_at (want.Tag v) s ≡ Err f
-    → Stops (item (region q) v) s f
-tag_stops q zero s f read = λ e next. rw read refl
-tag_stops q (suc w) s f read = λ e next. rw read refl
+pub tag_stops : (z : Area) (v : ℕ) (s : Stand) (f : Fault) → field_at (want.Tag v) s ≡ Err f
+    → Stops (item (region z) v) s f
+tag_stops z zero s f read = λ e next. rw read refl
+tag_stops z (suc w) s f read = λ e next. rw read refl
 
 -- the piece behind the tag of an opened node
-abbrev opened_piece : Query → ℕ → Piece Cut
-opened_piece q zero = leaf (region q)
-opened_piece q (suc w) = inner (region q) (item (region q) w)
+abbrev opened_piece : Area → ℕ → Piece Cut
+opened_piece z zero = leaf (region z)
+opened_piece z (suc w) = inner (region z) (item (region z) w)
 
 other_piece : (b : Bool) (g k : Grammar Said) (e : Said → Stand → Result Said Fault) (a : Stand) → b ≡ false
     → walk true e (if b then g else k) a ≡ walk true e k a
 other_piece true g k e a is = absurd cc
 other_piece false g k e a is = refl
 
-opened_goes : (q : Query) (v b : ℕ) (s a : Stand) (e : Said → Stand → Result Said Fault) (next : Cut → Grammar Said)
+opened_goes : (z : Area) (v b : ℕ) (s a : Stand) (e : Said → Stand → Result Said Fault) (next : Cut → Grammar Said)
     → field_at (want.Tag v) s ≡ Ok (field.Tag b, a) → eqb b pruned_tag ≡ false
-    → walk true e (item (region q) v next) s ≡ walk true e (opened_piece q v next) a
-opened_goes q zero b s a e next read is =
-    rw read (other_piece (eqb b pruned_tag) (pruned (region q) next) (leaf (region q) next) e a is)
-opened_goes q (suc w) b s a e next read is =
-    rw read (other_piece (eqb b pruned_tag) (pruned (region q) next) (inner (region q) (item (region q) w) next) e a is)
+    → walk true e (item (region z) v next) s ≡ walk true e (opened_piece z v next) a
+opened_goes z zero b s a e next read is =
+    rw read (other_piece (eqb b pruned_tag) (pruned (region z) next) (leaf (region z) next) e a is)
+opened_goes z (suc w) b s a e next read is =
+    rw read (other_piece (eqb b pruned_tag) (pruned (region z) next) (inner (region z) (item (region z) w) next) e a is)
 
 -- what a call that reads the piece behind the tag says, said of the item
-opened_item : (q : Query) (v b : ℕ) (s a t : Stand) (hash : List ℕ → List ℕ) (x : Entry) (old new : List Record)
+opened_item : (z : Area) (v b : ℕ) (s a t : Stand) (hash : List ℕ → List ℕ) (x : Entry) (old new : List Record)
     → field_at (want.Tag v) s ≡ Ok (field.Tag b, a) → eqb b pruned_tag ≡ false
-    → Took hash q v (opened_piece q v) x a t old new → Took hash q v (item (region q) v) x s t old new
-opened_item q v b s a t hash x old new read is took =
+    → Took hash z v (opened_piece z v) x a t old new → Took hash z v (item (region z) v) x s t old new
+opened_item z v b s a t hash x old new read is took =
     record {
       cut = took.cut;
-      goes = λ e next. opened_goes q v b s a e next read is
+      goes = λ e next. opened_goes z v b s a e next read is
           ∙ took.goes e next;
       knows = took.knows;
       kept = took.kept;
     }
 
-opened_stops : (q : Query) (v b : ℕ) (s a : Stand) (e : CheckErr) → field_at (want.Tag v) s ≡ Ok (field.Tag b, a)
-    → eqb b pruned_tag ≡ false → StopsOr (opened_piece q v) a e → StopsOr (item (region q) v) s e
-opened_stops q v b s a (errors.Fault f) read is stops = λ e next. opened_goes q v b s a e next read is ∙ stops e next
-opened_stops q v b s a errors.NoMemory read is stops = tt
+opened_stops : (z : Area) (v b : ℕ) (s a : Stand) (e : CheckErr) → field_at (want.Tag v) s ≡ Ok (field.Tag b, a)
+    → eqb b pruned_tag ≡ false → StopsOr (opened_piece z v) a e → StopsOr (item (region z) v) s e
+opened_stops z v b s a (errors.Fault f) read is stops = λ e next. opened_goes z v b s a e next read is ∙ stops e next
+opened_stops z v b s a errors.NoMemory read is stops = tt
 
-pub leaf_item : (q : Query) (v b : ℕ) (s a t : Stand) (hash : List ℕ → List ℕ) (x : Entry) (old new : List Record)
+pub leaf_item : (z : Area) (v b : ℕ) (s a t : Stand) (hash : List ℕ → List ℕ) (x : Entry) (old new : List Record)
     → v ≡ 0 → field_at (want.Tag v) s ≡ Ok (field.Tag b, a) → eqb b pruned_tag ≡ false
-    → Took hash q 0 (leaf (region q)) x a t old new → Took hash q v (item (region q) v) x s t old new
-leaf_item q zero b s a t hash x old new flat read is took = opened_item q 0 b s a t hash x old new read is took
-leaf_item q (suc w) b s a t hash x old new flat read is took = absurd (omega arith)
+    → Took hash z 0 (leaf (region z)) x a t old new → Took hash z v (item (region z) v) x s t old new
+leaf_item z zero b s a t hash x old new flat read is took = opened_item z 0 b s a t hash x old new read is took
+leaf_item z (suc w) b s a t hash x old new flat read is took = absurd (omega arith)
 
-pub leaf_item_stops : (q : Query) (v b : ℕ) (s a : Stand) (e : CheckErr) → v ≡ 0
-    → field_at (want.Tag v) s ≡ Ok (field.Tag b, a) → eqb b pruned_tag ≡ false → StopsOr (leaf (region q)) a e
-    → StopsOr (item (region q) v) s e
-leaf_item_stops q zero b s a e flat read is stops = opened_stops q 0 b s a e read is stops
-leaf_item_stops q (suc w) b s a e flat read is stops = absurd (omega arith)
+pub leaf_item_stops : (z : Area) (v b : ℕ) (s a : Stand) (e : CheckErr) → v ≡ 0
+    → field_at (want.Tag v) s ≡ Ok (field.Tag b, a) → eqb b pruned_tag ≡ false → StopsOr (leaf (region z)) a e
+    → StopsOr (item (region z) v) s e
+leaf_item_stops z zero b s a e flat read is stops = opened_stops z 0 b s a e read is stops
+leaf_item_stops z (suc w) b s a e flat read is stops = absurd (omega arith)
 
-pub inner_item : (q : Query) (v b : ℕ) (s a t : Stand) (hash : List ℕ → List ℕ) (x : Entry) (old new : List Record)
+pub inner_item : (z : Area) (v b : ℕ) (s a t : Stand) (hash : List ℕ → List ℕ) (x : Entry) (old new : List Record)
     → 0 < v → field_at (want.Tag v) s ≡ Ok (field.Tag b, a) → eqb b pruned_tag ≡ false
-    → Took hash q v (inner (region q) (item (region q) (v - 1))) x a t old new
-    → Took hash q v (item (region q) v) x s t old new
-inner_item q zero b s a t hash x old new above read is took = absurd (omega arith)
-inner_item q (suc w) b s a t hash x old new above read is took =
+    → Took hash z v (inner (region z) (item (region z) (v - 1))) x a t old new
+    → Took hash z v (item (region z) v) x s t old new
+inner_item z zero b s a t hash x old new above read is took = absurd (omega arith)
+inner_item z (suc w) b s a t hash x old new above read is took =
     let below : suc w - 1 ≡ w = omega arith in
-    opened_item q (suc w) b s a t hash x old new read is
-    (subst (λ (k : ℕ). Took hash q (suc w) (inner (region q) (item (region q) k)) x a t old new) below took)
+    opened_item z (suc w) b s a t hash x old new read is
+    (subst (λ (k : ℕ). Took hash z (suc w) (inner (region z) (item (region z) k)) x a t old new) below took)
 
-pub inner_item_stops : (q : Query) (v b : ℕ) (s a : Stand) (e : CheckErr) → 0 < v
+pub inner_item_stops : (z : Area) (v b : ℕ) (s a : Stand) (e : CheckErr) → 0 < v
     → field_at (want.Tag v) s ≡ Ok (field.Tag b, a) → eqb b pruned_tag ≡ false
-    → StopsOr (inner (region q) (item (region q) (v - 1))) a e
-    → StopsOr (item (region q) v) s e
-inner_item_stops q zero b s a e above read is stops = absurd (omega arith)
-inner_item_stops q (suc w) b s a e above read is stops =
+    → StopsOr (inner (region z) (item (region z) (v - 1))) a e
+    → StopsOr (item (region z) v) s e
+inner_item_stops z zero b s a e above read is stops = absurd (omega arith)
+inner_item_stops z (suc w) b s a e above read is stops =
     let below : suc w - 1 ≡ w = omega arith in
-    opened_stops q (suc w) b s a e read is (subst
-    (λ (k : ℕ). StopsOr (inner (region q) (item (region q) k)) a e) below stops)
+    opened_stops z (suc w) b s a e read is (subst
+    (λ (k : ℕ). StopsOr (inner (region z) (item (region z) k)) a e) below stops)
 
-pub leaf_item_or : (q : Query) (v b : ℕ) (s a : Stand) (hash : List ℕ → List ℕ) (result : Result Entry CheckErr)
+pub leaf_item_or : (z : Area) (v b : ℕ) (s a : Stand) (hash : List ℕ → List ℕ) (result : Result Entry CheckErr)
     (after : Cursor) (old new : List Record) → v ≡ 0 → field_at (want.Tag v) s ≡ Ok (field.Tag b, a)
     → (b ≡ pruned_tag → ⊥)
-    → TookOr hash q 0 (leaf (region q)) result a after old new
-    → TookOr hash q v (item (region q) v) result s after old new
-leaf_item_or q v b s a hash (Ok x) after old new flat read is took =
-    leaf_item q v b s a (stand after) hash x old new flat read (ne_eqb b pruned_tag is) took
-leaf_item_or q v b s a hash (Err e) after old new flat read is stops =
-    leaf_item_stops q v b s a e flat read (ne_eqb b pruned_tag is) stops
+    → TookOr hash z 0 (leaf (region z)) result a after old new
+    → TookOr hash z v (item (region z) v) result s after old new
+leaf_item_or z v b s a hash (Ok x) after old new flat read is took =
+    leaf_item z v b s a (stand after) hash x old new flat read (ne_eqb b pruned_tag is) took
+leaf_item_or z v b s a hash (Err e) after old new flat read is stops =
+    leaf_item_stops z v b s a e flat read (ne_eqb b pruned_tag is) stops
 
-pub inner_item_or : (q : Query) (v b : ℕ) (s a : Stand) (hash : List ℕ → List ℕ) (result : Result Entry CheckErr)
+pub inner_item_or : (z : Area) (v b : ℕ) (s a : Stand) (hash : List ℕ → List ℕ) (result : Result Entry CheckErr)
     (after : Cursor) (old new : List Record) → 0 < v → field_at (want.Tag v) s ≡ Ok (field.Tag b, a)
     → (b ≡ pruned_tag → ⊥)
-    → TookOr hash q v (inner (region q) (item (region q) (v - 1))) result a after old new
-    → TookOr hash q v (item (region q) v) result s after old new
-inner_item_or q v b s a hash (Ok x) after old new above read is took =
-    inner_item q v b s a (stand after) hash x old new above read (ne_eqb b pruned_tag is) took
-inner_item_or q v b s a hash (Err e) after old new above read is stops =
-    inner_item_stops q v b s a e above read (ne_eqb b pruned_tag is) stops
+    → TookOr hash z v (inner (region z) (item (region z) (v - 1))) result a after old new
+    → TookOr hash z v (item (region z) v) result s after old new
+inner_item_or z v b s a hash (Ok x) after old new above read is took =
+    inner_item z v b s a (stand after) hash x old new above read (ne_eqb b pruned_tag is) took
+inner_item_or z v b s a hash (Err e) after old new above read is stops =
+    inner_item_stops z v b s a e above read (ne_eqb b pruned_tag is) stops

@@ -3,6 +3,7 @@
 use Rattle.std.specs.Prelude.{◌≡◌, ℕ, Bool, true, ◌++◌, List, filter, Option, Some, None, ⊤, Result, Ok, Err}
 use Rattle.mr_record.specs.declared.record.Record.{Record}
 use Rattle.mr_tree.specs.Digest.{Entry as NodeEntry, root_preimage}
+use Rattle.mr_query.specs.declared.area.Area.{Area}
 use Rattle.mr_query.specs.declared.query.Query.{Query}
 use Rattle.mr_query.specs.Region.{reaches}
 use Rattle.mr_proof.specs.declared.head.Head.{Head}
@@ -15,6 +16,7 @@ use Rattle.mr_proof.specs.Accepted.{root_bytes}
 use Rattle.mr_proof.specs.Grammar.{Grammar}
 use Rattle.mr_proof.specs.Grammar as grammar
 use Rattle.mr_proof.specs.Layout.{Stand}
+use Rattle.mr_proof.specs.Refused.{has_other_radius}
 use Rattle.mr_proof.specs.Reading.{walk, ending}
 use Rattle.mr_check.specs.declared.cursor.Cursor.{Cursor}
 use Rattle.mr_check.specs.declared.entry.Entry.{Entry}
@@ -76,44 +78,47 @@ TakesOr piece view (Err e) s after = StopsOr piece s e
 
 -- ---- items
 
--- whether the region of the query, for a proof without a radius, meets what is seen of a node; and
--- whether a record is in it
-abbrev pub region : Query → Seen → Bool
-region q = (asks q).region None
+-- whether the area meets what is seen of a node; and whether a record is in it
+abbrev pub region : Area → Seen → Bool
+region a = (asks a.query).region a.radius
 
-abbrev pub asked : Query → Record → Bool
-asked q r = reaches q None r.rect
+abbrev pub asked : Area → Record → Bool
+asked a r = reaches a.query a.radius r.rect
 
 -- what the parent of a node of this level knows of it
 abbrev pub known : ℕ → Entry → NodeEntry
 known level x = record { level = level; rect = x.rect; digest = x.digest }
 
--- a cut of a node of this level was read, of which this is known; its records that the query asks
--- for stand behind those kept before
-pub record Took (hash : List ℕ → List ℕ) (q : Query) (level : ℕ) (piece : Piece Cut) (x : Entry)
+-- a cut of a node of this level was read, of which this is known; its records in the area stand
+-- behind those kept before
+pub record Took (hash : List ℕ → List ℕ) (a : Area) (level : ℕ) (piece : Piece Cut) (x : Entry)
     (s t : Stand) (before after : List Record) : Type 0 where
   pub cut : Cut
   pub goes : Goes piece s cut t
   pub knows : entry hash level cut ≡ known level x
-  pub kept : after ≡ before ++ filter (asked q) (records cut)
+  pub kept : after ≡ before ++ filter (asked a) (records cut)
 
-abbrev pub TookOr : (List ℕ → List ℕ) → Query → ℕ → Piece Cut → Result Entry CheckErr → Stand
+abbrev pub TookOr : (List ℕ → List ℕ) → Area → ℕ → Piece Cut → Result Entry CheckErr → Stand
     → Cursor → List Record → List Record → Type 0
-TookOr hash q level piece (Ok x) s after before kept =
-    Took hash q level piece x s (stand after) before kept
-TookOr hash q level piece (Err e) s after before kept = StopsOr piece s e
+TookOr hash a level piece (Ok x) s after before kept =
+    Took hash a level piece x s (stand after) before kept
+TookOr hash a level piece (Err e) s after before kept = StopsOr piece s e
 
 -- ---- the whole
 
+-- the area of the query, by the squared radius that a head says
+abbrev pub area_of : Query → Head → Area
+area_of q h = record { query = q; radius = h.radius }
+
 -- The root node of a map with this head was read, if it has one, and what is known of it gives the
--- bytes of the root digest; its records that the query asks for were kept.
+-- bytes of the root digest; its records in the area of the query were kept.
 pub record TookRoot (hash : List ℕ → List ℕ) (q : Query) (h : Head) (x : Entry) (s t : Stand)
     (before after : List Record) : Type 0 where
   pub part : Option Cut
   pub goes : (e : Said → Stand → Result Said Fault)
       → walk true e (grammar.part (asks q).region h) s ≡ e (said h part) t
   pub root : root_preimage h.batch h.count (known h.level x) ≡ root_bytes hash h part
-  pub kept : after ≡ before ++ filter (asked q) (opened_records part)
+  pub kept : after ≡ before ++ filter (asked (area_of q h)) (opened_records part)
 
 abbrev pub TookRootOr : (List ℕ → List ℕ) → Query → Head → Result Entry CheckErr → Stand → Cursor
     → List Record → List Record → Type 0
@@ -127,9 +132,11 @@ abbrev pub EndsAs : {X : Type 0} → Said → Result X Fault → Result Said Fau
 EndsAs x (Ok _) end = end ≡ Ok x
 EndsAs x (Err f) end = end ≡ Err f
 
--- so for each pair with this head whose root node is known so
-abbrev pub Ends : {X : Type 0} → (List ℕ → List ℕ) → List ℕ → Query → Head → Entry → Result X Fault
-    → Stand → Type 0
-Ends hash root q h x result s =
+-- so for each pair with this head whose root node is known so, and whose opened records break the
+-- rule on the radius just where those that were kept do
+abbrev pub Ends : {X : Type 0} → (List ℕ → List ℕ) → List ℕ → Query → Head → Entry → List Record
+    → Result X Fault → Stand → Type 0
+Ends hash root q h x kept result s =
     (P : Option Cut) → root_preimage h.batch h.count (known h.level x) ≡ root_bytes hash h P
+    → has_other_radius q h.radius kept ≡ has_other_radius q h.radius (opened_records P)
     → EndsAs (said h P) result (ending hash root q (said h P) s)

@@ -1,7 +1,8 @@
 //! The check of a whole proof.
 
-ghost use Rattle.std.specs.Prelude.{◌≡◌, IfOk, Err, None};
+ghost use Rattle.std.specs.Prelude.{◌≡◌, IfOk, Err};
 ghost use Rattle.mr_proof.specs.declared.rule.Fault.{Fault};
+ghost use Rattle.mr_query.specs.Word.{IsAskable};
 ghost use Rattle.mr_proof.specs.Tight.{asks};
 ghost use Rattle.mr_proof.specs.Accepted.{Proves};
 ghost use Rattle.mr_proof.specs.Refused.{IsRefused};
@@ -17,8 +18,9 @@ use crate::cursor::{Cursor, fault_at, front};
 use crate::entry::Entry;
 use crate::head::read_head;
 use crate::item::read_item;
+use crate::radius::has_other_radius;
 use mr_proof::{Fault, Head, Rule, accepted_is_honest, honest_is_accepted};
-use mr_query::{Query, answer};
+use mr_query::{Area, Query, answer};
 use mr_record::Record;
 use mr_tree::{Hash32, Hashes, root_digest};
 use std::alloc::Global;
@@ -31,7 +33,6 @@ fn root_node<H: Hashes>(
     from: &mut Cursor<'_>,
     kept: &mut Vec<Record>,
 ) -> Result<Entry, CheckErr>
-    requires { head.now.radius ≡ None }
     ensures { TookRootOr H.of q.now head.now result
         (stand from.old) from.new kept.old.items kept.new.items }
 {
@@ -41,19 +42,24 @@ fn root_node<H: Hashes>(
             digest: [0; 32],
         });
     }
-    read_item::<H>(alloc, q, head.level, from, kept)
+    let area = Area {
+        query: *q,
+        radius: head.radius,
+    };
+    read_item::<H>(alloc, &area, head.level, from, kept)
 }
 
 // What is found behind the last field.
-#[tactic(auto, unfolding(mr_proof::specs::Reading::ending), using(crate::proofs::Judged::no_other_radius))]
+#[tactic(auto, unfolding(mr_proof::specs::Reading::ending))]
 fn end<H: Hashes>(
     root: &[u8; 32],
     q: &Query,
     head: &Head,
     node: &Entry,
+    kept: &[Record],
     behind: &Cursor<'_>,
 ) -> Result<(), Fault>
-    ensures { Ends H.of root.now q.now head.now node.now result (stand behind.now) }
+    ensures { Ends H.of root.now q.now head.now node.now kept.now result (stand behind.now) }
 {
     if !behind.rest.is_empty() {
         return Err(fault_at(Rule::Trailing, behind.at));
@@ -61,6 +67,9 @@ fn end<H: Hashes>(
     let found = root_digest::<H>(head.batch, head.count, head.level, node.rect, &node.digest);
     if found.as_slice() != root.as_slice() {
         return Err(fault_at(Rule::WrongRoot { found }, behind.at));
+    }
+    if has_other_radius(q, head.radius, kept) {
+        return Err(fault_at(Rule::WrongRadius, behind.at));
     }
     Ok(())
 }
@@ -72,29 +81,32 @@ fn judge<H: Hashes>(
     q: &Query,
     proof: &[u8],
 ) -> Result<Vec<Record>, CheckErr>
+    requires { IsAskable q.now }
     ensures { Checks result (verdict H.of root.now q.now proof.now) }
 {
     let mut cursor = front(proof);
-    let head = read_head(&mut cursor)?;
+    let head = read_head(q, &mut cursor)?;
     let mut kept = Vec::new(alloc);
     let node = root_node::<H>(alloc, q, &head, &mut cursor, &mut kept)?;
-    end::<H>(root, q, &head, &node, &cursor)?;
+    end::<H>(root, q, &head, &node, &kept, &cursor)?;
     Ok(answer(kept, q)?)
 }
 
 /// The records that the proof proves to be the answer to the query on the map with this root
-/// digest: those of a window in rising number.
+/// digest: those of a window in rising number; or the nearest, by rising distance, and of one
+/// distance by rising number.
 ///
 /// A proof that proves nothing is refused with the first rule that it breaks. The proof is read
-/// once, from the front; kept are the answer, a hasher and a rectangle for each of at most eight
-/// levels, and the records of one leaf. The work is in proportion to the proof's length, and that
-/// of a sort of the answer.
+/// once, from the front; kept are the records in the window or the circle of the proof, a hasher and
+/// a rectangle for each of at most eight levels, and the records of one leaf. The work is in
+/// proportion to the proof's length, and that of a sort of the records that were kept.
 pub fn check<H: Hash32>(
     alloc: Global,
     root: &[u8; 32],
     q: &Query,
     proof: &[u8],
 ) -> Result<Vec<Record>, CheckErr>
+    requires { IsAskable q.now }
     ensures exact { Checks result (verdict H.of root.now q.now proof.now) }
     ensures proved { IfOk result (λ v. Proves H.of root.now (asks q.now) proof.now v.items) }
     ensures broken { (f : Fault) → result ≡ Err (errors.Fault f)

@@ -3,7 +3,7 @@
 ghost use Rattle.std.specs.Prelude.{◌≡◌, ◌≤◌, IfOk};
 ghost use Rattle.mr_proof.specs.declared.field.Field.TheVariants as field;
 ghost use Rattle.mr_proof.specs.declared.want.Want.TheVariants as want;
-ghost use Rattle.mr_proof.specs.Fields.{HasForm, FitsPayload, IsNumeric, RectWith, TagWith, DigestWith, PayloadWith, NumberWith};
+ghost use Rattle.mr_proof.specs.Fields.{HasForm, FitsPayload, IsNumeric, RectWith, TagWith, DigestWith, PayloadWith, NumberWith, WideWith};
 ghost use Rattle.mr_proof.specs.Grammar.{payload};
 ghost use Rattle.mr_proof.specs.Layout.{field_at};
 ghost use Rattle.mr_check.specs.Steps.{Reads, Passes, Takes, stand};
@@ -49,6 +49,15 @@ pub(crate) fn digest(from: &mut Cursor<'_>) -> Result<[u8; 32], Fault>
 {
     match next_field(&Want::Digest, from)? {
         Field::Digest(digest) => Ok(digest),
+        _ => unreachable!(),
+    }
+}
+
+pub(crate) fn wide(from: &mut Cursor<'_>) -> Result<u128, Fault>
+    ensures { Reads (λ n. field.Wide n) result from.new (field_at want.Radius (stand from.old)) }
+{
+    match next_field(&Want::Radius, from)? {
+        Field::Wide(number) => Ok(number),
         _ => unreachable!(),
     }
 }

@@ -8,6 +8,7 @@ mod error;
 mod fields;
 mod head;
 mod item;
+mod radius;
 mod record;
 #[cfg(test)]
 mod tests;

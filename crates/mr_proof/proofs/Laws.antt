@@ -11,17 +11,17 @@ use Rattle.mr_geom.specs.declared.point.Point.{Point}
 use Rattle.mr_geom.proofs.Distances.{least_squared_distance_bound}
 use Rattle.mr_record.specs.Record.{IsRecord}
 use Rattle.mr_record.specs.declared.record.Record.{Record}
-use Rattle.mr_query.specs.Nearest.{distance, distances, kth_least, nearer_than, not_farther_than}
+use Rattle.mr_query.specs.Nearest.{distance, distances, kth_least, is_within, nearer_than, not_farther_than}
 use Rattle.mr_query.specs.Radius.{below, IsRadius}
 use Rattle.mr_query.specs.Region.{reaches}
-use Rattle.mr_query.specs.Scan.{by_number}
+use Rattle.mr_query.specs.Scan.{by_number, scan}
 use Rattle.mr_query.specs.Word.{FitsPoint, IsAskable, IsQuery}
 use Rattle.mr_query.specs.declared.query.Query.{Query}
 use Rattle.mr_query.specs.declared.query.Query.TheVariants.{Window, Nearest}
 use Rattle.mr_query.proofs.Counts.{below-all, below-length, below-rises}
 use Rattle.mr_query.proofs.Kth.{kth_is_radius}
-use Rattle.mr_query.proofs.Nearest.{SameNearest, same_nearest, no_radius, few_without, radius_by_counts, counts_of_radius}
-use Rattle.mr_query.proofs.Scans.{window_scan, nearest_scan}
+use Rattle.mr_query.proofs.Nearest.{SameNearest, all_pass, same_nearest, no_radius, few_without, radius_by_counts, counts_of_radius, nearer_near, not_farther_near}
+use Rattle.mr_query.proofs.Scans.{window_scan, nearest_scan, filter_twice, window_scan_reached}
 use Rattle.mr_proof.specs.declared.head.Kind.{Kind}
 use Rattle.mr_proof.specs.declared.head.Head.{Head}
 use Rattle.mr_proof.specs.Cut.{Cut}
@@ -113,6 +113,38 @@ pub radius_stands : (q : Query) (r : Option ℕ) (rs : List Record) → IsAskabl
     → has_other_radius q r rs ≡ false
 radius_stands (Window w) r rs is e = refl
 radius_stands (Nearest p k) r rs is e = near_stands p k r rs is.0 e
+
+-- ---- what the region misses matters neither for the rule nor for the answer
+
+abbrev pub asked : Query → Option ℕ → Record → Bool
+asked q radius r = reaches q radius r.rect
+
+other_near : (p : Point) (k : ℕ) (radius : Option ℕ) (rs : List Record)
+    → has_other_radius (Nearest p k) radius (filter (λ (r : Record). is_within p radius r.rect) rs)
+    ≡ has_other_radius (Nearest p k) radius rs
+other_near p k None rs = ap (λ (ts : List Record). leb k (length ts)) (all_pass rs)
+other_near p k (Some n) rs =
+    λ i. leb k (nearer_near p n rs i) || ltb (not_farther_near p n rs i) k
+
+pub other_asked : (q : Query) (radius : Option ℕ) (rs : List Record)
+    → has_other_radius q radius (filter (asked q radius) rs) ≡ has_other_radius q radius rs
+unfolding reaches
+other_asked (Window w) radius rs = refl
+other_asked (Nearest p k) radius rs = other_near p k radius rs
+
+near_scan : (p : Point) (k : ℕ) (radius : Option ℕ) (rs : List Record) → 1 ≤ k
+    → radius ≡ kth_least k (distances p rs)
+    → scan (filter (λ (r : Record). is_within p radius r.rect) rs) (Nearest p k) ≡ scan rs (Nearest p k)
+near_scan p k radius rs some e =
+    let test = λ (r : Record). is_within p radius r.rect in
+    let s = same_nearest p k radius rs (filter test rs) some e (sym (filter_twice test rs)) in
+    nearest_scan (filter test rs) p k ∙ sym s.answer ∙ sym (nearest_scan rs p k)
+
+pub scan_asked : (q : Query) (radius : Option ℕ) (rs : List Record) → IsAskable q
+    → has_other_radius q radius rs ≡ false → scan (filter (asked q radius) rs) q ≡ scan rs q
+unfolding reaches
+scan_asked (Window w) radius rs is right = window_scan_reached rs w
+scan_asked (Nearest p k) radius rs is right = near_scan p k radius rs is.0 (by_counts p k radius rs is.0 right)
 
 -- ---- the radius of some records is one that a proof may have
 

@@ -489,7 +489,7 @@ not_false false e = absurd (false≢true (sym e))
 pub nothing_left : (rest : List ℕ) → nat_lt 0 (length rest) ≡ false → rest ≡ []
 nothing_left rest e = let none : length rest ≤ 0 = ltb-false 0 (length rest) e in nil_from_length rest (omega arith)
 
-take_end : (hash : List ℕ → List ℕ) (root : List ℕ) (q : Query) (x : Said) (s : Stand) (y : Said)
+pub take_end : (hash : List ℕ → List ℕ) (root : List ℕ) (q : Query) (x : Said) (s : Stand) (y : Said)
     → ending hash root q x s ≡ Ok y
     → (s.rest ≡ []) × (root_found hash x.head x.part ≡ root)
     × (has_other_radius q x.head.radius (opened_records x.part) ≡ false) × (x ≡ y)

@@ -1,3 +1,8 @@
+ghost use Rattle.std.specs.Prelude.{◌≡◌};
+ghost use Rattle.mr_proof.specs.Tight.{kind_of};
+
+use mr_query::Query;
+
 /// The kind of query that a proof is for.
 #[derive(Clone, Copy, Debug, PartialEq, Eq)]
 pub enum Kind {
@@ -20,4 +25,14 @@ pub struct Head {
     pub radius: Option<u128>,
     /// The level of the root node, 0 for the empty map.
     pub level: u8,
+}
+
+/// The kind of the proofs for a query.
+pub fn kind_of(q: &Query) -> Kind
+    ensures { result ≡ kind_of q.now }
+{
+    match q {
+        Query::Window(_) => Kind::W,
+        Query::Nearest { center: _, k: _ } => Kind::K,
+    }
 }

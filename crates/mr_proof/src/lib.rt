@@ -14,7 +14,7 @@ mod want;
 mod write;
 
 pub use field::{Field, read_field};
-pub use head::{Head, Kind};
+pub use head::{Head, Kind, kind_of};
 pub use honest::{accepted_is_honest, honest_is_accepted};
 pub use item::Item;
 pub use limits::{PLACE_LIMIT, RADIUS_LIMIT};

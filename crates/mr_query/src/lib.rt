@@ -1,6 +1,7 @@
 //! Queries: their words, the part of the map that they ask for, and what a scan answers.
 #![tactic(auto)]
 
+mod area;
 mod circle;
 mod comma;
 mod query;
@@ -11,6 +12,7 @@ mod window;
 mod word;
 mod write;
 
+pub use area::Area;
 pub use circle::{Circle, Everywhere};
 pub use query::{NEIGHBOUR_LIMIT, Query, QueryFault, is_query};
 pub use selection::{answer, rank};

@@ -1,10 +1,7 @@
-ghost use Rattle.std.specs.Prelude.{◌≡◌};
-ghost use Rattle.mr_query.specs.Region.{reaches};
 ghost use Rattle.mr_query.specs.Word.{FitsPoint, IsAskable, IsQuery};
 ghost use Rattle.mr_query.specs.declared.query.Query.TheVariants as queries;
 
-use crate::{Circle, Everywhere, Window};
-use mr_geom::{Point, Rect, Region};
+use mr_geom::{Point, Rect};
 
 /// As many records as a query for the nearest may ask for.
 pub const NEIGHBOUR_LIMIT: u16 = 1024;
@@ -17,28 +14,6 @@ pub enum Query {
     /// The `k` records that are nearest to the point, `k` from 1 to 1,024; of equally near ones
     /// those of lesser number.
     Nearest { center: Point, k: u16 },
-}
-
-impl Query {
-    /// Whether the region of the query meets the rectangle. For a window the squared radius, in
-    /// squared map units, does not matter; for nearest records without one the region is
-    /// everything.
-    #[tactic(auto, unfolding(crate::specs::Region::reaches))]
-    pub fn meets(&self, radius: Option<u128>, rect: &Rect) -> bool
-        ensures { result ≡ reaches self.now radius rect.now }
-    {
-        match self {
-            Query::Window(window) => Window { rect: *window }.meets(rect),
-            Query::Nearest { center, k: _ } => match radius {
-                Some(r2) => Circle {
-                    center: *center,
-                    r2,
-                }
-                .meets(rect),
-                None => Everywhere.meets(rect),
-            },
-        }
-    }
 }
 
 fn is_window(one: &Rect)

@@ -8,18 +8,20 @@ use Rattle.mr_check.proofs.client.check.Goals as goal
 
 pub returns-clause-accepts : goal.returns-clause-accepts
 returns-clause-accepts g c =
-    accepts_just g.H.Hashes.of c.args.root.now c.args.q.now c.args.proof.now (λ i. omega (arith, c.type_inv.proof i))
+    accepts_just g.H.Hashes.of c.args.root.now c.args.q.now c.args.proof.now c.requires
+    (λ i. omega (arith, c.type_inv.proof i))
 
 pub returns-clause-refuses : goal.returns-clause-refuses
 returns-clause-refuses g c = refuses_just g.H.Hashes.of c.args.root.now c.args.q.now c.args.proof.now
 
 pub returns-clause-one_half : goal.returns-clause-one_half
 returns-clause-one_half g c =
-    one_half g.H.Hashes.of c.args.root.now c.args.q.now c.args.proof.now (λ i. omega (arith, c.type_inv.proof i))
+    one_half g.H.Hashes.of c.args.root.now c.args.q.now c.args.proof.now c.requires
+    (λ i. omega (arith, c.type_inv.proof i))
 
 pub returns-clause-proved : goal.returns-clause-proved
 returns-clause-proved g c =
-    proved_by g.H.Hashes.of c.args.root.now c.args.q.now c.args.proof.now
+    proved_by g.H.Hashes.of c.args.root.now c.args.q.now c.args.proof.now c.requires
     (λ i. omega (arith, c.type_inv.proof i)) c.judge.result c.judge.ensures
 
 pub returns-clause-broken : goal.returns-clause-broken

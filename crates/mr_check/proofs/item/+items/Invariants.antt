@@ -11,5 +11,5 @@ decreases-read_item g l = 2 * l.level + 1
 
 abbrev pub invariant-opened_inner-loop : goal.invariant-opened_inner-loop
 invariant-opened_inner-loop g l =
-    ChildrenSo g.H.Hashes.of (g.H.Hashes.holds l.hasher) l.q (l.level - 1) l.level l.count l.counter
+    ChildrenSo g.H.Hashes.of (g.H.Hashes.holds l.hasher) l.area (l.level - 1) l.level l.count l.counter
     (stand l.initial.from) (stand l.from) l.rect l.initial.kept.items l.kept.items

@@ -7,7 +7,7 @@ use Rattle.mr_check.proofs.item.opened_leaf.Goals as goal
 
 pub returns : goal.returns
 returns g c =
-    leaf_took g.H.Hashes.of c.args.q.now (stand c.args.from.now) (stand c.number.new.from)
+    leaf_took g.H.Hashes.of c.args.area.now (stand c.args.from.now) (stand c.number.new.from)
     (stand c.records.new.from) c.in_ok-count.count c.in_ok-records.records.items
     (record { rect = c.bounds_of.result; digest = c.leaf_digest.result }) c.args.kept.now.items c.keep.new.kept.items
     c.in_ok-count.ensures.read c.in_ok-records.ensures.read
