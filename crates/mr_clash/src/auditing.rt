@@ -5,6 +5,7 @@ ghost use Rattle.mr_geom.specs.Rectangle.{IsOrdered, FitsMap};
 ghost use Rattle.mr_tree.specs.Nodes.{IsTop};
 ghost use Rattle.mr_tree.specs.declared.nodes.Top as tops;
 ghost use Rattle.mr_tree.specs.declared.tree.Tree as trees;
+ghost use Rattle.mr_query.specs.Word.{IsAskable};
 ghost use Rattle.mr_clash.specs.Causes.{AuditCauses};
 ghost use Rattle.mr_clash.specs.Finding.{found, finding_by as by_pair, Collides, FindsHonest};
 ghost use Rattle.mr_clash.specs.Steps.{left, pair_of, ComparesMap, ComparesRoots, KnowsRoot, Refuses, root_at, said_by, entry_at};
@@ -165,6 +166,7 @@ pub fn audit<N: Nodes>(
     q: &Query,
     proof: &[u8],
 ) -> Result<Finding, AuditErr>
+    requires { IsAskable q.now }
     ensures kept { N.kept nodes.old nodes.new }
     ensures causes { AuditCauses (N.stands nodes.old) (N.faults nodes.old) (N.faults nodes.new)
         result }
