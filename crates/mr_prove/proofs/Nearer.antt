@@ -1,5 +1,5 @@
 -- What lies in a node is no nearer than its rectangle.
-use Rattle.std.proofs.Common.{◌≡◌, ℕ, ◌+◌, ◌<◌, ◌≤◌, zero, suc, List, [], ◌∷◌, ◌++◌, length, refl, sym, ap, subst, ◌∙◌, arith}
+use Rattle.std.proofs.Common.{◌≡◌, ℕ, ◌≤◌, zero, suc, List, [], ◌∷◌, ◌++◌, refl, sym, ap, subst, ◌∙◌, arith}
 use Rattle.std.specs.Prelude.{Option, Some, None, IsSome, IfSome, IsSomeAnd, fold, map}
 use Rattle.std.specs.List.{AllByRecursion, flat_map, slice_get}
 use Rattle.std.proofs.Math.Logic.{∥∥₁_elim}
@@ -21,7 +21,7 @@ use Rattle.mr_tree.specs.WellFormed.{WellFormed}
 use Rattle.mr_tree.specs.declared.child.Child.{Child}
 use Rattle.mr_tree.specs.declared.tree.Tree.{Tree}
 use Rattle.mr_tree.specs.declared.tree.Tree.TheVariants as tree
-use Rattle.mr_tree.proofs.Equations.{entry_rect, records-Leaf, records-Inner}
+use Rattle.mr_tree.proofs.Equations.{entry_rect, records-Inner}
 use Rattle.mr_tree.proofs.Induction.{tree_induction}
 use Rattle.mr_tree.proofs.Joins.{rects_of, rect_round}
 use Rattle.mr_tree.proofs.Subtrees.{subtrees-Empty, subtrees-Leaf, subtrees-Inner}

@@ -1,6 +1,6 @@
 -- The rounds of a search: what each fetch leaves to find and to fetch, and what is known at the end.
-use Rattle.std.proofs.Common.{◌≡◌, ℕ, zero, suc, ◌+◌, ◌<◌, ◌≤◌, ◌==◌, cond, ◌++◌, Bool, true, false, List, [], ◌∷◌, map, length, min, refl, sym, ap, subst, ◌∙◌, arith}
-use Rattle.std.specs.Prelude.{Option, Some, None, IsSome, IsNone, IfSome, IsSomeAnd, Result, Ok, Err, IfOk, is_some, All}
+use Rattle.std.proofs.Common.{◌≡◌, ℕ, ◌+◌, ◌<◌, ◌≤◌, ◌==◌, cond, ◌++◌, true, List, [], ◌∷◌, map, length, min, refl, sym, ap, subst, ◌∙◌, arith}
+use Rattle.std.specs.Prelude.{Option, Some, None, IsSome, IsNone, IfSome, IsSomeAnd, Result, Ok, Err, IfOk, is_some}
 use Rattle.std.specs.List.{AllByRecursion, sum_by, sum, flat_map}
 use Rattle.std.specs.List.Sorted.{IsPermutation}
 use Rattle.std.proofs.Math.Dec.{eqb-suc-zero}
@@ -21,19 +21,18 @@ use Rattle.mr_tree.specs.WellFormed.{WellFormed}
 use Rattle.mr_tree.specs.declared.child.Child.{Child}
 use Rattle.mr_tree.specs.declared.nodes.Top.{Top}
 use Rattle.mr_tree.specs.declared.tree.Tree.{Tree}
-use Rattle.mr_tree.specs.declared.tree.Tree.TheVariants as tree
 use Rattle.mr_tree.specs.declared.tree.Tree.TheOpen as node
-use Rattle.mr_tree.proofs.Equations.{records-Leaf, records-Inner, records-Empty}
+use Rattle.mr_tree.proofs.Equations.{records-Leaf, records-Inner}
 use Rattle.mr_query.specs.Nearest.{distance, distances, kth_least, is_within}
 use Rattle.mr_query.specs.Radius.{below, IsRadius}
-use Rattle.mr_query.proofs.Counts.{one_below, below-append, below-length, below-sum, below-rises}
+use Rattle.mr_query.proofs.Counts.{below-append, below-length, below-sum, below-rises}
 use Rattle.mr_query.proofs.Kth.{kth_is_radius, radius_is_kth}
 use Rattle.mr_proof.specs.Cut.{opened_nodes}
-use Rattle.mr_proof.specs.Tight.{Seen, seen_at}
+use Rattle.mr_proof.specs.Tight.{seen_at}
 use Rattle.mr_proof.specs.Honest.{honest_cut}
 use Rattle.mr_prove.specs.declared.waiting.Waiting.{Waiting}
 use Rattle.mr_prove.specs.Parts.{opened_at}
-use Rattle.mr_prove.specs.Search.{near_region, near_opened, waiting, distances_at, unseen, unopened, Waits, Searching, Bounded, IsStart, IsReached}
+use Rattle.mr_prove.specs.Search.{near_region, near_opened, waiting, distances_at, unseen, Waits, Searching, Bounded, IsStart, IsReached}
 use Rattle.mr_prove.proofs.Pieces.{sum_by_map, sum_by_along, opened_met_at, opened_one_at}
 use Rattle.mr_prove.proofs.Nearer.{none_below}
 use Rattle.mr_prove.proofs.Queue.{NoNearer}
@@ -122,6 +121,10 @@ not_reached k far r all best u (Some n) kept whole same none not_yet = no_less f
 
 next_count-≤ : (n : ℕ) → next_count n ≤ n + 1
 next_count-≤ n = omega arith
+
+by_told : (o : Option Tree) (P : Tree → Type 0) → ((t : Tree) → o ≡ Some t → P t) → IfSome o P
+by_told None P h = tt
+by_told (Some t) P h = h t refl
 
 module _ (hash : List ℕ → List ℕ) (k : ℕ) (p : Point) (s : Standing) where
   unseen_far : (far x : ℕ) (pending : List Waiting) → IfSome s.tree (λ t. ∥ WellFormed t ∥₁)
@@ -223,6 +226,12 @@ module _ (hash : List ℕ → List ℕ) (k : ℕ) (p : Point) (s : Standing) whe
     within_kth not_yet some t e =
         lies_within not_yet t e (kth_least k (distances p (records t))) (kth_is_radius k (distances p (records t)) some)
 
+    pub fetched_within : (IsReached radius next.far → ⊥) → 1 ≤ k
+        → IfSome s.tree (λ t. is_within p (kth_least k (distances p (records t))) next.child.rect ≡ true)
+    fetched_within not_yet some =
+        by_told s.tree (λ t. is_within p (kth_least k (distances p (records t))) next.child.rect ≡ true)
+        (within_kth not_yet some)
+
     pub bounded_visited : (IsReached radius next.far → ⊥) → 1 ≤ k → (n : Node) (pending : List Waiting)
         (before now after : ℕ) → Shows hash s next.child n
         → IsPermutation (rest ++ map (waiting p) (children_in n)) pending → after ≡ next_count now
@@ -269,10 +278,6 @@ module _ (hash : List ℕ → List ℕ) (k : ℕ) (p : Point) (s : Standing) whe
       no_radius_of_all k (distances p (records t)) best kept (λ x. let all = known.found t e x in omega arith)
   radius_at_end best (Some r) known kept t e =
       radius_of_all k r (distances p (records t)) best (λ x. unseen p s x []) kept (known.found t e) refl
-
-  by_told : (o : Option Tree) (P : Tree → Type 0) → ((t : Tree) → o ≡ Some t → P t) → IfSome o P
-  by_told None P h = tt
-  by_told (Some t) P h = h t refl
 
   pub fetched_so_far : (pending : List Waiting) (before now : ℕ) → Bounded hash k p s pending before now
       → IfSome s.tree (λ t. now ≤ before + near_opened hash p k t)

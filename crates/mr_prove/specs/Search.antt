@@ -1,6 +1,6 @@
 -- The search for the kth least distance. Nothing of this has to be believed: no public contract
 -- cites it.
-use Rattle.std.specs.Prelude.{◌≡◌, ℕ, ◌+◌, ◌-◌, ◌*◌, ◌^◌, ◌≤◌, ◌==◌, if◌then◌else◌, Bool, List, [], ◌++◌, length, map, min, Option, Some, None, All, Result, IfErr, OnOk, IsSome}
+use Rattle.std.specs.Prelude.{◌≡◌, ℕ, ◌+◌, ◌-◌, ◌*◌, ◌^◌, ◌≤◌, ◌==◌, if◌then◌else◌, Bool, List, [], ◌++◌, length, map, min, Option, Some, None, All, Result, IfErr, OnOk}
 use Rattle.std.specs.BinaryHeap.{IsHeap}
 use Rattle.std.specs.List.{sum_by}
 use Rattle.std.specs.List.Sorted.{IsPermutation}
@@ -34,8 +34,7 @@ near_region p radius s = is_within p radius s.rect
 abbrev pub near_opened : (List ℕ → List ℕ) → Point → ℕ → Tree → ℕ
 near_opened hash p k t =
     if length (records t) == 0 then 0
-    else opened_nodes (honest_cut hash
-    (λ (s : Seen). is_within p (kth_least k (distances p (records t))) s.rect) t)
+    else opened_nodes (honest_cut hash (near_region p (kth_least k (distances p (records t)))) t)
 
 -- the greatest squared distance of two points of a map
 abbrev pub farthest : ℕ

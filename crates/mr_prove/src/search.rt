@@ -1,14 +1,14 @@
 //! The kth least distance of a map's records to a point, by a search from node to node, the nearest
 //! first (Hjaltason and Samet 1999).
 
-ghost use Rattle.std.specs.Prelude.{◌≡◌, ℕ, ◌+◌, ◌-◌, ◌*◌, ◌^◌, ◌≤◌, ◌++◌, ◌∷◌, Some, OnOk, IfOk, IfSome, map};
+ghost use Rattle.std.specs.Prelude.{◌≡◌, ℕ, ◌+◌, ◌-◌, ◌*◌, ◌^◌, ◌≤◌, ◌++◌, ◌∷◌, Some, OnOk, IfOk, IfSome, map, true};
 ghost use Rattle.std.specs.BinaryHeap.{IsHeap, heap_items};
 ghost use Rattle.std.specs.List.Sorted.{IsPermutation};
 ghost use Rattle.mr_outside.specs.Faults.{next_count};
 ghost use Rattle.mr_tree.specs.Tree.{records};
 ghost use Rattle.mr_tree.specs.Nodes.{MayFetch};
 ghost use Rattle.mr_tree.specs.declared.tree.Tree.{Tree};
-ghost use Rattle.mr_query.specs.Nearest.{distances, kth_least};
+ghost use Rattle.mr_query.specs.Nearest.{distances, kth_least, is_within};
 ghost use Rattle.mr_query.specs.Radius.{IsRadius};
 ghost use Rattle.mr_prove.specs.Search.{nearest_first, waiting, farthest, near_opened, Best, Searching, Bounded, IsStart, Visited, SearchCauses};
 
@@ -56,7 +56,7 @@ fn wait_for_all(
     Ok(())
 }
 
-// Fetches one node, and takes in what it shows.
+// Fetches one node, which has to lie within the kth least distance, and takes in what it shows.
 fn visit<N: Nodes>(
     nodes: &mut N,
     center: &Point,
@@ -66,6 +66,8 @@ fn visit<N: Nodes>(
     best: &mut BinaryHeap<u128>,
 ) -> Result<(), ProveErr>
     requires may { MayFetch N.Hash.of (N.stands nodes.old) child.now }
+    requires within { IfSome (N.stands nodes.old).tree (λ t. is_within center.now
+        (kth_least k (distances center.now (records t))) child.now.rect ≡ true) }
     requires heap { IsHeap nearest_first (heap_items queue.old) }
     requires best { Best k (heap_items best.old) }
     ensures kept { N.kept nodes.old nodes.new }

@@ -1,11 +1,14 @@
-use Rattle.std.proofs.Common.{◌≡◌, Bool, List, [], ◌∷◌, ◌∙◌, true, false, length, sym, subst, arith}
+use Rattle.std.proofs.Common.{◌≡◌, Bool, [], ◌∷◌, ◌∙◌, true, false, length, sym, subst, arith}
+use Rattle.std.specs.Prelude.{IfSome}
 use Rattle.std.specs.BinaryHeap.{heap_items}
 use Rattle.std.proofs.lemmas.List.Sorted.{sum_by-IsPermutation}
 use Rattle.mr_tree.specs.Nodes.{Standing}
+use Rattle.mr_tree.specs.Tree.{records}
 use Rattle.mr_tree.specs.View.{children_in}
+use Rattle.mr_query.specs.Nearest.{distances, kth_least, is_within}
 use Rattle.mr_prove.specs.Search.{IsReached, Searching, Visited, weight}
 use Rattle.mr_prove.proofs.Queue.{near_from_bound, nothing_left, lighter}
-use Rattle.mr_prove.proofs.Rounds.{searching_moved, bounded_moved, visited, radius_reached, bounded_visited, bounded_spent, radius_at_end, fetched_so_far}
+use Rattle.mr_prove.proofs.Rounds.{searching_moved, bounded_moved, visited, radius_reached, fetched_within, bounded_visited, bounded_spent, radius_at_end, fetched_so_far}
 use Rattle.mr_prove.proofs.search.best_first.Goals as goal
 
 -- a test that failed tells that its fact does not hold
@@ -35,6 +38,28 @@ returns-then-is_reached-clause-fetched g c =
     fetched_so_far g.N.Hash.Hashes.of c.args.k c.args.center.now (g.N.Nodes.stands c.args.nodes.now)
     (heap_items c.loop-next.queue) (g.N.Nodes.fetches c.args.nodes.now) (g.N.Nodes.fetches c.loop-next.nodes)
     c.loop-next.invariant.bounded
+
+pub visit-requires-clause-within : goal.visit-requires-clause-within
+visit-requires-clause-within g c = λ κs h.
+    let hash = g.N.Hash.Hashes.of in
+    let s = g.N.Nodes.stands c.args.nodes.now in
+    let p = c.args.center.now in
+    let k = c.args.k in
+    let next = c.in-Some.next in
+    let rest = heap_items c.pop.new.self in
+    let best = heap_items c.loop-next.best in
+    let same = g.met.N.Nodes.kept_stands c.args.nodes.now c.loop-next.nodes c.loop-next.invariant.kept in
+    let known = searching_moved hash k p s (heap_items c.loop-next.queue) (next ∷ rest) best
+    c.in-Some.ensures.permutation c.loop-next.invariant.searching in
+    let near = near_from_bound next rest (c.in-Some.ensures.below_top c.loop-next.invariant.heap) in
+    subst (λ (s : Standing). IfSome s.tree (λ t. is_within p (kth_least k (distances p (records t))) next.child.rect
+    ≡ true)) (sym same)
+    (fetched_within hash k p s (g.met.N.Nodes.well_formed c.args.nodes.now)
+    (g.met.N.Nodes.numbered c.args.nodes.now) next rest best c.radius_of-radius.result known near
+    c.radius_of-radius.ensures.radius
+    (not_so c.is_reached.result (IsReached c.radius_of-radius.result next.far) c.is_reached.ensures.1
+    c.if-is_reached.false)
+    c.requires.some)
 
 pub loop-next-smaller : goal.loop-next-smaller
 loop-next-smaller g c =
