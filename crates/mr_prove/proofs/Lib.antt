@@ -1,3 +1,8 @@
 mod Pieces
 mod Steps
 mod Whole
+mod Least
+mod Nearer
+mod Queue
+mod Rounds
+mod Searched

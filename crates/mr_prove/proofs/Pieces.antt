@@ -32,7 +32,7 @@ flat_map_map : {X Y A : Type 0} (f : Y → List A) (g : X → Y) (xs : List X)
 flat_map_map f g [] = refl
 flat_map_map f g (x ∷ xs) = ap (λ ys. f (g x) ++ ys) (flat_map_map f g xs)
 
-sum_by_map : {X Y : Type 0} (f : Y → ℕ) (g : X → Y) (xs : List X) → sum_by f (map g xs) ≡ sum_by (λ x. f (g x)) xs
+pub sum_by_map : {X Y : Type 0} (f : Y → ℕ) (g : X → Y) (xs : List X) → sum_by f (map g xs) ≡ sum_by (λ x. f (g x)) xs
 sum_by_map f g [] = refl
 sum_by_map f g (x ∷ xs) =
     sum_by-cons f (g x) (map g xs) ∙ ap (λ n. f (g x) + n) (sum_by_map f g xs)
@@ -42,7 +42,7 @@ flat_map_along : {X Y Z A : Type 0} (f : Z → List A) (g : X → Z) (h : Y → 
     → map g xs ≡ map h ys → flat_map (λ x. f (g x)) xs ≡ flat_map (λ y. f (h y)) ys
 flat_map_along f g h xs ys e = sym (flat_map_map f g xs) ∙ ap (flat_map f) e ∙ flat_map_map f h ys
 
-sum_by_along : {X Y Z : Type 0} (f : Z → ℕ) (g : X → Z) (h : Y → Z) (xs : List X) (ys : List Y)
+pub sum_by_along : {X Y Z : Type 0} (f : Z → ℕ) (g : X → Z) (h : Y → Z) (xs : List X) (ys : List Y)
     → map g xs ≡ map h ys → sum_by (λ x. f (g x)) xs ≡ sum_by (λ y. f (h y)) ys
 sum_by_along f g h xs ys e = sym (sum_by_map f g xs) ∙ ap (sum_by f) e ∙ sum_by_map f h ys
 

@@ -2,3 +2,4 @@
 pub mod Causes
 -- what only private functions and proofs use
 pub mod Parts
+pub mod Search

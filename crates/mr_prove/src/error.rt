@@ -3,6 +3,7 @@ ghost use Rattle.mr_prove.specs.Causes.{of_nodes, of_sink};
 
 use mr_outside::SinkErr;
 use mr_tree::NodesErr;
+use std::alloc::AllocError;
 
 /// Why a proof was not written.
 #[derive(Clone, Copy, Debug)]
@@ -40,5 +41,16 @@ impl From<SinkErr> for ProveErr {
             SinkErr::Fault => ProveErr::Sink,
             SinkErr::NoMemory => ProveErr::NoMemory,
         }
+    }
+}
+
+impl From<AllocError> for ProveErr {
+    ghost use Rattle.std.specs.Prelude.{◌≡◌};
+    ghost use Rattle.mr_prove.specs.declared.error.ProveErr.TheVariants.{NoMemory};
+
+    ghost from_gives = { λ _ p. p ≡ NoMemory };
+
+    fn from(_error: AllocError) -> ProveErr {
+        ProveErr::NoMemory
     }
 }

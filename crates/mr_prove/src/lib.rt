@@ -1,9 +1,12 @@
 //! The owner's side: the proof of the answer to a query.
 #![tactic(auto)]
 
+mod best;
 mod error;
 mod part;
 mod proving;
+mod search;
+mod waiting;
 
 pub use error::ProveErr;
 pub use proving::prove;

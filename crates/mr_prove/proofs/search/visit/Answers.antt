@@ -1,0 +1,28 @@
+use Rattle.std.proofs.Common.{◌≡◌, ◌+◌, ◌++◌, List, map, min, subst}
+use Rattle.std.specs.Prelude.{All}
+use Rattle.std.specs.BinaryHeap.{heap_items}
+use Rattle.std.specs.List.Sorted.{IsPermutation}
+use Rattle.mr_record.specs.declared.record.Record.{Record}
+use Rattle.mr_tree.specs.View.{children_in}
+use Rattle.mr_tree.specs.declared.child.Child.{Child}
+use Rattle.mr_query.specs.Nearest.{distances}
+use Rattle.mr_query.specs.Radius.{below}
+use Rattle.mr_prove.specs.Search.{waiting}
+use Rattle.mr_prove.proofs.search.visit.Goals as goal
+
+pub returns-clause-visited : goal.returns-clause-visited
+returns-clause-visited g c = record {
+  node = c.fetch.new.into;
+  shows = c.in_ok-fetch.ensures.shows;
+  children = c.children.ensures.few;
+  lower =
+      subst (λ n. All (λ (d : Child). d.level + 1 ≡ n) (children_in c.fetch.new.into))
+      c.in_ok-fetch.ensures.shows.level c.children.ensures.alike;
+  queued =
+      subst (λ (cs : List Child). IsPermutation (heap_items c.args.queue.now ++ map (waiting c.args.center.now) cs)
+      (heap_items c.wait_for_all.new.queue)) c.children.ensures.value c.in_ok-wait_for_all.ensures.joined;
+  least = λ x.
+      subst (λ (rs : List Record). min c.args.k (below x (heap_items c.offer_all.new.best))
+      ≡ min c.args.k (below x (heap_items c.args.best.now) + below x (distances c.args.center.now rs)))
+      c.records.ensures.value (c.in_ok-offer_all.ensures.least x);
+}
