@@ -6,3 +6,4 @@ mod Nearer
 mod Queue
 mod Rounds
 mod Searched
+mod Sums

@@ -15,22 +15,14 @@ use Rattle.mr_tree.specs.declared.tree.Tree.{Tree}
 use Rattle.mr_tree.specs.declared.tree.Tree.TheVariants as tree
 use Rattle.mr_tree.proofs.Equations.{entry_level, level-Empty, records-Empty}
 use Rattle.mr_query.specs.declared.query.Query.{Query}
-use Rattle.mr_query.specs.declared.query.Query.TheVariants.{Window}
 use Rattle.mr_proof.specs.declared.head.Head.{Head}
 use Rattle.mr_proof.specs.Cut.{Cut}
-use Rattle.mr_proof.specs.Spelling.{head_bytes, part_bytes, FitsRadius}
+use Rattle.mr_proof.specs.Spelling.{head_bytes, part_bytes}
 use Rattle.mr_proof.specs.Tight.{asks, kind_of}
 use Rattle.mr_proof.specs.Honest.{honest_cut, honest_head, honest_part, proof, opened_of, opened}
 use Rattle.mr_prove.specs.declared.error.ProveErr.{ProveErr}
-use Rattle.mr_prove.specs.Parts.{part_at, opened_at, level_at, head_by, proof_at, all_opened_at}
+use Rattle.mr_prove.specs.Parts.{part_at, opened_at, level_at, head_by, proof_at, all_opened_at, IsRight}
 use Rattle.mr_prove.proofs.Steps.{front_first, front_second}
-
--- a window has no radius
-radius_none : (q : Query) (t : Tree) → (asks q).radius (records t) ≡ None
-radius_none (Window w) t = refl
-
-pub radius_fits : (q : Query) → FitsRadius (kind_of q) None
-radius_fits (Window w) = refl
 
 -- ---- a map whose tree is told
 
@@ -42,32 +34,33 @@ level_of_root hash (Some u) t c k e =
     let same : u ≡ t = cc in
     ap (λ (x : Entry). x.level) k ∙ entry_level hash u ∙ ap level same
 
-head_with : (s : Standing) (t : Tree) (top : Top) (q : Query) → top.batch ≡ s.batch → top.count ≡ length (records t)
-    → level_at top.root ≡ level t → honest_head (asks q) t s.batch ≡ head_by top q
-head_with s t top q b n l = λ i. record {
+head_with : (s : Standing) (t : Tree) (top : Top) (q : Query) (r : Option ℕ) → top.batch ≡ s.batch
+    → top.count ≡ length (records t) → r ≡ (asks q).radius (records t) → level_at top.root ≡ level t
+    → honest_head (asks q) t s.batch ≡ head_by top q r
+head_with s t top q r b n e l = λ i. record {
   kind = kind_of q;
   batch = sym b i;
   count = sym n i;
-  radius = radius_none q t i;
+  radius = sym e i;
   level = sym l i;
 }
 
 -- the proof by its cut
-proof_by : (hash : List ℕ → List ℕ) (s : Standing) (t : Tree) (top : Top) (q : Query) (P : Option Cut)
-    → honest_head (asks q) t s.batch ≡ head_by top q → honest_part hash (asks q) t ≡ P
-    → proof hash t s.batch q ≡ head_bytes (head_by top q) ++ part_bytes P
-proof_by hash s t top q P h p = λ i. head_bytes (h i) ++ part_bytes (p i)
+proof_by : (hash : List ℕ → List ℕ) (s : Standing) (t : Tree) (top : Top) (q : Query) (r : Option ℕ) (P : Option Cut)
+    → honest_head (asks q) t s.batch ≡ head_by top q r → honest_part hash (asks q) t ≡ P
+    → proof hash t s.batch q ≡ head_bytes (head_by top q r) ++ part_bytes P
+proof_by hash s t top q r P h p = λ i. head_bytes (h i) ++ part_bytes (p i)
 
 no_part : (hash : List ℕ → List ℕ) (q : Query) (t : Tree) → t ≡ tree.Empty → honest_part hash (asks q) t ≡ None
 no_part hash q t e =
     let none : length (records t) ≡ 0 = ap length (ap records e ∙ records-Empty) in
     rw (eq-eqb (length (records t)) 0 none) refl
 
-some_part : (hash : List ℕ → List ℕ) (q : Query) (t : Tree) → length (records t) ≢ 0
-    → honest_part hash (asks q) t ≡ Some (honest_cut hash ((asks q).region None) t)
-some_part hash q t some =
+some_part : (hash : List ℕ → List ℕ) (q : Query) (r : Option ℕ) (t : Tree) → r ≡ (asks q).radius (records t)
+    → length (records t) ≢ 0 → honest_part hash (asks q) t ≡ Some (honest_cut hash ((asks q).region r) t)
+some_part hash q r t e some =
     (rw (ne_eqb (length (records t)) 0 some) refl)
-    ∙ ap (λ (r : Option ℕ). Some (honest_cut hash ((asks q).region r) t)) (radius_none q t)
+    ∙ ap (λ (o : Option ℕ). Some (honest_cut hash ((asks q).region o) t)) (sym e)
 
 told_tree : (o : Option Tree) → IsSome o → (t : Tree) × (o ≡ Some t)
 told_tree None told = cc
@@ -80,112 +73,118 @@ not_none : (c : Child) → IsNone (Some c) → ⊥
 not_none c n = cc
 
 -- what is said of a map with a root node
-record Rooted (hash : List ℕ → List ℕ) (s : Standing) (top : Top) (c : Child) (q : Query) : Type 0 where
+record Rooted (hash : List ℕ → List ℕ) (s : Standing) (top : Top) (c : Child) (q : Query)
+    (r : Option ℕ) : Type 0 where
   tree : Tree
   is : s.tree ≡ Some tree
   node : s.node c.id ≡ Some tree
-  head : honest_head (asks q) tree s.batch ≡ head_by top q
-  part : honest_part hash (asks q) tree ≡ Some (honest_cut hash ((asks q).region None) tree)
+  head : honest_head (asks q) tree s.batch ≡ head_by top q r
+  part : honest_part hash (asks q) tree ≡ Some (honest_cut hash ((asks q).region r) tree)
 
-rooted : (hash : List ℕ → List ℕ) (s : Standing) (top : Top) (c : Child) (q : Query) → IsTop hash s top
-    → top.root ≡ Some c → IsSome s.tree → Rooted hash s top c q
-rooted hash s top c q is root told =
+rooted : (hash : List ℕ → List ℕ) (s : Standing) (top : Top) (c : Child) (q : Query) (r : Option ℕ)
+    → IsTop hash s top → IsRight q s r → top.root ≡ Some c → IsSome s.tree → Rooted hash s top c q r
+rooted hash s top c q r is right root told =
     let x = told_tree s.tree told in
     let count : top.count ≡ length (records x.0) =
     subst (λ (o : Option Tree). IfSome o (λ t. top.count ≡ length (records t))) x.1 is.count in
     let at : s.node c.id ≡ Some x.0 =
     ap (tree_under s) (sym root) ∙ subst (λ (o : Option Tree). IfSome o (λ t. tree_under s top.root ≡ Some t)) x.1
     is.tree in
-    let may : MayFetch hash s c = subst (λ (r : Option Child). IfSome r (MayFetch hash s)) root is.root in
+    let may : MayFetch hash s c = subst (λ (o : Option Child). IfSome o (MayFetch hash s)) root is.root in
     let high : level_at top.root ≡ level x.0 =
     ap level_at root ∙ level_of_root hash (s.node c.id) x.0 c (may.known told) at in
+    let own : r ≡ (asks q).radius (records x.0) =
+    subst (λ (o : Option Tree). IfSome o (λ t. r ≡ (asks q).radius (records t))) x.1 right in
     let some : length (records x.0) ≢ 0 =
-    λ z. not_none c (subst (λ (r : Option Child). IsNone r) root (is.none.0 (count ∙ z))) in
+    λ z. not_none c (subst (λ (o : Option Child). IsNone o) root (is.none.0 (count ∙ z))) in
     record {
       tree = x.0;
       is = x.1;
       node = at;
-      head = head_with s x.0 top q is.batch count high;
-      part = some_part hash q x.0 some;
+      head = head_with s x.0 top q r is.batch count own high;
+      part = some_part hash q r x.0 own some;
     }
 
-pub proof_of_root : (hash : List ℕ → List ℕ) (s : Standing) (top : Top) (c : Child) (q : Query) → IsTop hash s top
-    → top.root ≡ Some c → IsSome s.tree
+pub proof_of_root : (hash : List ℕ → List ℕ) (s : Standing) (top : Top) (c : Child) (q : Query) (r : Option ℕ)
+    → IsTop hash s top → IsRight q s r → top.root ≡ Some c → IsSome s.tree
     → proof_at hash s.batch q s.tree
-    ≡ head_bytes (head_by top q) ++ part_at hash ((asks q).region None) (s.node c.id)
+    ≡ head_bytes (head_by top q r) ++ part_at hash ((asks q).region r) (s.node c.id)
 unfolding proof_at part_at
-proof_of_root hash s top c q is root told =
-    let r = rooted hash s top c q is root told in
-    ap (proof_at hash s.batch q) r.is
-    ∙ proof_by hash s r.tree top q (Some (honest_cut hash ((asks q).region None) r.tree)) r.head r.part
-    ∙ sym (ap (λ (o : Option Tree). head_bytes (head_by top q) ++ part_at hash ((asks q).region None) o) r.node)
+proof_of_root hash s top c q r is right root told =
+    let x = rooted hash s top c q r is right root told in
+    ap (proof_at hash s.batch q) x.is
+    ∙ proof_by hash s x.tree top q r (Some (honest_cut hash ((asks q).region r) x.tree)) x.head x.part
+    ∙ sym (ap (λ (o : Option Tree). head_bytes (head_by top q r) ++ part_at hash ((asks q).region r) o) x.node)
 
-pub opened_of_root : (hash : List ℕ → List ℕ) (s : Standing) (top : Top) (c : Child) (q : Query) → IsTop hash s top
-    → top.root ≡ Some c → IsSome s.tree
-    → all_opened_at hash q s.tree ≡ opened_at hash ((asks q).region None) (s.node c.id)
+pub opened_of_root : (hash : List ℕ → List ℕ) (s : Standing) (top : Top) (c : Child) (q : Query) (r : Option ℕ)
+    → IsTop hash s top → IsRight q s r → top.root ≡ Some c → IsSome s.tree
+    → all_opened_at hash q s.tree ≡ opened_at hash ((asks q).region r) (s.node c.id)
 unfolding all_opened_at opened_at
-opened_of_root hash s top c q is root told =
-    let r = rooted hash s top c q is root told in
-    ap (all_opened_at hash q) r.is ∙ ap opened_of r.part
-    ∙ sym (ap (opened_at hash ((asks q).region None)) r.node)
+opened_of_root hash s top c q r is right root told =
+    let x = rooted hash s top c q r is right root told in
+    ap (all_opened_at hash q) x.is ∙ ap opened_of x.part
+    ∙ sym (ap (opened_at hash ((asks q).region r)) x.node)
 
-pub proof_of_empty : (hash : List ℕ → List ℕ) (s : Standing) (top : Top) (q : Query) → IsTop hash s top
-    → top.root ≡ None → IsSome s.tree → proof_at hash s.batch q s.tree ≡ head_bytes (head_by top q)
+pub proof_of_empty : (hash : List ℕ → List ℕ) (s : Standing) (top : Top) (q : Query) (r : Option ℕ)
+    → IsTop hash s top → IsRight q s r → top.root ≡ None → IsSome s.tree
+    → proof_at hash s.batch q s.tree ≡ head_bytes (head_by top q r)
 unfolding proof_at
-proof_of_empty hash s top q is root told =
+proof_of_empty hash s top q r is right root told =
     let x = told_tree s.tree told in
     let count : top.count ≡ length (records x.0) =
     subst (λ (o : Option Tree). IfSome o (λ t. top.count ≡ length (records t))) x.1 is.count in
     let at : Some tree.Empty ≡ Some x.0 =
     ap (tree_under s) (sym root) ∙ subst (λ (o : Option Tree). IfSome o (λ t. tree_under s top.root ≡ Some t)) x.1
     is.tree in
+    let own : r ≡ (asks q).radius (records x.0) =
+    subst (λ (o : Option Tree). IfSome o (λ t. r ≡ (asks q).radius (records t))) x.1 right in
     let empty : x.0 ≡ tree.Empty = same_tree tree.Empty x.0 at in
     let flat : level_at top.root ≡ level x.0 = ap level_at root ∙ sym (ap level empty ∙ level-Empty) in
     ap (proof_at hash s.batch q) x.1
-    ∙ proof_by hash s x.0 top q None (head_with s x.0 top q is.batch count flat) (no_part hash q x.0 empty)
-    ∙ append-nil (head_bytes (head_by top q))
+    ∙ proof_by hash s x.0 top q r None (head_with s x.0 top q r is.batch count own flat) (no_part hash q x.0 empty)
+    ∙ append-nil (head_bytes (head_by top q r))
 
 -- ---- what was written
 
-pub whole_with_root : (hash : List ℕ → List ℕ) (s : Standing) (top : Top) (c : Child) (q : Query) (h : Head)
-    (from mid to : Sunk) → IsTop hash s top → top.root ≡ Some c → h ≡ head_by top q → Takes from mid (head_bytes h)
-    → (IsSome s.tree → Takes mid to (part_at hash ((asks q).region None) (s.node c.id)))
+pub whole_with_root : (hash : List ℕ → List ℕ) (s : Standing) (top : Top) (c : Child) (q : Query) (r : Option ℕ) (h : Head)
+    (from mid to : Sunk) → IsTop hash s top → IsRight q s r → top.root ≡ Some c → h ≡ head_by top q r → Takes from mid (head_bytes h)
+    → (IsSome s.tree → Takes mid to (part_at hash ((asks q).region r) (s.node c.id)))
     → IsSome s.tree → Takes from to (proof_at hash s.batch q s.tree)
-whole_with_root hash s top c q h from mid to is root e first rest told =
-    subst (Takes from to) (sym (proof_of_root hash s top c q is root told))
-    (Takes-append from mid to (head_bytes (head_by top q)) (part_at hash ((asks q).region None) (s.node c.id))
+whole_with_root hash s top c q r h from mid to is right root e first rest told =
+    subst (Takes from to) (sym (proof_of_root hash s top c q r is right root told))
+    (Takes-append from mid to (head_bytes (head_by top q r)) (part_at hash ((asks q).region r) (s.node c.id))
     (subst (λ (h : Head). Takes from mid (head_bytes h)) e first) (rest told))
 
-pub front_with_root : (hash : List ℕ → List ℕ) (s : Standing) (top : Top) (c : Child) (q : Query) (h : Head)
-    (from mid to : Sunk) → IsTop hash s top → top.root ≡ Some c → h ≡ head_by top q → Takes from mid (head_bytes h)
-    → (IsSome s.tree → TakesFront mid to (part_at hash ((asks q).region None) (s.node c.id)))
+pub front_with_root : (hash : List ℕ → List ℕ) (s : Standing) (top : Top) (c : Child) (q : Query) (r : Option ℕ) (h : Head)
+    (from mid to : Sunk) → IsTop hash s top → IsRight q s r → top.root ≡ Some c → h ≡ head_by top q r → Takes from mid (head_bytes h)
+    → (IsSome s.tree → TakesFront mid to (part_at hash ((asks q).region r) (s.node c.id)))
     → IsSome s.tree → TakesFront from to (proof_at hash s.batch q s.tree)
-front_with_root hash s top c q h from mid to is root e first rest told =
-    subst (TakesFront from to) (sym (proof_of_root hash s top c q is root told))
-    (front_second from mid to (head_bytes (head_by top q)) (part_at hash ((asks q).region None) (s.node c.id))
+front_with_root hash s top c q r h from mid to is right root e first rest told =
+    subst (TakesFront from to) (sym (proof_of_root hash s top c q r is right root told))
+    (front_second from mid to (head_bytes (head_by top q r)) (part_at hash ((asks q).region r) (s.node c.id))
     (subst (λ (h : Head). Takes from mid (head_bytes h)) e first) (rest told))
 
-pub whole_of_empty : (hash : List ℕ → List ℕ) (s : Standing) (top : Top) (q : Query) (h : Head) (from to : Sunk)
-    → IsTop hash s top → top.root ≡ None → h ≡ head_by top q → Takes from to (head_bytes h)
+pub whole_of_empty : (hash : List ℕ → List ℕ) (s : Standing) (top : Top) (q : Query) (r : Option ℕ) (h : Head) (from to : Sunk)
+    → IsTop hash s top → IsRight q s r → top.root ≡ None → h ≡ head_by top q r → Takes from to (head_bytes h)
     → IsSome s.tree → Takes from to (proof_at hash s.batch q s.tree)
-whole_of_empty hash s top q h from to is root e all told =
-    subst (Takes from to) (sym (proof_of_empty hash s top q is root told))
+whole_of_empty hash s top q r h from to is right root e all told =
+    subst (Takes from to) (sym (proof_of_empty hash s top q r is right root told))
     (subst (λ (h : Head). Takes from to (head_bytes h)) e all)
 
-front_by : (hash : List ℕ → List ℕ) (s : Standing) (top : Top) (q : Query) (from to : Sunk) (r : Option Child)
-    → top.root ≡ r → IsTop hash s top → IsSome s.tree → TakesFront from to (head_bytes (head_by top q))
+front_by : (hash : List ℕ → List ℕ) (s : Standing) (top : Top) (q : Query) (r : Option ℕ) (from to : Sunk)
+    (o : Option Child) → top.root ≡ o → IsTop hash s top → IsRight q s r → IsSome s.tree → TakesFront from to (head_bytes (head_by top q r))
     → TakesFront from to (proof_at hash s.batch q s.tree)
-front_by hash s top q from to None root is told front =
-    subst (TakesFront from to) (sym (proof_of_empty hash s top q is root told)) front
-front_by hash s top q from to (Some c) root is told front =
-    subst (TakesFront from to) (sym (proof_of_root hash s top c q is root told))
-    (front_first from to (head_bytes (head_by top q)) (part_at hash ((asks q).region None) (s.node c.id)) front)
+front_by hash s top q r from to None root is right told front =
+    subst (TakesFront from to) (sym (proof_of_empty hash s top q r is right root told)) front
+front_by hash s top q r from to (Some c) root is right told front =
+    subst (TakesFront from to) (sym (proof_of_root hash s top c q r is right root told))
+    (front_first from to (head_bytes (head_by top q r)) (part_at hash ((asks q).region r) (s.node c.id)) front)
 
-pub front_of_head : (hash : List ℕ → List ℕ) (s : Standing) (top : Top) (q : Query) (h : Head) (from to : Sunk)
-    → IsTop hash s top → h ≡ head_by top q → TakesFront from to (head_bytes h)
+pub front_of_head : (hash : List ℕ → List ℕ) (s : Standing) (top : Top) (q : Query) (r : Option ℕ) (h : Head) (from to : Sunk)
+    → IsTop hash s top → IsRight q s r → h ≡ head_by top q r → TakesFront from to (head_bytes h)
     → IsSome s.tree → TakesFront from to (proof_at hash s.batch q s.tree)
-front_of_head hash s top q h from to is e front told =
-    front_by hash s top q from to top.root refl is told
+front_of_head hash s top q r h from to is right e front told =
+    front_by hash s top q r from to top.root refl is right told
     (subst (λ (h : Head). TakesFront from to (head_bytes h)) e front)
 
 -- ---- of the tree that is told

@@ -4,6 +4,8 @@ use Rattle.mr_outside.specs.Faults.{Rose}
 use Rattle.mr_outside.specs.State.{Sunk}
 use Rattle.mr_outside.specs.declared.sink.SinkErr.{SinkErr}
 use Rattle.mr_outside.specs.declared.sink.SinkErr.TheVariants as sink
+use Rattle.mr_query.specs.declared.query.Query.{Query}
+use Rattle.mr_query.specs.declared.query.Query.TheVariants.{Window, Nearest}
 use Rattle.mr_tree.specs.Nodes.{Standing, HasSomeCause}
 use Rattle.mr_tree.specs.declared.nodes.NodesErr.{NodesErr}
 use Rattle.mr_tree.specs.declared.nodes.NodesErr.TheVariants as nodes
@@ -35,3 +37,11 @@ pub record ProveCauses {A : Type 0} (s : Standing) (before after : ℕ) (from to
   pub faults : from.faults ≤ to.faults
   pub still : OnOk result (after ≡ before)
   pub quiet : OnOk result (to.faults ≡ from.faults)
+
+-- ---- the number of fetches
+
+-- how often each node that the proof opens is fetched at most: once, to be written; and for nearest
+-- records once more, to find their distance
+abbrev pub rounds : Query → ℕ
+rounds (Window w) = 1
+rounds (Nearest p k) = 2

@@ -1,19 +1,25 @@
 -- The parts of a proof, one by one. Nothing of this has to be believed: no public contract cites it.
-use Rattle.std.specs.Prelude.{ℕ, Bool, List, [], ◌∷◌, length, Option, Some, None}
+use Rattle.std.specs.Prelude.{◌≡◌, ℕ, Bool, List, [], ◌∷◌, length, Option, Some, None, IfSome}
 use Rattle.std.specs.List.{flat_map, sum_by}
+use Rattle.mr_tree.specs.Tree.{records}
 use Rattle.mr_tree.specs.View.{Node}
 use Rattle.mr_tree.specs.Nodes.{Standing}
 use Rattle.mr_tree.specs.declared.child.Child.{Child}
 use Rattle.mr_tree.specs.declared.nodes.Top.{Top}
 use Rattle.mr_tree.specs.declared.tree.Tree.{Tree}
 use Rattle.mr_tree.specs.declared.tree.Tree.TheOpen as node
+use Rattle.mr_query.specs.declared.area.Area.{Area}
 use Rattle.mr_query.specs.declared.query.Query.{Query}
 use Rattle.mr_proof.specs.declared.head.Head.{Head}
 use Rattle.mr_proof.specs.Fields.{inner_tag}
 use Rattle.mr_proof.specs.Cut.{Leaf, opened_nodes}
 use Rattle.mr_proof.specs.Spelling.{cut_bytes}
-use Rattle.mr_proof.specs.Tight.{Seen, kind_of}
+use Rattle.mr_proof.specs.Tight.{Seen, kind_of, asks}
 use Rattle.mr_proof.specs.Honest.{honest_cut, proof, opened}
+
+-- the region of an area
+abbrev pub region_in : Area → Seen → Bool
+region_in a = (asks a.query).region a.radius
 
 -- the bytes of the item of an opened node
 abbrev pub node_bytes : Node → List ℕ
@@ -47,13 +53,13 @@ abbrev pub level_at : Option Child → ℕ
 level_at None = 0
 level_at (Some c) = c.level
 
--- the head, by what the nodes say of the map
-abbrev pub head_by : Top → Query → Head
-head_by top q = record {
+-- the head, by what the nodes say of the map, with this squared radius
+abbrev pub head_by : Top → Query → Option ℕ → Head
+head_by top q radius = record {
   kind = kind_of q;
   batch = top.batch;
   count = top.count;
-  radius = None;
+  radius = radius;
   level = level_at top.root;
 }
 
@@ -65,3 +71,7 @@ proof_at hash batch q (Some t) = proof hash t batch q
 unfoldable pub all_opened_at : (List ℕ → List ℕ) → Query → Option Tree → ℕ
 all_opened_at hash q None = 0
 all_opened_at hash q (Some t) = opened hash t q
+
+-- the squared radius, where the tree is told, is that of its records
+abbrev pub IsRight : Query → Standing → Option ℕ → Type 0
+IsRight q s radius = IfSome s.tree (λ t. radius ≡ (asks q).radius (records t))

@@ -16,6 +16,8 @@ use Rattle.mr_tree.specs.declared.child.Child.{Child}
 use Rattle.mr_tree.specs.declared.tree.Tree.{Tree}
 use Rattle.mr_query.specs.Nearest.{distances, kth_least, is_within}
 use Rattle.mr_query.specs.Radius.{below}
+use Rattle.mr_query.specs.declared.query.Query.{Query}
+use Rattle.mr_query.specs.declared.query.Query.TheVariants.{Window, Nearest}
 use Rattle.mr_proof.specs.Cut.{opened_nodes}
 use Rattle.mr_proof.specs.Tight.{Seen}
 use Rattle.mr_proof.specs.Honest.{honest_cut}
@@ -35,6 +37,11 @@ abbrev pub near_opened : (List ℕ → List ℕ) → Point → ℕ → Tree → 
 near_opened hash p k t =
     if length (records t) == 0 then 0
     else opened_nodes (honest_cut hash (near_region p (kth_least k (distances p (records t)))) t)
+
+-- how many nodes are fetched to find the squared radius, which a window does not have
+abbrev pub searched : (List ℕ → List ℕ) → Tree → Query → ℕ
+searched hash t (Window w) = 0
+searched hash t (Nearest p k) = near_opened hash p k t
 
 -- the greatest squared distance of two points of a map
 abbrev pub farthest : ℕ

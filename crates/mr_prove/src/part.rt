@@ -1,19 +1,19 @@
 //! The proof's part for one node and all below it.
 
-ghost use Rattle.std.specs.Prelude.{◌≡◌, ◌+◌, ◌≤◌, true, Bool, OnOk, OnErr, IsSome, None};
+ghost use Rattle.std.specs.Prelude.{◌≡◌, ◌+◌, ◌≤◌, true, Bool, OnOk, OnErr, IsSome};
 ghost use Rattle.mr_outside.specs.Causes.{SinkCauses};
 ghost use Rattle.mr_outside.specs.Told.{Takes, TakesFront};
 ghost use Rattle.mr_outside.specs.Faults.{next_count};
 ghost use Rattle.mr_tree.specs.View.{size};
 ghost use Rattle.mr_tree.specs.Nodes.{MayFetch, Shows};
-ghost use Rattle.mr_proof.specs.Tight.{Seen, seen_at, asks};
+ghost use Rattle.mr_proof.specs.Tight.{Seen, seen_at};
 ghost use Rattle.mr_prove.specs.Causes.{ProveCauses};
-ghost use Rattle.mr_prove.specs.Parts.{node_bytes, part_at, opened_at};
+ghost use Rattle.mr_prove.specs.Parts.{region_in, node_bytes, part_at, opened_at};
 
 use crate::ProveErr;
 use mr_outside::{Sink, SinkErr};
 use mr_proof::{Item, write_item};
-use mr_query::Query;
+use mr_query::Area;
 use mr_tree::{Child, NodeView, Nodes};
 
 // Writes the item of an opened node.
@@ -58,7 +58,7 @@ fn open_node<N: Nodes, W: Sink>(
 /// shown of it, and else the node and the parts of its children, each once it is fetched.
 pub(crate) fn write_part<N: Nodes, W: Sink>(
     nodes: &mut N,
-    q: &Query,
+    area: &Area,
     child: &Child,
     out: &mut W,
 ) -> Result<(), ProveErr>
@@ -66,23 +66,23 @@ pub(crate) fn write_part<N: Nodes, W: Sink>(
     ensures kept { N.kept nodes.old nodes.new }
     ensures whole { OnOk result (IsSome (N.stands nodes.old).tree →
         Takes (W.state out.old) (W.state out.new)
-        (part_at N.Hash.of ((asks q.now).region None) ((N.stands nodes.old).node child.now.id))) }
+        (part_at N.Hash.of (region_in area.now) ((N.stands nodes.old).node child.now.id))) }
     ensures front { OnErr result (IsSome (N.stands nodes.old).tree →
         TakesFront (W.state out.old) (W.state out.new)
-        (part_at N.Hash.of ((asks q.now).region None) ((N.stands nodes.old).node child.now.id))) }
+        (part_at N.Hash.of (region_in area.now) ((N.stands nodes.old).node child.now.id))) }
     ensures fetched { IsSome (N.stands nodes.old).tree → N.fetches nodes.new ≤ N.fetches nodes.old +
-        opened_at N.Hash.of ((asks q.now).region None) ((N.stands nodes.old).node child.now.id) }
+        opened_at N.Hash.of (region_in area.now) ((N.stands nodes.old).node child.now.id) }
     ensures causes { ProveCauses (N.stands nodes.old) (N.faults nodes.old) (N.faults nodes.new)
         (W.state out.old) (W.state out.new) result }
 {
-    if !q.meets(None, &child.rect) {
+    if !area.meets(&child.rect) {
         write_item(out, &Item::Pruned(child.rect, child.digest))?;
         return Ok(());
     }
     let mut view = NodeView::new();
     open_node(nodes, child, &mut view, out)?;
     for next in view.children() {
-        write_part(nodes, q, next, out)?;
+        write_part(nodes, area, next, out)?;
     }
     Ok(())
 }
