@@ -16,7 +16,7 @@ use std::thread::Threads;
 /// A text of records; the words that prove a window on their map; the bytes of the proof that are
 /// changed, by place and new value; the words that check the proof and those that audit it; the
 /// status of the audit; what the check prints and what the audit prints.
-type Audit<'a> = (
+pub type Audit<'a> = (
     &'a [u8],
     &'a [&'a str],
     &'a [(usize, u8)],
@@ -226,7 +226,7 @@ fn changed(alloc: Global, shelf: &mut MemShelf, changes: &[(usize, u8)]) -> Resu
 }
 
 // What the check and what the audit print, and their statuses.
-fn audited<R: Threads + Sync>(
+pub fn audited<R: Threads + Sync>(
     rt: &R,
     alloc: Global,
     audit: Audit<'_>,

@@ -70,7 +70,7 @@ fn scanned(alloc: Global, window: (u64, u64, u64, u64)) -> Result<String, AllocE
     Ok(lines)
 }
 
-fn digest(alloc: Global, bytes: &[u8]) -> Result<String, AllocError> {
+pub fn digest(alloc: Global, bytes: &[u8]) -> Result<String, AllocError> {
     hex::encode(alloc, &Sha256::digest(bytes))
 }
 

@@ -16,6 +16,8 @@ mod listed;
 #[cfg(test)]
 mod maps;
 #[cfg(test)]
+mod nearest;
+#[cfg(test)]
 mod proofs;
 #[cfg(test)]
 mod rows;

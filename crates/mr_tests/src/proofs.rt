@@ -35,7 +35,7 @@ pub fn answered<H: Hash32, R: Threads + Sync>(
 
 /// A text of records, the commands that build their map, prove a window on it and check the proof,
 /// all that is printed, and the proof.
-type Answer<'a> = (&'a [u8], &'a [&'a [&'a str]], &'a [u8], &'a [u8]);
+pub type Answer<'a> = (&'a [u8], &'a [&'a [&'a str]], &'a [u8], &'a [u8]);
 
 // Under the exclusive or of all bytes.
 const ANSWERS: [Answer<'static>; 3] = [

@@ -2,6 +2,7 @@
 -- to, and how that was printed.
 use Rattle.std.proofs.Common.{◌≡◌, ℕ, ◌<◌, ◌^◌, List, ◌++◌, refl, sym, ap, subst, ◌∙◌, inl, inr}
 use Rattle.std.specs.Prelude.{◌⊎◌, Option, Some, None, Result, Ok, Err}
+use Rattle.std.specs.List.{AllByRecursion}
 use Rattle.mr_outside.specs.Faults.{Rose}
 use Rattle.mr_outside.specs.Files.{Files}
 use Rattle.mr_outside.specs.Told.{OfFiles, Takes}
@@ -14,6 +15,7 @@ use Rattle.mr_tree.specs.Tree.{records}
 use Rattle.mr_tree.specs.WellFormed.{WellFormed}
 use Rattle.mr_tree.specs.declared.tree.Tree.{Tree}
 use Rattle.mr_query.specs.Scan.{scan}
+use Rattle.mr_query.specs.Word.{IsAskable, IsQuery}
 use Rattle.mr_query.specs.declared.query.Query.{Query}
 use Rattle.mr_proof.specs.declared.rule.Fault.{Fault}
 use Rattle.mr_proof.specs.Clash.{Pair, clash, IsCollision, NoneAnd}
@@ -22,6 +24,7 @@ use Rattle.mr_proof.specs.Honest.{proof}
 use Rattle.mr_proof.specs.Reading.{verdict}
 use Rattle.mr_proof.proofs.PreimageBytes.{IsSized}
 use Rattle.mr_proof.proofs.Complete.{accepts_honest}
+use Rattle.mr_proof.proofs.Laws.{askable}
 use Rattle.mr_proof.proofs.Completeness.{verdict_from}
 use Rattle.mr_proof.proofs.Halves.{accepts_just}
 use Rattle.mr_proof.proofs.SameNodes.{none_more}
@@ -39,7 +42,7 @@ use Rattle.mr_tool.specs.Plan.{Plan, comes, opens, Input, IsInput}
 use Rattle.mr_tool.specs.Promises.{Holds, HoldsRecords, HoldsMap, HoldsProof, IsInOrder, CompletesWords, AnswersHonest, PrintsScan, IsWorth, AcceptsHonestOrCollides, Delivers, SaysWorth, AuditsAccepted, CollidesRightly}
 use Rattle.mr_tool.specs.Say.{given, given_map, needs, needs_map, prints, say, say_root_of, say_build_of, say_list_of, say_prove_of, say_check, say_check_of, say_audit, say_audit_of, say_finding}
 use Rattle.mr_tool.specs.Lines.{sound_line, collision_lines}
-use Rattle.mr_tool.specs.Words.{Spells}
+use Rattle.mr_tool.specs.Words.{IsWord, words_of, Spells}
 use Rattle.mr_tool.specs.declared.ending.Ending.{Ending}
 use Rattle.mr_tool.specs.declared.ending.Halt.{Halt}
 use Rattle.mr_tool.specs.declared.ending.Halt.TheVariants as halts
@@ -128,14 +131,14 @@ module _ (hash : List ℕ → List ℕ) (before after : Option Files) (status : 
       subst (λ found. Ends (given_map next found) before after status text) (finds t batch stands) on.3 in
       ends_on name bytes before after status text name_held (λ bytes. comes (say_audit_of hash q t batch bytes)) mapped
 
-  audit_done : IsSized hash → bytes ≡ proof hash t batch q
+  audit_done : IsSized hash → IsQuery q → bytes ≡ proof hash t batch q
       → Ends (say_audit hash map q name) before after status text → status ≡ Done
-  audit_done sized own ends =
+  audit_done sized asked own ends =
       let low = stands.stands.batch_fits in
       let accepted : verdict hash (digests.root hash t batch) q bytes ≡ Ok (scan (records t) q) =
-      ap (verdict hash (digests.root hash t batch) q) own ∙ accepts_honest hash sized q t batch stands.well low in
+      ap (verdict hash (digests.root hash t batch) q) own ∙ accepts_honest hash sized q asked t batch stands.well low in
       let quiet : clash hash t batch bytes ≡ None =
-      ap (clash hash t batch) own ∙ honest_quiet hash sized q t batch stands.well low in
+      ap (clash hash t batch) own ∙ honest_quiet hash sized q asked t batch stands.well low in
       (audited_ends ends).0
       ∙ ap (λ (o : Outcome). o.status) (says_found hash q t batch bytes (Ok (scan (records t) q)) None accepted quiet)
 
@@ -186,8 +189,8 @@ record Shown (hash : List ℕ → List ℕ) (text : List ℕ) : Type 0 where
   collides : IsCollision hash pair
   is : text ≡ collision_lines pair.owned pair.shown
 
-module _ (hash : List ℕ → List ℕ) (sized : IsSized hash) (q : Query) (t : Tree) (batch : ℕ) (bytes : List ℕ)
-    (well : WellFormed t) (low : batch < 2 ^ 64) (all : AreBytes bytes) (before after : Option Files) (status : Status)
+module _ (hash : List ℕ → List ℕ) (sized : IsSized hash) (q : Query) (may : IsAskable q) (t : Tree) (batch : ℕ)
+    (bytes : List ℕ) (well : WellFormed t) (low : batch < 2 ^ 64) (all : AreBytes bytes) (before after : Option Files) (status : Status)
     (text : List ℕ) where
   shown_by : (r : Result (List Record) Fault) (o : Option Pair)
       → verdict hash (digests.root hash t batch) q bytes ≡ r → clash hash t batch bytes ≡ o → status ≡ Collision
@@ -197,7 +200,7 @@ module _ (hash : List ℕ → List ℕ) (sized : IsSized hash) (q : Query) (t : 
   shown_by (Ok answer) (Some p) e d is ends = record {
     pair = p;
     collides = subst (λ o. NoneAnd hash o (IsHonest hash t batch q bytes answer)) d
-        (accepted_headline hash sized.long q bytes (from_bytes bytes all) t batch answer well low e);
+        (accepted_headline hash sized.long q bytes may (from_bytes bytes all) t batch answer well low e);
     is = ends.1;
   }
 
@@ -209,15 +212,15 @@ module _ (hash : List ℕ → List ℕ) (sized : IsSized hash) (q : Query) (t : 
       shown_by r o refl refl is
       (subst (λ said. Ends (comes said) before after status text) (says_found hash q t batch bytes r o refl refl) ends)
 
-module _ (hash : List ℕ → List ℕ) (sized : IsSized hash) (q : Query) (name : List ℕ) (before after : Option Files)
-    (status : Status) (text : List ℕ) (is : status ≡ Collision) where
+module _ (hash : List ℕ → List ℕ) (sized : IsSized hash) (q : Query) (may : IsAskable q) (name : List ℕ)
+    (before after : Option Files) (status : Status) (text : List ℕ) (is : status ≡ Collision) where
   shown_with : (t : Tree) (batch : ℕ) → WellFormed t → batch < 2 ^ 64 → (input : Input)
       → IsTaken (given name (λ bytes. comes (say_audit_of hash q t batch bytes)) input) input
       → Ends (given name (λ bytes. comes (say_audit_of hash q t batch bytes)) input) before after status text
       → Shown hash text
   shown_with t batch well low None taken ends = other_status status Outside is ends.0 (λ c. cc)
   shown_with t batch well low (Some bytes) taken ends =
-      shown_of hash sized q t batch bytes well low taken before after status text is ends
+      shown_of hash sized q may t batch bytes well low taken before after status text is ends
 
   shown_found : (found : Found) → IsWell found
       → Ends (given_map (λ tree batch. needs name (λ bytes. comes (say_audit_of hash q tree batch bytes))) found) before
@@ -269,27 +272,28 @@ module _ (hash : List ℕ → List ℕ) (before after : Option Files) (status : 
       (finds holds.tree holds.batch holds.stands) on.3 in
       mapped.0 ∙ done holds.tree holds.batch
 
-  check_done : (root : List ℕ) (q : Query) (name : List ℕ) → HoldsProof hash before root q name
+  check_done : (root : List ℕ) (q : Query) (name : List ℕ) → IsAskable q → HoldsProof hash before root q name
       → Ends (say_check hash root q name) before after status text → status ≡ Done
-  check_done root q name holds ends =
+  check_done root q name may holds ends =
       let on = ends_on name holds.bytes before after status text holds.held
       (λ bytes. comes (say_check_of hash root q bytes)) ends in
-      let proved = verdict_from hash root q holds.bytes holds.answer holds.proves in
+      let proved = verdict_from hash root q holds.bytes holds.answer may holds.proves in
       on.0 ∙ ap (λ (o : Outcome). o.status) (says_verdict hash root q holds.bytes (Ok holds.answer) proved)
 
-  done : IsSized hash → (command : Command) → IsInOrder hash before command
+  done : IsSized hash → (command : Command) → AllByRecursion IsWord (words_of command) → IsInOrder hash before command
       → Ends (say hash (Some command)) before after status text → status ≡ Done
-  done sized (commands.Root name) holds ends = text_done name.now (say_root_of hash) (λ list. refl) holds ends
-  done sized (commands.Build map name) holds ends =
+  done sized (commands.Root name) each holds ends = text_done name.now (say_root_of hash) (λ list. refl) holds ends
+  done sized (commands.Build map name) each holds ends =
       text_done name.now (say_build_of hash map.now) (λ list. refl) holds ends
-  done sized (commands.List map) holds ends =
+  done sized (commands.List map) each holds ends =
       map_done map.now (λ tree batch. say_list_of tree) (λ tree batch. refl) holds ends
-  done sized (commands.Prove map q name) holds ends =
+  done sized (commands.Prove map q name) each holds ends =
       map_done map.now (say_prove_of hash q name.now) (prove_done hash q name.now) holds ends
-  done sized (commands.Check root q name) holds ends = check_done root q name.now holds ends
-  done sized (commands.Audit map q name) holds ends =
+  done sized (commands.Check root q name) each holds ends =
+      check_done root q name.now (askable q each.1.1.0) holds ends
+  done sized (commands.Audit map q name) each holds ends =
       audit_done hash before after status text map.now q name.now holds.tree holds.batch holds.bytes
-      (proof hash holds.tree holds.batch q) holds.held holds.stands holds.own sized refl ends
+      (proof hash holds.tree holds.batch q) holds.held holds.stands holds.own sized each.1.1.0 refl ends
 
 -- ---- the proofs of a map, checked against its root digest
 
@@ -305,12 +309,12 @@ not_refused status done refused = absurd (cc)
 
 module _ (hash : List ℕ → List ℕ) (sized : IsSized hash) (before after : World) (status : Status) (t : Tree)
     (batch : ℕ) (root : List ℕ) (q : Query) (name : List ℕ) (well : WellFormed t) (low : batch < 2 ^ 64)
-    (is_root : root ≡ digests.root hash t batch)
+    (is_root : root ≡ digests.root hash t batch) (asked : IsQuery q)
     (run : HasRun (say_check hash root q name) before after status) where
   says_honest : say_check_of hash root q (proof hash t batch q) ≡ prints (text_of (scan (records t) q))
   says_honest = says_verdict hash root q (proof hash t batch q) (Ok (scan (records t) q))
       (subst (λ held. verdict hash held q (proof hash t batch q) ≡ Ok (scan (records t) q)) (sym is_root)
-      (accepts_honest hash sized q t batch well low))
+      (accepts_honest hash sized q asked t batch well low))
 
   whole_honest : Holds before.shelf.files name (proof hash t batch q)
       → IsWhole (prints (text_of (scan (records t) q))) before after status
@@ -339,10 +343,12 @@ module _ (hash : List ℕ → List ℕ) (sized : IsSized hash) (before after : W
       let said = ap (λ (o : Outcome). o.printed) (says_verdict hash root q bytes (Ok answer) e) in
       record {
         answer = answer;
-        proves = (accepts_just hash (digests.root hash t batch) q bytes (from_bytes bytes all) answer).0 accepted;
+        proves = (accepts_just hash (digests.root hash t batch) q bytes (askable q asked) (from_bytes bytes all) answer).0
+            accepted;
         worth = none_more hash (clash hash t batch bytes) (IsHonest hash t batch q bytes answer)
             (PrintsScan hash t batch q bytes before after)
-            (accepted_headline hash sized.long q bytes (from_bytes bytes all) t batch answer well low accepted)
+            (accepted_headline hash sized.long q bytes (askable q asked) (from_bytes bytes all) t batch answer well low
+            accepted)
             (λ own. record {
               own = own.own;
               printed = subst (Takes before.sink after.sink) (on.1 ∙ said ∙ ap text_of own.complete) run.printed;
@@ -370,35 +376,37 @@ module _ (hash : List ℕ → List ℕ) (words : List (List ℕ)) (before after 
 
   pub completes : IsSized hash → CompletesWords hash words before after status
   completes sized command spells order = elim (ran_as command spells) [
-    | inl run ↦ inl (done hash before.shelf.files after.shelf.files status run.text sized command order run.ends)
+    | inl run ↦ inl (done hash before.shelf.files after.shelf.files status run.text sized command spells.each order run.ends)
     | inr stop ↦ inr stop
   ]
 
   pub honest_answered : IsSized hash → AnswersHonest hash words before after status
   honest_answered sized t batch root q name well low is_root spells held =
       elim (ran_as (commands.Check root q name) spells) [
-        | inl run ↦ inl (whole_honest hash sized before after status t batch root q name.now well low is_root run held)
+        | inl run ↦ inl (whole_honest hash sized before after status t batch root q name.now well low is_root
+          spells.each.1.1.0 run held)
         | inr stop ↦ inr stop
       ]
 
   pub accepted_worth : IsSized hash → AcceptsHonestOrCollides hash words before after status
   accepted_worth sized t batch root q name bytes well low is_root spells held done =
       elim (ran_as (commands.Check root q name) spells) [
-        | inl run ↦ worth hash sized before after status t batch root q name.now well low is_root run bytes held done
+        | inl run ↦ worth hash sized before after status t batch root q name.now well low is_root
+          spells.each.1.1.0 run bytes held done
         | inr stop ↦ not_stopped before after status done stop
       ]
 
   pub accepted_audited : IsSized hash → AuditsAccepted hash words before after status
   accepted_audited sized t batch map q name held bytes answer spells map_held stands name_held proves =
       says_worth hash before after status map.now q name.now t batch held bytes answer map_held stands name_held
-      (verdict_from hash (digests.root hash t batch) q bytes answer proves) (clash hash t batch bytes) refl
-      (headline hash sized.long q bytes t batch answer stands.well stands.stands.batch_fits proves)
+      (verdict_from hash (digests.root hash t batch) q bytes answer (askable q spells.each.1.1.0) proves) (clash hash t batch bytes) refl
+      (headline hash sized.long q bytes (askable q spells.each.1.1.0) t batch answer stands.well stands.stands.batch_fits proves)
       (ran_as (commands.Audit map q name) spells)
 
   pub collided_rightly : IsSized hash → CollidesRightly hash words before after status
   collided_rightly sized map q name spells is = elim (ran_as (commands.Audit map q name) spells) [
     | inl run ↦
-        let x = shown_audit hash sized q name.now before.shelf.files after.shelf.files status run.text is map.now run.ends
+        let x = shown_audit hash sized q (askable q spells.each.1.1.0) name.now before.shelf.files after.shelf.files status run.text is map.now run.ends
         in
         (x.pair, x.collides, subst (Takes before.sink after.sink) x.is run.printed)
     | inr stop ↦ not_collided before after status is stop

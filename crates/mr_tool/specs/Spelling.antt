@@ -1,11 +1,13 @@
 -- The command that words spell, if any.
-use Rattle.std.specs.Prelude.{◌≡◌, ℕ, nat_eq, ◌&&◌, if◌then◌else◌, List, length, Option, Some, None}
+use Rattle.std.specs.Prelude.{◌≡◌, ℕ, nat_eq, ◌&&◌, if◌then◌else◌, List, length, ⊤, Option, Some, None}
 use Rattle.std.specs.List.{list_all}
 use Rattle.hex.specs.Hex.{decode_of}
 use Rattle.mr_record.specs.RecordText.{is_lower_digit, ok_bytes}
 use Rattle.mr_tool.specs.Say.{say}
 use Rattle.mr_tool.specs.Words.{Spells}
+use Rattle.mr_query.specs.Word.{IsAskable}
 use Rattle.mr_tool.specs.declared.words.Command.{Command}
+use Rattle.mr_tool.specs.declared.words.Command.TheVariants as commands
 
 -- the words spell this command, or none at all
 abbrev pub IsSpelled : List (List ℕ) → Option Command → Type 0
@@ -17,6 +19,13 @@ abbrev pub AsksAs : Option Command → Option Command → Type 0
 AsksAs a b = (hash : List ℕ → List ℕ) → say hash a ≡ say hash b
 
 -- ---- this serves private functions
+
+-- the query of a command, if it has one, asks for as many records as it may
+abbrev pub MayBeAsked : Command → Type 0
+MayBeAsked (commands.Prove map q proof) = IsAskable q
+MayBeAsked (commands.Check root q proof) = IsAskable q
+MayBeAsked (commands.Audit map q proof) = IsAskable q
+MayBeAsked _ = ⊤
 
 -- the digest that 64 lower-case hexadecimal digits write
 unfoldable pub digest_of_word : List ℕ → Option (List ℕ)

@@ -1,5 +1,6 @@
 ghost use Rattle.std.specs.Prelude.{◌≡◌, IfOk};
 ghost use Rattle.mr_tree.specs.WellFormed.{WellFormed};
+ghost use Rattle.mr_query.specs.Word.{IsAskable};
 ghost use Rattle.mr_clash.specs.Finding.{found};
 ghost use Rattle.mr_tool.specs.Ending.{Comes, Gives};
 ghost use Rattle.mr_tool.specs.Plan.{comes};
@@ -25,7 +26,8 @@ fn finding_of<H: Hash32>(
     query: &Query,
     bytes: &[u8],
 ) -> Result<Finding, AllocError>
-    requires { WellFormed tree.now }
+    requires well_formed { WellFormed tree.now }
+    requires askable { IsAskable query.now }
     ensures { IfOk result (λ f. f ≡ found H.of tree.now batch query.now bytes.now) }
 {
     let snapshot = Snapshot::<H>::of(alloc, tree, batch)?;
@@ -66,7 +68,8 @@ fn audit_bytes<H: Hash32>(
     query: &Query,
     bytes: &[u8],
 ) -> Result<Ending, AllocError>
-    requires { WellFormed tree.now }
+    requires well_formed { WellFormed tree.now }
+    requires askable { IsAskable query.now }
     ensures { IfOk result (λ e. Gives (say_audit_of H.of query.now tree.now batch bytes.now) e) }
 {
     let finding = finding_of::<H>(alloc, tree, batch, query, bytes)?;
@@ -82,7 +85,8 @@ fn audit_file<H: Hash32, S: Shelf>(
     name: &str,
     shelf: &mut S,
 ) -> Result<Ending, Halt>
-    requires { WellFormed tree.now }
+    requires well_formed { WellFormed tree.now }
+    requires askable { IsAskable query.now }
     ensures { Comes (needs name.now
         (λ bytes. comes (say_audit_of H.of query.now tree.now batch bytes)))
         (S.state shelf.old) (S.state shelf.new) result }
@@ -101,6 +105,7 @@ pub(crate) fn audit_query<H: Hash32, S: Shelf>(
     proof: &str,
     shelf: &mut S,
 ) -> Result<Ending, Halt>
+    requires { IsAskable query.now }
     ensures { Comes (say_audit H.of map.now query.now proof.now) (S.state shelf.old)
         (S.state shelf.new) result }
 {

@@ -1,4 +1,5 @@
 ghost use Rattle.std.specs.Prelude.{IfOk};
+ghost use Rattle.mr_query.specs.Word.{IsAskable};
 ghost use Rattle.mr_tool.specs.Ending.{Comes, Gives};
 ghost use Rattle.mr_tool.specs.Say.{say_check, say_check_of};
 
@@ -19,6 +20,7 @@ fn check_bytes<H: Hash32>(
     query: &Query,
     bytes: &[u8],
 ) -> Result<Ending, AllocError>
+    requires { IsAskable query.now }
     ensures { IfOk result (λ e. Gives (say_check_of H.of root.now query.now bytes.now) e) }
 {
     match check::<H>(alloc, root, query, bytes) {
@@ -40,6 +42,7 @@ pub(crate) fn check_proof<H: Hash32, S: Shelf>(
     name: &str,
     shelf: &mut S,
 ) -> Result<Ending, Halt>
+    requires { IsAskable query.now }
     ensures { Comes (say_check H.of root.now query.now name.now) (S.state shelf.old)
         (S.state shelf.new) result }
 {

@@ -6,7 +6,7 @@ ghost use Rattle.mr_tool.specs.Ending.{Comes};
 ghost use Rattle.mr_tool.specs.Promises.{CompletesWords, AnswersHonest, AcceptsHonestOrCollides, AuditsAccepted, CollidesRightly};
 ghost use Rattle.mr_tool.specs.Run.{AnswersWords, BlamesRightly};
 ghost use Rattle.mr_tool.specs.Say.{say};
-ghost use Rattle.mr_tool.specs.Spelling.{IsSpelled};
+ghost use Rattle.mr_tool.specs.Spelling.{IsSpelled, MayBeAsked};
 
 use crate::auditing::audit_query;
 use crate::building::build;
@@ -28,6 +28,7 @@ fn lend<H: Hash32, S: Shelf>(
     command: &Command<'_>,
     shelf: &mut S,
 ) -> Result<Ending, Halt>
+    requires { MayBeAsked command.now }
     ensures { Comes (say H.of (Some command.now)) (S.state shelf.old) (S.state shelf.new) result }
 {
     match command {
@@ -48,6 +49,7 @@ fn carry_out<H: Hash32, S: Shelf>(
     command: &Command<'_>,
     shelf: S,
 ) -> (Result<Ending, Halt>, S)
+    requires { MayBeAsked command.now }
     ensures comes { Comes (say H.of (Some command.now)) (S.state shelf) (S.state result.1)
         result.0 }
     ensures sized { (bytes : List ℕ) → length (H.of bytes) ≡ 32 }

@@ -1,5 +1,6 @@
 ghost use Rattle.std.specs.Prelude.{◌≡◌, IfOk};
 ghost use Rattle.mr_tree.specs.WellFormed.{WellFormed};
+ghost use Rattle.mr_query.specs.Word.{IsAskable};
 ghost use Rattle.mr_proof.specs.Honest.{proof as honest_proof};
 ghost use Rattle.mr_tool.specs.Ending.{Comes, Saves};
 ghost use Rattle.mr_tool.specs.Outcome.{text};
@@ -24,7 +25,8 @@ fn proof_of<H: Hash32>(
     batch: u64,
     query: &Query,
 ) -> Result<MemSink, AllocError>
-    requires { WellFormed tree.now }
+    requires well_formed { WellFormed tree.now }
+    requires askable { IsAskable query.now }
     ensures { IfOk result (λ s. s.bytes ≡ honest_proof H.of tree.now batch query.now) }
 {
     let snapshot = Snapshot::<H>::of(alloc, tree, batch)?;
@@ -69,7 +71,8 @@ fn prove_map<H: Hash32, S: Shelf>(
     name: &str,
     shelf: &mut S,
 ) -> Result<Ending, Halt>
-    requires { WellFormed tree.now }
+    requires well_formed { WellFormed tree.now }
+    requires askable { IsAskable query.now }
     ensures { Comes (comes (say_prove_of H.of query.now name.now tree.now batch))
         (S.state shelf.old) (S.state shelf.new) result }
 {
@@ -85,6 +88,7 @@ pub(crate) fn prove_query<H: Hash32, S: Shelf>(
     proof: &str,
     shelf: &mut S,
 ) -> Result<Ending, Halt>
+    requires { IsAskable query.now }
     ensures { Comes (say_prove H.of map.now query.now proof.now) (S.state shelf.old)
         (S.state shelf.new) result }
 {
