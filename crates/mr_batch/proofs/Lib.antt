@@ -1,0 +1,5 @@
+pub mod Cuttings
+pub mod BatchTexts
+pub mod Linking
+pub mod Walking
+pub mod Directories
