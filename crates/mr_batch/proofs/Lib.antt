@@ -1,5 +1,6 @@
 pub mod Cuttings
 pub mod BatchTexts
 pub mod Linking
+pub mod Numbered
 pub mod Walking
 pub mod Directories

@@ -242,11 +242,11 @@ fault_same : (b : Changes) (held : ℕ) (x y : Option BatchFault) → x ≡ y �
     (Some (OutOfOrder held b.number))
 fault_same b held x y e = ap (λ o. cond (eqb b.number (held + 1)) o (Some (OutOfOrder held b.number))) e
 
-pub same_fault_by : (entries : Entries) (rs : List Record) → HaveNumbers entries rs → (held : ℕ) (b : Changes) →
-    fault_by (knows entries) (length entries) held b ≡ batch_fault rs held b
-same_fault_by entries rs have held b =
-    fault_same b held (first_hindered (knows entries) (length entries) 2 b.list) (first_hindrance rs 2 b.list)
-    ((λ j. first_hindered (λ n. have.same n j) (have.count j) 2 b.list) ∙ sym (walk_same rs 2 b.list have.apart))
+pub same_fault_by : (entries : Entries) (rs : List Record) (count : ℕ) → HaveNumbers entries rs → count ≡ length rs →
+    (held : ℕ) (b : Changes) → fault_by (knows entries) count held b ≡ batch_fault rs held b
+same_fault_by entries rs count have many held b =
+    fault_same b held (first_hindered (knows entries) count 2 b.list) (first_hindrance rs 2 b.list)
+    ((λ j. first_hindered (λ n. have.same n j) (many j) 2 b.list) ∙ sym (walk_same rs 2 b.list have.apart))
 
 -- ---- no hindrance just where the changes can be applied
 

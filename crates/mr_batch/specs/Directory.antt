@@ -1,6 +1,7 @@
 -- A finite map from record number to rectangle, as its entries.
 use Rattle.std.specs.Prelude.{◌≡◌, ◌≢◌, ℕ, ◌==◌, Bool, if◌then◌else◌, List, [], ◌∷◌, length, map, Option, Some, None, is_some, AllPairs}
-use Rattle.std.specs.Map.{lookup}
+use Rattle.std.specs.List.Sorted.{IsStrictlySortedBy}
+use Rattle.std.specs.Map.{lookup, keys_of}
 use Rattle.std.specs.BTreeMap.{is_at}
 use Rattle.std.specs.Ordering.{nat_cmp}
 use Rattle.mr_geom.specs.Rectangle.{Rectangle}
@@ -10,6 +11,10 @@ use Rattle.mr_record.specs.RecordText.{has_number}
 -- numbers with their rectangles
 abbrev pub Entries : Type 0
 Entries = List (ℕ × Rectangle)
+
+-- the numbers rise, so that no two are equal
+abbrev pub AreRising : Entries → Type 0
+AreRising entries = IsStrictlySortedBy nat_cmp (keys_of entries)
 
 -- the rectangle that stands at a number
 abbrev pub rect_at : Entries → ℕ → Option Rectangle
@@ -29,4 +34,3 @@ pub record IsDirectoryOf (entries : Entries) (records : List Record) : Type 0 wh
 pub record HaveNumbers (entries : Entries) (records : List Record) : Type 0 where
   pub same : (n : ℕ) → is_some (rect_at entries n) ≡ has_number n records
   pub apart : AllPairs (λ a b. a.number ≢ b.number) records
-  pub count : length entries ≡ length records

@@ -54,12 +54,12 @@ fn step(present: bool, count: usize, line: u64, change: &Change) -> Result<usize
     }
 }
 
-fn check_changes(dir: &Directory, batch: &Batch) -> Result<(), BatchFault>
+/// The changes one by one, beginning with so many records.
+fn check_changes(dir: &Directory, mut count: usize, batch: &Batch) -> Result<(), BatchFault>
     ensures { MatchResult result
-        (λ _. first_hindered (knows dir.now) (length dir.now) 2 batch.now.list ≡ None)
-        (λ fault. first_hindered (knows dir.now) (length dir.now) 2 batch.now.list ≡ Some fault) }
+        (λ _. first_hindered (knows dir.now) count 2 batch.now.list ≡ None)
+        (λ fault. first_hindered (knows dir.now) count 2 batch.now.list ≡ Some fault) }
 {
-    let mut count = dir.len();
     for i in 0..batch.len() {
         let present = is_present(dir, batch, i);
         count = step(present, count, i as u64 + 2, batch.change(i))?;
@@ -67,16 +67,16 @@ fn check_changes(dir: &Directory, batch: &Batch) -> Result<(), BatchFault>
     Ok(())
 }
 
-fn check_all(dir: &Directory, held: u64, batch: &Batch) -> Result<(), BatchFault>
-    ensures { MatchResult result
-        (λ _. fault_by (knows dir.now) (length dir.now) held batch.now ≡ None)
-        (λ fault. fault_by (knows dir.now) (length dir.now) held batch.now ≡ Some fault) }
+/// The number of the batch, then its changes.
+fn check_all(dir: &Directory, count: usize, held: u64, batch: &Batch) -> Result<(), BatchFault>
+    ensures { MatchResult result (λ _. fault_by (knows dir.now) count held batch.now ≡ None)
+        (λ fault. fault_by (knows dir.now) count held batch.now ≡ Some fault) }
 {
     let given = batch.number();
     if held.checked_add(1) != Some(given) {
         return Err(BatchFault::OutOfOrder { held, given });
     }
-    check_changes(dir, batch)
+    check_changes(dir, count, batch)
 }
 
 /// Whether the batch may be applied to a map with the directory's records at the held batch, and
@@ -88,6 +88,8 @@ pub fn admit(dir: &Directory, held: u64, batch: &Batch) -> Result<(), BatchFault
         (λ fault. batch_fault rs held batch.now ≡ Some fault) }
     ensures admissible { (rs : List types.Record) → HaveNumbers dir.now rs
         → (IsOk result ↔ IsAdmissible rs held batch.now) }
+    ensures some_records { (rs : List types.Record) × HaveNumbers dir.now rs }
 {
-    check_all(dir, held, batch)
+    let count = dir.len();
+    check_all(dir, count, held, batch)
 }

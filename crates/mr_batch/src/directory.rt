@@ -1,6 +1,6 @@
 ghost use Rattle.std.specs.Prelude.{◌≡◌, ◌≢◌, ℕ, ◌==◌, ◌+◌, Some, None, is_some, length, IfOk, OnOk, OnErr, AllPairs, if◌then◌else◌};
 ghost use Rattle.mr_record.specs.declared.record.Record as types;
-ghost use Rattle.mr_batch.specs.Directory.{rect_at, IsDirectoryOf};
+ghost use Rattle.mr_batch.specs.Directory.{AreRising, rect_at, IsDirectoryOf};
 
 use mr_geom::Rect;
 use mr_record::Record;
@@ -39,7 +39,8 @@ impl Directory {
 
     /// How many records there are.
     pub fn len(&self) -> usize
-        ensures { result ≡ length self.now }
+        ensures exact { result ≡ length self.now }
+        ensures rising { AreRising self.now }
     {
         self.rects.len()
     }
