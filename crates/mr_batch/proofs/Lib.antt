@@ -4,3 +4,4 @@ pub mod Linking
 pub mod Numbered
 pub mod Walking
 pub mod Directories
+pub mod Permuted
