@@ -3,7 +3,7 @@ use Rattle.std.proofs.Common.{◌≡◌, ℕ, ◌+◌, ◌^◌, ◌<◌, ◌≤�
 use Rattle.std.specs.Prelude.{All, IfOk, IfErr, ok_or, flat_map, codes, decimal, bytes_eq}
 use Rattle.std.specs.List.{join_with_byte}
 use Rattle.std.proofs.lemmas.Bool.{lt-leb, leb-false, leb-true, not-false, ne_eqb}
-use Rattle.std.proofs.lemmas.List.{append-nil, length-append, length_push}
+use Rattle.std.proofs.lemmas.List.{append-nil, length_push}
 use Rattle.std.proofs.lemmas.List.Concat.{flat_map-cons}
 use Rattle.std.proofs.lemmas.List.Folds.{flat_map-map}
 use Rattle.std.proofs.lemmas.List.Elements.{All-push, All-head, All-tail, All-cons, All-append, All-weaker, All-nil}
@@ -18,8 +18,7 @@ use Rattle.mr_record.specs.declared.text_fault.TextErr.{TextErr}
 use Rattle.mr_record.specs.declared.text_fault.TextErr.TheVariants as errors
 use Rattle.mr_record.specs.Decimal.{u64_of}
 use Rattle.mr_record.specs.Lines.{Line, lines_of, fields_of, Lacks}
-use Rattle.mr_record.specs.Record.{IsRecord}
-use Rattle.mr_record.specs.RecordText.{line_of, record_of_fields, record_of_line, on_line}
+use Rattle.mr_record.specs.RecordText.{line_of, record_of_fields, on_line}
 use Rattle.mr_record.specs.Results.{◌>>=◌}
 use Rattle.mr_record.proofs.Results.{bind_ok}
 use Rattle.mr_record.proofs.Decimals.{u64_of-decimal}
@@ -30,7 +29,7 @@ use Rattle.mr_batch.specs.declared.change.Change.{Change}
 use Rattle.mr_batch.specs.declared.change.Change.TheVariants.{Add, Remove}
 use Rattle.mr_batch.specs.Changes.{Changes}
 use Rattle.mr_batch.specs.BatchText.{change_line, head_line, changes_text, batch_text, change_limit, IsChange, IsBatch, head_of_fields, head_of_line, addition_of_fields, removal_of_fields, change_of_fields, change_of_line, number_of_line, change_after, changes_after, batch_behind, batch_of_lines, batch_of_text}
-use Rattle.mr_batch.specs.Answer.{Answers, IsHeadFault, IsChangeFault, IsFirstFault, IsRefusal}
+use Rattle.mr_batch.specs.Answer.{Answers, IsChangeFault, IsFirstFault, IsRefusal}
 
 -- ---- the line of a change
 
@@ -142,9 +141,11 @@ head_fields_written [] n e = absurd cc
 head_fields_written (word ∷ []) n e = absurd cc
 head_fields_written (word ∷ number ∷ []) n e =
     let w = some_then (bytes_eq word (codes "batch")) (u64_of number) n e in
-    let of = u64_some number n w.1 in
-    (of.1, behind_sign word (codes "batch") (number ∷ []) (decimal n ∷ []) (same_bytes word (codes "batch") w.0)
-    (ap (λ t. t ∷ []) of.0))
+    let of = u64_some number n w.1 in (
+      of.1,
+      behind_sign word (codes "batch") (number ∷ []) (decimal n ∷ []) (same_bytes word (codes "batch") w.0)
+          (ap (λ t. t ∷ []) of.0),
+    )
 head_fields_written (word ∷ number ∷ next ∷ more) n e = absurd cc
 
 joined_head : (n : ℕ) → join_with_byte 32 (codes "batch" ∷ decimal n ∷ []) ≡ head_line n

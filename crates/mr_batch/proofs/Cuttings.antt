@@ -1,7 +1,6 @@
 -- A line of a batch text that is cut at its spaces.
-use Rattle.std.proofs.Common.{◌≡◌, ℕ, ◌+◌, ◌<◌, ◌≤◌, Bool, true, false, cond, List, [], ◌∷◌, ◌++◌, length, Option, Some, None, Result, Ok, Err, refl, sym, ap, ◌∙◌, arith}
+use Rattle.std.proofs.Common.{◌≡◌, ℕ, ◌<◌, ◌≤◌, Bool, true, false, cond, List, [], ◌∷◌, length, None, Result, Ok, Err, refl, sym, ap, ◌∙◌, arith}
 use Rattle.std.specs.Prelude.{bytes_eq, codes}
-use Rattle.mr_record.specs.declared.text_fault.TextRule.{TextRule}
 use Rattle.mr_record.specs.declared.text_fault.TextRule.TheVariants.{Form, Head}
 use Rattle.mr_record.specs.declared.text_fault.TextFault.{TextFault}
 use Rattle.mr_record.specs.declared.text_fault.TextErr.{TextErr}
@@ -12,7 +11,7 @@ use Rattle.mr_record.specs.RecordText.{record_of_fields}
 use Rattle.mr_record.proofs.Fields.{fields_one, fields_cut, fields_filled}
 use Rattle.mr_batch.specs.declared.change.Change.{Change}
 use Rattle.mr_batch.specs.Changes.{Changes}
-use Rattle.mr_batch.specs.BatchText.{head_of_fields, head_of_line, removal_of_fields, addition_of_fields, change_of_fields, change_of_line, changes_after, batch_behind, batch_of_lines, batch_of_text}
+use Rattle.mr_batch.specs.BatchText.{head_of_fields, head_of_line, removal_of_fields, change_of_fields, change_of_line, changes_after, batch_behind, batch_of_lines, batch_of_text}
 use Rattle.mr_batch.specs.Answer.{Refuses}
 
 one_field : (line : List ℕ) → head_of_fields (line ∷ []) ≡ None
@@ -39,6 +38,8 @@ pub head_two : (word number : List ℕ) (fields : List (List ℕ)) → bytes_eq 
     fields ≡ number ∷ [] → head_of_fields (word ∷ fields) ≡ u64_of number
 unfolding head_of_fields
 head_two word number fields e f = rw (f, e) refl
+
+pub ruleset head_steps = (head_other, head_more, head_two)
 
 pub removal_more : (fields : List (List ℕ)) → 2 ≤ length fields → removal_of_fields fields ≡ Err Form
 unfolding removal_of_fields
@@ -89,3 +90,5 @@ pub behind_read : (n : ℕ) (lines : List Line) (changes : List Change) (meant :
     meant ≡ Ok (record { number = n; list = changes })
 unfolding batch_behind
 behind_read n lines changes meant is read = is ∙ rw read refl
+
+pub ruleset behind_head = (behind_refused, behind_read)

@@ -1,13 +1,13 @@
 -- The last earlier place of each number.
-use Rattle.std.proofs.Common.{◌≡◌, ℕ, zero, suc, ◌+◌, ◌<◌, ◌≤◌, ◌≢◌, Bool, true, false, cond, eqb, ltb, List, [], ◌∷◌, ◌++◌, length, get_or, take, map, Option, Some, None, refl, sym, ap, subst, ◌∙◌, arith, ⊎_elim}
-use Rattle.std.proofs.lemmas.Bool.{cases_eq, eq-eqb, ne_eqb, cond_both}
+use Rattle.std.proofs.Common.{◌≡◌, ℕ, zero, suc, ◌+◌, ◌<◌, ◌≤◌, ◌≢◌, Bool, true, false, eqb, List, [], ◌∷◌, ◌++◌, length, get_or, take, Option, Some, None, refl, sym, ap, subst, ◌∙◌, arith, ⊎_elim}
+use Rattle.std.proofs.lemmas.Bool.{cases_eq, eq-eqb, ne_eqb}
 use Rattle.std.proofs.lemmas.List.{get_or-map, get_or_append_left, get_or_at, take_more, length_push, get_or_default}
 use Rattle.std.specs.Prelude.{slice_index, slice_index_or}
 use Rattle.std.specs.Ordering.{nat_cmp, is_eq}
-use Rattle.std.specs.declared.cmp.Ordering.TheVariants.{Less, Equal, Greater}
 use Rattle.mr_batch.specs.declared.change.Change.{Change}
 use Rattle.mr_batch.specs.Changes.{named, numbers}
-use Rattle.mr_batch.specs.Earlier.{IsLastAt, IsLastBelow, IsLinked}
+use Rattle.mr_batch.specs.Earlier.{IsLastAt, IsLastBelow}
+use Rattle.mr_batch.proofs.Numbered.{same_test}
 use Rattle.mr_batch.specs.Presence.{adds, after, after_all}
 
 -- ---- one place more
@@ -41,9 +41,7 @@ IsLastBelow-after i m ns old new here was at others n =
 
 -- a number is not at the place of another
 pub is_elsewhere : (m n : ℕ) → n ≢ m → is_eq (nat_cmp m n) ≡ false
-is_elsewhere m n ne =
-    let e : eqb m n ≡ false = ne_eqb m n (λ e. ne (sym e)) in
-    cond_both (ltb m n) Less (cond (eqb m n) Equal Greater) (λ o. is_eq o ≡ false) (λ t. refl) (λ t. rw e refl)
+is_elsewhere m n ne = same_test m n ∙ ne_eqb m n (λ e. ne (sym e))
 
 pub number_at : (changes : List Change) (i : ℕ) (c : Change) → i < length changes → c ≡ get_or changes i c →
     slice_index (numbers changes) i ≡ named c

@@ -1,18 +1,17 @@
 -- Records with just the numbers of a directory are as many as it has, and there are such records.
-use Rattle.std.proofs.Common.{◌≡◌, ℕ, zero, suc, ◌+◌, ◌<◌, ◌≤◌, ◌≢◌, Bool, true, false, cond, eqb, ltb, ◌||◌, List, [], ◌∷◌, length, get_or, map, Option, Some, None, refl, sym, ap, subst, ◌∙◌, arith, ⊎_elim, AllPairs, is_some}
+use Rattle.std.proofs.Common.{◌≡◌, ℕ, suc, ◌<◌, ◌≢◌, Bool, false, cond, eqb, ltb, ◌||◌, List, [], ◌∷◌, length, get_or, map, refl, sym, ap, subst, ◌∙◌, arith, ⊎_elim, AllPairs, is_some}
 use Rattle.std.specs.Prelude.{All}
 use Rattle.std.specs.List.{list_any, AllByRecursion, IsDistinct}
-use Rattle.std.specs.List.Sorted.{IsStrictlySortedBy}
-use Rattle.std.specs.Map.{keys_of, lookup}
+use Rattle.std.specs.Map.{keys_of}
 use Rattle.std.specs.Set.{is_member}
 use Rattle.std.specs.Cmp.{nat_eq_equiv}
 use Rattle.std.specs.BTreeMap.{is_at}
 use Rattle.std.specs.Ordering.{nat_cmp, is_eq, eq_by_cmp}
 use Rattle.std.specs.declared.cmp.Ordering.TheVariants.{Less, Equal, Greater}
-use Rattle.std.proofs.lemmas.Bool.{cases_eq, cases_Bool, cond_both, eq-eqb, eqb-true, eqb-false, ne_eqb, ltb-true, or_parts, both_ways}
+use Rattle.std.proofs.lemmas.Bool.{cases_eq, cond_both, eq-eqb, eqb-false, ne_eqb, ltb-true, or_parts}
 use Rattle.std.proofs.lemmas.List.{length-map}
 use Rattle.std.proofs.lemmas.List.Elements.{All-cons, All-nil}
-use Rattle.std.proofs.lemmas.List.Folds.{list_any_none, list_any_at}
+use Rattle.std.proofs.lemmas.List.Folds.{list_any_none}
 use Rattle.std.proofs.lemmas.List.Kept.{AllPairs-cons}
 use Rattle.std.proofs.lemmas.Map.Entries.{length-keys_of}
 use Rattle.std.proofs.lemmas.Map.Keys.{IsDistinct-from_sorted, IsDistinct-head, IsDistinct-tail}
@@ -24,7 +23,7 @@ use Rattle.mr_batch.specs.Directory.{Entries, rect_at, HaveNumbers, AreRising}
 
 -- ---- the order of numbers tells whether they are equal
 
-same_test : (a b : ℕ) → is_eq (nat_cmp a b) ≡ eqb a b
+pub same_test : (a b : ℕ) → is_eq (nat_cmp a b) ≡ eqb a b
 same_test a b =
     cond_both (ltb a b) Less (cond (eqb a b) Equal Greater) (λ o. is_eq o ≡ eqb a b)
     (λ t. let low : a < b = ltb-true a b t in sym (ne_eqb a b (λ e. absurd (omega arith))))
@@ -56,15 +55,15 @@ none_equal n (r ∷ rs) none =
     let parts = or_parts (eqb r.number n) (has_number n rs) none in
     (turned n r.number ∙ parts.0, none_equal n rs parts.1)
 
-abbrev Apart : List Record → Type 0
+abbrev pub Apart : List Record → Type 0
 Apart rs = AllPairs (λ a b. a.number ≢ b.number) rs
 
-apart_head : (r : Record) (rs : List Record) → Apart (r ∷ rs) → has_number r.number rs ≡ false
+pub apart_head : (r : Record) (rs : List Record) → Apart (r ∷ rs) → has_number r.number rs ≡ false
 apart_head r rs apart =
     list_any_none (λ s. eqb s.number r.number) rs
     (λ k d low. ne_eqb (get_or rs k d).number r.number (λ e. apart 0 (suc k) d (omega arith) (omega arith) (sym e)))
 
-apart_tail : (r : Record) (rs : List Record) → Apart (r ∷ rs) → Apart rs
+pub apart_tail : (r : Record) (rs : List Record) → Apart (r ∷ rs) → Apart rs
 apart_tail r rs apart i j d above low = apart (suc i) (suc j) d (omega arith) (omega arith)
 
 distinct_numbers : (rs : List Record) → Apart rs → IsDistinct eqb (map number_of rs)
@@ -116,7 +115,10 @@ apart_entries (e ∷ entries) distinct =
     (numbers_differ e.0 entries (IsDistinct-head eqb e.0 (keys_of entries) distinct)) others
 
 pub some_records : (entries : Entries) → AreRising entries → (rs : List Record) × HaveNumbers entries rs
-some_records entries rising = (map record_at entries, record {
-  same = λ n. found entries n ∙ member_entry n entries;
-  apart = apart_entries entries (distinct_keys entries rising);
-})
+some_records entries rising = (
+  map record_at entries,
+  record {
+    same = λ n. found entries n ∙ member_entry n entries;
+    apart = apart_entries entries (distinct_keys entries rising);
+  },
+)

@@ -1,15 +1,14 @@
 -- Changes of records in another order: what may be made of one list may be made of each other order
 -- of it, and leaves the same in some order. So trees that change as the records do follow them.
-use Rattle.std.proofs.Common.{◌≡◌, ℕ, zero, suc, ◌+◌, ◌<◌, Bool, true, false, cond, not, eqb, leb, ltb, ◌&&◌, List, [], ◌∷◌, ◌++◌, length, get_or, set, swap, filter, Option, Some, None, IsSome, refl, sym, ap, subst, ◌∙◌, arith}
+use Rattle.std.proofs.Common.{◌≡◌, ℕ, zero, suc, ◌<◌, Bool, true, false, cond, not, eqb, ltb, ◌&&◌, List, [], ◌∷◌, length, get_or, set, swap, filter, Option, Some, None, refl, sym, subst, ◌∙◌, arith}
 use Rattle.std.specs.List.Sorted.{IsPermutation}
-use Rattle.std.proofs.lemmas.Bool.{both_ways}
 use Rattle.std.proofs.lemmas.List.Sorted.{IsPermutation-refl, IsPermutation-cons, IsPermutation-keeps, IsPermutation-trans, IsPermutation-append_left, IsPermutation-append_comm, list_any-IsPermutation, length_permutation}
 use Rattle.mr_record.specs.declared.record.Record.{Record}
 use Rattle.mr_record.specs.RecordText.{has_number}
 use Rattle.mr_tree.specs.Limits.{count_limit}
 use Rattle.mr_batch.specs.declared.change.Change.{Change}
 use Rattle.mr_batch.specs.declared.change.Change.TheVariants.{Add, Remove}
-use Rattle.mr_batch.specs.Applied.{without, may_make, made, applied}
+use Rattle.mr_batch.specs.Applied.{may_make, made, applied}
 
 -- ---- some of a list in another order
 

@@ -1,12 +1,11 @@
 -- The first change that may not be made, by which numbers are there.
-use Rattle.std.proofs.Common.{◌≡◌, ℕ, zero, suc, ◌+◌, ◌-◌, ◌<◌, ◌≤◌, ◌≢◌, ◌↔◌, Bool, true, false, cond, not, eqb, leb, ltb, ◌||◌, ◌&&◌, List, [], ◌∷◌, ◌++◌, length, get_or, take, drop, filter, Option, Some, None, Result, Ok, Err, refl, sym, ap, subst, ◌∙◌, arith, ⊎_elim, ◌⊎◌, inl, inr, MatchResult, AllPairs, IsSome, is_some, IsOk, IsErrAnd}
+use Rattle.std.proofs.Common.{◌≡◌, ℕ, zero, suc, ◌+◌, ◌<◌, ◌≤◌, ◌≢◌, ◌↔◌, Bool, true, false, cond, not, eqb, leb, ltb, ◌||◌, ◌&&◌, List, [], ◌∷◌, ◌++◌, length, get_or, take, drop, Option, Some, None, Result, Ok, Err, refl, sym, ap, ◌∙◌, arith, ⊎_elim, MatchResult, IsSome, IsOk, IsErrAnd}
 use Rattle.std.specs.Prelude.{slice_index}
 use Rattle.std.proofs.lemmas.Bool.{cases_eq, cases_Bool, eq-eqb, eqb-true, ne_eqb, ltb-true, ltb-false, lt-leb, le-leb, or_parts, both_ways}
 use Rattle.std.proofs.lemmas.List.{drop_more, length_push}
-use Rattle.std.proofs.lemmas.List.Folds.{list_any-append, list_any_none, list_any_at}
+use Rattle.std.proofs.lemmas.List.Folds.{list_any-append, list_any_at}
 use Rattle.std.proofs.lemmas.List.Kept.{AllPairs-filter}
 use Rattle.std.proofs.lemmas.List.Quantifiers.{all_pairs_push}
-use Rattle.std.specs.List.{list_any}
 use Rattle.mr_record.specs.declared.record.Record.{Record}
 use Rattle.mr_record.specs.RecordText.{has_number}
 use Rattle.mr_tree.specs.Limits.{count_limit}
@@ -17,8 +16,9 @@ use Rattle.mr_batch.specs.declared.admission.BatchFault.TheVariants.{OutOfOrder,
 use Rattle.mr_batch.specs.Changes.{Changes, named, numbers}
 use Rattle.mr_batch.specs.Applied.{without, may_make, made, applied, IsAdmissible}
 use Rattle.mr_batch.specs.Admissible.{or_else, hindrance, first_hindrance, batch_fault}
-use Rattle.mr_batch.specs.Directory.{Entries, rect_at, HaveNumbers}
-use Rattle.mr_batch.specs.Presence.{adds, after, after_all, count_after, hindered, first_hindered, fault_by, knows}
+use Rattle.mr_batch.specs.Directory.{Entries, HaveNumbers}
+use Rattle.mr_batch.specs.Presence.{after, after_all, count_after, hindered, first_hindered, fault_by, knows}
+use Rattle.mr_batch.proofs.Numbered.{Apart, apart_head, apart_tail}
 use Rattle.mr_batch.proofs.Linking.{after_all-more, number_at}
 
 -- ---- the loop
@@ -97,9 +97,6 @@ loop_end has count line i cs meant all so_far =
 true_and_false : (b : Bool) → b ≡ true → b ≡ false → ⊥
 true_and_false b t f = both_ways b f t
 
-abbrev Apart : List Record → Type 0
-Apart rs = AllPairs (λ a b. a.number ≢ b.number) rs
-
 or_is_cond : (a b : Bool) → (b || (a || false)) ≡ cond a true b
 or_is_cond true true = refl
 or_is_cond true false = refl
@@ -147,14 +144,6 @@ without-absent k (r ∷ rs) none =
     let parts = or_parts (eqb r.number k) (has_number k rs) none in
     without-there k r rs (λ e. absurd (true_and_false (eqb r.number k) (eq-eqb r.number k e) parts.0))
     ∙ ap (λ (ss : List Record). r ∷ ss) (without-absent k rs parts.1)
-
-apart_head : (r : Record) (rs : List Record) → Apart (r ∷ rs) → has_number r.number rs ≡ false
-apart_head r rs apart =
-    list_any_none (λ s. eqb s.number r.number) rs
-    (λ k d low. ne_eqb (get_or rs k d).number r.number (λ e. apart 0 (suc k) d (omega arith) (omega arith) (sym e)))
-
-apart_tail : (r : Record) (rs : List Record) → Apart (r ∷ rs) → Apart rs
-apart_tail r rs apart i j d above low = apart (suc i) (suc j) d (omega arith) (omega arith)
 
 length-without : (k : ℕ) (rs : List Record) → Apart rs → has_number k rs ≡ true → length (without k rs) + 1 ≡ length rs
 length-without k [] apart there = absurd cc

@@ -24,7 +24,8 @@ made records (Remove n) = without n records
 -- the records after the changes in their order, if each may be made
 unfoldable pub applied : List Record → List Change → Option (List Record)
 applied records [] = Some records
-applied records (c ∷ changes) = if may_make records c then applied (made records c) changes else None
+applied records (c ∷ changes) =
+    if may_make records c then applied (made records c) changes else None
 
 -- the batch is the next behind the held one, and each of its changes may be made
 pub record IsAdmissible (records : List Record) (held : ℕ) (b : Changes) : Type 0 where

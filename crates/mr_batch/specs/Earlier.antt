@@ -18,4 +18,5 @@ IsLastBelow bound n ns (Some j) = IsLastAt j bound n ns
 pub record IsLinked (changes : List Change) (links : List (Option ℕ)) : Type 0 where
   pub count : length links ≡ length changes
   pub each : (i : ℕ) → i < length changes
-      → IsLastBelow i (slice_index (numbers changes) i) (numbers changes) (slice_index_or links i None)
+      → IsLastBelow i (slice_index (numbers changes) i) (numbers changes)
+      (slice_index_or links i None)

@@ -20,7 +20,7 @@ fn is_one_field(text: &[u8]) -> bool
 }
 
 /// The number of a batch, from the parts of its first line.
-#[tactic(auto, using(crate::proofs::Cuttings::head_other, crate::proofs::Cuttings::head_more, crate::proofs::Cuttings::head_two))]
+#[tactic(auto, using(crate::proofs::Cuttings::head_steps))]
 fn read_head_parts(word: &[u8], number: &[u8]) -> Option<u64>
     ensures { result ≡ head_of_fields (word.now ∷ fields_of number.now) }
 {

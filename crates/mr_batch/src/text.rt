@@ -1,7 +1,6 @@
 //! A batch as a text.
 
-ghost use Rattle.std.specs.Prelude.{◌≡◌, ◌+◌, ◌<◌, ◌∷◌, [], ◌++◌, length, MatchResult, IfOk, IfErr, OnOk, Ok, Err};
-ghost use Rattle.mr_record.specs.declared.text_fault.TextErr.TheVariants as errors;
+ghost use Rattle.std.specs.Prelude.{◌≡◌, ◌<◌, [], length, IfOk, IfErr, Ok};
 ghost use Rattle.mr_record.specs.Lines.{lines_of};
 ghost use Rattle.mr_batch.specs.Changes.{Changes};
 ghost use Rattle.mr_batch.specs.BatchText.{IsBatch, batch_text, number_of_line, change_after, changes_after, batch_behind, batch_of_lines, batch_of_text};
@@ -28,7 +27,7 @@ fn read_number(line: &[u8], ended: bool) -> Result<u64, TextRule>
 }
 
 /// The number of a batch, and the text behind the first line.
-#[tactic(auto, using(crate::proofs::Cuttings::no_head), unfolding(crate::specs::BatchText::batch_of_lines))]
+#[tactic(auto, unfolding(crate::specs::BatchText::batch_of_lines))]
 fn take_head(text: &[u8]) -> Result<(u64, &[u8]), TextErr>
     ensures goes_on { IfOk result (λ head. batch_of_text text.now
         ≡ batch_behind head.0 (lines_of head.1.now)) }
@@ -94,7 +93,7 @@ fn read_changes(alloc: Global, text: &[u8]) -> Result<Vec<Change>, TextErr>
     Ok(changes)
 }
 
-#[tactic(auto, using(crate::proofs::Cuttings::behind_refused, crate::proofs::Cuttings::behind_read))]
+#[tactic(auto, using(crate::proofs::Cuttings::behind_head))]
 fn read_all(alloc: Global, text: &[u8]) -> Result<Batch, TextErr>
     ensures { Answers result (batch_of_text text.now) }
 {

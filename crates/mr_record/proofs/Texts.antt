@@ -39,7 +39,7 @@ line_text line = cond line.ended (line.bytes ++ 10 ∷ []) line.bytes
 abbrev whole_line : Record → Line
 whole_line r = record { bytes = line_of r; ended = true }
 
-pub onto_line-text : (b : ℕ) (lines : List Line) → flat_map line_text (onto_line b lines) ≡ b ∷ flat_map line_text lines
+onto_line-text : (b : ℕ) (lines : List Line) → flat_map line_text (onto_line b lines) ≡ b ∷ flat_map line_text lines
 onto_line-text b [] = refl
 onto_line-text b (line ∷ lines) =
     cond_both line.ended (line.bytes ++ 10 ∷ []) line.bytes
@@ -67,7 +67,7 @@ number_apart : (n : ℕ) (earlier : List Record) → has_number n earlier ≡ fa
 number_apart n earlier new k d lt e =
     both_ways (has_number n earlier) new (list_any_at (λ r. eqb r.number n) earlier k d lt (eq-eqb _ _ e))
 
-pub guard_ok : {A E : Type 0} (b : Bool) (d : E) (x y : A) → cond b (Err d) (Ok x) ≡ Ok y → (b ≡ false) × (x ≡ y)
+guard_ok : {A E : Type 0} (b : Bool) (d : E) (x y : A) → cond b (Err d) (Ok x) ≡ Ok y → (b ≡ false) × (x ≡ y)
 guard_ok true d x y e = absurd cc
 guard_ok false d x y e = (refl, cc)
 

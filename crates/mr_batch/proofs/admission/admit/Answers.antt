@@ -1,8 +1,6 @@
 use Rattle.std.proofs.Common.{◌≡◌, subst, ◌∙◌, Option, Some, None}
 use Rattle.std.specs.Prelude.{MatchResult}
 use Rattle.mr_batch.specs.declared.admission.BatchFault.{BatchFault}
-use Rattle.mr_batch.specs.Presence.{fault_by, knows}
-use Rattle.mr_batch.specs.Admissible.{batch_fault}
 use Rattle.mr_batch.proofs.Numbered.{as_many, some_records}
 use Rattle.mr_batch.proofs.Walking.{same_fault_by, admitted}
 use Rattle.mr_batch.proofs.admission.admit.Goals as goal

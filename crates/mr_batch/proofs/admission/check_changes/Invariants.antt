@@ -1,4 +1,4 @@
-use Rattle.std.proofs.Common.{◌≡◌, ◌+◌, ◌≤◌, length, take, drop}
+use Rattle.std.proofs.Common.{◌≡◌, ◌+◌, take, drop}
 use Rattle.mr_batch.specs.Presence.{after_all, first_hindered, knows}
 use Rattle.mr_batch.proofs.admission.check_changes.Given as goal
 

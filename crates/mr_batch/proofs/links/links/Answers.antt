@@ -1,7 +1,7 @@
-use Rattle.std.proofs.Common.{◌+◌, subst, sym, ap, ◌∙◌, slice_index}
+use Rattle.std.proofs.Common.{◌+◌, subst, sym, ◌∙◌}
 use Rattle.std.specs.BTreeMap.{get}
 use Rattle.std.specs.Ordering.{nat_cmp}
-use Rattle.mr_batch.specs.Changes.{numbers, named}
+use Rattle.mr_batch.specs.Changes.{numbers}
 use Rattle.mr_batch.specs.Earlier.{IsLastBelow}
 use Rattle.mr_batch.proofs.Linking.{AreLinks, AreLinks-push, IsLastBelow-after, number_at, is_elsewhere}
 use Rattle.mr_batch.proofs.links.links.Goals as goal
