@@ -9,9 +9,7 @@ ghost use Rattle.mr_batch.specs.Directory.{HaveNumbers};
 ghost use Rattle.mr_batch.specs.Presence.{after_all, count_after, hindered, first_hindered, fault_by, knows};
 
 use crate::{Batch, Change, Directory};
-
-/// The most records of a map.
-const RECORD_LIMIT: usize = 1 << 20;
+use mr_tree::COUNT_LIMIT;
 
 /// Why a batch may not be applied. Lines are those of the batch text: the head is line 1, and the
 /// change at the place `i` stands on line `i + 2`.
@@ -47,7 +45,7 @@ fn step(present: bool, count: usize, line: u64, change: &Change) -> Result<usize
 {
     match change {
         Change::Add(_) if present => Err(BatchFault::Present { line }),
-        Change::Add(_) if count >= RECORD_LIMIT => Err(BatchFault::Full { line }),
+        Change::Add(_) if count as u64 >= COUNT_LIMIT => Err(BatchFault::Full { line }),
         Change::Add(_) => Ok(count + 1),
         Change::Remove(_) if !present => Err(BatchFault::Absent { line }),
         Change::Remove(_) => Ok(count.saturating_sub(1)),
