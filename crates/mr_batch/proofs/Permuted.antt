@@ -1,14 +1,19 @@
 -- Changes of records in another order: what may be made of one list may be made of each other order
 -- of it, and leaves the same in some order. So trees that change as the records do follow them.
-use Rattle.std.proofs.Common.{◌≡◌, ℕ, zero, suc, ◌<◌, Bool, true, false, cond, not, eqb, ltb, ◌&&◌, List, [], ◌∷◌, length, get_or, set, swap, filter, Option, Some, None, refl, sym, subst, ◌∙◌, arith}
+use Rattle.std.proofs.Common.{◌≡◌, ℕ, zero, suc, ◌<◌, Bool, true, false, cond, not, eqb, ltb, ◌&&◌, List, [], ◌∷◌, length, get_or, set, swap, filter, Option, Some, None, refl, sym, subst, ◌∙◌, arith, ◌++◌}
+use Rattle.std.specs.Prelude.{◌≢◌, All}
 use Rattle.std.specs.List.Sorted.{IsPermutation}
-use Rattle.std.proofs.lemmas.List.Sorted.{IsPermutation-refl, IsPermutation-cons, IsPermutation-keeps, IsPermutation-trans, IsPermutation-append_left, IsPermutation-append_comm, list_any-IsPermutation, length_permutation}
+use Rattle.std.proofs.lemmas.List.Elements.{All-cons}
+use Rattle.std.proofs.lemmas.List.Kept.{AllPairs-cons}
+use Rattle.std.proofs.lemmas.List.Sorted.{IsPermutation-refl, IsPermutation-cons, IsPermutation-keeps, IsPermutation-trans, IsPermutation-append_left, IsPermutation-append_comm, IsPermutation-to_front, All-permutation, list_any-IsPermutation, length_permutation}
 use Rattle.mr_record.specs.declared.record.Record.{Record}
 use Rattle.mr_record.specs.RecordText.{has_number}
 use Rattle.mr_tree.specs.Limits.{count_limit}
 use Rattle.mr_batch.specs.declared.change.Change.{Change}
 use Rattle.mr_batch.specs.declared.change.Change.TheVariants.{Add, Remove}
-use Rattle.mr_batch.specs.Applied.{may_make, made, applied}
+use Rattle.mr_batch.proofs.Numbered.{Apart, apart_head, apart_tail}
+use Rattle.mr_batch.proofs.Walking.{without-here, without-absent}
+use Rattle.mr_batch.specs.Applied.{without, may_make, made, applied}
 
 -- ---- some of a list in another order
 
@@ -75,6 +80,62 @@ may_make_permuted xs ys (Add r) p =
     let many : length ys ≡ length xs = length_permutation xs ys p in
     λ j. not (there j) && ltb ((sym many) j) count_limit
 may_make_permuted xs ys (Remove n) p = list_any-IsPermutation (λ s. eqb s.number n) xs ys p
+
+-- ---- an addition and a removal as the old records and the one
+
+head_differs : (r : Record) (rs : List Record) → Apart (r ∷ rs) → All (λ (s : Record). r.number ≢ s.number) rs
+head_differs r rs apart k d low = apart 0 (suc k) d (omega arith) (omega arith)
+
+record ApartToo (xs ys : List Record) : Type 0 where
+  mixed : IsPermutation xs ys
+  apart : Apart xs → Apart ys
+
+apart_skip : (r : Record) (xs ys : List Record) → ApartToo xs ys → ApartToo (r ∷ xs) (r ∷ ys)
+apart_skip r xs ys too = record {
+  mixed = IsPermutation-cons r xs ys too.mixed;
+  apart = λ all.
+      AllPairs-cons (λ a b. a.number ≢ b.number) r ys
+      (All-permutation (λ (s : Record). r.number ≢ s.number) xs ys too.mixed (head_differs r xs all))
+      (too.apart (apart_tail r xs all));
+}
+
+apart_turn : (r s : Record) (xs : List Record) → ApartToo (r ∷ s ∷ xs) (s ∷ r ∷ xs)
+apart_turn r s xs = record {
+  mixed = IsPermutation-append_left xs (r ∷ s ∷ []) (s ∷ r ∷ []) (IsPermutation-append_comm (r ∷ []) (s ∷ []));
+  apart = λ all.
+      let of_r = head_differs r (s ∷ xs) all in
+      let tail : Apart (s ∷ xs) = apart_tail r (s ∷ xs) all in
+      let R : Record → Record → Type 0 = λ a b. a.number ≢ b.number in
+      AllPairs-cons R s (r ∷ xs)
+      (All-cons (R s) r xs (λ e. of_r 0 s (omega arith) (sym e)) (head_differs s xs tail))
+      (AllPairs-cons R r xs (λ k d low. of_r (suc k) d (omega arith)) (apart_tail s xs tail));
+}
+
+apart_chain : (xs ys zs : List Record) → ApartToo xs ys → ApartToo ys zs → ApartToo xs zs
+apart_chain xs ys zs a b =
+    record { mixed = IsPermutation-trans xs ys zs a.mixed b.mixed; apart = λ all. b.apart (a.apart all) }
+
+pub apart_permuted : (xs ys : List Record) → IsPermutation xs ys → Apart xs → Apart ys
+apart_permuted xs ys p =
+    (along_permutation ApartToo (λ zs. record { mixed = IsPermutation-refl zs; apart = λ all. all }) apart_skip
+    apart_turn apart_chain xs ys p).apart
+
+-- new has the old records and r
+pub addition_leaves : (old new : List Record) (r : Record) → IsPermutation (r ∷ old) new →
+    IsPermutation (made old (Add r)) new
+addition_leaves old new r p =
+    IsPermutation-trans (old ++ r ∷ []) (r ∷ old) new (IsPermutation-to_front old r) p
+
+-- new has the old records but r
+pub removal_leaves : (old new : List Record) (r : Record) → Apart old → IsPermutation old (r ∷ new) →
+    IsPermutation (made old (Remove r.number)) new
+removal_leaves old new r apart p =
+    let all : Apart (r ∷ new) = apart_permuted old (r ∷ new) p apart in
+    subst (IsPermutation (without r.number old))
+    (without-here r.number r new refl ∙ without-absent r.number new (apart_head r new all))
+    (filter_permuted (λ s. not (eqb s.number r.number)) old (r ∷ new) p)
+
+-- ---- changes one after the other
 
 -- both lists can be changed, and leave the same in some order
 pub record BothApply (xs ys : List Record) (cs : List Change) (out : List Record) : Type 0 where

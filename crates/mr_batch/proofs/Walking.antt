@@ -120,7 +120,7 @@ left_in k n m has other =
     let g : eqb m n ≡ false = ne_eqb m n (λ e. other (e ∙ sym (eqb-true k n t))) in rw (t, g) refl)
     (λ (f : eqb k n ≡ false). rw f refl) (cases_Bool (eqb k n))
 
-without-here : (k : ℕ) (r : Record) (rs : List Record) → r.number ≡ k → without k (r ∷ rs) ≡ without k rs
+pub without-here : (k : ℕ) (r : Record) (rs : List Record) → r.number ≡ k → without k (r ∷ rs) ≡ without k rs
 without-here k r rs e = let t : eqb r.number k ≡ true = eq-eqb r.number k e in rw t refl
 
 without-there : (k : ℕ) (r : Record) (rs : List Record) → r.number ≢ k → without k (r ∷ rs) ≡ r ∷ without k rs
@@ -138,7 +138,7 @@ has_number-without k n (r ∷ rs) =
     ∙ left_in k n r.number (has_number n rs) other)
     (cases_eq r.number k)
 
-without-absent : (k : ℕ) (rs : List Record) → has_number k rs ≡ false → without k rs ≡ rs
+pub without-absent : (k : ℕ) (rs : List Record) → has_number k rs ≡ false → without k rs ≡ rs
 without-absent k [] none = refl
 without-absent k (r ∷ rs) none =
     let parts = or_parts (eqb r.number k) (has_number k rs) none in
