@@ -25,18 +25,18 @@ use Rattle.mr_record.proofs.Decimals.{is_canonical-decimal, are_digits-canonical
 use Rattle.mr_record.proofs.Payloads.{payload_of-written, payload_of-text, all_lower_text}
 
 -- the fields of a record's line
-abbrev spelled : Record → List (List ℕ)
+abbrev pub spelled : Record → List (List ℕ)
 spelled r =
     decimal r.number ∷ signed_decimal r.rect.x0 ∷ signed_decimal r.rect.y0 ∷ signed_decimal r.rect.x1 ∷ signed_decimal
     r.rect.y1 ∷ payload_text r.payload ∷ []
 
 -- ---- what is read is written so
 
-some_from_ok : {A : Type 0} (o : Option A) (rule : TextRule) (x : A) → ok_or o rule ≡ Ok x → o ≡ Some x
+pub some_from_ok : {A : Type 0} (o : Option A) (rule : TextRule) (x : A) → ok_or o rule ≡ Ok x → o ≡ Some x
 some_from_ok (Some y) rule x e = cc
 some_from_ok None rule x e = absurd cc
 
-u64_some : (text : List ℕ) (n : ℕ) → u64_of text ≡ Some n → (text ≡ decimal n) × (n < 2 ^ 64)
+pub u64_some : (text : List ℕ) (n : ℕ) → u64_of text ≡ Some n → (text ≡ decimal n) × (n < 2 ^ 64)
 u64_some text n e = let w = u64_of-written text in rw e at w
 
 i32_some : (text : List ℕ) (z : ℤ) → i32_of text ≡ Some z → (text ≡ signed_decimal z) × FitsSigned w32 z
@@ -107,7 +107,7 @@ made_of number x0 y0 x1 y1 payload n rect bytes r en is ep e =
       same,
     )
 
-fields_written : (fields : List (List ℕ)) (r : Record) → record_of_fields fields ≡ Ok r →
+pub fields_written : (fields : List (List ℕ)) (r : Record) → record_of_fields fields ≡ Ok r →
     IsRecord r × (fields ≡ spelled r)
 unfolding record_of_fields
 fields_written (number ∷ x0 ∷ y0 ∷ x1 ∷ y1 ∷ payload ∷ []) r e =
@@ -137,13 +137,13 @@ result_written line (Err rule) e = tt
 -- ---- what is written is read again
 
 -- no space and no line feed
-abbrev IsInk : List ℕ → Type 0
+abbrev pub IsInk : List ℕ → Type 0
 IsInk text = All (λ b. 45 ≤ b) text
 
 digit_ink : (b : ℕ) → is_ascii_digit b ≡ true → 45 ≤ b
 digit_ink b e = let low : 48 ≤ b = leb-true 48 b (and_parts (leb 48 b) (leb b 57) e).0 in omega arith
 
-decimal_ink : (n : ℕ) → n < 2 ^ 64 → IsInk (decimal n)
+pub decimal_ink : (n : ℕ) → n < 2 ^ 64 → IsInk (decimal n)
 decimal_ink n lt k d at =
     digit_ink _ (AllPass-from_list_all is_ascii_digit (decimal n)
     (are_digits-canonical (decimal n) (is_canonical-decimal n lt)) k d at)
@@ -164,10 +164,10 @@ payload_ink (b ∷ bytes) fits =
     λ k d at. lower_ink _ (AllPass-from_list_all is_lower_digit (payload_text (b ∷ bytes))
     (all_lower_text b bytes fits) k d at)
 
-lacks_space : (text : List ℕ) → IsInk text → Lacks 32 text
+pub lacks_space : (text : List ℕ) → IsInk text → Lacks 32 text
 lacks_space text ink k d at = let low = ink k d at in ne_eqb (get_or text k d) 32 (λ e. omega arith)
 
-fields_split : (front rest : List ℕ) → IsInk front → fields_of (front ++ 32 ∷ rest) ≡ front ∷ fields_of rest
+pub fields_split : (front rest : List ℕ) → IsInk front → fields_of (front ++ 32 ∷ rest) ≡ front ∷ fields_of rest
 fields_split front rest ink = slice_split_at (λ b. eqb b 32) front 32 rest (lacks_space front ink) refl
 
 spelled_fields : (r : Record) → IsRecord r → fields_of (line_of r) ≡ spelled r
@@ -210,7 +210,7 @@ line_read r is = ap record_of_fields (spelled_fields r is) ∙ spelled_read r is
 
 -- ---- a line has no line feed
 
-line_dark : (r : Record) → IsRecord r → All (λ b. 32 ≤ b) (line_of r)
+pub line_dark : (r : Record) → IsRecord r → All (λ b. 32 ≤ b) (line_of r)
 unfolding line_of
 line_dark r is =
     let P : ℕ → Type 0 = λ b. 32 ≤ b in

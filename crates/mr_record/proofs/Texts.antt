@@ -33,7 +33,7 @@ all_read records (b ∷ rest) meant none e = absurd (omega arith)
 
 -- ---- a text is its lines
 
-abbrev line_text : Line → List ℕ
+abbrev pub line_text : Line → List ℕ
 line_text line = cond line.ended (line.bytes ++ 10 ∷ []) line.bytes
 
 abbrev whole_line : Record → Line
@@ -47,7 +47,7 @@ onto_line-text b (line ∷ lines) =
     (t ++ flat_map line_text lines))
     (λ t. rw t refl) (λ t. rw t refl)
 
-lines_text : (text : List ℕ) → flat_map line_text (lines_of text) ≡ text
+pub lines_text : (text : List ℕ) → flat_map line_text (lines_of text) ≡ text
 unfolding lines_of
 lines_text [] = refl
 lines_text (b ∷ text) =
@@ -71,7 +71,7 @@ guard_ok : {A E : Type 0} (b : Bool) (d : E) (x y : A) → cond b (Err d) (Ok x)
 guard_ok true d x y e = absurd cc
 guard_ok false d x y e = (refl, cc)
 
-guard_then : {A E : Type 0} (b : Bool) (d : E) (r : Result A E) (y : A) → cond b (Err d) r ≡ Ok y →
+pub guard_then : {A E : Type 0} (b : Bool) (d : E) (r : Result A E) (y : A) → cond b (Err d) r ≡ Ok y →
     (b ≡ false) × (r ≡ Ok y)
 guard_then true d r y e = absurd cc
 guard_then false d r y e = (refl, e)
@@ -83,7 +83,7 @@ record IsNext (earlier : List Record) (line : Line) (one : Record) : Type 0 wher
   is : IsRecord one
   new : has_number one.number earlier ≡ false
 
-made_line : (a b : List ℕ) (s t : Bool) → a ≡ b → s ≡ t →
+pub made_line : (a b : List ℕ) (s t : Bool) → a ≡ b → s ≡ t →
     ◌≡◌ {A = Line} (record { bytes = a; ended = s }) (record { bytes = b; ended = t })
 made_line a b s t e f = rw (e, f) refl
 
@@ -119,7 +119,7 @@ IsRecordList-push earlier one is room fits new = record {
   count = omega (arith, length_push earlier one);
 }
 
-on_line-ok : {A : Type 0} (n : ℕ) (r : Result A TextRule) (x : A) → on_line n r ≡ Ok x → r ≡ Ok x
+pub on_line-ok : {A : Type 0} (n : ℕ) (r : Result A TextRule) (x : A) → on_line n r ≡ Ok x → r ≡ Ok x
 on_line-ok n (Ok y) x e = cc
 on_line-ok n (Err rule) x e = absurd cc
 
@@ -225,7 +225,7 @@ text_read records is = ap (records_after []) (lines_written records is.each) ∙
 
 -- ---- the first fault
 
-bind_err : {A B E : Type 0} (r : Result A E) (f : A → Result B E) (d : E) → (r >>= f) ≡ Err d →
+pub bind_err : {A B E : Type 0} (r : Result A E) (f : A → Result B E) (d : E) → (r >>= f) ≡ Err d →
     (r ≡ Err d) ⊎ ((x : A) × (r ≡ Ok x) × (f x ≡ Err d))
 bind_err (Ok x) f d e = inr (x, refl, e)
 bind_err (Err c) f d e = inl cc
@@ -233,7 +233,7 @@ bind_err (Err c) f d e = inl cc
 same_fault : {A : Type 0} (f g : TextFault) → ◌≡◌ {A = Result A TextFault} (Err f) (Err g) → f ≡ g
 same_fault f g e = cc
 
-on_line-err : {A : Type 0} (n : ℕ) (r : Result A TextRule) (fault : TextFault) → on_line n r ≡ Err fault →
+pub on_line-err : {A : Type 0} (n : ℕ) (r : Result A TextRule) (fault : TextFault) → on_line n r ≡ Err fault →
     (r ≡ Err fault.rule) × (fault.line ≡ n)
 on_line-err n (Ok x) fault e = absurd cc
 on_line-err {A} n (Err rule) fault e =

@@ -26,7 +26,7 @@ pub use payload::{PAYLOAD_LIMIT, Payload};
 pub use print::{put_coordinate, put_number, write_line, write_lines};
 pub use record::{Record, are_records, is_record};
 pub use record_fault::{RecordFault, RecordRule};
-pub use text::read_lines;
+pub use text::{first_line, read_lines};
 pub use text_fault::{TextErr, TextFault, TextRule};
 
 #[cfg(test)]

@@ -16,9 +16,10 @@ use std::collections::BTreeSet;
 /// The most lines of a record text.
 const LINE_LIMIT: usize = 1 << 20;
 
-/// The first line without its line feed, whether it has one, and the text behind it.
+/// The first line of a text that is not empty, without its line feed; whether it has one; and the
+/// text behind it.
 #[tactic(auto, using(crate::proofs::Fields::lines_cut, crate::proofs::Fields::lines_last))]
-fn first_line(text: &[u8]) -> (&[u8], bool, &[u8])
+pub fn first_line(text: &[u8]) -> (&[u8], bool, &[u8])
     requires { 0 < length text.now }
     ensures lines { lines_of text.now
         ≡ record { bytes = result.0.now; ended = result.1 } ∷ lines_of result.2.now }

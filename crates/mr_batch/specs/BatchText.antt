@@ -1,0 +1,123 @@
+-- The text of a batch: the line `batch N`, then a line for each change, `+ ` and a record line or
+-- `- ` and a number. A fault has the least faulty line, and on it the first rule of the list of
+-- `TextRule` that the line breaks.
+use Rattle.std.specs.Prelude.{ℕ, ◌+◌, ◌^◌, ◌<◌, ◌≤◌, not, nat_le, if◌then◌else◌, List, [], ◌∷◌, ◌++◌, length, All, Option, None, Result, Ok, Err, ok_or, flat_map, bytes_eq, codes, decimal}
+use Rattle.mr_record.specs.declared.text_fault.TextRule.{TextRule}
+use Rattle.mr_record.specs.declared.text_fault.TextRule.TheVariants.{TooMany, NoEnd, Head, Form, Number}
+use Rattle.mr_record.specs.declared.text_fault.TextFault.{TextFault}
+use Rattle.mr_record.specs.Decimal.{u64_of}
+use Rattle.mr_record.specs.Lines.{Line, lines_of, fields_of}
+use Rattle.mr_record.specs.Record.{IsRecord}
+use Rattle.mr_record.specs.RecordText.{line_of, record_of_fields, on_line}
+use Rattle.mr_record.specs.Results.{◌>>=◌}
+use Rattle.mr_batch.specs.declared.change.Change.{Change}
+use Rattle.mr_batch.specs.declared.change.Change.TheVariants.{Add, Remove}
+use Rattle.mr_batch.specs.Changes.{Changes}
+
+-- ---- the one spelling of a batch
+
+-- the line of a change, without its line feed
+unfoldable pub change_line : Change → List ℕ
+change_line (Add r) = 43 ∷ 32 ∷ line_of r
+change_line (Remove n) = 45 ∷ 32 ∷ decimal n
+
+-- the first line, without its line feed
+unfoldable pub head_line : ℕ → List ℕ
+head_line n = codes "batch " ++ decimal n
+
+-- the lines of the changes, each with its line feed
+unfoldable pub changes_text : List Change → List ℕ
+changes_text changes = flat_map (λ c. change_line c ++ 10 ∷ []) changes
+
+-- the lines of the batch, each with its line feed
+unfoldable pub batch_text : Changes → List ℕ
+batch_text b = head_line b.number ++ 10 ∷ changes_text b.list
+
+-- the most changes of a batch
+abbrev pub change_limit : ℕ
+change_limit = 2 ^ 20
+
+-- a record that comes, or a number within its range
+abbrev pub IsChange : Change → Type 0
+IsChange (Add r) = IsRecord r
+IsChange (Remove n) = n < 2 ^ 64
+
+-- a batch that a text may hold
+pub record IsBatch (b : Changes) : Type 0 where
+  pub number : b.number < 2 ^ 64
+  pub each : All IsChange b.list
+  pub count : length b.list ≤ change_limit
+
+-- ---- what a line spells
+
+-- the number of a batch that the fields of the first line spell
+unfoldable pub head_of_fields : List (List ℕ) → Option ℕ
+head_of_fields (word ∷ number ∷ []) = if bytes_eq word (codes "batch") then u64_of number else None
+head_of_fields _ = None
+
+-- the number of a batch that the first line spells
+abbrev pub head_of_line : List ℕ → Option ℕ
+head_of_line line = head_of_fields (fields_of line)
+
+-- the addition that the fields behind `+` spell, else the first rule that they break
+abbrev pub addition_of_fields : List (List ℕ) → Result Change TextRule
+addition_of_fields fields = do
+  r ← record_of_fields fields
+  Ok (Add r)
+
+-- the removal that the fields behind `-` spell, else the first rule that they break
+unfoldable pub removal_of_fields : List (List ℕ) → Result Change TextRule
+removal_of_fields (number ∷ []) = do
+  n ← ok_or (u64_of number) Number
+  Ok (Remove n)
+removal_of_fields _ = Err Form
+
+-- the change that the fields of a line spell, else the first rule that they break
+unfoldable pub change_of_fields : List (List ℕ) → Result Change TextRule
+change_of_fields [] = Err Form
+change_of_fields (sign ∷ fields) =
+    if bytes_eq sign (codes "+") then addition_of_fields fields
+    else if bytes_eq sign (codes "-") then removal_of_fields fields
+    else Err Form
+
+-- the change that a line without its line feed spells, else the first rule that it breaks
+abbrev pub change_of_line : List ℕ → Result Change TextRule
+change_of_line line = change_of_fields (fields_of line)
+
+-- ---- what a text spells
+
+-- the number on the first line, else the first rule that it breaks
+unfoldable pub number_of_line : Line → Result ℕ TextRule
+number_of_line line = if not line.ended then Err NoEnd else ok_or (head_of_line line.bytes) Head
+
+-- the change of a line behind so many lines of changes, else the first rule that it breaks
+unfoldable pub change_after : ℕ → Line → Result Change TextRule
+change_after count line =
+    if nat_le change_limit count then Err TooMany
+    else if not line.ended then Err NoEnd
+    else change_of_line line.bytes
+
+-- The changes of the lines behind the earlier changes, else the first fault. The earlier changes
+-- had a line each, and stand behind the head, which is line 1.
+unfoldable pub changes_after : List Change → List Line → Result (List Change) TextFault
+changes_after earlier [] = Ok earlier
+changes_after earlier (line ∷ lines) = do
+  one ← on_line (length earlier + 2) (change_after (length earlier) line)
+  changes_after (earlier ++ one ∷ []) lines
+
+-- the batch with the number and the changes of the lines, else the first fault
+unfoldable pub batch_behind : ℕ → List Line → Result Changes TextFault
+batch_behind number lines = do
+  changes ← changes_after [] lines
+  Ok (record { number = number; list = changes })
+
+-- the batch of the lines of a text, else its fault
+unfoldable pub batch_of_lines : List Line → Result Changes TextFault
+batch_of_lines [] = Err (record { line = 1; rule = Head })
+batch_of_lines (line ∷ lines) = do
+  number ← on_line 1 (number_of_line line)
+  batch_behind number lines
+
+-- the batch of a text, else its fault
+abbrev pub batch_of_text : List ℕ → Result Changes TextFault
+batch_of_text text = batch_of_lines (lines_of text)

@@ -1,0 +1,10 @@
+-- what has to be believed, in reading order
+pub mod Changes
+pub mod Earlier
+pub mod BatchText
+pub mod Answer
+pub mod Applied
+pub mod Admissible
+pub mod Directory
+-- what only private functions and proofs use
+pub mod Presence

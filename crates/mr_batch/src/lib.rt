@@ -1,0 +1,17 @@
+//! Batches of changes to a map: their texts, what they make of some records, and whether they may
+//! be applied.
+#![tactic(auto)]
+
+mod admission;
+mod batch;
+mod change;
+mod directory;
+mod line;
+mod links;
+mod text;
+
+pub use admission::{BatchFault, admit};
+pub use batch::Batch;
+pub use change::Change;
+pub use directory::Directory;
+pub use text::read_batch;
