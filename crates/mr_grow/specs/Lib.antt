@@ -1,0 +1,7 @@
+-- what has to be believed, in reading order
+pub mod Parts
+pub mod Grow
+pub mod Found
+pub mod Refused
+-- what only private functions and proofs use
+pub mod Views

@@ -1,0 +1,9 @@
+//! Insertion into trees and deletion from them, by the rules of Guttman (1984).
+#![tactic(auto)]
+
+mod finding;
+mod insertion;
+mod nodes;
+mod parts;
+
+pub use insertion::{GrowErr, grow, insert};

@@ -1,0 +1,5 @@
+pub mod Champion
+pub mod Comparing
+pub mod Pairing
+pub mod Steps
+pub mod Counts

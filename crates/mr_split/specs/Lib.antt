@@ -1,0 +1,4 @@
+pub mod Best
+pub mod Choice
+pub mod Seeds
+pub mod Split

@@ -1,0 +1,31 @@
+ghost use Rattle.std.specs.Prelude.{◌≡◌, ◌<◌, length};
+ghost use Rattle.mr_split.specs.Choice.{is_fitter as fitter, choose as chosen};
+
+use mr_geom::Rect;
+
+// Whether the one grows less for a new rectangle than the other, or as much and has the lesser
+// area.
+fn is_fitter(new: &Rect, one: &Rect, other: &Rect) -> bool
+    ensures { result ≡ fitter new.now one.now other.now }
+{
+    one.growth(new)
+        .cmp(&other.growth(new))
+        .then(one.area().cmp(&other.area()))
+        .is_lt()
+}
+
+/// The position of the rectangle that takes a new one: the one that grows least, of several the
+/// one with the least area, and of those the one with the lowest position (Guttman 1984).
+pub fn choose(list: &[Rect], new: &Rect) -> usize
+    requires { 0 < length list.now }
+    ensures exact { result ≡ chosen list.now new.now }
+    ensures within { result < length list.now }
+{
+    let mut at = 0;
+    for i in 1..list.len() {
+        if is_fitter(new, &list[i], &list[at]) {
+            at = i;
+        }
+    }
+    at
+}
