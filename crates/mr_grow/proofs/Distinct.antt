@@ -17,7 +17,8 @@ use Rattle.mr_grow.specs.Found.{has, is_numbered}
 use Rattle.mr_grow.specs.Grow.{ins}
 use Rattle.mr_grow.proofs.Kept.{ins_mixes}
 use Rattle.mr_grow.proofs.Sizes.{root_shallow, has_room, well_rooted}
-use Rattle.mr_grow.proofs.Standing.{Root, ins_root}
+use Rattle.mr_grow.specs.Views.{IsRooted}
+use Rattle.mr_grow.proofs.Standing.{ins_root}
 
 abbrev pub Apart : Record → Record → Type 0
 Apart a b = a.number ≢ b.number

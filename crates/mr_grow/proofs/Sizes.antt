@@ -13,9 +13,9 @@ use Rattle.mr_tree.specs.declared.tree.Tree.TheOpen.{Tree-F, Empty, Leaf, Inner}
 use Rattle.mr_tree.specs.declared.tree.Tree.TheFolds.{every-Tree}
 use Rattle.mr_tree.proofs.Equations.{level-Inner, level-Leaf, level-Empty, records-Leaf}
 use Rattle.mr_tree.proofs.Induction.{tree_induction, here-Leaf, here-Inner, every_child, every-Empty, every-Leaf, every-Inner}
-use Rattle.mr_grow.specs.Views.{HasRoom}
+use Rattle.mr_grow.specs.Views.{HasRoom, IsRooted}
 use Rattle.mr_grow.proofs.Kept.{records_below}
-use Rattle.mr_grow.proofs.Standing.{Stands, Root, below_stand}
+use Rattle.mr_grow.proofs.Standing.{Stands, below_stand}
 
 -- the fewest records of a node that is not the root
 abbrev pub fewest : ℕ → ℕ
@@ -68,8 +68,8 @@ each_of : (ts : List Tree) → AllByRecursion Holds ts
 each_of [] = tt
 each_of (t ∷ ts) = (stands_holds t, each_of ts)
 
-pub root_shallow : (t : Tree) → Root t → length (records t) ≤ 2 ^ 20 → level t ≤ 7
-root_shallow = tree_induction (λ t. Root t → length (records t) ≤ 2 ^ 20 → level t ≤ 7)
+pub root_shallow : (t : Tree) → IsRooted t → length (records t) ≤ 2 ^ 20 → level t ≤ 7
+root_shallow = tree_induction (λ t. IsRooted t → length (records t) ≤ 2 ^ 20 → level t ≤ 7)
     (λ r few. omega (arith, level-Empty))
     (λ rs r few. omega (arith, level-Leaf rs))
     (λ ts below r few.
@@ -95,8 +95,8 @@ room_of_filled = tree_induction (λ t. every-Tree IsFilled t → every-Tree HasR
     each [] below all = tt
     each (t ∷ ts) below all = (below.0 all.0, each ts below.1 all.1)
 
-pub has_room : (t : Tree) → Root t → every-Tree HasRoom t
-has_room = tree_induction (λ t. Root t → every-Tree HasRoom t)
+pub has_room : (t : Tree) → IsRooted t → every-Tree HasRoom t
+has_room = tree_induction (λ t. IsRooted t → every-Tree HasRoom t)
     (λ r. every-Empty HasRoom tt)
     (λ rs r. every-Leaf HasRoom rs (subst IsFilledRoot (tree.outs-Leaf rs) r.filled).1)
     (λ ts below r.
@@ -107,5 +107,5 @@ has_room = tree_induction (λ t. Root t → every-Tree HasRoom t)
     each [] all = tt
     each (t ∷ ts) all = (room_of_filled t all.0, each ts all.1)
 
-pub well_rooted : (t : Tree) → WellFormed t → Root t
+pub well_rooted : (t : Tree) → WellFormed t → IsRooted t
 well_rooted t well = record { one_level = well.one_level; filled = well.filled }

@@ -21,6 +21,7 @@ use Rattle.mr_split.specs.Choice.{choose}
 use Rattle.mr_split.specs.Split.{sides}
 use Rattle.mr_grow.specs.Grow.{outline, grown, ins, root_over, in_place, parted, leaves_over, nodes_over}
 use Rattle.mr_grow.specs.Parts.{first_part, second_part}
+use Rattle.mr_grow.specs.Views.{IsRooted}
 use Rattle.mr_grow.proofs.Cutting.{splits, all_first, all_second, all_both}
 use Rattle.mr_grow.proofs.Grown.{beside, firsts, grown-Empty, grown-Leaf, grown-Inner, leaves_one, leaves_two, nodes_one, nodes_two}
 
@@ -199,54 +200,50 @@ grown_stands one = tree_induction (Keeps one)
 
 -- ---- the root
 
-pub record Root (t : Tree) : Type 0 where
-  pub one_level : every-Tree HasOneLevel t
-  pub filled : IsFilledRoot (out-Tree t)
-
-leaf_root : (rs : List Record) → 1 ≤ length rs → length rs ≤ 16 → Root (tree.Leaf rs)
+pub leaf_root : (rs : List Record) → 1 ≤ length rs → length rs ≤ 16 → IsRooted (tree.Leaf rs)
 leaf_root rs low high = record { one_level = every-Leaf HasOneLevel rs tt; filled = subst IsFilledRoot (sym (tree.outs-Leaf rs)) (low, high) }
 
-inner_root : (k : ℕ) (ts : List Tree) → 2 ≤ length ts → length ts ≤ 64 → AllByRecursion (Stands k) ts → Root (tree.Inner ts)
+pub inner_root : (k : ℕ) (ts : List Tree) → 2 ≤ length ts → length ts ≤ 64 → AllByRecursion (Stands k) ts → IsRooted (tree.Inner ts)
 inner_root k ts low high all = record {
   one_level = one_level_over k ts (omega (arith, low)) all;
   filled = subst IsFilledRoot (sym (tree.outs-Inner ts)) (low, high, All-from_recursion (every-Tree IsFilled) ts (each_filled k ts all));
 }
 
-two_root : (k : ℕ) (t u : Tree) (ts : List Tree) → ts ≡ t ∷ u ∷ [] → AllByRecursion (Stands k) ts → Root (root_over ts)
+two_root : (k : ℕ) (t u : Tree) (ts : List Tree) → ts ≡ t ∷ u ∷ [] → AllByRecursion (Stands k) ts → IsRooted (root_over ts)
 two_root k t u ts is all =
-    subst (λ us. Root (root_over us)) (sym is) (inner_root k (t ∷ u ∷ []) (omega arith) (omega arith) (subst (AllByRecursion (Stands k)) is all))
+    subst (λ us. IsRooted (root_over us)) (sym is) (inner_root k (t ∷ u ∷ []) (omega arith) (omega arith) (subst (AllByRecursion (Stands k)) is all))
 
-leaves_root : (rs : List Record) → 1 ≤ length rs → length rs ≤ 17 → Root (root_over (leaves_over rs))
+leaves_root : (rs : List Record) → 1 ≤ length rs → length rs ≤ 17 → IsRooted (root_over (leaves_over rs))
 leaves_root rs low high = elim (cases_lt 16 (length rs)) [
   | inl many ↦ two_root 0 _ _ (leaves_over rs) (leaves_two rs many) (leaves_stand (parted 6 16 (map (λ (r : Record). r.rect) rs) rs)
       (groups (λ (r : Record). Unit {0}) 6 6 16 (map (λ (r : Record). r.rect) rs) rs (sym (length-map rs (λ (r : Record). r.rect))) (omega arith) (omega arith) (omega arith)
       (omega (arith, many)) (omega (arith, high)) (any_record rs)))
-  | inr few ↦ subst (λ us. Root (root_over us)) (sym (leaves_one rs few)) (leaf_root rs low few)
+  | inr few ↦ subst (λ us. IsRooted (root_over us)) (sym (leaves_one rs few)) (leaf_root rs low few)
 ]
 
-nodes_root : (k : ℕ) (ts : List Tree) → 2 ≤ length ts → length ts ≤ 65 → AllByRecursion (Stands k) ts → Root (root_over (nodes_over ts))
+nodes_root : (k : ℕ) (ts : List Tree) → 2 ≤ length ts → length ts ≤ 65 → AllByRecursion (Stands k) ts → IsRooted (root_over (nodes_over ts))
 nodes_root k ts low high all = elim (cases_lt 64 (length ts)) [
   | inl many ↦ two_root (k + 1) _ _ (nodes_over ts) (nodes_two ts many) (nodes_stand k (parted 24 64 (map outline ts) ts)
       (groups (Stands k) 24 24 64 (map outline ts) ts (sym (length-map ts outline)) (omega arith) (omega arith) (omega arith) (omega (arith, many)) (omega (arith, high)) all))
-  | inr few ↦ subst (λ us. Root (root_over us)) (sym (nodes_one ts few)) (inner_root k ts low few all)
+  | inr few ↦ subst (λ us. IsRooted (root_over us)) (sym (nodes_one ts few)) (inner_root k ts low few all)
 ]
 
 each_of : (one : Record) (ts : List Tree) → AllByRecursion (Keeps one) ts
 each_of one [] = tt
 each_of one (t ∷ ts) = (grown_stands one t, each_of one ts)
 
-pub ins_root : (one : Record) (t : Tree) → Root t → Root (ins one t)
-ins_root one = tree_induction (λ t. Root t → Root (ins one t))
-    (λ r. subst (λ us. Root (root_over us)) (sym (grown-Empty one)) (leaf_root (one ∷ []) (omega arith) (omega arith)))
+pub ins_root : (one : Record) (t : Tree) → IsRooted t → IsRooted (ins one t)
+ins_root one = tree_induction (λ t. IsRooted t → IsRooted (ins one t))
+    (λ r. subst (λ us. IsRooted (root_over us)) (sym (grown-Empty one)) (leaf_root (one ∷ []) (omega arith) (omega arith)))
     (λ rs r.
     let fill = subst IsFilledRoot (tree.outs-Leaf rs) r.filled in
     let size = length_push rs one in
-    subst (λ us. Root (root_over us)) (sym (grown-Leaf one rs)) (leaves_root (rs ++ one ∷ []) (omega (arith, size)) (omega (arith, size, fill.1))))
+    subst (λ us. IsRooted (root_over us)) (sym (grown-Leaf one rs)) (leaves_root (rs ++ one ∷ []) (omega (arith, size)) (omega (arith, size, fill.1))))
     (λ ts below r.
     let k = first_level (map level ts) in
     let fill = subst IsFilledRoot (tree.outs-Inner ts) r.filled in
     let all = below_stand ts r.one_level (recursion_from_All (every-Tree IsFilled) ts fill.2) in
     let at = choose (map outline ts) one.rect in
     let p = placed one k at ts all (each_keeps one k ts (each_of one ts) all) in
-    subst (λ us. Root (root_over us)) (sym (grown-Inner one ts))
+    subst (λ us. IsRooted (root_over us)) (sym (grown-Inner one ts))
     (nodes_root k (in_place at (beside (grown one) ts)) (omega (arith, p.at_least, fill.0)) (omega (arith, p.at_most, fill.1)) p.each))
