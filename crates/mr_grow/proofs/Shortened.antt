@@ -1,16 +1,14 @@
 -- A root that is shortened.
-use Rattle.std.proofs.Common.{◌≡◌, ◌≢◌, ℕ, zero, suc, ◌+◌, ◌<◌, ◌≤◌, List, [], ◌∷◌, ◌++◌, length, map, get_or, refl, sym, ap, subst, ◌∙◌, arith}
-use Rattle.std.specs.List.{AllByRecursion, flat_map}
+use Rattle.std.proofs.Common.{◌≡◌, ◌≢◌, ℕ, ◌≤◌, List, [], ◌∷◌, length, map, get_or, refl, sym, ap, subst, ◌∙◌, arith}
+use Rattle.std.specs.List.{AllByRecursion}
 use Rattle.std.proofs.lemmas.List.{append-nil}
-use Rattle.std.proofs.lemmas.List.Elements.{recursion_from_All}
 use Rattle.mr_record.specs.declared.record.Record.{Record}
 use Rattle.mr_tree.specs.Tree.{records, level, first_level}
 use Rattle.mr_tree.specs.WellFormed.{HasOneLevel, IsFilled, IsFilledRoot}
 use Rattle.mr_tree.specs.declared.tree.Tree.{Tree}
 use Rattle.mr_tree.specs.declared.tree.Tree.TheVariants as tree
-use Rattle.mr_tree.specs.declared.tree.Tree.TheOpen.{Tree-F, Empty, Leaf, Inner}
-use Rattle.mr_tree.specs.declared.tree.Tree.TheViews.{out-Tree}
-use Rattle.mr_tree.specs.declared.tree.Tree.TheFolds.{every-Tree, para-roll-Tree}
+use Rattle.mr_tree.specs.declared.tree.Tree.TheOpen.{Empty, Leaf, Inner}
+use Rattle.mr_tree.specs.declared.tree.Tree.TheFolds.{para-roll-Tree}
 use Rattle.mr_tree.proofs.Equations.{records-Leaf, records-Empty}
 use Rattle.mr_tree.proofs.Induction.{tree_induction, here-Leaf, here-Inner, every_child, every-Empty}
 use Rattle.mr_grow.specs.Shrink.{shortened, shortened_step}
@@ -34,24 +32,31 @@ many_children t u ts = shortened-Inner (t ∷ u ∷ ts) ∙ ap (λ us. tree.Inne
 
 -- ---- what the code does
 
-pub empty_leaf : (rs : List Record) (parent : Tree) → parent ≡ tree.Leaf rs → length rs ≡ 0 → tree.Empty ≡ shortened parent
+pub empty_leaf : (rs : List Record) (parent : Tree) → parent ≡ tree.Leaf rs → length rs ≡ 0 → tree.Empty ≡ shortened
+    parent
 empty_leaf [] parent is none = sym (ap shortened is ∙ shortened-Leaf [])
 empty_leaf (r ∷ rs) parent is none = absurd (omega (arith, none))
 
-pub some_leaf : (rs : List Record) (parent : Tree) → parent ≡ tree.Leaf rs → length rs ≢ 0 → tree.Leaf rs ≡ shortened parent
+pub some_leaf : (rs : List Record) (parent : Tree) → parent ≡ tree.Leaf rs → length rs ≢ 0 → tree.Leaf rs ≡ shortened
+    parent
 some_leaf [] parent is some = absurd (some refl)
 some_leaf (r ∷ rs) parent is some = sym (ap shortened is ∙ shortened-Leaf (r ∷ rs))
 
-pub one_child : (ts items : List Tree) (child parent new : Tree) → parent ≡ tree.Inner ts → items ≡ ts → length items ≡ 1 → child ≡ get_or items 0 child →
+pub one_child : (ts items : List Tree) (child parent new : Tree) → parent ≡ tree.Inner ts → items ≡ ts →
+    length items ≡ 1 → child ≡ get_or items 0 child →
     new ≡ shortened child → new ≡ shortened parent
 one_child ts [] child parent new is same one at short = absurd (omega (arith, one))
-one_child ts (t ∷ []) child parent new is same one at short = short ∙ ap shortened at ∙ sym (shortened-Inner (t ∷ [])) ∙ ap (λ us. shortened (tree.Inner us)) same ∙ sym (ap shortened is)
+one_child ts (t ∷ []) child parent new is same one at short = short ∙ ap shortened at ∙ sym (shortened-Inner (t ∷ []))
+    ∙ ap (λ us. shortened (tree.Inner us)) same ∙ sym (ap shortened is)
 one_child ts (t ∷ u ∷ us) child parent new is same one at short = absurd (omega (arith, one))
 
-pub other_children : (ts items : List Tree) (parent : Tree) → parent ≡ tree.Inner ts → items ≡ ts → length items ≢ 1 → tree.Inner items ≡ shortened parent
-other_children ts [] parent is same some = sym (shortened-Inner []) ∙ ap (λ us. shortened (tree.Inner us)) same ∙ sym (ap shortened is)
+pub other_children : (ts items : List Tree) (parent : Tree) → parent ≡ tree.Inner ts → items ≡ ts → length items ≢ 1 →
+    tree.Inner items ≡ shortened parent
+other_children ts [] parent is same some = sym (shortened-Inner []) ∙ ap (λ us. shortened (tree.Inner us)) same ∙ sym
+    (ap shortened is)
 other_children ts (t ∷ []) parent is same some = absurd (some refl)
-other_children ts (t ∷ u ∷ us) parent is same some = sym (many_children t u us) ∙ ap (λ us. shortened (tree.Inner us)) same ∙ sym (ap shortened is)
+other_children ts (t ∷ u ∷ us) parent is same some = sym (many_children t u us) ∙ ap (λ us. shortened (tree.Inner us))
+    same ∙ sym (ap shortened is)
 
 -- ---- the records stay
 
@@ -65,9 +70,11 @@ shortened_records = tree_induction (λ t. records (shortened t) ≡ records t)
     leaf [] = ap records (shortened-Leaf []) ∙ records-Empty ∙ sym (records-Leaf [])
     leaf (r ∷ rs) = ap records (shortened-Leaf (r ∷ rs))
 
-    inner : (ts : List Tree) → AllByRecursion (λ t. records (shortened t) ≡ records t) ts → records (shortened (tree.Inner ts)) ≡ records (tree.Inner ts)
+    inner : (ts : List Tree) → AllByRecursion (λ t. records (shortened t) ≡ records t) ts → records
+        (shortened (tree.Inner ts)) ≡ records (tree.Inner ts)
     inner [] below = ap records (shortened-Inner [])
-    inner (t ∷ []) below = ap records (shortened-Inner (t ∷ [])) ∙ below.0 ∙ sym (append-nil (records t)) ∙ sym (records_below (t ∷ []))
+    inner (t ∷ []) below = ap records (shortened-Inner (t ∷ [])) ∙ below.0 ∙ sym (append-nil (records t)) ∙ sym
+        (records_below (t ∷ []))
     inner (t ∷ u ∷ ts) below = ap records (many_children t u ts)
 
 -- ---- the shape
@@ -82,7 +89,8 @@ rooted_of_stands k = tree_induction (λ t. Stands k t → IsRooted t)
     (λ rs s. let fill = here-Leaf IsFilled rs s.filled in leaf_root rs (omega (arith, fill.0)) fill.1)
     (λ ts below s.
     let fill = here-Inner IsFilled ts s.filled in
-    inner_root (first_level (map level ts)) ts (omega (arith, fill.0)) fill.1 (below_stand ts s.one_level (every_child IsFilled ts s.filled)))
+    inner_root (first_level (map level ts)) ts (omega (arith, fill.0)) fill.1
+    (below_stand ts s.one_level (every_child IsFilled ts s.filled)))
 
 -- and stays as it is
 pub shortened_same : (k : ℕ) (t : Tree) → Stands k t → shortened t ≡ t
@@ -104,8 +112,10 @@ pub leaf_shortened : (rs : List Record) → length rs ≤ 16 → IsRooted (short
 leaf_shortened [] few = subst IsRooted (sym (shortened-Leaf [])) empty_root
 leaf_shortened (r ∷ rs) few = subst IsRooted (sym (shortened-Leaf (r ∷ rs))) (leaf_root (r ∷ rs) (omega arith) few)
 
-pub inner_shortened : (k : ℕ) (ts : List Tree) → 1 ≤ length ts → length ts ≤ 64 → AllByRecursion (Stands k) ts → IsRooted (shortened (tree.Inner ts))
+pub inner_shortened : (k : ℕ) (ts : List Tree) → 1 ≤ length ts → length ts ≤ 64 → AllByRecursion (Stands k) ts →
+    IsRooted (shortened (tree.Inner ts))
 inner_shortened k [] some few all = absurd (omega (arith, some))
 inner_shortened k (t ∷ []) some few all =
     subst IsRooted (sym (shortened-Inner (t ∷ []) ∙ shortened_same k t all.0)) (rooted_of_stands k t all.0)
-inner_shortened k (t ∷ u ∷ ts) some few all = subst IsRooted (sym (many_children t u ts)) (inner_root k (t ∷ u ∷ ts) (omega arith) few all)
+inner_shortened k (t ∷ u ∷ ts) some few all = subst IsRooted (sym (many_children t u ts))
+    (inner_root k (t ∷ u ∷ ts) (omega arith) few all)

@@ -1,15 +1,13 @@
 -- A tree of few records has few levels.
-use Rattle.std.proofs.Common.{◌≡◌, ◌≢◌, inl, inr, ℕ, zero, suc, ◌+◌, ◌*◌, ◌^◌, ◌<◌, ◌≤◌, List, [], ◌∷◌, ◌++◌, length, map, refl, sym, ap, subst, ◌∙◌, arith}
+use Rattle.std.proofs.Common.{◌≡◌, inl, inr, ℕ, zero, suc, ◌+◌, ◌*◌, ◌^◌, ◌≤◌, List, [], ◌∷◌, length, map, refl, sym, ap, subst, ◌∙◌, arith}
 use Rattle.std.specs.List.{AllByRecursion, flat_map}
 use Rattle.std.proofs.lemmas.Bool.{cases_lt}
 use Rattle.std.proofs.lemmas.List.{length-append}
 use Rattle.std.proofs.lemmas.List.Elements.{recursion_from_All}
-use Rattle.mr_record.specs.declared.record.Record.{Record}
 use Rattle.mr_tree.specs.Tree.{level, first_level, records}
-use Rattle.mr_tree.specs.WellFormed.{WellFormed, HasOneLevel, IsFilled, IsFilledRoot}
+use Rattle.mr_tree.specs.WellFormed.{WellFormed, IsFilled, IsFilledRoot}
 use Rattle.mr_tree.specs.declared.tree.Tree.{Tree}
 use Rattle.mr_tree.specs.declared.tree.Tree.TheVariants as tree
-use Rattle.mr_tree.specs.declared.tree.Tree.TheOpen.{Tree-F, Empty, Leaf, Inner}
 use Rattle.mr_tree.specs.declared.tree.Tree.TheFolds.{every-Tree}
 use Rattle.mr_tree.proofs.Equations.{level-Inner, level-Leaf, level-Empty, records-Leaf}
 use Rattle.mr_tree.proofs.Induction.{tree_induction, here-Leaf, here-Inner, every_child, every-Empty, every-Leaf, every-Inner}
@@ -22,7 +20,8 @@ abbrev pub fewest : ℕ → ℕ
 fewest zero = 6
 fewest (suc n) = 24 * fewest n
 
-at_least : (m : ℕ) (ts : List Tree) → AllByRecursion (λ t. m ≤ length (records t)) ts → length ts * m ≤ length (flat_map records ts)
+at_least : (m : ℕ) (ts : List Tree) → AllByRecursion (λ t. m ≤ length (records t)) ts → length ts * m ≤ length
+    (flat_map records ts)
 at_least m [] all = omega arith
 at_least m (t ∷ ts) all =
     let more : suc (length ts) * m ≡ m + length ts * m = grind arith in
@@ -31,7 +30,8 @@ at_least m (t ∷ ts) all =
 abbrev Holds : Tree → Type 0
 Holds t = (n : ℕ) → Stands n t → fewest n ≤ length (records t)
 
-each_holds : (n : ℕ) (ts : List Tree) → AllByRecursion Holds ts → AllByRecursion (Stands n) ts → AllByRecursion (λ t. fewest n ≤ length (records t)) ts
+each_holds : (n : ℕ) (ts : List Tree) → AllByRecursion Holds ts → AllByRecursion (Stands n) ts → AllByRecursion
+    (λ t. fewest n ≤ length (records t)) ts
 each_holds n [] below all = tt
 each_holds n (t ∷ ts) below all = (below.0 n all.0, each_holds n ts below.1 all.1)
 
@@ -75,10 +75,18 @@ root_shallow = tree_induction (λ t. IsRooted t → length (records t) ≤ 2 ^ 2
     (λ ts below r few.
     let k = first_level (map level ts) in
     let fill = subst IsFilledRoot (tree.outs-Inner ts) r.filled in
-    let all = each_holds k ts (each_of ts) (below_stand ts r.one_level (recursion_from_All (every-Tree IsFilled) ts fill.2)) in
+    let all = each_holds k ts (each_of ts) (below_stand ts r.one_level (recursion_from_All (every-Tree IsFilled) ts
+    fill.2)) in
     elim (cases_lt k 4) [
       | inl low ↦ omega (arith, low, level-Inner ts)
-      | inr high ↦ absurd (omega (arith, few, times 2 (length ts) (fewest k) fill.0, at_least (fewest k) ts all, ap length (records_below ts), many_records k high))
+      | inr high ↦ absurd (omega (
+        arith,
+        few,
+        times 2 (length ts) (fewest k) fill.0,
+        at_least (fewest k) ts all,
+        ap length (records_below ts),
+        many_records k high,
+      ))
     ])
 
 -- ---- every node of a well-formed tree has room
@@ -91,7 +99,8 @@ room_of_filled = tree_induction (λ t. every-Tree IsFilled t → every-Tree HasR
     let fill = here-Inner IsFilled ts all in
     every-Inner HasRoom ts (each ts below (every_child IsFilled ts all)) (omega (arith, fill.0), fill.1))
   where
-    each : (ts : List Tree) → AllByRecursion (λ t. every-Tree IsFilled t → every-Tree HasRoom t) ts → AllByRecursion (every-Tree IsFilled) ts → AllByRecursion (every-Tree HasRoom) ts
+    each : (ts : List Tree) → AllByRecursion (λ t. every-Tree IsFilled t → every-Tree HasRoom t) ts → AllByRecursion
+        (every-Tree IsFilled) ts → AllByRecursion (every-Tree HasRoom) ts
     each [] below all = tt
     each (t ∷ ts) below all = (below.0 all.0, each ts below.1 all.1)
 
@@ -101,7 +110,8 @@ has_room = tree_induction (λ t. IsRooted t → every-Tree HasRoom t)
     (λ rs r. every-Leaf HasRoom rs (subst IsFilledRoot (tree.outs-Leaf rs) r.filled).1)
     (λ ts below r.
     let fill = subst IsFilledRoot (tree.outs-Inner ts) r.filled in
-    every-Inner HasRoom ts (each ts (recursion_from_All (every-Tree IsFilled) ts fill.2)) (omega (arith, fill.0), fill.1))
+    every-Inner HasRoom ts (each ts (recursion_from_All (every-Tree IsFilled) ts fill.2))
+    (omega (arith, fill.0), fill.1))
   where
     each : (ts : List Tree) → AllByRecursion (every-Tree IsFilled) ts → AllByRecursion (every-Tree HasRoom) ts
     each [] all = tt

@@ -10,4 +10,5 @@ seen l = record { tree = l.tree; aside = l.aside.items }
 
 -- the children that are left, with what is kept of another at this position
 abbrev pub kept : List Tree → ℕ → Rest → Rest
-kept ts at r = record { tree = tree.Inner (take at ts ++ (stays r ++ drop at ts)); aside = set_aside r }
+kept ts at r =
+    record { tree = tree.Inner (take at ts ++ (stays r ++ drop at ts)); aside = set_aside r }

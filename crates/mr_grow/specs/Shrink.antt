@@ -1,6 +1,6 @@
--- Deletion (Guttman 1984): what is left of a subtree when a record leaves it, and the records that are
--- set aside, which are inserted again afterwards.
-use Rattle.std.specs.Prelude.{◌≡◌, ℕ, zero, suc, nat_lt, Bool, true, if◌then◌else◌, List, [], ◌∷◌, ◌++◌, map, take, drop, length}
+-- Deletion (Guttman 1984): what is left of a subtree when a record leaves it, and the records that
+-- are set aside, which are inserted again afterwards.
+use Rattle.std.specs.Prelude.{◌≡◌, ℕ, zero, suc, nat_lt, Bool, true, if◌then◌else◌, List, [], ◌∷◌, ◌++◌, map, length}
 use Rattle.std.specs.List.{fold, remove}
 use Rattle.std.specs.List.Sorted.{IsPermutation}
 use Rattle.mr_record.specs.Sorting.{sorted_by_key}
@@ -75,7 +75,9 @@ all_in rs t = fold (λ u r. ins r u) t rs
 
 -- the tree after a deletion: what was set aside goes in again by rising number
 abbrev pub del : ℕ → Tree → Tree
-del n t = all_in (sorted_by_key (λ (r : Record). r.number) (shrunk n t).aside) (shortened (shrunk n t).tree)
+del n t =
+    all_in (sorted_by_key (λ (r : Record). r.number) (shrunk n t).aside)
+    (shortened (shrunk n t).tree)
 
 -- the one list has the records of the other but one, which has this number, in some order
 pub record WithoutOne (n : ℕ) (before after : List Record) : Type 0 where

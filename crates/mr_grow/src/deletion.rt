@@ -26,7 +26,8 @@ pub struct Left {
 
 // The position of the first child that has a record.
 fn child_with(children: &[Tree], number: u64) -> usize
-    ensures { result ≡ place_of (λ (t : trees.Tree). has_number number (records_in t)) children.now }
+    ensures { result
+        ≡ place_of (λ (t : trees.Tree). has_number number (records_in t)) children.now }
 {
     let mut at = 0;
     for child in children {
