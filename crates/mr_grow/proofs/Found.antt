@@ -5,19 +5,23 @@ use Rattle.std.specs.List.{flat_map, list_any}
 use Rattle.std.proofs.lemmas.Bool.Decides.{nat_tests}
 use Rattle.mr_grow.specs.Found.{place_of}
 
-pub place_within : {X : Type 0} (test : X → Bool) (xs : List X) → list_any test xs ≡ true → place_of test xs < length xs
+pub place_within : {X : Type 0} (test : X → Bool) (xs : List X) → list_any test xs ≡ true → place_of test xs < length
+    xs
 place_within test [] e = cc
 place_within {X} test (x ∷ xs) e = at (test x) e (place_within test xs)
   where
-    at : (b : Bool) → (b || list_any test xs) ≡ true → (list_any test xs ≡ true → place_of test xs < length xs) → (if b then zero else suc (place_of test xs)) < suc (length xs)
+    at : (b : Bool) → (b || list_any test xs) ≡ true → (list_any test xs ≡ true → place_of test xs < length xs) →
+        (if b then zero else suc (place_of test xs)) < suc (length xs)
     at true e rest = omega arith
     at false e rest = omega (arith, rest e)
 
-pub place_passes : {X : Type 0} (test : X → Bool) (xs : List X) (d : X) → list_any test xs ≡ true → test (get_or xs (place_of test xs) d) ≡ true
+pub place_passes : {X : Type 0} (test : X → Bool) (xs : List X) (d : X) → list_any test xs ≡ true → test
+    (get_or xs (place_of test xs) d) ≡ true
 place_passes test [] d e = cc
 place_passes {X} test (x ∷ xs) d e = at (test x) refl e (place_passes test xs d)
   where
-    at : (b : Bool) → test x ≡ b → (b || list_any test xs) ≡ true → (list_any test xs ≡ true → test (get_or xs (place_of test xs) d) ≡ true)
+    at : (b : Bool) → test x ≡ b → (b || list_any test xs) ≡ true →
+        (list_any test xs ≡ true → test (get_or xs (place_of test xs) d) ≡ true)
         → test (get_or (x ∷ xs) (if b then zero else suc (place_of test xs)) d) ≡ true
     at true is e rest = is
     at false is e rest = rest e
@@ -25,11 +29,13 @@ place_passes {X} test (x ∷ xs) d e = at (test x) refl e (place_passes test xs 
 shifted : (a b : ℕ) → nat_lt (suc a) (suc b) ≡ nat_lt a b
 shifted a b = grind (arith, nat_tests)
 
-pub place_any : {X : Type 0} (test : X → Bool) (xs : List X) → nat_lt (place_of test xs) (length xs) ≡ list_any test xs
+pub place_any : {X : Type 0} (test : X → Bool) (xs : List X) → nat_lt (place_of test xs) (length xs) ≡ list_any test
+    xs
 place_any test [] = refl
 place_any {X} test (x ∷ xs) = at (test x) (place_any test xs)
   where
-    at : (b : Bool) → nat_lt (place_of test xs) (length xs) ≡ list_any test xs → nat_lt (if b then zero else suc (place_of test xs)) (suc (length xs)) ≡ (b || list_any test xs)
+    at : (b : Bool) → nat_lt (place_of test xs) (length xs) ≡ list_any test xs → nat_lt
+        (if b then zero else suc (place_of test xs)) (suc (length xs)) ≡ (b || list_any test xs)
     at true e = grind (arith, nat_tests)
     at false e = shifted (place_of test xs) (length xs) ∙ e
 
@@ -37,10 +43,14 @@ or_assoc : (a b c : Bool) → (a || (b || c)) ≡ ((a || b) || c)
 or_assoc true b c = refl
 or_assoc false b c = refl
 
-any_append : {X : Type 0} (test : X → Bool) (xs ys : List X) → list_any test (xs ++ ys) ≡ (list_any test xs || list_any test ys)
+any_append : {X : Type 0} (test : X → Bool) (xs ys : List X) → list_any test (xs ++ ys) ≡
+    (list_any test xs || list_any test ys)
 any_append test [] ys = refl
-any_append test (x ∷ xs) ys = ap (λ b. test x || b) (any_append test xs ys) ∙ or_assoc (test x) (list_any test xs) (list_any test ys)
+any_append test (x ∷ xs) ys = ap (λ b. test x || b) (any_append test xs ys) ∙ or_assoc (test x) (list_any test xs)
+    (list_any test ys)
 
-pub any_flat : {X A : Type 0} (test : A → Bool) (f : X → List A) (xs : List X) → list_any test (flat_map f xs) ≡ list_any (λ x. list_any test (f x)) xs
+pub any_flat : {X A : Type 0} (test : A → Bool) (f : X → List A) (xs : List X) → list_any test (flat_map f xs) ≡
+    list_any (λ x. list_any test (f x)) xs
 any_flat test f [] = refl
-any_flat test f (x ∷ xs) = any_append test (f x) (flat_map f xs) ∙ ap (λ b. list_any test (f x) || b) (any_flat test f xs)
+any_flat test f (x ∷ xs) = any_append test (f x) (flat_map f xs) ∙ ap (λ b. list_any test (f x) || b)
+    (any_flat test f xs)

@@ -6,3 +6,6 @@ pub mod Kept
 pub mod Standing
 pub mod Sizes
 pub mod Distinct
+pub mod Shrunk
+pub mod Shortened
+pub mod Dropping

@@ -1,28 +1,27 @@
 -- A tree of few records has few levels.
-use Rattle.std.proofs.Common.{◌≡◌, ◌≢◌, inl, inr, ℕ, zero, suc, ◌+◌, ◌*◌, ◌^◌, ◌<◌, ◌≤◌, List, [], ◌∷◌, ◌++◌, length, map, refl, sym, ap, subst, ◌∙◌, arith}
+use Rattle.std.proofs.Common.{◌≡◌, inl, inr, ℕ, zero, suc, ◌+◌, ◌*◌, ◌^◌, ◌≤◌, List, [], ◌∷◌, length, map, refl, sym, ap, subst, ◌∙◌, arith}
 use Rattle.std.specs.List.{AllByRecursion, flat_map}
 use Rattle.std.proofs.lemmas.Bool.{cases_lt}
 use Rattle.std.proofs.lemmas.List.{length-append}
 use Rattle.std.proofs.lemmas.List.Elements.{recursion_from_All}
-use Rattle.mr_record.specs.declared.record.Record.{Record}
 use Rattle.mr_tree.specs.Tree.{level, first_level, records}
-use Rattle.mr_tree.specs.WellFormed.{WellFormed, HasOneLevel, IsFilled, IsFilledRoot}
+use Rattle.mr_tree.specs.WellFormed.{WellFormed, IsFilled, IsFilledRoot}
 use Rattle.mr_tree.specs.declared.tree.Tree.{Tree}
 use Rattle.mr_tree.specs.declared.tree.Tree.TheVariants as tree
-use Rattle.mr_tree.specs.declared.tree.Tree.TheOpen.{Tree-F, Empty, Leaf, Inner}
 use Rattle.mr_tree.specs.declared.tree.Tree.TheFolds.{every-Tree}
 use Rattle.mr_tree.proofs.Equations.{level-Inner, level-Leaf, level-Empty, records-Leaf}
 use Rattle.mr_tree.proofs.Induction.{tree_induction, here-Leaf, here-Inner, every_child, every-Empty, every-Leaf, every-Inner}
-use Rattle.mr_grow.specs.Views.{HasRoom}
+use Rattle.mr_grow.specs.Views.{HasRoom, IsRooted}
 use Rattle.mr_grow.proofs.Kept.{records_below}
-use Rattle.mr_grow.proofs.Standing.{Stands, Root, below_stand}
+use Rattle.mr_grow.proofs.Standing.{Stands, below_stand}
 
 -- the fewest records of a node that is not the root
 abbrev pub fewest : ℕ → ℕ
 fewest zero = 6
 fewest (suc n) = 24 * fewest n
 
-at_least : (m : ℕ) (ts : List Tree) → AllByRecursion (λ t. m ≤ length (records t)) ts → length ts * m ≤ length (flat_map records ts)
+at_least : (m : ℕ) (ts : List Tree) → AllByRecursion (λ t. m ≤ length (records t)) ts → length ts * m ≤ length
+    (flat_map records ts)
 at_least m [] all = omega arith
 at_least m (t ∷ ts) all =
     let more : suc (length ts) * m ≡ m + length ts * m = grind arith in
@@ -31,7 +30,8 @@ at_least m (t ∷ ts) all =
 abbrev Holds : Tree → Type 0
 Holds t = (n : ℕ) → Stands n t → fewest n ≤ length (records t)
 
-each_holds : (n : ℕ) (ts : List Tree) → AllByRecursion Holds ts → AllByRecursion (Stands n) ts → AllByRecursion (λ t. fewest n ≤ length (records t)) ts
+each_holds : (n : ℕ) (ts : List Tree) → AllByRecursion Holds ts → AllByRecursion (Stands n) ts → AllByRecursion
+    (λ t. fewest n ≤ length (records t)) ts
 each_holds n [] below all = tt
 each_holds n (t ∷ ts) below all = (below.0 n all.0, each_holds n ts below.1 all.1)
 
@@ -68,17 +68,25 @@ each_of : (ts : List Tree) → AllByRecursion Holds ts
 each_of [] = tt
 each_of (t ∷ ts) = (stands_holds t, each_of ts)
 
-pub root_shallow : (t : Tree) → Root t → length (records t) ≤ 2 ^ 20 → level t ≤ 7
-root_shallow = tree_induction (λ t. Root t → length (records t) ≤ 2 ^ 20 → level t ≤ 7)
+pub root_shallow : (t : Tree) → IsRooted t → length (records t) ≤ 2 ^ 20 → level t ≤ 7
+root_shallow = tree_induction (λ t. IsRooted t → length (records t) ≤ 2 ^ 20 → level t ≤ 7)
     (λ r few. omega (arith, level-Empty))
     (λ rs r few. omega (arith, level-Leaf rs))
     (λ ts below r few.
     let k = first_level (map level ts) in
     let fill = subst IsFilledRoot (tree.outs-Inner ts) r.filled in
-    let all = each_holds k ts (each_of ts) (below_stand ts r.one_level (recursion_from_All (every-Tree IsFilled) ts fill.2)) in
+    let all = each_holds k ts (each_of ts) (below_stand ts r.one_level (recursion_from_All (every-Tree IsFilled) ts
+    fill.2)) in
     elim (cases_lt k 4) [
       | inl low ↦ omega (arith, low, level-Inner ts)
-      | inr high ↦ absurd (omega (arith, few, times 2 (length ts) (fewest k) fill.0, at_least (fewest k) ts all, ap length (records_below ts), many_records k high))
+      | inr high ↦ absurd (omega (
+        arith,
+        few,
+        times 2 (length ts) (fewest k) fill.0,
+        at_least (fewest k) ts all,
+        ap length (records_below ts),
+        many_records k high,
+      ))
     ])
 
 -- ---- every node of a well-formed tree has room
@@ -91,21 +99,23 @@ room_of_filled = tree_induction (λ t. every-Tree IsFilled t → every-Tree HasR
     let fill = here-Inner IsFilled ts all in
     every-Inner HasRoom ts (each ts below (every_child IsFilled ts all)) (omega (arith, fill.0), fill.1))
   where
-    each : (ts : List Tree) → AllByRecursion (λ t. every-Tree IsFilled t → every-Tree HasRoom t) ts → AllByRecursion (every-Tree IsFilled) ts → AllByRecursion (every-Tree HasRoom) ts
+    each : (ts : List Tree) → AllByRecursion (λ t. every-Tree IsFilled t → every-Tree HasRoom t) ts → AllByRecursion
+        (every-Tree IsFilled) ts → AllByRecursion (every-Tree HasRoom) ts
     each [] below all = tt
     each (t ∷ ts) below all = (below.0 all.0, each ts below.1 all.1)
 
-pub has_room : (t : Tree) → Root t → every-Tree HasRoom t
-has_room = tree_induction (λ t. Root t → every-Tree HasRoom t)
+pub has_room : (t : Tree) → IsRooted t → every-Tree HasRoom t
+has_room = tree_induction (λ t. IsRooted t → every-Tree HasRoom t)
     (λ r. every-Empty HasRoom tt)
     (λ rs r. every-Leaf HasRoom rs (subst IsFilledRoot (tree.outs-Leaf rs) r.filled).1)
     (λ ts below r.
     let fill = subst IsFilledRoot (tree.outs-Inner ts) r.filled in
-    every-Inner HasRoom ts (each ts (recursion_from_All (every-Tree IsFilled) ts fill.2)) (omega (arith, fill.0), fill.1))
+    every-Inner HasRoom ts (each ts (recursion_from_All (every-Tree IsFilled) ts fill.2))
+    (omega (arith, fill.0), fill.1))
   where
     each : (ts : List Tree) → AllByRecursion (every-Tree IsFilled) ts → AllByRecursion (every-Tree HasRoom) ts
     each [] all = tt
     each (t ∷ ts) all = (room_of_filled t all.0, each ts all.1)
 
-pub well_rooted : (t : Tree) → WellFormed t → Root t
+pub well_rooted : (t : Tree) → WellFormed t → IsRooted t
 well_rooted t well = record { one_level = well.one_level; filled = well.filled }

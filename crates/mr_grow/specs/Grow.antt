@@ -1,5 +1,5 @@
--- Insertion (Guttman 1984): what stands in the place of a subtree after a record was put into it, one
--- node, or two where it was split.
+-- Insertion (Guttman 1984): what stands in the place of a subtree after a record was put into it,
+-- one node, or two where it was split.
 use Rattle.std.specs.Prelude.{ℕ, zero, suc, nat_lt, if◌then◌else◌, List, [], ◌∷◌, ◌++◌, map, length}
 use Rattle.std.specs.Option.{unwrap_or}
 use Rattle.mr_geom.specs.Rectangle.{Rectangle}

@@ -1,5 +1,5 @@
--- A list that is cut in two by sides: an item goes to the second part where its side is true, and to
--- the first where it is false or missing. This file names nothing of the source.
+-- A list that is cut in two by sides: an item goes to the second part where its side is true, and
+-- to the first where it is false or missing. This file names nothing of the source.
 use Rattle.std.specs.Prelude.{Bool, true, false, List, [], ◌∷◌}
 
 -- the items on the second side

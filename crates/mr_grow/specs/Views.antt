@@ -4,6 +4,9 @@ use Rattle.std.specs.Option.{option_to_list}
 use Rattle.mr_tree.specs.Limits.{leaf_limit, inner_limit}
 use Rattle.mr_tree.specs.declared.tree.Tree.{Tree}
 use Rattle.mr_tree.specs.declared.tree.Tree.TheOpen.{Tree-F, Empty, Leaf, Inner}
+use Rattle.mr_tree.specs.declared.tree.Tree.TheViews.{out-Tree}
+use Rattle.mr_tree.specs.declared.tree.Tree.TheFolds.{every-Tree}
+use Rattle.mr_tree.specs.WellFormed.{HasOneLevel, IsFilledRoot}
 use Rattle.mr_grow.specs.declared.nodes.Stand.{Stand}
 
 -- the nodes in a subtree's place
@@ -15,3 +18,8 @@ abbrev pub HasRoom : Tree-F Tree → Type 0
 HasRoom Empty = ⊤
 HasRoom (Leaf records) = length records ≤ leaf_limit
 HasRoom (Inner children) = (0 < length children) × (length children ≤ inner_limit)
+
+-- a tree whose nodes have one level below each and the entries that they may have
+pub record IsRooted (t : Tree) : Type 0 where
+  pub one_level : every-Tree HasOneLevel t
+  pub filled : IsFilledRoot (out-Tree t)

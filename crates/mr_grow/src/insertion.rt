@@ -54,7 +54,7 @@ fn put_into(alloc: Global, tree: Tree, one: Record) -> Result<Stand, AllocError>
 }
 
 // The tree after an insertion.
-fn inserted(alloc: Global, tree: Tree, one: Record) -> Result<Tree, AllocError>
+pub(crate) fn inserted(alloc: Global, tree: Tree, one: Record) -> Result<Tree, AllocError>
     requires { every-Tree HasRoom tree }
     ensures { IfOk result (λ t. t ≡ ins one tree) }
 {

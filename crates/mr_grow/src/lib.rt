@@ -1,9 +1,16 @@
-//! Insertion into trees and deletion from them, by the rules of Guttman (1984).
+//! Changes of a tree, record by record (Guttman 1984): insertion with the quadratic split, and
+//! deletion, which inserts again what too small nodes held.
+//!
+//! A tree keeps no rectangles, so a call computes those of the whole tree, in one pass for each
+//! record that it puts in. No record moves but those of the nodes on the way to its leaf, and of
+//! those that are split or set aside.
 #![tactic(auto)]
 
+mod deletion;
 mod finding;
 mod insertion;
 mod nodes;
 mod parts;
 
+pub use deletion::{DropErr, delete, shrink};
 pub use insertion::{GrowErr, grow, insert};

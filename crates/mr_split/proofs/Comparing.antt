@@ -2,11 +2,11 @@
 use mir.Syntax.{w128}
 use mir.Val.{to_z, of_z, SFits}
 use lib.Signed.{lt_z}
-use Rattle.std.proofs.Common.{◌≡◌, ℕ, ◌+◌, ◌-◌, ◌<◌, ◌≤◌, suc, zero, Bool, true, false, List, [], ◌∷◌, length, get_or, refl, sym, ap, subst, ◌∙◌, arith}
-use Rattle.std.specs.Prelude.{ℤ, pos, ◌-ℤ◌, ◌<ℤ◌, ◌≤ℤ◌, int_lt, nat_lt, ◌==◌, if◌then◌else◌, Option, Some, None}
+use Rattle.std.proofs.Common.{◌≡◌, ℕ, ◌+◌, ◌-◌, ◌<◌, ◌≤◌, suc, zero, Bool, true, false, List, ◌∷◌, length, get_or, sym, ap, subst, ◌∙◌, arith}
+use Rattle.std.specs.Prelude.{ℤ, pos, nat_lt, if◌then◌else◌, Option}
 use Rattle.std.specs.List.{fold, range_with_len}
-use Rattle.std.specs.Ordering.{ordering_then, is_lt, int_cmp, nat_cmp}
-use Rattle.std.specs.Cmp.{IsStrictWeakOrder, then_total, on_total, int_cmp_total, nat_cmp_total}
+use Rattle.std.specs.Ordering.{is_lt, int_cmp, nat_cmp}
+use Rattle.std.specs.Cmp.{IsStrictWeakOrder, then_total, on_total, int_cmp_total}
 use Rattle.std.proofs.lemmas.Bool.Decides.{nat_tests}
 use Rattle.std.proofs.lemmas.Int.{ints}
 use Rattle.std.proofs.lemmas.List.{get_or_default}
@@ -18,7 +18,7 @@ use Rattle.mr_split.specs.Seeds.{waste, wastes_more}
 use Rattle.mr_split.specs.Split.{is_more_urgent, mark_at, urgency}
 use Rattle.mr_split.specs.declared.mark.Mark.{Mark}
 use Rattle.mr_split.specs.declared.seeds.Pair.{Pair}
-use Rattle.mr_split.proofs.Champion.{best_is, at_end, go_on, next_position}
+use Rattle.mr_split.proofs.Champion.{best_is, at_end, go_on}
 
 pub compared : (a b : ℕ) → nat_cmp a b ≡ int_cmp (pos a) (pos b)
 compared a b = grind (arith, nat_tests, ints)
@@ -35,16 +35,20 @@ fitter_order list new =
     (on_total (λ (i : ℕ). area (rect_at list i)) int_cmp_total)) (λ (i : ℕ). i)
 
 pub waste_order : (list : List Rectangle) → IsStrictWeakOrder (wastes_more list)
-waste_order list = IsStrictWeakOrder-flip (λ p q. is_lt (int_cmp (waste list p) (waste list q))) (ranks_by int_cmp_total (waste list))
+waste_order list = IsStrictWeakOrder-flip (λ p q. is_lt (int_cmp (waste list p) (waste list q)))
+    (ranks_by int_cmp_total (waste list))
 
-pub urgency_order : (list : List Rectangle) (marks : List Mark) (f s : Option Rectangle) → IsStrictWeakOrder (is_more_urgent list marks f s)
+pub urgency_order : (list : List Rectangle) (marks : List Mark) (f s : Option Rectangle) → IsStrictWeakOrder
+    (is_more_urgent list marks f s)
 urgency_order list marks f s =
-    IsStrictWeakOrder-flip (λ i j. nat_lt (urgency f s (mark_at marks i) (rect_at list i)) (urgency f s (mark_at marks j) (rect_at list j)))
+    IsStrictWeakOrder-flip (λ i j. nat_lt (urgency f s (mark_at marks i) (rect_at list i))
+    (urgency f s (mark_at marks j) (rect_at list j)))
     (IsStrictWeakOrder-by_number (λ (i : ℕ). urgency f s (mark_at marks i) (rect_at list i)))
 
 -- ---- reading
 
-pub rect_is : (list : List Rectangle) (i : ℕ) (r : Rectangle) → i < length list → r ≡ get_or list i r → r ≡ rect_at list i
+pub rect_is : (list : List Rectangle) (i : ℕ) (r : Rectangle) → i < length list → r ≡ get_or list i r →
+    r ≡ rect_at list i
 rect_is list i r within is = is ∙ get_or_default list i r origin within
 
 -- ---- the best so far
@@ -61,10 +65,12 @@ all_positions (suc n) some = let e : n ≡ suc n - 1 = omega arith in ap (λ k. 
 
 -- when no position is left, the best so far is the best
 pub found : (beats : ℕ → ℕ → Bool) → IsStrictWeakOrder beats → (n i at : ℕ) → 0 < n → n ≤ i →
-    fold (better beats) at (range_with_len i (n - i)) ≡ fold (better beats) 0 (range_with_len 1 (n - 1)) → at ≡ best beats 0 (positions n)
+    fold (better beats) at (range_with_len i (n - i)) ≡ fold (better beats) 0 (range_with_len 1 (n - 1)) →
+    at ≡ best beats 0 (positions n)
 found beats o n i at some done rest =
     let none : n - i ≡ 0 = omega (arith, done) in
-    sym (at_end (better beats) i n at none) ∙ rest ∙ sym (best_is beats o 0 0 (range_with_len 1 (n - 1))) ∙ ap (best beats 0) (sym (all_positions n some))
+    sym (at_end (better beats) i n at none) ∙ rest ∙ sym (best_is beats o 0 0 (range_with_len 1 (n - 1))) ∙ ap
+    (best beats 0) (sym (all_positions n some))
 
 -- one position more: what the loop keeps
 pub record Keeps (beats : ℕ → ℕ → Bool) (n i at : ℕ) : Type 0 where
@@ -72,7 +78,8 @@ pub record Keeps (beats : ℕ → ℕ → Bool) (n i at : ℕ) : Type 0 where
   pub rest : fold (better beats) at (range_with_len i (n - i)) ≡ fold (better beats) 0 (range_with_len 1 (n - 1))
 
 pub keeps_on : (beats : ℕ → ℕ → Bool) (n i at new : ℕ) → i < n → at < n → new ≡ better beats at i →
-    fold (better beats) at (range_with_len i (n - i)) ≡ fold (better beats) 0 (range_with_len 1 (n - 1)) → Keeps beats n (i + 1) new
+    fold (better beats) at (range_with_len i (n - i)) ≡ fold (better beats) 0 (range_with_len 1 (n - 1)) →
+    Keeps beats n (i + 1) new
 keeps_on beats n i at new inside here is rest = record {
   within = subst (λ k. k < n) (sym is) (one_of (beats i at));
   rest = go_on (better beats) i n at new _ inside is rest;
@@ -84,17 +91,21 @@ keeps_on beats n i at new inside here is rest = record {
 
 -- ---- as the code compares them
 
-int_less : (x y : ℤ) → SFits w128 x → SFits w128 y → lt_z (to_z w128 (of_z w128 x)) (to_z w128 (of_z w128 y)) ≡ true → is_lt (int_cmp x y) ≡ true
+int_less : (x y : ℤ) → SFits w128 x → SFits w128 y → lt_z (to_z w128 (of_z w128 x)) (to_z w128 (of_z w128 y)) ≡ true →
+    is_lt (int_cmp x y) ≡ true
 int_less x y fx fy h = grind (arith, ints)
 
-int_not_less : (x y : ℤ) → SFits w128 x → SFits w128 y → lt_z (to_z w128 (of_z w128 x)) (to_z w128 (of_z w128 y)) ≡ false → is_lt (int_cmp x y) ≡ false
+int_not_less : (x y : ℤ) → SFits w128 x → SFits w128 y → lt_z (to_z w128 (of_z w128 x)) (to_z w128 (of_z w128 y)) ≡
+    false → is_lt (int_cmp x y) ≡ false
 int_not_less x y fx fy h = grind (arith, ints)
 
-pub more_waste : (list : List Rectangle) (p q : Pair) (x y : ℤ) → SFits w128 x → SFits w128 y → x ≡ waste list p → y ≡ waste list q →
+pub more_waste : (list : List Rectangle) (p q : Pair) (x y : ℤ) → SFits w128 x → SFits w128 y → x ≡ waste list p →
+    y ≡ waste list q →
     lt_z (to_z w128 (of_z w128 y)) (to_z w128 (of_z w128 x)) ≡ true → wastes_more list p q ≡ true
 more_waste list p q x y fx fy a b h = sym (λ i. is_lt (int_cmp (b i) (a i))) ∙ int_less y x fy fx h
 
-pub less_waste : (list : List Rectangle) (p q : Pair) (x y : ℤ) → SFits w128 x → SFits w128 y → x ≡ waste list p → y ≡ waste list q →
+pub less_waste : (list : List Rectangle) (p q : Pair) (x y : ℤ) → SFits w128 x → SFits w128 y → x ≡ waste list p →
+    y ≡ waste list q →
     lt_z (to_z w128 (of_z w128 y)) (to_z w128 (of_z w128 x)) ≡ false → wastes_more list p q ≡ false
 less_waste list p q x y fx fy a b h = sym (λ i. is_lt (int_cmp (b i) (a i))) ∙ int_not_less y x fy fx h
 

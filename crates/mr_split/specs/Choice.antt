@@ -1,4 +1,5 @@
--- Which of some rectangles a new one goes to (Guttman's ChooseLeaf). This file names nothing of the source.
+-- Which of some rectangles a new one goes to (Guttman's ChooseLeaf). This file names nothing of the
+-- source.
 use Rattle.std.specs.Prelude.{ℕ, pos, ℤ, ◌-ℤ◌, Bool, List, length, get_or}
 use Rattle.std.specs.Ordering.{ordering_then, is_lt, int_cmp}
 use Rattle.mr_geom.specs.Rectangle.{Rectangle, union, area}

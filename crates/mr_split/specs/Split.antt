@@ -51,11 +51,12 @@ growth_of group r = area_of (join group (Some r)) -ℤ area_of group
 unfoldable pub preference : (first second : Option Rectangle) → Rectangle → ℕ
 preference first second r = unsigned_abs (growth_of first r -ℤ growth_of second r)
 
--- the same of an entry: an open one counts one more, so that it stands before all that are in a group
+-- the same of an entry: an open one counts one more, so that it goes before all that are in groups
 abbrev pub urgency : (first second : Option Rectangle) → Mark → Rectangle → ℕ
 urgency first second mark r = if is Open mark then suc (preference first second r) else 0
 
-abbrev pub is_more_urgent : List Rectangle → List Mark → (first second : Option Rectangle) → ℕ → ℕ → Bool
+abbrev pub is_more_urgent : List Rectangle → List Mark → (first second : Option Rectangle) →
+    ℕ → ℕ → Bool
 is_more_urgent list marks first second i j =
     nat_lt (urgency first second (mark_at marks j) (rect_at list j))
     (urgency first second (mark_at marks i) (rect_at list i))
@@ -72,7 +73,8 @@ next list marks = most_urgent list marks (bounds list marks First) (bounds list 
 
 -- the second group grows less than the first, or as much and has the lesser area, or that is the
 -- same too and it has fewer entries
-unfoldable pub is_second_fitter : (first second : Option Rectangle) → (in_first in_second : ℕ) → Rectangle → Bool
+unfoldable pub is_second_fitter : (first second : Option Rectangle) → (in_first in_second : ℕ) →
+    Rectangle → Bool
 is_second_fitter first second in_first in_second r =
     is_lt (ordering_then (ordering_then (int_cmp (growth_of second r) (growth_of first r))
     (int_cmp (area_of second) (area_of first))) (nat_cmp in_second in_first))

@@ -1,5 +1,5 @@
-ghost use Rattle.std.specs.Prelude.{◌≡◌, ◌<◌, length};
-ghost use Rattle.mr_split.specs.Choice.{is_fitter as fitter, choose as chosen};
+ghost use Rattle.std.specs.Prelude.{◌≡◌, ℕ, ◌<◌, ◌≤ℤ◌, length};
+ghost use Rattle.mr_split.specs.Choice.{rect_at, growth, is_fitter as fitter, choose as chosen};
 
 use mr_geom::Rect;
 
@@ -20,6 +20,8 @@ pub fn choose(list: &[Rect], new: &Rect) -> usize
     requires { 0 < length list.now }
     ensures exact { result ≡ chosen list.now new.now }
     ensures within { result < length list.now }
+    ensures least { (i : ℕ) → i < length list.now
+        → growth (rect_at list.now result) new.now ≤ℤ growth (rect_at list.now i) new.now }
 {
     let mut at = 0;
     for i in 1..list.len() {

@@ -1,4 +1,4 @@
-ghost use Rattle.std.specs.Prelude.{◌≡◌, ◌*◌, ◌≤◌, ◌++◌, length, map, IfOk};
+ghost use Rattle.std.specs.Prelude.{◌≡◌, ◌*◌, ◌<◌, ◌≤◌, ◌++◌, length, map, IfOk, AllPairs};
 ghost use Rattle.std.specs.List.Sorted.{IsPermutation};
 ghost use Rattle.mr_split.specs.Best.{positions};
 ghost use Rattle.mr_split.specs.Split.{sides as sides_of, is_on as is_on_side, group, first_group, second_group, seeded, is as is_same};
@@ -69,11 +69,7 @@ fn positions_on(alloc: Global, sides: &[bool], side: bool) -> Result<Vec<usize>,
 
 /// The positions of the rectangles of a node that is too full, put into two groups of at least `m`
 /// each, by the quadratic method (Guttman 1984). Both groups rise.
-pub fn split(
-    alloc: Global,
-    list: &[Rect],
-    m: usize,
-) -> Result<(Vec<usize>, Vec<usize>), AllocError>
+pub fn split(alloc: Global, list: &[Rect], m: usize) -> Result<(Vec<usize>, Vec<usize>), AllocError>
     requires some { 1 ≤ m }
     requires enough { 2 * m ≤ length list.now }
     requires few { length list.now ≤ 65 }
@@ -83,6 +79,8 @@ pub fn split(
     ensures enough_second { IfOk result (λ p. m ≤ length p.1.items) }
     ensures all { IfOk result (λ p.
         IsPermutation (positions (length list.now)) (p.0.items ++ p.1.items)) }
+    ensures rising_first { IfOk result (λ p. AllPairs (λ i j. i < j) p.0.items) }
+    ensures rising_second { IfOk result (λ p. AllPairs (λ i j. i < j) p.1.items) }
 {
     let sides = sides(alloc, list, m)?;
     let first = positions_on(alloc, &sides, false)?;

@@ -61,12 +61,7 @@ fn urgency(first: &Option<Rect>, second: &Option<Rect>, mark: Mark, rect: &Rect)
 }
 
 // The position of the open entry of which it matters most.
-fn most_urgent(
-    list: &[Rect],
-    marks: &[Mark],
-    first: &Option<Rect>,
-    second: &Option<Rect>,
-) -> usize
+fn most_urgent(list: &[Rect], marks: &[Mark], first: &Option<Rect>, second: &Option<Rect>) -> usize
     requires some { 0 < length list.now }
     requires same { length marks.now ≡ length list.now }
     ensures value { result ≡ most_urgent_of list.now marks.now first.now second.now }
@@ -74,7 +69,8 @@ fn most_urgent(
 {
     let mut at = 0;
     for i in 1..list.len() {
-        if urgency(first, second, marks[at], &list[at]) < urgency(first, second, marks[i], &list[i])
+        if urgency(first, second, marks[at], &list[at])
+            < urgency(first, second, marks[i], &list[i])
         {
             at = i;
         }

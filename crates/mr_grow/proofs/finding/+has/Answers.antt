@@ -10,10 +10,12 @@ use Rattle.mr_grow.proofs.finding.+has.Goals as goal
 
 pub loop-child-init : goal.loop-child-init
 loop-child-init t c =
-    ap (has c.args.number) (ap (flat_map records) c.as_slice-child-items.ensures ∙ sym (records_below c.in-Inner.children) ∙ sym (ap records c.in-Inner.is))
+    ap (has c.args.number) (ap (flat_map records) c.as_slice-child-items.ensures ∙ sym
+    (records_below c.in-Inner.children) ∙ sym (ap records c.in-Inner.is))
 
 pub returns-in-Leaf : goal.returns-in-Leaf
 returns-in-Leaf t c =
-    (λ i. nat_lt ((c.position_of.ensures ∙ ap (place_of (is_numbered c.args.number)) c.as_slice-records.ensures) i) (length (c.as_slice-records.ensures i)))
+    (λ i. nat_lt ((c.position_of.ensures ∙ ap (place_of (is_numbered c.args.number)) c.as_slice-records.ensures) i)
+    (length (c.as_slice-records.ensures i)))
     ∙ place_any (is_numbered c.args.number) c.in-Leaf.records
     ∙ ap (has c.args.number) (sym (ap records c.in-Leaf.is ∙ records-Leaf c.in-Leaf.records))

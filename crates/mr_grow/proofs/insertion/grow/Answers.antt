@@ -14,9 +14,12 @@ inserted-requires c = has_room c.args.tree (well_rooted c.args.tree c.requires.w
 pub returns-clause-well_formed : goal.returns-clause-well_formed
 returns-clause-well_formed c =
     IfOk-weaker c.inserted.result _ _
-    (λ t h. subst WellFormed (sym h) (ins_well_formed c.args.one c.args.tree c.requires.well_formed c.requires.absent c.requires.room c.is_record.ensures)) c.inserted.ensures
+    (λ t h. subst WellFormed (sym h) (ins_well_formed c.args.one c.args.tree c.requires.well_formed c.requires.absent
+    c.requires.room c.is_record.ensures)) c.inserted.ensures
 
 pub returns-clause-records : goal.returns-clause-records
 returns-clause-records c =
     IfOk-weaker c.inserted.result _ _
-    (λ t h. subst (λ u. IsPermutation (c.args.one ∷ records c.args.tree) (records u)) (sym h) (ins_mixes c.args.one c.args.tree (has_room c.args.tree (well_rooted c.args.tree c.requires.well_formed)))) c.inserted.ensures
+    (λ t h. subst (λ u. IsPermutation (c.args.one ∷ records c.args.tree) (records u)) (sym h)
+    (ins_mixes c.args.one c.args.tree (has_room c.args.tree (well_rooted c.args.tree c.requires.well_formed))))
+    c.inserted.ensures

@@ -12,9 +12,12 @@ loop-item-init g c = record {
 
 pub loop-item-preserved : goal.loop-item-preserved
 loop-item-preserved g c =
-    let at : c.is_second.result ≡ get_or c.args.sides.now (length c.loop-item.yielded) false = c.is_second.ensures ∙ ap (λ n. get_or c.args.sides.now n false) c.loop-item.invariant.count in
+    let at : c.is_second.result ≡ get_or c.args.sides.now (length c.loop-item.yielded) false = c.is_second.ensures
+    ∙ ap (λ n. get_or c.args.sides.now n false) c.loop-item.invariant.count in
     record {
       count = omega (arith, c.loop-item.invariant.count, length_push c.loop-item.yielded c.in-Some.item);
-      first = first_kept c.args.sides.now c.loop-item.yielded c.in-Some.item c.loop-item.first.items c.put.new.first.items c.is_second.result at c.loop-item.invariant.first c.in_ok-put.ensures.first;
-      second = second_kept c.args.sides.now c.loop-item.yielded c.in-Some.item c.loop-item.second.items c.put.new.second.items c.is_second.result at c.loop-item.invariant.second c.in_ok-put.ensures.second;
+      first = first_kept c.args.sides.now c.loop-item.yielded c.in-Some.item c.loop-item.first.items
+          c.put.new.first.items c.is_second.result at c.loop-item.invariant.first c.in_ok-put.ensures.first;
+      second = second_kept c.args.sides.now c.loop-item.yielded c.in-Some.item c.loop-item.second.items
+          c.put.new.second.items c.is_second.result at c.loop-item.invariant.second c.in_ok-put.ensures.second;
     }

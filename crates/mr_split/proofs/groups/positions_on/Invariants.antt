@@ -5,4 +5,5 @@ use Rattle.mr_split.proofs.groups.positions_on.Given as goal
 
 abbrev pub invariant-loop-at : goal.invariant-loop-at
 invariant-loop-at l =
-    l.group.items ++ filter (λ n. is_on l.side (get_or l.sides n false)) (range_with_len l.at (length l.sides - l.at)) ≡ group l.sides l.side
+    l.group.items ++ filter (λ n. is_on l.side (get_or l.sides n false)) (range_with_len l.at (length l.sides - l.at))
+    ≡ group l.sides l.side

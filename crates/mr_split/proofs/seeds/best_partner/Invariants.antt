@@ -9,6 +9,8 @@ abbrev pub invariant-loop-second : goal.invariant-loop-second
 invariant-loop-second l = record {
   ordered : l.best.first < l.best.second;
   inside : l.best.second < length l.list;
-  rest : fold (better (wastes_more l.list)) l.best (pairs_of l.first (range_with_len l.second (length l.list - l.second)))
-      ≡ fold (better (wastes_more l.list)) l.initial.best (pairs_of l.first (range_with_len (l.first + 1) (length l.list - (l.first + 1))));
+  rest : fold (better (wastes_more l.list)) l.best
+      (pairs_of l.first (range_with_len l.second (length l.list - l.second)))
+      ≡ fold (better (wastes_more l.list)) l.initial.best
+      (pairs_of l.first (range_with_len (l.first + 1) (length l.list - (l.first + 1))));
 }

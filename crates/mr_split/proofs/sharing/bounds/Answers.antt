@@ -1,8 +1,5 @@
-use Rattle.std.proofs.Common.{length, map, ap, ◌∙◌, arith}
-use Rattle.std.specs.Prelude.{fold, None}
-use Rattle.std.specs.List.{range_with_len}
+use Rattle.std.proofs.Common.{length, ap, ◌∙◌}
 use Rattle.mr_geom.specs.Rectangle.{join}
-use Rattle.mr_split.specs.Split.{bounds, member}
 use Rattle.mr_split.proofs.Steps.{from_start, member_on}
 use Rattle.mr_split.proofs.sharing.bounds.Goals as goal
 
@@ -11,5 +8,6 @@ loop-at-init c = from_start c.args.list.now c.args.marks.now c.args.group
 
 pub loop-at-preserved : goal.loop-at-preserved
 loop-at-preserved c =
-    member_on c.args.list.now c.args.marks.now c.args.group c.loop-at.at (length c.args.list.now) c.loop-at.all c.joined-all.result _ c.loop-at-test.true
+    member_on c.args.list.now c.args.marks.now c.args.group c.loop-at.at (length c.args.list.now) c.loop-at.all
+    c.joined-all.result _ c.loop-at-test.true
     (c.joined-all.ensures ∙ ap (join c.loop-at.all) c.member.ensures) c.loop-at.invariant

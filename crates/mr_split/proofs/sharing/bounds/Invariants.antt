@@ -7,4 +7,5 @@ use Rattle.mr_split.proofs.sharing.bounds.Given as goal
 
 abbrev pub invariant-loop-at : goal.invariant-loop-at
 invariant-loop-at l =
-    fold join l.all (map (member l.list l.marks l.group) (range_with_len l.at (length l.list - l.at))) ≡ bounds l.list l.marks l.group
+    fold join l.all (map (member l.list l.marks l.group) (range_with_len l.at (length l.list - l.at))) ≡ bounds l.list
+    l.marks l.group

@@ -8,6 +8,7 @@ use Rattle.mr_split.proofs.sharing.most_urgent.Given as goal
 abbrev pub invariant-loop-i : goal.invariant-loop-i
 invariant-loop-i l = record {
   within : l.at < length l.list;
-  rest : fold (better (is_more_urgent l.list l.marks l.first l.second)) l.at (range_with_len l.i (length l.list - l.i))
+  rest : fold (better (is_more_urgent l.list l.marks l.first l.second)) l.at
+      (range_with_len l.i (length l.list - l.i))
       ≡ fold (better (is_more_urgent l.list l.marks l.first l.second)) 0 (range_with_len 1 (length l.list - 1));
 }
