@@ -5,3 +5,4 @@ pub mod Numbered
 pub mod Walking
 pub mod Directories
 pub mod Permuted
+pub mod Replaying

@@ -143,12 +143,12 @@ pub record BothApply (xs ys : List Record) (cs : List Change) (out : List Record
   pub applies : applied ys cs ≡ Some other
   pub same : IsPermutation out other
 
-made_then : (b : Bool) (o : Option (List Record)) (out : List Record) → cond b o None ≡ Some out →
+pub made_then : (b : Bool) (o : Option (List Record)) (out : List Record) → cond b o None ≡ Some out →
     (b ≡ true) × (o ≡ Some out)
 made_then true o out e = (refl, e)
 made_then false o out e = absurd cc
 
-some_same : (xs ys : List Record) → ◌≡◌ {A = Option (List Record)} (Some xs) (Some ys) → xs ≡ ys
+pub some_same : (xs ys : List Record) → ◌≡◌ {A = Option (List Record)} (Some xs) (Some ys) → xs ≡ ys
 some_same xs ys e = cc
 
 pub applied_permuted : (xs ys : List Record) (cs : List Change) (out : List Record) → IsPermutation xs ys →

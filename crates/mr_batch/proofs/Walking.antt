@@ -35,7 +35,7 @@ unfolding first_hindered
 walk_ends has count line c cs fault e = rw e refl
 
 -- the changes from the place i on
-rest_of : (cs : List Change) (i : ℕ) (c : Change) → i < length cs → c ≡ get_or cs i c →
+pub rest_of : (cs : List Change) (i : ℕ) (c : Change) → i < length cs → c ≡ get_or cs i c →
     drop i cs ≡ c ∷ drop (i + 1) cs
 rest_of cs i c low e = drop_more cs i c low ∙ ap (λ d. d ∷ drop (i + 1) cs) (sym e)
 
@@ -72,7 +72,7 @@ loop_fault has count cs i c present meant fault low e p broken so_far =
     sym so_far ∙ ap (first_hindered now count (i + 2)) (rest_of cs i c low e)
     ∙ walk_ends now count (i + 2) c (drop (i + 1) cs) fault (ap (λ b. hindered b count (i + 2) c) there ∙ broken)
 
-drop_all : (cs : List Change) (i : ℕ) → length cs ≤ i → drop i cs ≡ []
+pub drop_all : (cs : List Change) (i : ℕ) → length cs ≤ i → drop i cs ≡ []
 drop_all [] zero all = refl
 drop_all [] (suc i) all = refl
 drop_all (c ∷ cs) zero all = absurd (omega arith)
@@ -284,7 +284,7 @@ ordered_then : (x : Bool) (o : Option BatchFault) (f : BatchFault) → cond x o 
 ordered_then true o f e = (refl, e)
 ordered_then false o f e = absurd cc
 
-fault_none : (rs : List Record) (held : ℕ) (b : Changes) → batch_fault rs held b ≡ None → IsAdmissible rs held b
+pub fault_none : (rs : List Record) (held : ℕ) (b : Changes) → batch_fault rs held b ≡ None → IsAdmissible rs held b
 fault_none rs held b e =
     let both = ordered_then (eqb b.number (held + 1)) (first_hindrance rs 2 b.list) (OutOfOrder held b.number) e in
     record { next = eqb-true b.number (held + 1) both.0; made = (applied_alike rs 2 b.list).0 both.1 }

@@ -6,5 +6,7 @@ pub mod Answer
 pub mod Applied
 pub mod Admissible
 pub mod Directory
+pub mod Replay
+pub mod Refusing
 -- what only private functions and proofs use
 pub mod Presence

@@ -8,10 +8,12 @@ mod change;
 mod directory;
 mod line;
 mod links;
+mod replay;
 mod text;
 
 pub use admission::{BatchFault, admit};
 pub use batch::Batch;
 pub use change::Change;
 pub use directory::Directory;
+pub use replay::{ApplyErr, apply_plain};
 pub use text::read_batch;
