@@ -97,9 +97,9 @@ fn judge<H: Hashes>(
 /// distance by rising number.
 ///
 /// A proof that proves nothing is refused with the first rule that it breaks. The proof is read
-/// once, from the front; kept are the records in the window or the circle of the proof, a hasher and
-/// a rectangle for each of at most eight levels, and the records of one leaf. The work is in
-/// proportion to the proof's length, and that of a sort of the records that were kept.
+/// once, from the front; kept are the records in the region of the proof, a hasher and a rectangle
+/// for each of at most eight levels, and the records of one leaf. The work is in proportion to the
+/// proof's length, and that of a sort of the records that were kept.
 pub fn check<H: Hash32>(
     alloc: Global,
     root: &[u8; 32],

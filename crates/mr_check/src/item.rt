@@ -42,7 +42,8 @@ fn keep(area: &Area, records: &[Record], kept: &mut Vec<Record>) -> Result<(), A
 
 // What is shown of a pruned part.
 fn shown(area: &Area, from: &mut Cursor<'_>) -> Result<Shown, Fault>
-    ensures { Takes (pruned (region area.now)) (λ part. Pruned part) result (stand from.old) from.new }
+    ensures { Takes (pruned (region area.now)) (λ part. Pruned part) result
+        (stand from.old) from.new }
 {
     let rect = rect(from)?;
     if area.meets(&rect) {

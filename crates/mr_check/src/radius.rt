@@ -37,8 +37,8 @@ fn is_no_circle(center: &Point, k: u16, radius: u128, records: &[Record]) -> boo
     not_farther_than(center, radius, records) < k
 }
 
-// Whether the squared radius is another than that of the records: of fewer than so many as are asked
-// for there is none.
+// Whether the squared radius is another than that of the records: of fewer than so many as are
+// asked for there is none.
 pub(crate) fn has_other_radius(q: &Query, radius: Option<u128>, records: &[Record]) -> bool
     ensures { result ≡ has_other_radius q.now radius records.now }
 {

@@ -1,3 +1,6 @@
+ghost use Rattle.std.specs.Prelude.{IfOk};
+ghost use Rattle.mr_query.specs.Word.{IsAskable};
+
 use crate::{CheckErr, check};
 use mr_geom::Rect;
 use mr_proof::{Fault, Field, Rule, Want, read_field};
@@ -44,7 +47,9 @@ fn digest(last: u8) -> [u8; 32] {
     digest
 }
 
-fn window(x0: i32, y0: i32, x1: i32, y1: i32) -> Result<Query, &'static str> {
+fn window(x0: i32, y0: i32, x1: i32, y1: i32) -> Result<Query, &'static str>
+    ensures { IfOk result IsAskable }
+{
     match Rect::new(x0, y0, x1, y1) {
         Some(rect) => Ok(Query::Window(rect)),
         None => Err("the sides are out of order"),

@@ -54,7 +54,8 @@ held c = record { rect = Some c.rect; digest = c.digest }
 
 -- ---- the bytes of a proof, taken from the front
 
-abbrev pub GivesRecords : ℕ → (before after : List ℕ) → {E : Type 0} → Result (Vec Record) E → Type 0
+abbrev pub GivesRecords : ℕ → (before after : List ℕ) → {E : Type 0}
+    → Result (Vec Record) E → Type 0
 GivesRecords count before after result =
     (rs : List Record) (rest : List ℕ) → length rs ≡ count → All IsRecord rs
     → before ≡ flat_map record_bytes rs ++ rest

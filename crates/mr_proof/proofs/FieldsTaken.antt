@@ -173,7 +173,8 @@ level_meant raw f long fits e =
     let le : slice_index raw 0 ≤ level_limit = leb-true (slice_index raw 0) level_limit p.1 in
     (p.0, rw p.2 le)
 
-pub flag_meant : (raw : List ℕ) (f : Field) → length raw ≡ size_of want.Flag → IsBytes raw → field_of want.Flag raw ≡ Ok f
+pub flag_meant : (raw : List ℕ) (f : Field) → length raw ≡ size_of want.Flag → IsBytes raw
+    → field_of want.Flag raw ≡ Ok f
     → (raw ≡ number_in f ∷ []) × (number_in f ≤ 1)
 unfolding field_of
 flag_meant raw f long fits e =
@@ -239,7 +240,8 @@ radius_meant raw f long fits e =
           (leb-true (from_be_bytes w128 raw) radius_limit p.0),
     )
 
-pub rect_meant : (raw : List ℕ) (f : Field) → length raw ≡ size_of want.Rect → IsBytes raw → field_of want.Rect raw ≡ Ok f
+pub rect_meant : (raw : List ℕ) (f : Field) → length raw ≡ size_of want.Rect → IsBytes raw
+    → field_of want.Rect raw ≡ Ok f
     → (raw ≡ rectangle_bytes (rect_in f)) × (IsOrdered (rect_in f) × FitsMap (rect_in f))
 unfolding field_of
 rect_meant raw f long fits e =

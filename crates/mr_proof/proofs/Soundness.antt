@@ -519,8 +519,10 @@ proves_from hash root q bytes answer may fits is =
       part = x.value.part;
       spelled = spelled_whole true (ending hash root q) (asks q).kind (asks q).region bytes c.0 x z.0;
       kind = x.kind;
-      tight = record { parts = x.tight refl; 
-        radius = right_radius q x.value.head (opened_records x.value.part) may x.kind x.fits z.2 };
+      tight = record {
+        parts = x.tight refl;
+        radius = right_radius q x.value.head (opened_records x.value.part) may x.kind x.fits z.2;
+      };
       held = z.1;
       scanned = sym (same_value ((asks q).answer (opened_records c.0.part)) answer c.2)
           ∙ ap (λ (y : Said). (asks q).answer (opened_records y.part)) (sym z.3);

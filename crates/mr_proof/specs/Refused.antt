@@ -70,9 +70,9 @@ faults ending (done x) s = ending x s
 faults ending (reads w next) s = with_field (field_at w s) (λ value t. faults ending (next value) t)
 faults ending (notes n next) s = note_faults n s.last ++ faults ending next s
 
--- Whether the squared radius is another than that of the opened records. For a window there is none.
--- For the k nearest records: without one, at least k are opened; with one, at least k are nearer
--- than it, or fewer than k are not farther.
+-- Whether the squared radius is another than that of the opened records. For a window there is
+-- none. For the k nearest records: without one, at least k are opened; with one, at least k are
+-- nearer than it, or fewer than k are not farther.
 abbrev pub has_other_radius : Query → Option ℕ → List Record → Bool
 has_other_radius (Window w) radius records = false
 has_other_radius (Nearest p k) None records = nat_le k (length records)

@@ -45,8 +45,8 @@ abbrev pub kind_of : Query → Kind
 kind_of (Window w) = kind.W
 kind_of (Nearest p k) = kind.K
 
--- a window has none; for the k nearest records it is the kth least squared distance, where there are
--- as many
+-- a window has none; for the k nearest records it is the kth least squared distance, where there
+-- are as many
 abbrev pub radius_of : Query → List Record → Option ℕ
 radius_of (Window w) records = None
 radius_of (Nearest p k) records = kth_least k (distances p records)

@@ -38,7 +38,7 @@ pub enum Rule {
     Trailing,
     /// The proof is of a map with another root digest than the held one.
     WrongRoot { found: [u8; 32] },
-    /// The squared radius is not that of the answer.
+    /// The squared radius, or that there is none, is not that of the opened records.
     WrongRadius,
 }
 

@@ -1,4 +1,5 @@
--- The parts of a proof, one by one. Nothing of this has to be believed: no public contract cites it.
+-- The parts of a proof, one by one. Nothing of this has to be believed: no public contract cites
+-- it.
 use Rattle.std.specs.Prelude.{◌≡◌, ℕ, Bool, List, [], ◌∷◌, length, Option, Some, None, IfSome}
 use Rattle.std.specs.List.{flat_map, sum_by}
 use Rattle.mr_tree.specs.Tree.{records}

@@ -12,7 +12,7 @@ pub enum ProveErr {
     Nodes(NodesErr),
     /// The sink failed; its count of faults says so.
     Sink,
-    /// Memory ran out, of the nodes or of the sink.
+    /// Memory ran out, of the nodes, of the sink or of the search.
     NoMemory,
 }
 

@@ -1,4 +1,4 @@
-//! The owner's side: the proof of the answer to a query.
+//! The server's side: the proof of the answer to a query.
 #![tactic(auto)]
 
 mod best;

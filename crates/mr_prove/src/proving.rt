@@ -72,11 +72,7 @@ fn write_proof<N: Nodes, W: Sink>(
 }
 
 // The squared radius of the answer to the query on the map.
-fn radius_of<N: Nodes>(
-    alloc: Global,
-    nodes: &mut N,
-    q: &Query,
-) -> Result<Option<u128>, ProveErr>
+fn radius_of<N: Nodes>(alloc: Global, nodes: &mut N, q: &Query) -> Result<Option<u128>, ProveErr>
     requires { IsAskable q.now }
     ensures kept { N.kept nodes.old nodes.new }
     ensures right { IfOk result (IsRight q.now (N.stands nodes.old)) }
@@ -93,14 +89,15 @@ fn radius_of<N: Nodes>(
 }
 
 /// Writes the proof of the answer to the query: that of the cut which opens just the nodes that the
-/// query's region meets. Where the tree is told, the bytes are `proof` of it, which a client accepts
-/// with the answer of a scan, and no more nodes are fetched than the cut opens, or twice as many for
-/// nearest records.
+/// query's region meets. Where the tree is told, the bytes are `proof` of it, which a client
+/// accepts with the answer of a scan, and no more nodes are fetched than the cut opens, or twice as
+/// many for nearest records.
 ///
 /// The radius of nearest records is found first, by a search that keeps the nodes it has met and as
 /// many distances as records are asked for. Then the nodes are walked depth first and what is known
 /// is written at once: the walk keeps the nodes on the path, at most eight, inline, and takes no
-/// memory of its own. After a refusal some front of the proof was taken.
+/// memory of its own. So the proof for a window takes no memory beyond what the nodes and the sink
+/// take. After a refusal some front of the proof was taken.
 pub fn prove<N: Nodes, W: Sink>(
     alloc: Global,
     nodes: &mut N,

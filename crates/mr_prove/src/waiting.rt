@@ -48,7 +48,8 @@ impl Ord for Waiting {
 impl PartialOrd for Waiting {
     ghost partial_cmp = { as_partial_cmp (flip_args (on (λ w. w.far) nat_cmp)) };
 
-    ghost laws = { partial_order_from_own_ties (Prim.search (comparing, rules)) (Prim.search (comparing, rules)) };
+    ghost laws = { partial_order_from_own_ties (Prim.search (comparing, rules))
+        (Prim.search (comparing, rules)) };
 
     fn partial_cmp(&self, other: &Waiting) -> Option<Ordering> {
         Some(self.cmp(other))

@@ -65,7 +65,7 @@ module _ {A : Type 0} (before : A → A → Bool) where
   failing test (x ∷ xs) = elim (cases_Bool (test x)) [
     | inl t ↦ rw t (failing test xs)
     | inr f ↦ rw f (All-put (λ (x : A). test x ≡ false) x (sorted_by before (filter (others test) xs)) f
-    (failing test xs))
+        (failing test xs))
   ]
 
   all_last : (test : A → Bool) → Splits test → (x : A) → test x ≡ true → (ys : List A)

@@ -136,9 +136,13 @@ nearest_made a b c x y k q ea eb ec e =
     let left = number_written 1 a x ea in
     let low = number_written 2 b y eb in
     let few = count_written 3 c k ec in
-    let fits : FitsPoint (point_at x y) = record { x = left.1; y = low.1 } in
-    (point_at x y, k, sym (same_query (Nearest (point_at x y) k) q e), (fits, (few.1, few.2)),
-    λ i. left.0 i ∷ low.0 i ∷ few.0 i ∷ [])
+    let fits : FitsPoint (point_at x y) = record { x = left.1; y = low.1 } in (
+      point_at x y,
+      k,
+      sym (same_query (Nearest (point_at x y) k) q e),
+      (fits, (few.1, few.2)),
+      λ i. left.0 i ∷ low.0 i ∷ few.0 i ∷ [],
+    )
 
 nearest_written : (a b c : List ℕ) (q : Query) → nearest_of a b c ≡ Ok q
     → IsNearestOf (a ∷ b ∷ c ∷ []) q

@@ -39,7 +39,7 @@ window_of_parts _ = Err Parts
 abbrev pub neighbour_limit : ℕ
 neighbour_limit = 1024
 
--- the number, if it is one of so many records
+-- the number, if it asks for 1 to 1,024 records
 abbrev pub if_askable : ℕ → Option ℕ
 if_askable k = if nat_le 1 k && nat_le k neighbour_limit then Some k else None
 
@@ -71,7 +71,7 @@ window_word = 119 ∷ 105 ∷ 110 ∷ 100 ∷ 111 ∷ 119 ∷ 58 ∷ []
 abbrev pub nearest_word : List ℕ
 nearest_word = 110 ∷ 101 ∷ 97 ∷ 114 ∷ 101 ∷ 115 ∷ 116 ∷ 58 ∷ []
 
--- the query that a word spells which spells no window, else the first fault
+-- the query for nearest records that the word spells, else the first fault
 unfoldable pub nearest_query_of : List ℕ → Result Query QueryFault
 nearest_query_of word =
     if bytes_eq (take 8 word) nearest_word then nearest_of_parts (parts_of (drop 8 word))
@@ -90,7 +90,7 @@ pub record FitsPoint (p : Point) : Type 0 where
   pub x : FitsSigned w32 p.x
   pub y : FitsSigned w32 p.y
 
--- of the nearest records as many are asked for as may be: 1 to 1,024
+-- a query for nearest records asks for 1 to 1,024 records
 abbrev pub IsAskable : Query → Type 0
 IsAskable (Window w) = ⊤
 IsAskable (Nearest p k) = (1 ≤ k) × (k ≤ neighbour_limit)

@@ -17,13 +17,15 @@ impl Region for Circle {
     ghost reached = { λ s r. least_squared_distance r s.center ≤ s.r2 };
 
     fn meets(&self, r: &Rect) -> bool
-        ensures reached { IsTrue result ↔ (least_squared_distance r.now self.now.center ≤ self.now.r2) }
+        ensures reached { IsTrue result
+            ↔ (least_squared_distance r.now self.now.center ≤ self.now.r2) }
         ensures test { result ≡ is_within self.now.center (Some self.now.r2) r.now }
     {
         r.dist2(&self.center) <= self.r2
     }
 
-    ghost monotone = { λ s a b ordered inside met. circle_widens s.center s.r2 a b ordered inside met };
+    ghost monotone = { λ s a b ordered inside met.
+        circle_widens s.center s.r2 a b ordered inside met };
 }
 
 /// All points of the plane.

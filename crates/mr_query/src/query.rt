@@ -30,7 +30,7 @@ fn is_point(one: &Point)
 }
 
 /// Does nothing: it is there for proofs, which learn that each value of the type is a query, if it
-/// asks for as many records as it may.
+/// is a window or asks for 1 to 1,024 records.
 pub fn is_query(one: &Query)
     requires { IsAskable one.now }
     ensures { IsQuery one.now }

@@ -87,7 +87,7 @@ fn read_nearest_parts(text: &[u8]) -> Result<Query, QueryFault>
     }
 }
 
-// The query of a word that spells no window.
+// The query for nearest records that a word spells.
 #[tactic(auto, unfolding(crate::specs::Word::nearest_query_of))]
 fn read_nearest_word(word: &[u8]) -> Result<Query, QueryFault>
     ensures { result ≡ nearest_query_of word.now }

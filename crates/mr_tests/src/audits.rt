@@ -13,9 +13,9 @@ use std::alloc::{AllocError, Global};
 use std::test::Fail;
 use std::thread::Threads;
 
-/// A text of records; the words that prove a window on their map; the bytes of the proof that are
-/// changed, by place and new value; the words that check the proof and those that audit it; the
-/// status of the audit; what the check prints and what the audit prints.
+/// A text of records; the words that prove the answer to a query on their map; the bytes of the
+/// proof that are changed, by place and new value; the words that check the proof and those that
+/// audit it; the status of the audit; what the check prints and what the audit prints.
 pub type Audit<'a> = (
     &'a [u8],
     &'a [&'a str],

@@ -33,8 +33,8 @@ pub fn answered<H: Hash32, R: Threads + Sync>(
     Ok((out.bytes().to_vec(alloc)?, proof))
 }
 
-/// A text of records, the commands that build their map, prove a window on it and check the proof,
-/// all that is printed, and the proof.
+/// A text of records, the commands that build their map, prove the answer to a query on it and
+/// check the proof, all that is printed, and the proof.
 pub type Answer<'a> = (&'a [u8], &'a [&'a [&'a str]], &'a [u8], &'a [u8]);
 
 // Under the exclusive or of all bytes.

@@ -384,7 +384,7 @@ module _ (hash : List ℕ → List ℕ) (words : List (List ℕ)) (before after 
   honest_answered sized t batch root q name well low is_root spells held =
       elim (ran_as (commands.Check root q name) spells) [
         | inl run ↦ inl (whole_honest hash sized before after status t batch root q name.now well low is_root
-          spells.each.1.1.0 run held)
+            spells.each.1.1.0 run held)
         | inr stop ↦ inr stop
       ]
 
@@ -392,7 +392,7 @@ module _ (hash : List ℕ → List ℕ) (words : List (List ℕ)) (before after 
   accepted_worth sized t batch root q name bytes well low is_root spells held done =
       elim (ran_as (commands.Check root q name) spells) [
         | inl run ↦ worth hash sized before after status t batch root q name.now well low is_root
-          spells.each.1.1.0 run bytes held done
+            spells.each.1.1.0 run bytes held done
         | inr stop ↦ not_stopped before after status done stop
       ]
 

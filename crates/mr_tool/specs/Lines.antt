@@ -25,8 +25,8 @@ proof_line size = codes "proof " ++ decimal size ++ 10 ∷ []
 abbrev pub sound_line : List ℕ
 sound_line = codes "sound" ++ 10 ∷ []
 
--- two strings that differ and have one hash, the owner's first, each in hexadecimal on a line of its
--- own
+-- two strings that differ and have one hash, the owner's first, each in hexadecimal on a line of
+-- its own
 unfoldable pub collision_lines : (owned shown : List ℕ) → List ℕ
 collision_lines owned shown = codes "collision" ++ 10 ∷ encode_lower owned
     ++ 10 ∷ encode_lower shown ++ 10 ∷ []

@@ -131,7 +131,8 @@ SaysWorth hash t batch q bytes None before after status =
     (bytes ≡ honest.proof hash t batch q)
     × Delivers (prints (sound_line ++ text_of (scan (records t) q))) before after status
 SaysWorth hash t batch q bytes (Some p) before after status =
-    IsCollision hash p × Delivers (ends Collision (collision_lines p.owned p.shown)) before after status
+    IsCollision hash p
+    × Delivers (ends Collision (collision_lines p.owned p.shown)) before after status
 
 -- So it says of each proof that is accepted against the root digest of the map that a file stands
 -- for.
@@ -148,7 +149,8 @@ AuditsAccepted hash words before after status =
 -- not; that they are the printed ones is known where the sink tells what it takes.
 abbrev pub CollidesRightly : (List ℕ → List ℕ) → List (List ℕ) → World → World → Status → Type 0
 CollidesRightly hash words before after status =
-    (map : Bor (List ℕ)) (q : Query) (proof : Bor (List ℕ)) → Spells words (commands.Audit map q proof)
+    (map : Bor (List ℕ)) (q : Query) (proof : Bor (List ℕ))
+    → Spells words (commands.Audit map q proof)
     → status ≡ Collision
     → (p : Pair) × IsCollision hash p
     × Takes before.sink after.sink (collision_lines p.owned p.shown)

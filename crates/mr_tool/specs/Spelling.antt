@@ -20,7 +20,7 @@ AsksAs a b = (hash : List ℕ → List ℕ) → say hash a ≡ say hash b
 
 -- ---- this serves private functions
 
--- the query of a command, if it has one, asks for as many records as it may
+-- the query of a command, if it has one, is a window or asks for 1 to 1,024 records
 abbrev pub MayBeAsked : Command → Type 0
 MayBeAsked (commands.Prove map q proof) = IsAskable q
 MayBeAsked (commands.Check root q proof) = IsAskable q

@@ -79,8 +79,8 @@ fn build_text<H: Hash32, S: Shelf>(
     }
 }
 
-/// The map of the records of a file, written to another one: its nodes stand in preorder from page 1
-/// on, and no page is free.
+/// The map of the records of a file, written to another one: its nodes stand in preorder from page
+/// 1 on, and no page is free.
 pub(crate) fn build<H: Hash32, S: Shelf>(
     alloc: Global,
     map: &str,

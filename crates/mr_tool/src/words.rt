@@ -23,7 +23,8 @@ pub enum Command<'a> {
     Prove(&'a str, Query, &'a str),
     /// Print the answer that the proof in a file proves, against a root digest and for a query.
     Check([u8; 32], Query, &'a str),
-    /// Say what the proof in the second file is worth against the map in the first one, for a query.
+    /// Say what the proof in the second file is worth against the map in the first one, for a
+    /// query.
     Audit(&'a str, Query, &'a str),
 }
 

@@ -31,13 +31,13 @@ returns-in_err-level c =
       c.in_ok-batch.ensures.read,
       c.in_ok-count.ensures.read,
       c.in_ok-radius.ensures e (λ r. level c.in_ok-count.count (λ l. next
-      (record {
-        kind = c.args.kind;
-        batch = c.in_ok-batch.batch;
-        count = c.in_ok-count.count;
-        radius = r;
-        level = l;
-      }))),
+          (record {
+            kind = c.args.kind;
+            batch = c.in_ok-batch.batch;
+            count = c.in_ok-count.count;
+            radius = r;
+            level = l;
+          }))),
     )
     (c.in_err-level.ensures.read e (λ l. next
     (record {
@@ -57,13 +57,13 @@ returns c =
       c.in_ok-batch.ensures.read,
       c.in_ok-count.ensures.read,
       c.in_ok-radius.ensures e (λ r. level c.in_ok-count.count (λ l. next
-      (record {
-        kind = c.args.kind;
-        batch = c.in_ok-batch.batch;
-        count = c.in_ok-count.count;
-        radius = r;
-        level = l;
-      }))),
+          (record {
+            kind = c.args.kind;
+            batch = c.in_ok-batch.batch;
+            count = c.in_ok-count.count;
+            radius = r;
+            level = l;
+          }))),
     )
     (c.in_ok-level.ensures.read e (λ l. next (record {
       kind = c.args.kind;
