@@ -8,5 +8,6 @@ pub mod Numbered
 pub mod Digests
 pub mod Spelling
 pub mod Apart
+pub mod Batches
 pub mod Verdicts
 pub mod Promises

@@ -10,7 +10,8 @@ use Rattle.mr_tool.specs.Outcome.{Outcome, Written, Nothing, File, IsLeft, MayLe
 use Rattle.mr_tool.specs.Plan.{Plan, comes, reads, opens, Input, IsInput, Leads, IsOutcomeOver}
 use Rattle.mr_tool.proofs.Showing.{IsSized, found_in, one_found}
 use Rattle.mr_tree.specs.declared.tree.Tree.{Tree}
-use Rattle.mr_tool.specs.Say.{needs, given_map, say, say_list_of, say_prove_of, say_audit_of}
+use Rattle.mr_batch.specs.BatchText.{batch_of_text}
+use Rattle.mr_tool.specs.Say.{needs, given_map, say, say_list_of, say_apply_of, say_prove_of, say_audit_of}
 use Rattle.mr_tool.specs.declared.status.Status.{Status}
 use Rattle.mr_tool.specs.declared.words.Command.{Command}
 use Rattle.mr_tool.specs.declared.words.Command.TheVariants as commands
@@ -132,6 +133,16 @@ say_sized hash sized (Some (commands.Build map records)) = sized_needs _ _ (λ t
 say_sized hash sized (Some (commands.List map)) =
     sized_needs map.now (λ bytes. opens hash bytes (given_map (λ tree batch. comes (say_list_of tree))))
     (λ bytes. (sized, sized_map (λ tree batch. comes (say_list_of tree)) (λ tree batch. tt)))
+say_sized hash sized (Some (commands.Apply old batch new)) =
+    let next : Tree → ℕ → Plan = λ tree held. needs batch.now
+    (λ text. comes (say_apply_of hash new.now tree held (batch_of_text text))) in
+    sized_needs old.now (λ bytes. opens hash bytes (given_map next))
+    (λ bytes. (
+      sized,
+      sized_map next (λ tree held.
+          sized_needs batch.now (λ text. comes (say_apply_of hash new.now tree held (batch_of_text text)))
+          (λ text. tt)),
+    ))
 say_sized hash sized (Some (commands.Prove map query proof)) =
     let next : Tree → ℕ → Plan = λ tree batch. comes (say_prove_of hash query proof.now tree batch) in
     sized_needs map.now (λ bytes. opens hash bytes (given_map next))

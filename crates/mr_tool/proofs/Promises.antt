@@ -34,13 +34,14 @@ use Rattle.mr_clash.specs.Finding.{finding_of}
 use Rattle.mr_pages.specs.PageBytes.{first_form}
 use Rattle.mr_pages.specs.Law.{IsMap}
 use Rattle.mr_pages.proofs.PageLaws.{from_bytes}
+use Rattle.mr_batch.specs.BatchText.{batch_of_text}
 use Rattle.mr_tool.specs.Answer.{World, HasStopped, IsWhole}
 use Rattle.mr_tool.specs.Ending.{Comes, Ends, Finishes, FindsMap, IsTaken, IsWell, printed_of}
 use Rattle.mr_tool.specs.Found.{Found}
 use Rattle.mr_tool.specs.Outcome.{Outcome}
 use Rattle.mr_tool.specs.Plan.{Plan, comes, opens, Input, IsInput}
-use Rattle.mr_tool.specs.Promises.{Holds, HoldsRecords, HoldsMap, HoldsProof, IsInOrder, CompletesWords, AnswersHonest, PrintsScan, IsWorth, AcceptsHonestOrCollides, Delivers, SaysWorth, AuditsAccepted, CollidesRightly}
-use Rattle.mr_tool.specs.Say.{given, given_map, needs, needs_map, prints, say, say_root_of, say_build_of, say_list_of, say_prove_of, say_check, say_check_of, say_audit, say_audit_of, say_finding}
+use Rattle.mr_tool.specs.Promises.{Holds, HoldsRecords, HoldsMap, HoldsProof, HoldsBatch, IsInOrder, CompletesWords, AnswersHonest, PrintsScan, IsWorth, AcceptsHonestOrCollides, Delivers, SaysWorth, AuditsAccepted, CollidesRightly}
+use Rattle.mr_tool.specs.Say.{given, given_map, needs, needs_map, prints, say, say_root_of, say_build_of, say_list_of, say_apply, say_apply_of, say_prove_of, say_check, say_check_of, say_audit, say_audit_of, say_finding}
 use Rattle.mr_tool.specs.Lines.{sound_line, collision_lines}
 use Rattle.mr_tool.specs.Words.{IsWord, words_of, Spells}
 use Rattle.mr_tool.specs.declared.ending.Ending.{Ending}
@@ -50,6 +51,7 @@ use Rattle.mr_tool.specs.declared.status.Status.{Status}
 use Rattle.mr_tool.specs.declared.status.Status.TheVariants.{Done, Refused, BadMap, Collision, Outside, NoMemory}
 use Rattle.mr_tool.specs.declared.words.Command.{Command}
 use Rattle.mr_tool.specs.declared.words.Command.TheVariants as commands
+use Rattle.mr_tool.proofs.Batches.{says_applied}
 use Rattle.mr_tool.proofs.Verdicts.{says_verdict, says_finding}
 
 -- ---- to the end, or stopped
@@ -110,6 +112,16 @@ module _ (name bytes : List ℕ) (before after : Option Files) (status : Status)
   ends_on next ends = subst (λ input. Ends (given name next input) before after status text)
       (input_is before name bytes ends.0 held ends.1) ends.3
 
+-- a command that opens this file came to its end by the map that it stands for
+map_on : (hash : List ℕ → List ℕ) (name held : List ℕ) (t : Tree) (batch : ℕ) (before after : Option Files)
+    (status : Status) (text : List ℕ) → Holds before name held → IsMap first_form hash held t batch
+    → (next : Tree → ℕ → Plan) → Ends (needs_map hash name next) before after status text
+    → Ends (next t batch) before after status text
+map_on hash name held t batch before after status text holds stands next ends =
+    let on = ends_on name held before after status text holds (λ bytes. opens hash bytes (given_map next)) ends in
+    let finds = of_told before name held (FindsMap hash held on.0) holds on.1.1 in
+    subst (λ found. Ends (given_map next found) before after status text) (finds t batch stands) on.3
+
 -- ---- a proof beside the map
 
 says_found : (hash : List ℕ → List ℕ) (q : Query) (t : Tree) (batch : ℕ) (bytes : List ℕ)
@@ -125,10 +137,7 @@ module _ (hash : List ℕ → List ℕ) (before after : Option Files) (status : 
       → Ends (comes (say_audit_of hash q t batch bytes)) before after status text
   audited_ends ends =
       let next : Tree → ℕ → Plan = λ tree batch. needs name (λ bytes. comes (say_audit_of hash q tree batch bytes)) in
-      let on = ends_on map held before after status text map_held (λ bytes. opens hash bytes (given_map next)) ends in
-      let finds = of_told before map held (FindsMap hash held on.0) map_held on.1.1 in
-      let mapped : Ends (next t batch) before after status text =
-      subst (λ found. Ends (given_map next found) before after status text) (finds t batch stands) on.3 in
+      let mapped = map_on hash map held t batch before after status text map_held stands next ends in
       ends_on name bytes before after status text name_held (λ bytes. comes (say_audit_of hash q t batch bytes)) mapped
 
   audit_done : IsSized hash → IsQuery q → bytes ≡ proof hash t batch q
@@ -264,13 +273,22 @@ module _ (hash : List ℕ → List ℕ) (before after : Option Files) (status : 
       → Ends (needs_map hash name (λ tree batch. comes (said tree batch))) before after status text → status ≡ Done
   map_done name said done holds ends =
       let next : Tree → ℕ → Plan = λ tree batch. comes (said tree batch) in
-      let on = ends_on name holds.bytes before after status text holds.held
-      (λ bytes. opens hash bytes (given_map next)) ends in
-      let finds = of_told before name holds.bytes (FindsMap hash holds.bytes on.0) holds.held on.1.1 in
-      let mapped : Ends (next holds.tree holds.batch) before after status text =
-      subst (λ found. Ends (given_map next found) before after status text)
-      (finds holds.tree holds.batch holds.stands) on.3 in
+      let mapped = map_on hash name holds.bytes holds.tree holds.batch before after status text holds.held
+      holds.stands next ends in
       mapped.0 ∙ done holds.tree holds.batch
+
+  apply_done : (old name new : List ℕ) → HoldsBatch hash before old name
+      → Ends (say_apply hash old name new) before after status text → status ≡ Done
+  apply_done old name new holds ends =
+      let said : Tree → ℕ → List ℕ → Plan = λ tree held bytes. comes
+      (say_apply_of hash new tree held (batch_of_text bytes)) in
+      let mapped = map_on hash old holds.bytes holds.tree holds.batch before after status text holds.held
+      holds.stands (λ tree held. needs name (said tree held)) ends in
+      let last = ends_on name holds.text before after status text holds.beside
+      (said holds.tree holds.batch) mapped in
+      last.0 ∙ ap (λ r. (say_apply_of hash new holds.tree holds.batch r).status) holds.right
+      ∙ ap (λ (o : Outcome). o.status)
+      (says_applied hash new holds.tree holds.batch holds.changes holds.may)
 
   check_done : (root : List ℕ) (q : Query) (name : List ℕ) → IsAskable q → HoldsProof hash before root q name
       → Ends (say_check hash root q name) before after status text → status ≡ Done
@@ -287,6 +305,7 @@ module _ (hash : List ℕ → List ℕ) (before after : Option Files) (status : 
       text_done name.now (say_build_of hash map.now) (λ list. refl) holds ends
   done sized (commands.List map) each holds ends =
       map_done map.now (λ tree batch. say_list_of tree) (λ tree batch. refl) holds ends
+  done sized (commands.Apply old name new) each holds ends = apply_done old.now name.now new.now holds ends
   done sized (commands.Prove map q name) each holds ends =
       map_done map.now (say_prove_of hash q name.now) (prove_done hash q name.now) holds ends
   done sized (commands.Check root q name) each holds ends =

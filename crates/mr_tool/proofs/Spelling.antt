@@ -7,7 +7,7 @@ use Rattle.mr_query.specs.Word.{IsQuery, query_of, word_of}
 use Rattle.mr_query.specs.declared.query.Query.{Query}
 use Rattle.mr_query.specs.declared.query.QueryFault.{QueryFault}
 use Rattle.mr_query.proofs.Words.{query_read}
-use Rattle.mr_tool.specs.Say.{say_root, say_build, say_list, say_prove, say_check, say_audit}
+use Rattle.mr_tool.specs.Say.{say_root, say_build, say_list, say_apply, say_prove, say_check, say_audit}
 use Rattle.mr_tool.specs.Spelling.{IsSpelled, AsksAs, digest_of_word}
 use Rattle.mr_tool.specs.Words.{IsDigest, Spells}
 use Rattle.mr_tool.specs.declared.words.Command.{Command}
@@ -78,6 +78,12 @@ ask_same words (commands.Prove map_a query_a proof_a) (commands.Prove map_b quer
     spells_b.each.1.1.0 (third_of _ _ _ _ _ _ _ _ e) in
     let proofs : proof_a.now ≡ proof_b.now = fourth_of _ _ _ _ _ _ _ _ e in
     λ hash i. say_prove hash (maps i) (queries i) (proofs i)
+ask_same words (commands.Apply old_a batch_a new_a) (commands.Apply old_b batch_b new_b) spells_a spells_b =
+    let e = sym spells_a.spelled ∙ spells_b.spelled in
+    let olds : old_a.now ≡ old_b.now = second_of _ _ _ _ _ _ _ _ e in
+    let batches : batch_a.now ≡ batch_b.now = third_of _ _ _ _ _ _ _ _ e in
+    let news : new_a.now ≡ new_b.now = fourth_of _ _ _ _ _ _ _ _ e in
+    λ hash i. say_apply hash (olds i) (batches i) (news i)
 ask_same words (commands.Audit map_a query_a proof_a) (commands.Audit map_b query_b proof_b)
     spells_a spells_b =
     let e = sym spells_a.spelled ∙ spells_b.spelled in
@@ -147,16 +153,55 @@ not_three name a b other (commands.Build map records) spells = let same : name �
     (other same)
 not_three name a b other command spells = let long = ap length spells.spelled in absurd (omega (arith, long))
 
-pub not_four : (name a b c : List ℕ) → (name ≡ codes "prove" → ⊥) → (name ≡ codes "check" → ⊥)
-    → (name ≡ codes "audit" → ⊥) → IsSpelled (name ∷ a ∷ b ∷ c ∷ []) None
-not_four name a b c not_prove not_check not_audit (commands.Prove map asked proof) spells =
+pub not_four : (name a b c : List ℕ) → (name ≡ codes "apply" → ⊥) → (name ≡ codes "prove" → ⊥)
+    → (name ≡ codes "check" → ⊥) → (name ≡ codes "audit" → ⊥) → IsSpelled (name ∷ a ∷ b ∷ c ∷ []) None
+not_four name a b c not_apply not_prove not_check not_audit (commands.Apply old batch new) spells =
+    let same : name ≡ codes "apply" = cc in absurd (not_apply same)
+not_four name a b c not_apply not_prove not_check not_audit (commands.Prove map asked proof) spells =
     let same : name ≡ codes "prove" = cc in absurd (not_prove same)
-not_four name a b c not_prove not_check not_audit (commands.Check root asked proof) spells =
+not_four name a b c not_apply not_prove not_check not_audit (commands.Check root asked proof) spells =
     let same : name ≡ codes "check" = cc in absurd (not_check same)
-not_four name a b c not_prove not_check not_audit (commands.Audit map asked proof) spells =
+not_four name a b c not_apply not_prove not_check not_audit (commands.Audit map asked proof) spells =
     let same : name ≡ codes "audit" = cc in absurd (not_audit same)
-not_four name a b c not_prove not_check not_audit command spells =
+not_four name a b c not_apply not_prove not_check not_audit command spells =
     let long = ap length spells.spelled in absurd (omega (arith, long))
+
+-- where it names the three files of a map, of a batch and of the map after it, they have names, which differ
+pub no_apply : (old batch new : List ℕ)
+    → (0 < length old → 0 < length batch → 0 < length new → (old ≢ batch) × (old ≢ new) × (batch ≢ new) → ⊥)
+    → IsSpelled (codes "apply" ∷ old ∷ batch ∷ new ∷ []) None
+no_apply old batch new none (commands.Apply o b n) spells =
+    let olds : old ≡ o.now = second_of _ _ _ _ _ _ _ _ spells.spelled in
+    let batches : batch ≡ b.now = third_of _ _ _ _ _ _ _ _ spells.spelled in
+    let news : new ≡ n.now = fourth_of _ _ _ _ _ _ _ _ spells.spelled in
+    absurd (none (subst (λ n. 0 < length n) (sym olds) spells.each.1.0)
+    (subst (λ n. 0 < length n) (sym batches) spells.each.1.1.0)
+    (subst (λ n. 0 < length n) (sym news) spells.each.1.1.1.0)
+    (
+      (λ same. spells.apart.0.0 (sym olds ∙ same ∙ batches)),
+      (λ same. spells.apart.0.1.0 (sym olds ∙ same ∙ news)),
+      (λ same. spells.apart.1.0.0 (sym batches ∙ same ∙ news)),
+    ))
+no_apply old batch new none command spells = absurd (other_key _ _ _ _ refl spells.spelled)
+
+-- the command `apply` of these words
+pub is_apply : (old batch new : List ℕ) (a b c : Bor (List ℕ)) → a.now ≡ old → b.now ≡ batch → c.now ≡ new
+    → 0 < length old → 0 < length batch → 0 < length new → (old ≢ batch) × (old ≢ new) × (batch ≢ new)
+    → Spells (codes "apply" ∷ old ∷ batch ∷ new ∷ []) (commands.Apply a b c)
+is_apply old batch new a b c is_a is_b is_c some_old some_batch some_new apart = record {
+  each = (
+    tt,
+    (
+      subst (λ n. 0 < length n) (sym is_a) some_old,
+      (subst (λ n. 0 < length n) (sym is_b) some_batch, (subst (λ n. 0 < length n) (sym is_c) some_new, tt)),
+    ),
+  );
+  apart = (
+    ((λ same. apart.0 (sym is_a ∙ same ∙ is_b)), ((λ same. apart.1 (sym is_a ∙ same ∙ is_c)), tt)),
+    (((λ same. apart.2 (sym is_b ∙ same ∙ is_c)), tt), (tt, tt)),
+  );
+  spelled = λ i. codes "apply" ∷ sym is_a i ∷ sym is_b i ∷ sym is_c i ∷ [];
+}
 
 -- where it names a map, a query and the file of a proof, the two files have names, which differ
 pub no_prove : (map asked proof : List ℕ)
@@ -202,6 +247,7 @@ pub no_length : (words : List (List ℕ)) → (length words ≡ 2 → ⊥) → (
 no_length words not_2 not_3 not_4 (commands.Root records) spells = not_2 (ap length spells.spelled)
 no_length words not_2 not_3 not_4 (commands.List map) spells = not_2 (ap length spells.spelled)
 no_length words not_2 not_3 not_4 (commands.Build map records) spells = not_3 (ap length spells.spelled)
+no_length words not_2 not_3 not_4 (commands.Apply old batch new) spells = not_4 (ap length spells.spelled)
 no_length words not_2 not_3 not_4 (commands.Prove map asked proof) spells = not_4
     (ap length spells.spelled)
 no_length words not_2 not_3 not_4 (commands.Check root asked proof) spells = not_4

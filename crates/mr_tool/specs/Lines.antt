@@ -1,8 +1,10 @@
--- The lines on words, texts and files that are refused.
+-- The lines on words, texts, batches and files that are refused.
 use Rattle.std.specs.Prelude.{ℕ, List, [], ◌∷◌, ◌++◌, codes, decimal}
 use Rattle.hex.specs.Hex.{encode_lower}
 use Rattle.mr_record.specs.declared.text_fault.TextFault.{TextFault}
 use Rattle.mr_record.specs.Rules.{text_rule_name}
+use Rattle.mr_batch.specs.declared.admission.BatchFault.{BatchFault}
+use Rattle.mr_batch.specs.declared.admission.BatchFault.TheVariants.{OutOfOrder, Present, Absent, Full}
 
 -- the words spell no command
 abbrev pub bad_words_line : List ℕ
@@ -12,6 +14,21 @@ bad_words_line = codes "bad words" ++ 10 ∷ []
 unfoldable pub bad_text_line : TextFault → List ℕ
 bad_text_line fault = codes "bad text line " ++ decimal fault.line ++ codes " "
     ++ text_rule_name fault.rule ++ 10 ∷ []
+
+-- the number that a map has, and that of the batch
+abbrev pub numbers_text : (held given : ℕ) → List ℕ
+numbers_text held given = codes " held " ++ decimal held ++ codes " given " ++ decimal given
+
+-- why a batch may not be applied
+abbrev pub batch_fault_text : BatchFault → List ℕ
+batch_fault_text (OutOfOrder held given) = codes "OutOfOrder" ++ numbers_text held given
+batch_fault_text (Present line) = codes "line " ++ decimal line ++ codes " Present"
+batch_fault_text (Absent line) = codes "line " ++ decimal line ++ codes " Absent"
+batch_fault_text (Full line) = codes "line " ++ decimal line ++ codes " Full"
+
+-- `bad batch OutOfOrder held HELD given GIVEN`, or `bad batch line LINE RULE`
+unfoldable pub bad_batch_line : BatchFault → List ℕ
+bad_batch_line fault = codes "bad batch " ++ batch_fault_text fault ++ 10 ∷ []
 
 -- `missing NAME`
 unfoldable pub missing_line : List ℕ → List ℕ

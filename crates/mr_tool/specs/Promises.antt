@@ -12,6 +12,9 @@ use Rattle.mr_tree.specs.WellFormed.{WellFormed}
 use Rattle.mr_tree.specs.declared.tree.Tree.{Tree}
 use Rattle.mr_pages.specs.PageBytes.{first_form}
 use Rattle.mr_pages.specs.Law.{IsMap}
+use Rattle.mr_batch.specs.Applied.{IsAdmissible}
+use Rattle.mr_batch.specs.BatchText.{batch_of_text}
+use Rattle.mr_batch.specs.Changes.{Changes}
 use Rattle.mr_query.specs.Scan.{scan}
 use Rattle.mr_query.specs.declared.query.Query.{Query}
 use Rattle.mr_proof.specs.Accepted.{Proves}
@@ -66,11 +69,26 @@ pub record HoldsHonest (hash : List ℕ → List ℕ) (told : Option Files) (map
   pub stands : IsMap first_form hash bytes tree batch
   pub own : Holds told name (honest.proof hash tree batch q)
 
+-- a map, and a text of a batch without a fault, which may be applied to it
+pub record HoldsBatch (hash : List ℕ → List ℕ) (told : Option Files) (map : List ℕ)
+    (name : List ℕ) : Type 0 where
+  pub bytes : List ℕ
+  pub held : Holds told map bytes
+  pub tree : Tree
+  pub batch : ℕ
+  pub stands : IsMap first_form hash bytes tree batch
+  pub text : List ℕ
+  pub beside : Holds told name text
+  pub changes : Changes
+  pub right : batch_of_text text ≡ Ok changes
+  pub may : IsAdmissible (records tree) batch changes
+
 -- the inputs of a command are there, and each is in order
 abbrev pub IsInOrder : (List ℕ → List ℕ) → Option Files → Command → Type 0
 IsInOrder hash told (commands.Root name) = HoldsRecords told name.now
 IsInOrder hash told (commands.Build map name) = HoldsRecords told name.now
 IsInOrder hash told (commands.List map) = HoldsMap hash told map.now
+IsInOrder hash told (commands.Apply old batch new) = HoldsBatch hash told old.now batch.now
 IsInOrder hash told (commands.Prove map q proof) = HoldsMap hash told map.now
 IsInOrder hash told (commands.Check root q proof) = HoldsProof hash told root q proof.now
 IsInOrder hash told (commands.Audit map q proof) = HoldsHonest hash told map.now q proof.now

@@ -8,6 +8,11 @@ use Rattle.mr_tree.specs.Digest.{root}
 use Rattle.mr_tree.specs.Tree.{records}
 use Rattle.mr_tree.specs.declared.tree.Tree.{Tree}
 use Rattle.mr_pack.specs.Pack.{pack}
+use Rattle.mr_batch.specs.Admissible.{batch_fault}
+use Rattle.mr_batch.specs.BatchText.{batch_of_text}
+use Rattle.mr_batch.specs.Changes.{Changes}
+use Rattle.mr_batch.specs.Replay.{replay}
+use Rattle.mr_batch.specs.declared.admission.BatchFault.{BatchFault}
 use Rattle.mr_query.specs.Scan.{by_number}
 use Rattle.mr_query.specs.declared.query.Query.{Query}
 use Rattle.mr_proof.specs.declared.rule.Fault.{Fault}
@@ -17,13 +22,13 @@ use Rattle.mr_clash.specs.Finding.{found}
 use Rattle.mr_clash.specs.declared.finding.Finding.{Finding}
 use Rattle.mr_clash.specs.declared.finding.Finding.TheVariants as findings
 use Rattle.mr_tool.specs.Found.{Found, bad_map_line}
-use Rattle.mr_tool.specs.Lines.{bad_words_line, bad_text_line, missing_line, proof_line, sound_line, collision_lines}
+use Rattle.mr_tool.specs.Lines.{bad_words_line, bad_text_line, bad_batch_line, missing_line, proof_line, sound_line, collision_lines}
 use Rattle.mr_tool.specs.Outcome.{Outcome, Nothing, File, map_of}
 use Rattle.mr_tool.specs.Outcome as content
 use Rattle.mr_tool.specs.Plan.{Input, Plan, comes, reads, opens}
 use Rattle.mr_tool.specs.Refusal.{refused_line}
 use Rattle.mr_tool.specs.declared.status.Status.{Status}
-use Rattle.mr_tool.specs.declared.status.Status.TheVariants.{Done, BadWords, Refused, BadText, BadMap, Collision, Outside}
+use Rattle.mr_tool.specs.declared.status.Status.TheVariants.{Done, BadWords, Refused, BadText, BadMap, BadBatch, Collision, Outside}
 use Rattle.mr_tool.specs.declared.words.Command.{Command}
 use Rattle.mr_tool.specs.declared.words.Command.TheVariants as commands
 
@@ -70,15 +75,19 @@ say_root_of hash (Ok records) = prints (digest_line (root hash (pack records) 0)
 abbrev pub say_root : (List ℕ → List ℕ) → List ℕ → Plan
 say_root hash records = needs records (λ text. comes (say_root_of hash (records_of_text text)))
 
--- the map of the records of a text at batch 0 in a file, laid out with its nodes in preorder and no
--- free page, and its root; or the text's first fault
+-- the map of a tree at a batch in a file, laid out with its nodes in preorder and no free page, and
+-- its root
+abbrev pub say_map : (List ℕ → List ℕ) → List ℕ → Tree → ℕ → Outcome
+say_map hash map tree batch = record {
+  status = Done;
+  printed = digest_line (root hash tree batch);
+  written = File map (map_of hash tree batch);
+}
+
+-- the map of the records of a text at batch 0 in a file, and its root; or the text's first fault
 abbrev pub say_build_of : (List ℕ → List ℕ) → List ℕ → Result (List Record) TextFault → Outcome
 say_build_of hash map (Err fault) = ends BadText (bad_text_line fault)
-say_build_of hash map (Ok records) = record {
-  status = Done;
-  printed = digest_line (root hash (pack records) 0);
-  written = File map (map_of hash (pack records) 0);
-}
+say_build_of hash map (Ok records) = say_map hash map (pack records) 0
 
 -- `build MAP RECORDS`: the map of the records of a file
 abbrev pub say_build : (List ℕ → List ℕ) → List ℕ → List ℕ → Plan
@@ -92,6 +101,27 @@ say_list_of tree = prints (text_of (by_number (records tree)))
 -- `list MAP`: the records of the map in a file
 abbrev pub say_list : (List ℕ → List ℕ) → List ℕ → Plan
 say_list hash map = needs_map hash map (λ tree batch. comes (say_list_of tree))
+
+-- the map of the tree after a batch in a file, at the batch's number, and its root; or why the
+-- batch may not be applied
+abbrev pub say_admitted : (List ℕ → List ℕ) → List ℕ → Tree → Changes → Option BatchFault → Outcome
+say_admitted hash new tree batch None = say_map hash new (replay tree batch) batch.number
+say_admitted hash new tree batch (Some fault) = ends BadBatch (bad_batch_line fault)
+
+-- what is said of a batch for a tree at the held one
+abbrev pub say_batch : (List ℕ → List ℕ) → List ℕ → Tree → ℕ → Changes → Outcome
+say_batch hash new tree held batch =
+    say_admitted hash new tree batch (batch_fault (records tree) held batch)
+
+-- what is said of the batch of a text, or the text's first fault
+abbrev pub say_apply_of : (List ℕ → List ℕ) → List ℕ → Tree → ℕ → Result Changes TextFault → Outcome
+say_apply_of hash new tree held (Err fault) = ends BadText (bad_text_line fault)
+say_apply_of hash new tree held (Ok batch) = say_batch hash new tree held batch
+
+-- `apply OLD BATCH NEW`: the map after the batch in a file, written to another one
+abbrev pub say_apply : (List ℕ → List ℕ) → (old batch new : List ℕ) → Plan
+say_apply hash old batch new = needs_map hash old (λ tree held. needs batch
+    (λ text. comes (say_apply_of hash new tree held (batch_of_text text))))
 
 -- these bytes in a file, and their number
 abbrev pub say_written : List ℕ → List ℕ → Outcome
@@ -146,6 +176,7 @@ say hash None = comes (ends BadWords bad_words_line)
 say hash (Some (commands.Root records)) = say_root hash records.now
 say hash (Some (commands.Build map records)) = say_build hash map.now records.now
 say hash (Some (commands.List map)) = say_list hash map.now
+say hash (Some (commands.Apply old batch new)) = say_apply hash old.now batch.now new.now
 say hash (Some (commands.Prove map query proof)) = say_prove hash map.now query proof.now
 say hash (Some (commands.Check root query proof)) = say_check hash root query proof.now
 say hash (Some (commands.Audit map query proof)) = say_audit hash map.now query proof.now

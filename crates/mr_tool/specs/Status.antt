@@ -1,7 +1,7 @@
 -- The exit statuses of the program.
 use Rattle.std.specs.Prelude.{ℕ}
 use Rattle.mr_tool.specs.declared.status.Status.{Status}
-use Rattle.mr_tool.specs.declared.status.Status.TheVariants.{Done, BadWords, Refused, BadText, BadMap, BadBatch, Collision, Outside, NoMemory, NotYet}
+use Rattle.mr_tool.specs.declared.status.Status.TheVariants.{Done, BadWords, Refused, BadText, BadMap, BadBatch, Collision, Outside, NoMemory}
 
 abbrev pub code_of : Status → ℕ
 code_of Done = 0
@@ -13,4 +13,3 @@ code_of BadBatch = 5
 code_of Collision = 6
 code_of Outside = 7
 code_of NoMemory = 8
-code_of NotYet = 9

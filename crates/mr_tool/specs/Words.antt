@@ -42,6 +42,8 @@ words_of (commands.Root records) = key (codes "root") ∷ file records.now ∷ [
 words_of (commands.Build map records) =
     key (codes "build") ∷ file map.now ∷ file records.now ∷ []
 words_of (commands.List map) = key (codes "list") ∷ file map.now ∷ []
+words_of (commands.Apply old batch new) =
+    key (codes "apply") ∷ file old.now ∷ file batch.now ∷ file new.now ∷ []
 words_of (commands.Prove map asked proof) =
     key (codes "prove") ∷ file map.now ∷ query asked ∷ file proof.now ∷ []
 words_of (commands.Check root asked proof) =

@@ -1,6 +1,7 @@
 //! The program's commands, from the words to what is printed.
 #![tactic(auto)]
 
+mod applying;
 mod auditing;
 mod building;
 mod checking;
@@ -13,6 +14,7 @@ mod opening;
 mod program;
 mod proving;
 mod root;
+mod saving;
 mod status;
 mod words;
 

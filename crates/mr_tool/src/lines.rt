@@ -2,10 +2,11 @@ ghost use Rattle.std.specs.Prelude.{◌≡◌, ◌++◌, codes, OnOk, IfOk};
 ghost use Rattle.std.specs.String.{string_bytes};
 ghost use Rattle.hex.specs.Hex.{encode_lower};
 ghost use Rattle.mr_tool.specs.Found.{kept_text, bad_map_line};
-ghost use Rattle.mr_tool.specs.Lines.{bad_text_line, missing_line, proof_line as line_of_proof, collision_lines as collision_text, sound_line as line_of_sound};
+ghost use Rattle.mr_tool.specs.Lines.{bad_text_line, bad_batch_line, batch_fault_text, numbers_text, missing_line, proof_line as line_of_proof, collision_lines as collision_text, sound_line as line_of_sound};
 ghost use Rattle.mr_tool.specs.Refusal.{found_text, refused_line};
 ghost use Rattle.mr_tool.specs.Say.{digest_line};
 
+use mr_batch::BatchFault;
 use mr_pages::{MapFault, MapRule};
 use mr_proof::{Fault, Rule};
 use mr_record::TextFault;
@@ -42,6 +43,49 @@ pub(crate) fn bad_text_line(alloc: Global, fault: &TextFault) -> Result<String, 
 {
     let rule = fault.rule.name();
     let mut line = format!(in alloc; "bad text line {} {rule}", fault.line)?;
+    line.push('\n')?;
+    Ok(line)
+}
+
+// Puts the number that a map has, and that of the batch.
+fn push_numbers(alloc: Global, line: &mut String, held: u64, given: u64) -> Result<(), AllocError>
+    ensures { OnOk result
+        (string_bytes line.new ≡ string_bytes line.old ++ numbers_text held given) }
+{
+    line.push_str(format!(in alloc; " held {held} given {given}")?.as_str())
+}
+
+// Puts why a batch may not be applied.
+fn push_batch_fault(alloc: Global, line: &mut String, fault: &BatchFault) -> Result<(), AllocError>
+    ensures { OnOk result
+        (string_bytes line.new ≡ string_bytes line.old ++ batch_fault_text fault.now) }
+{
+    match fault {
+        BatchFault::OutOfOrder { held, given } => {
+            line.push_str("OutOfOrder")?;
+            push_numbers(alloc, line, *held, *given)
+        }
+        BatchFault::Present { line: at } => {
+            line.push_str(format!(in alloc; "line {at} Present")?.as_str())
+        }
+        BatchFault::Absent { line: at } => {
+            line.push_str(format!(in alloc; "line {at} Absent")?.as_str())
+        }
+        BatchFault::Full { line: at } => {
+            line.push_str(format!(in alloc; "line {at} Full")?.as_str())
+        }
+    }
+}
+
+// The line on a batch that is refused: `bad batch OutOfOrder held HELD given GIVEN`, or `bad batch
+// line LINE RULE`.
+#[tactic(auto, unfolding(crate::specs::Lines::bad_batch_line))]
+pub(crate) fn bad_batch_line(alloc: Global, fault: &BatchFault) -> Result<String, AllocError>
+    ensures { IfOk result (λ line. string_bytes line ≡ bad_batch_line fault.now) }
+{
+    let mut line = String::new(alloc);
+    line.push_str("bad batch ")?;
+    push_batch_fault(alloc, &mut line, fault)?;
     line.push('\n')?;
     Ok(line)
 }

@@ -8,6 +8,7 @@ ghost use Rattle.mr_tool.specs.Run.{AnswersWords, BlamesRightly};
 ghost use Rattle.mr_tool.specs.Say.{say};
 ghost use Rattle.mr_tool.specs.Spelling.{IsSpelled, MayBeAsked};
 
+use crate::applying::apply;
 use crate::auditing::audit_query;
 use crate::building::build;
 use crate::checking::check_proof;
@@ -35,6 +36,7 @@ fn lend<H: Hash32, S: Shelf>(
         Command::Root(records) => root::<H, S>(alloc, records, shelf),
         Command::Build(map, records) => build::<H, S>(alloc, map, records, shelf),
         Command::List(map) => list::<H, S>(alloc, map, shelf),
+        Command::Apply(old, batch, new) => apply::<H, S>(alloc, old, batch, new, shelf),
         Command::Prove(map, query, proof) => prove_query::<H, S>(alloc, map, query, proof, shelf),
         Command::Check(digest, query, proof) => check_proof::<H, S>(
             alloc, digest, query, proof, shelf,

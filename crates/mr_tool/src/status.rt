@@ -22,12 +22,10 @@ pub enum Status {
     Outside,
     /// There was no memory.
     NoMemory,
-    /// What is asked for is not taken by this version yet. No command ends so today.
-    NotYet,
 }
 
 impl Status {
-    /// The exit status of the program, 0 to 9 in the order of the variants.
+    /// The exit status of the program, 0 to 8 in the order of the variants.
     pub fn code(self) -> u8
         ensures { result ≡ code_of self }
     {
@@ -41,7 +39,6 @@ impl Status {
             Status::Collision => 6,
             Status::Outside => 7,
             Status::NoMemory => 8,
-            Status::NotYet => 9,
         }
     }
 }

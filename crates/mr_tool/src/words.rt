@@ -1,4 +1,4 @@
-ghost use Rattle.std.specs.Prelude.{◌≡◌, ◌∷◌, [], Option, codes, map};
+ghost use Rattle.std.specs.Prelude.{◌≡◌, ◌≢◌, ◌↔◌, ◌∷◌, [], IsTrue, Option, codes, map};
 ghost use Rattle.std.specs.String.{string_bytes};
 ghost use Rattle.std.specs.List.{list_all};
 ghost use Rattle.mr_record.specs.RecordText.{is_lower_digit};
@@ -18,6 +18,9 @@ pub enum Command<'a> {
     Build(&'a str, &'a str),
     /// Print the records of the map in a file, in rising number.
     List(&'a str),
+    /// Write the map after the batch in the second file, which is applied to the map in the first
+    /// one, to the third one, and print its root digest. The nodes are laid out as in `Build`.
+    Apply(&'a str, &'a str, &'a str),
     /// Write the proof for a query on the map in the first file to the second one, and print its
     /// length.
     Prove(&'a str, Query, &'a str),
@@ -59,6 +62,26 @@ fn build_words<'a>(map: &'a str, records: &'a str) -> Option<Command<'a>>
     } else {
         Some(Command::Build(map, records))
     }
+}
+
+// No two of the names are one.
+fn are_apart(a: &str, b: &str, c: &str) -> bool
+    ensures { IsTrue result ↔ (a.now ≢ b.now) × (a.now ≢ c.now) × (b.now ≢ c.now) }
+{
+    a != b && a != c && b != c
+}
+
+// The command `apply` on three files.
+fn apply_words<'a>(old: &'a str, batch: &'a str, new: &'a str) -> Option<Command<'a>>
+    ensures { IsSpelled (codes "apply" ∷ old.now ∷ batch.now ∷ new.now ∷ []) result }
+{
+    if old.is_empty() || batch.is_empty() || new.is_empty() {
+        return None;
+    }
+    if !are_apart(old, batch, new) {
+        return None;
+    }
+    Some(Command::Apply(old, batch, new))
 }
 
 fn are_lower_digits(word: &str) -> bool
@@ -143,10 +166,11 @@ fn three_words<'a>(name: &str, a: &'a str, b: &'a str) -> Option<Command<'a>>
 }
 
 // The command of a name and three more words.
-fn four_words<'a>(name: &str, a: &'a str, b: &str, c: &'a str) -> Option<Command<'a>>
+fn four_words<'a>(name: &str, a: &'a str, b: &'a str, c: &'a str) -> Option<Command<'a>>
     ensures { IsSpelled (name.now ∷ a.now ∷ b.now ∷ c.now ∷ []) result }
 {
     match name {
+        "apply" => apply_words(a, b, c),
         "prove" => prove_words(a, b, c),
         "check" => check_words(a, b, c),
         "audit" => audit_words(a, b, c),

@@ -1,4 +1,4 @@
-use Rattle.std.proofs.Common.{sym, subst, ◌∙◌}
+use Rattle.std.proofs.Common.{sym, subst}
 use Rattle.std.specs.Prelude.{Ok}
 use Rattle.mr_tool.specs.Ending.{Comes, Opens}
 use Rattle.mr_tool.specs.Plan.{comes}

@@ -1,8 +1,8 @@
 use Rattle.mr_tool.specs.declared.ending.Halt.TheVariants as halts
 use Rattle.mr_tool.proofs.Going.{saved_so, unsaved}
 use Rattle.mr_tool.proofs.Showing.{IsSized}
-use Rattle.mr_tool.proofs.building.save.Given
-use Rattle.mr_tool.proofs.building.save.Goals as goal
+use Rattle.mr_tool.proofs.saving.save.Given
+use Rattle.mr_tool.proofs.saving.save.Goals as goal
 
 sized : (g : Given.Over) → IsSized g.H.Hashes.of
 sized g = (g.met.H.Hashes g.world.𝓛 g.world.𝓜 g.world.𝓡 ((λ s x. x), (λ x. x), (λ x. x), λ x. x)).sized

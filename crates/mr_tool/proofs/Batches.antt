@@ -1,0 +1,52 @@
+-- What is said of a batch, by whether it may be applied.
+use Rattle.std.proofs.Common.{◌≡◌, ℕ, List, refl, sym, ap, subst, ◌∙◌}
+use Rattle.std.specs.Prelude.{Option, Some, None, Ok, Err}
+use Rattle.mr_outside.specs.State.{Shelved}
+use Rattle.mr_record.specs.declared.record.Record.{Record}
+use Rattle.mr_tree.specs.Tree.{records}
+use Rattle.mr_tree.specs.declared.tree.Tree.{Tree}
+use Rattle.mr_batch.specs.Admissible.{batch_fault}
+use Rattle.mr_batch.specs.Applied.{IsAdmissible}
+use Rattle.mr_batch.specs.Changes.{Changes}
+use Rattle.mr_batch.specs.Refusing.{IsApplyCause}
+use Rattle.mr_batch.specs.Replay.{replay}
+use Rattle.mr_batch.specs.declared.admission.BatchFault.{BatchFault}
+use Rattle.mr_batch.specs.declared.replay.ApplyErr.{ApplyErr}
+use Rattle.mr_batch.specs.declared.replay.ApplyErr.TheVariants as refusals
+use Rattle.mr_batch.proofs.Walking.{admitted}
+use Rattle.mr_tool.specs.Ending.{Comes, Gives}
+use Rattle.mr_tool.specs.Lines.{bad_batch_line}
+use Rattle.mr_tool.specs.Plan.{comes}
+use Rattle.mr_tool.specs.Say.{ends, say_admitted, say_batch, say_map}
+use Rattle.mr_tool.specs.declared.ending.Ending.{Ending}
+use Rattle.mr_tool.specs.declared.status.Status.TheVariants.{BadBatch}
+use Rattle.mr_tool.proofs.Going.{comes_at_once}
+
+-- nothing hinders a batch that may be applied
+no_fault : (rs : List Record) (held : ℕ) (b : Changes) → IsAdmissible rs held b → batch_fault rs held b ≡ None
+no_fault rs held b may = at (batch_fault rs held b) refl
+  where
+    at : (o : Option BatchFault) → batch_fault rs held b ≡ o → batch_fault rs held b ≡ None
+    at None e = e
+    at (Some f) e = let fine = (admitted (Err f) rs held b e).1 may in absurd cc
+
+pub says_applied : (hash : List ℕ → List ℕ) (new : List ℕ) (t : Tree) (held : ℕ) (b : Changes)
+    → IsAdmissible (records t) held b → say_batch hash new t held b ≡ say_map hash new (replay t b) b.number
+says_applied hash new t held b may = ap (say_admitted hash new t b) (no_fault (records t) held b may)
+
+-- the map of this tree at this number is that after the batch
+pub says_saved : (hash : List ℕ → List ℕ) (new : List ℕ) (t : Tree) (held : ℕ) (b : Changes) (after : Tree)
+    (number : ℕ) → after ≡ replay t b → number ≡ b.number → IsAdmissible (records t) held b
+    → say_map hash new after number ≡ say_batch hash new t held b
+says_saved hash new t held b after number is numbered may =
+    (λ i. say_map hash new (is i) (numbered i)) ∙ sym (says_applied hash new t held b may)
+
+-- a batch that was refused is said to be, and no file changes
+pub comes_refused : (hash : List ℕ → List ℕ) (new : List ℕ) (t : Tree) (held : ℕ) (b : Changes) (back : Tree)
+    (f : BatchFault) (error : ApplyErr) (at : Shelved) (ending : Ending) → error ≡ refusals.Batch back f
+    → IsApplyCause error t held b → Gives (ends BadBatch (bad_batch_line f)) ending
+    → Comes (comes (say_batch hash new t held b)) at at (Ok ending)
+comes_refused hash new t held b back f error at ending is cause gives =
+    let why = subst (λ e. IsApplyCause e t held b) is cause in
+    subst (λ said. Comes (comes said) at at (Ok ending)) (sym (ap (say_admitted hash new t b) why.1))
+    (comes_at_once (ends BadBatch (bad_batch_line f)) at ending refl gives)

@@ -1,0 +1,109 @@
+ghost use Rattle.std.specs.Prelude.{IfOk};
+ghost use Rattle.mr_tree.specs.WellFormed.{WellFormed};
+ghost use Rattle.mr_batch.specs.BatchText.{batch_of_text};
+ghost use Rattle.mr_tool.specs.Ending.{Comes, Gives};
+ghost use Rattle.mr_tool.specs.Lines.{bad_batch_line as line_of};
+ghost use Rattle.mr_tool.specs.Plan.{comes};
+ghost use Rattle.mr_tool.specs.Say.{ends, needs, say_apply, say_apply_of, say_batch};
+
+use crate::Status;
+use crate::ending::{Ending, Halt};
+use crate::input::{missing, read};
+use crate::lines::{bad_batch_line, bad_text_line};
+use crate::opening::open_map;
+use crate::saving::save_map;
+use mr_batch::{ApplyErr, Batch, BatchFault, apply_plain, read_batch};
+use mr_outside::Shelf;
+use mr_record::TextErr;
+use mr_tree::{Hash32, Tree};
+use std::alloc::{AllocError, Global};
+
+// The ending over a batch that may not be applied.
+fn bad_batch(alloc: Global, fault: &BatchFault) -> Result<Ending, AllocError>
+    ensures { IfOk result (λ e. Gives (ends Status.BadBatch (line_of fault.now)) e) }
+{
+    let line = bad_batch_line(alloc, fault)?;
+    Ok(Ending::line(alloc, Status::BadBatch, line))
+}
+
+// The map of a tree after a batch, in a file, and its root; or why the batch may not be applied.
+fn apply_batch<H: Hash32, S: Shelf>(
+    alloc: Global,
+    tree: Tree,
+    held: u64,
+    batch: &Batch,
+    new: &str,
+    shelf: &mut S,
+) -> Result<Ending, Halt>
+    requires { WellFormed tree }
+    ensures { Comes (comes (say_batch H.of new.now tree held batch.now)) (S.state shelf.old)
+        (S.state shelf.new) result }
+{
+    match apply_plain(alloc, tree, held, batch) {
+        Ok(after) => save_map::<H, S>(alloc, new, &after, batch.number(), shelf),
+        Err(ApplyErr::Batch(_tree, fault)) => Ok(bad_batch(alloc, &fault)?),
+        Err(ApplyErr::NoMemory) => Err(Halt::NoMemory),
+    }
+}
+
+// The same for the batch of a text, or its fault.
+fn apply_text<H: Hash32, S: Shelf>(
+    alloc: Global,
+    tree: Tree,
+    held: u64,
+    text: &[u8],
+    new: &str,
+    shelf: &mut S,
+) -> Result<Ending, Halt>
+    requires { WellFormed tree }
+    ensures { Comes (comes (say_apply_of H.of new.now tree held (batch_of_text text.now)))
+        (S.state shelf.old) (S.state shelf.new) result }
+{
+    match read_batch(alloc, text) {
+        Ok(batch) => apply_batch::<H, S>(alloc, tree, held, &batch, new, shelf),
+        Err(TextErr::Text(fault)) => Ok(Ending::line(
+            alloc,
+            Status::BadText,
+            bad_text_line(alloc, &fault)?,
+        )),
+        Err(TextErr::NoMemory) => Err(Halt::NoMemory),
+    }
+}
+
+// The same for the batch in a file.
+fn apply_file<H: Hash32, S: Shelf>(
+    alloc: Global,
+    tree: Tree,
+    held: u64,
+    batch: &str,
+    new: &str,
+    shelf: &mut S,
+) -> Result<Ending, Halt>
+    requires { WellFormed tree }
+    ensures { Comes (needs batch.now
+        (λ text. comes (say_apply_of H.of new.now tree held (batch_of_text text))))
+        (S.state shelf.old) (S.state shelf.new) result }
+{
+    let Some(text) = read(alloc, batch, shelf)? else {
+        return Ok(missing(alloc, batch)?);
+    };
+    apply_text::<H, S>(alloc, tree, held, &text, new, shelf)
+}
+
+/// The map after the batch in a file, which is applied to the map in another one, written to a
+/// third one.
+pub(crate) fn apply<H: Hash32, S: Shelf>(
+    alloc: Global,
+    old: &str,
+    batch: &str,
+    new: &str,
+    shelf: &mut S,
+) -> Result<Ending, Halt>
+    ensures { Comes (say_apply H.of old.now batch.now new.now) (S.state shelf.old)
+        (S.state shelf.new) result }
+{
+    match open_map::<H, S>(alloc, old, shelf)? {
+        Ok((tree, held)) => apply_file::<H, S>(alloc, tree, held, batch, new, shelf),
+        Err(ending) => Ok(ending),
+    }
+}
