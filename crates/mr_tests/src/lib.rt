@@ -4,9 +4,13 @@
 #[cfg(test)]
 mod audits;
 #[cfg(test)]
+mod batches;
+#[cfg(test)]
 mod bench;
 #[cfg(test)]
 mod calls;
+#[cfg(test)]
+mod changes;
 #[cfg(test)]
 mod large;
 #[cfg(test)]
@@ -21,5 +25,7 @@ mod nearest;
 mod proofs;
 #[cfg(test)]
 mod rows;
+#[cfg(test)]
+mod splits;
 #[cfg(test)]
 mod tree;

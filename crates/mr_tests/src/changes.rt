@@ -1,0 +1,405 @@
+//! Batches applied to maps that were built. Roots come from a program of another language, which
+//! follows the definitions of insertion and deletion.
+
+use crate::bench::{File, words};
+use crate::large::in_a_row;
+use mr_outside::{MemShelf, MemSink, NoGate};
+use mr_tool::Status::{self, BadBatch, BadMap, BadText, BadWords, Done, Outside};
+use mr_tool::run;
+use mr_tree::{Hash32, Sha, XorHash};
+use std::alloc::{AllocError, Global};
+use std::test::Fail;
+use std::thread::Threads;
+
+// How these commands end over one shelf with these files: the last status, and all that is printed.
+fn ended<H: Hash32, R: Threads + Sync>(
+    rt: &R,
+    alloc: Global,
+    files: &[File<'_>],
+    commands: &[&[&str]],
+) -> Result<(Status, Vec<u8>), AllocError> {
+    let mut shelf = MemShelf::new(alloc, Vec::new(alloc));
+    for (name, bytes) in files {
+        shelf.put(name, bytes)?;
+    }
+    let mut out = MemSink::new(alloc, Vec::new(alloc));
+    let mut last = Done;
+    for command in commands {
+        let line = words(alloc, command)?;
+        let (status, left) = run::<H, _, _, _, _>(rt, alloc, &line, shelf, &mut out, &NoGate);
+        shelf = left;
+        last = status;
+    }
+    Ok((last, out.bytes().to_vec(alloc)?))
+}
+
+const BUILD: &[&str] = &["build", "m", "r"];
+
+const FIRST: &[&str] = &["apply", "m", "b", "n"];
+
+const SECOND: &[&str] = &["apply", "n", "c", "o"];
+
+/// A record text, two batch texts, the commands, the last status and all that is printed.
+type Story<'a> = (&'a [u8], &'a [u8], &'a [u8], &'a [&'a [&'a str]], Status, &'a [u8]);
+
+const SEVEN: &[u8] = b"7 0 0 0 0 -\n";
+
+// Under the exclusive or of all bytes.
+const STORIES: [Story<'static>; 9] = [
+    // A leaf is split, and put together again.
+    (
+        b"1 1 0 1 0 -\n2 2 0 2 0 -\n3 3 0 3 0 -\n4 4 0 4 0 -\n5 5 0 5 0 -\n6 6 0 6 0 -\n7 7 0 7 0 -\n8 8 0 8 0 -\n9 9 0 9 0 -\n10 10 0 10 0 -\n11 11 0 11 0 -\n12 12 0 12 0 -\n13 13 0 13 0 -\n14 14 0 14 0 -\n15 15 0 15 0 -\n16 16 0 16 0 -\n",
+        b"batch 1\n+ 17 100 100 100 100 -\n",
+        b"batch 2\n- 17\n",
+        &[BUILD, FIRST, SECOND],
+        Done,
+        b"000000000000000000000000000000000000000000000000000000000000001e\n0000000000000000000000000000000000000000000000000000000000000004\n000000000000000000000000000000000000000000000000000000000000001c\n",
+    ),
+    // A map is emptied; the same batch comes again.
+    (
+        SEVEN,
+        b"batch 1\n- 7\n",
+        b"batch 1\n- 7\n",
+        &[BUILD, FIRST, SECOND],
+        BadBatch,
+        b"0000000000000000000000000000000000000000000000000000000000000018\n0000000000000000000000000000000000000000000000000000000000000045\nbad batch OutOfOrder held 1 given 1\n",
+    ),
+    (
+        SEVEN,
+        b"batch 1\n+ 7 1 1 1 1 -\n",
+        b"",
+        &[BUILD, FIRST],
+        BadBatch,
+        b"0000000000000000000000000000000000000000000000000000000000000018\nbad batch line 2 Present\n",
+    ),
+    (
+        SEVEN,
+        b"batch 1\n- 8\n",
+        b"",
+        &[BUILD, FIRST],
+        BadBatch,
+        b"0000000000000000000000000000000000000000000000000000000000000018\nbad batch line 2 Absent\n",
+    ),
+    (
+        SEVEN,
+        b"batch 1\n- 7\n- 7\n",
+        b"",
+        &[BUILD, FIRST],
+        BadBatch,
+        b"0000000000000000000000000000000000000000000000000000000000000018\nbad batch line 3 Absent\n",
+    ),
+    (
+        SEVEN,
+        b"batch 2\n",
+        b"",
+        &[BUILD, FIRST],
+        BadBatch,
+        b"0000000000000000000000000000000000000000000000000000000000000018\nbad batch OutOfOrder held 0 given 2\n",
+    ),
+    // A batch without changes, and the records that are left.
+    (
+        SEVEN,
+        b"batch 1\n",
+        b"batch 2\n- 7\n+ 8 1 2 3 4 0a\n+ 7 0 0 0 0 -\n",
+        &[BUILD, FIRST, SECOND, &["list", "o"], &["list", "m"]],
+        Done,
+        b"0000000000000000000000000000000000000000000000000000000000000018\n0000000000000000000000000000000000000000000000000000000000000019\n000000000000000000000000000000000000000000000000000000000000001a\n7 0 0 0 0 -\n8 1 2 3 4 0a\n7 0 0 0 0 -\n",
+    ),
+    // The text of the batch has a fault, and the map too: the map is read first.
+    (
+        SEVEN,
+        b"batch 1\n- 7",
+        b"x",
+        &[BUILD, FIRST, &["apply", "r", "c", "o"]],
+        BadMap,
+        b"0000000000000000000000000000000000000000000000000000000000000018\nbad text line 2 NoEnd\nbad map page 0 Size\n",
+    ),
+    // A batch that is not there, beside a map that is in order and one that is not.
+    (
+        SEVEN,
+        b"",
+        b"",
+        &[BUILD, &["apply", "m", "d", "o"], &["apply", "r", "d", "o"], &["list", "o"]],
+        Outside,
+        b"0000000000000000000000000000000000000000000000000000000000000018\nmissing d\nbad map page 0 Size\nmissing o\n",
+    ),
+];
+
+#[test]
+fn batches_on_small_maps(rt: HostRuntime) -> Result<(), Fail> {
+    let alloc = rt.alloc();
+    for (text, first, second, commands, status, printed) in STORIES {
+        let files = [("r", text), ("b", first), ("c", second)];
+        let (last, all) = ended::<XorHash, _>(&rt, alloc, &files, commands)?;
+        assert!(rt; last == status && all.as_slice() == printed, "{text:?} {first:?}");
+    }
+    Ok(())
+}
+
+const WORDS: [&[&str]; 6] = [
+    &["apply", "m", "b"],
+    &["apply", "m", "b", "m"],
+    &["apply", "m", "m", "n"],
+    &["apply", "m", "b", "b"],
+    &["apply", "m", "b", ""],
+    &["apply", "m", "b", "n", "n"],
+];
+
+#[test]
+fn words_that_apply_no_batch(rt: HostRuntime) -> Result<(), Fail> {
+    let alloc = rt.alloc();
+    for command in WORDS {
+        let (status, printed) = ended::<XorHash, _>(&rt, alloc, &[], &[command])?;
+        assert!(rt; status == BadWords && printed.as_slice() == b"bad words\n".as_slice());
+    }
+    Ok(())
+}
+
+// The line of a record, scattered over the plane, with a byte of payload.
+fn push_place(text: &mut String, alloc: Global, i: u64) -> Result<(), AllocError> {
+    let x = i.wrapping_mul(7_919) % 20_011;
+    let y = i.wrapping_mul(104_729) % 19_997;
+    let (right, high, byte) = (x + i % 3, y + i % 5, i % 256);
+    text.push_str(format!(in alloc; "{i} {x} {y} {right} {high} {byte:02x}\n")?.as_str())
+}
+
+fn places(alloc: Global, records: u64) -> Result<String, AllocError> {
+    let mut text = String::new(alloc);
+    for i in 1..=records {
+        push_place(&mut text, alloc, i)?;
+    }
+    Ok(text)
+}
+
+// A batch that adds so many records, the first with this number.
+fn additions(alloc: Global, batch: u64, first: u64, count: u64) -> Result<String, AllocError> {
+    let mut text = format!(in alloc; "batch {batch}\n")?;
+    for i in 0..count {
+        text.push_str("+ ")?;
+        push_place(&mut text, alloc, first.wrapping_add(i))?;
+    }
+    Ok(text)
+}
+
+// The number at a place of the numbers from 1 to the modulus, in steps.
+fn stepped(place: u64, step: u64, modulus: u64) -> u64 {
+    match place.wrapping_mul(step).checked_rem(modulus) {
+        Some(rest) => rest.wrapping_add(1),
+        None => 1,
+    }
+}
+
+// A batch that removes so many records, from this place on.
+fn removals(
+    alloc: Global,
+    batch: u64,
+    first: u64,
+    count: u64,
+    step: u64,
+    modulus: u64,
+) -> Result<String, AllocError> {
+    let mut text = format!(in alloc; "batch {batch}\n")?;
+    for k in 0..count {
+        let number = stepped(first.wrapping_add(k), step, modulus);
+        text.push_str(format!(in alloc; "- {number}\n")?.as_str())?;
+    }
+    Ok(text)
+}
+
+// A batch that removes a record and adds another, 250 times.
+fn mixed(alloc: Global, batch: u64, first: u64) -> Result<String, AllocError> {
+    let mut text = format!(in alloc; "batch {batch}\n")?;
+    for k in 0..250u64 {
+        let at = first.wrapping_add(k);
+        let number = stepped(at, 7, 3000);
+        text.push_str(format!(in alloc; "- {number}\n+ ")?.as_str())?;
+        push_place(&mut text, alloc, at.wrapping_add(3001))?;
+    }
+    Ok(text)
+}
+
+// The lines that a build of this text prints and then each batch in turn, as the owner applies it and
+// a server that has the same map and the same batches.
+fn replayed<R: Threads + Sync>(
+    rt: &R,
+    alloc: Global,
+    text: &str,
+    batches: &[String],
+) -> Result<Vec<u8>, AllocError> {
+    let mut shelf = MemShelf::new(alloc, Vec::new(alloc));
+    shelf.put("r", text.as_bytes())?;
+    let mut out = MemSink::new(alloc, Vec::new(alloc));
+    let line = words(alloc, BUILD)?;
+    let (_, left) = run::<Sha, _, _, _, _>(rt, alloc, &line, shelf, &mut out, &NoGate);
+    shelf = left;
+    let (mut old, mut new) = ("m", "n");
+    for batch in batches {
+        shelf.put("b", batch.as_bytes())?;
+        let line = words(alloc, &["apply", old, "b", new])?;
+        let (_, left) = run::<Sha, _, _, _, _>(rt, alloc, &line, shelf, &mut out, &NoGate);
+        shelf = left;
+        (old, new) = (new, old);
+    }
+    out.bytes().to_vec(alloc)
+}
+
+const ADDED: &[u8] = b"3dc5e49d0dd90c0871490744eed86c2bffa32ade24031889a406c2d8ac014654\nd36a3b98799c3fddbb8dd0d5189e04eff986d54b45438dac2c30f705e9226aa6\n";
+
+#[test]
+fn two_thousand_additions(rt: HostRuntime) -> Result<(), Fail> {
+    let alloc = rt.alloc();
+    let mut batches = Vec::new(alloc);
+    batches.push(additions(alloc, 1, 5001, 2000)?)?;
+    let printed = replayed(&rt, alloc, &places(alloc, 5000)?, &batches)?;
+    assert!(rt; printed.as_slice() == ADDED);
+    Ok(())
+}
+
+const MIXED: &[u8] = b"6152415f8bf47547fd72c48f1dc1824721e57081479e92584c6f0f4a67a5afc9\nb23bd4072d768be566844019331ea26e3d68165a424de212e6b2ae058657554c\nb6ec5a1f6fdd2d31905aa9d55f0f7b4c0d4fcc7c7e5ce6bb326a8c4b69f231af\n863e3026a75859c91f52901832ea82beeb6aa494851a81e60221feb052c6ae8e\n727fcdb18117443e122dec7372f64f057b800e619f2ace43817d793ac5b05955\n";
+
+#[test]
+fn batches_of_five_hundred_changes(rt: HostRuntime) -> Result<(), Fail> {
+    let alloc = rt.alloc();
+    let mut batches = Vec::new(alloc);
+    for i in 0..4u64 {
+        batches.push(mixed(alloc, i.wrapping_add(1), i.wrapping_mul(250))?)?;
+    }
+    let text = places(alloc, 3000)?;
+    let owner = replayed(&rt, alloc, &text, &batches)?;
+    assert!(rt; owner.as_slice() == MIXED);
+    let server = replayed(&rt, alloc, &text, &batches)?;
+    assert!(rt; server.as_slice() == MIXED);
+    Ok(())
+}
+
+// Each of three batches removes a hundred records of three hundred.
+const RISING: &[u8] = b"0b699124669a77bac035e06ffe0ba199b8679dc05113d572b41e2fdbabbf5fbc\n90acaaddaedb3c42175ab5e49cbfd734c391deee836a9f7c6f27b5422cc7e3e0\nf289b0a1009033fc8e9c819f3f2771bd47d49eb3f4b0c547d3fb386da0ccfc69\n23912edef75448391ad90c0bf5134c56195c3666328d28278c6d0dbd5dbbd950\n";
+
+const FALLING: &[u8] = b"0b699124669a77bac035e06ffe0ba199b8679dc05113d572b41e2fdbabbf5fbc\nb059387ab3810b9e3fc054431eafcc3d825dc8f974306a594e6432920fa8d02d\ndbc88f1041e5e12ae16c6562a8598b2421a0a0e201616b6123a64a50cf82aa7d\n23912edef75448391ad90c0bf5134c56195c3666328d28278c6d0dbd5dbbd950\n";
+
+const SCATTERED: &[u8] = b"0b699124669a77bac035e06ffe0ba199b8679dc05113d572b41e2fdbabbf5fbc\n0025562cee6c9b96307ba43602a0f40942548675c1be5e87d96dbc893ee994c2\nc6606979d7fbe05039d8698aa44049009b8abfe06224e79d1671f7dcde6e4f93\n23912edef75448391ad90c0bf5134c56195c3666328d28278c6d0dbd5dbbd950\n";
+
+// Whether a map of so many records is emptied in this order, by so many batches of so many each.
+fn is_emptied<R: Threads + Sync>(
+    rt: &R,
+    alloc: Global,
+    step: u64,
+    count: u64,
+    each: u64,
+    printed: &[u8],
+) -> Result<bool, AllocError> {
+    let records = count.wrapping_mul(each);
+    let mut batches = Vec::new(alloc);
+    for i in 0..count {
+        let first = i.wrapping_mul(each);
+        batches.push(removals(alloc, i.wrapping_add(1), first, each, step, records)?)?;
+    }
+    let all = replayed(rt, alloc, &places(alloc, records)?, &batches)?;
+    Ok(all.as_slice() == printed)
+}
+
+#[test]
+fn maps_that_are_emptied(rt: HostRuntime) -> Result<(), Fail> {
+    let alloc = rt.alloc();
+    assert!(rt; is_emptied(&rt, alloc, 1, 3, 100, RISING)?);
+    assert!(rt; is_emptied(&rt, alloc, 299, 3, 100, FALLING)?);
+    assert!(rt; is_emptied(&rt, alloc, 7, 3, 100, SCATTERED)?);
+    Ok(())
+}
+
+// A tree of three levels: nodes leave at two levels at once, and the root is shortened twice.
+const THREE_LEVELS: &[u8] = b"394626b291adbd1d0239790ccfda3c17cc848887af4f342bbec556ea730fda4f\n693049affa717523a9612efd048edfef6433a98d54635f0845effdd341045b51\n47eb4f70e1bc5e3919f1164dd09f194a5a1378973e371fa676f86955131cbd17\n9cbb9162205484042ac48c863f2856cc6b7e801dc9a810f1339b50a94ff94a22\n38a75929714c99fe7d673d31861d68df52f4d52b9ac3b73d7d4e3881464e5db4\n";
+
+#[test]
+fn a_tree_of_three_levels_is_emptied(rt: HostRuntime) -> Result<(), Fail> {
+    let alloc = rt.alloc();
+    assert!(rt; is_emptied(&rt, alloc, 11, 4, 375, THREE_LEVELS)?);
+    Ok(())
+}
+
+const AGAIN: &[u8] = b"c229973f1f7a4c614bad5f25831a4127308820a1ac40a6c23a692ee15987b9a2\n3fd5d6f998cc4d3137a06a72a867387a88b89d59c6b4cea348b1430ee6633457\n";
+
+#[test]
+fn one_record_goes_and_comes(rt: HostRuntime) -> Result<(), Fail> {
+    let alloc = rt.alloc();
+    let mut text = format!(in alloc; "batch {}\n", 1)?;
+    for _ in 0..20 {
+        text.push_str("- 7\n+ ")?;
+        push_place(&mut text, alloc, 7)?;
+    }
+    let mut batches = Vec::new(alloc);
+    batches.push(text)?;
+    let printed = replayed(&rt, alloc, &places(alloc, 40)?, &batches)?;
+    assert!(rt; printed.as_slice() == AGAIN);
+    Ok(())
+}
+
+// The map file of the record 7.
+fn map_of_seven<R: Threads + Sync>(rt: &R, alloc: Global) -> Result<Vec<u8>, AllocError> {
+    let mut shelf = MemShelf::new(alloc, Vec::new(alloc));
+    shelf.put("r", SEVEN)?;
+    let mut out = MemSink::new(alloc, Vec::new(alloc));
+    let line = words(alloc, BUILD)?;
+    let (_, shelf) = run::<XorHash, _, _, _, _>(rt, alloc, &line, shelf, &mut out, &NoGate);
+    match shelf.file("m") {
+        Some(bytes) => bytes.to_vec(alloc),
+        None => Ok(Vec::new(alloc)),
+    }
+}
+
+// How an application to this map ended where this call of the shelf fails: its status, what it
+// printed, whether the old map is as before, and the new one, empty where there is none.
+fn stopped<R: Threads + Sync>(
+    rt: &R,
+    alloc: Global,
+    map: &[u8],
+    shelf_fails: u64,
+) -> Result<(Status, Vec<u8>, bool, Vec<u8>), AllocError> {
+    let mut shelf = MemShelf::new(alloc, [shelf_fails].to_vec(alloc)?);
+    shelf.put("m", map)?;
+    shelf.put("b", b"batch 1\n+ 8 1 1 1 1 -\n".as_slice())?;
+    let mut out = MemSink::new(alloc, Vec::new(alloc));
+    let line = words(alloc, FIRST)?;
+    let (status, shelf) = run::<XorHash, _, _, _, _>(rt, alloc, &line, shelf, &mut out, &NoGate);
+    let kept = match shelf.file("m") {
+        Some(bytes) => bytes == map,
+        None => false,
+    };
+    let new = match shelf.file("n") {
+        Some(bytes) => bytes.to_vec(alloc)?,
+        None => Vec::new(alloc),
+    };
+    Ok((status, out.bytes().to_vec(alloc)?, kept, new))
+}
+
+// Whether a new map is whole, or has no seal, or no whole page.
+fn may_stand<R: Threads + Sync>(rt: &R, alloc: Global, new: &[u8]) -> Result<bool, AllocError> {
+    let (_, printed) = ended::<XorHash, _>(rt, alloc, &[("n", new)], &[&["list", "n"]])?;
+    Ok(
+        printed.as_slice() == b"7 0 0 0 0 -\n8 1 1 1 1 -\n".as_slice()
+            || printed.as_slice() == b"bad map page 0 Size\n".as_slice()
+            || printed.as_slice() == b"bad map page 0 Unsealed\n".as_slice(),
+    )
+}
+
+#[test]
+fn each_call_of_an_application_fails_in_turn(rt: HostRuntime) -> Result<(), Fail> {
+    let alloc = rt.alloc();
+    let map = map_of_seven(&rt, alloc)?;
+    let mut calls = 0u64;
+    for call in 1..100u64 {
+        let (status, printed, kept, new) = stopped(&rt, alloc, &map, call)?;
+        assert!(rt; kept, "call {call}");
+        assert!(rt; may_stand(&rt, alloc, &new)?, "call {call}");
+        if status == Done {
+            break;
+        }
+        calls = call;
+        assert!(rt;
+            status == Outside && printed.as_slice() == b"shelf fault\n".as_slice(),
+            "call {call}"
+        );
+    }
+    assert_eq!(rt; calls, 10);
+    Ok(())
+}
