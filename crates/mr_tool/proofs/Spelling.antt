@@ -176,8 +176,7 @@ no_apply old batch new none (commands.Apply o b n) spells =
     let news : new ≡ n.now = fourth_of _ _ _ _ _ _ _ _ spells.spelled in
     absurd (none (subst (λ n. 0 < length n) (sym olds) spells.each.1.0)
     (subst (λ n. 0 < length n) (sym batches) spells.each.1.1.0)
-    (subst (λ n. 0 < length n) (sym news) spells.each.1.1.1.0)
-    (
+    (subst (λ n. 0 < length n) (sym news) spells.each.1.1.1.0) (
       (λ same. spells.apart.0.0 (sym olds ∙ same ∙ batches)),
       (λ same. spells.apart.0.1.0 (sym olds ∙ same ∙ news)),
       (λ same. spells.apart.1.0.0 (sym batches ∙ same ∙ news)),

@@ -90,8 +90,7 @@ fn apply_file<H: Hash32, S: Shelf>(
     apply_text::<H, S>(alloc, tree, held, &text, new, shelf)
 }
 
-/// The map after the batch in a file, which is applied to the map in another one, written to a
-/// third one.
+/// The map in a file after the batch in another one, written to a third one.
 pub(crate) fn apply<H: Hash32, S: Shelf>(
     alloc: Global,
     old: &str,

@@ -18,8 +18,8 @@ pub enum Command<'a> {
     Build(&'a str, &'a str),
     /// Print the records of the map in a file, in rising number.
     List(&'a str),
-    /// Write the map after the batch in the second file, which is applied to the map in the first
-    /// one, to the third one, and print its root digest. The nodes are laid out as in `Build`.
+    /// Apply the batch in the second file to the map in the first one, write the map after it to
+    /// the third one, and print its root digest. The nodes are laid out as in `Build`.
     Apply(&'a str, &'a str, &'a str),
     /// Write the proof for a query on the map in the first file to the second one, and print its
     /// length.
