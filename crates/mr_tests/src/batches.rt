@@ -29,9 +29,15 @@ const FAULTS: [(&str, Option<(u64, TextRule)>); 22] = [
     ("batch 1\n\n", Some((2, TextRule::Form))),
     ("batch 1\n* 5\n", Some((2, TextRule::Form))),
     ("batch 1\n- 5\n+ 7 1 0 0 0 -\n", Some((3, TextRule::Order))),
-    ("batch 1\n- 5\n+ 7  0 0 0 -\n", Some((3, TextRule::Coordinate))),
+    (
+        "batch 1\n- 5\n+ 7  0 0 0 -\n",
+        Some((3, TextRule::Coordinate)),
+    ),
     ("batch 1\n- 5\n+  7 0 0 0 0 -\n", Some((3, TextRule::Form))),
-    ("batch 1\n- 5\n+ 7 0 0 0 0 0\n", Some((3, TextRule::Payload))),
+    (
+        "batch 1\n- 5\n+ 7 0 0 0 0 0\n",
+        Some((3, TextRule::Payload)),
+    ),
     ("batch 1\n- 5\n+ 7 0 0 0 0 -", Some((3, TextRule::NoEnd))),
     ("batch 1\n- 05\n+ 7", Some((2, TextRule::Number))),
     ("batch 1\n- 5\n+ 7 0 0 0 0 -\n", None),
@@ -59,15 +65,42 @@ fn admitted(alloc: Global, held: u64, text: &str) -> Result<Option<BatchFault>, 
 }
 
 const ADMISSIONS: [(u64, &str, Option<BatchFault>); 9] = [
-    (0, "batch 2\n", Some(BatchFault::OutOfOrder { held: 0, given: 2 })),
-    (u64::MAX, "batch 0\n", Some(BatchFault::OutOfOrder { held: u64::MAX, given: 0 })),
+    (
+        0,
+        "batch 2\n",
+        Some(BatchFault::OutOfOrder { held: 0, given: 2 }),
+    ),
+    (
+        u64::MAX,
+        "batch 0\n",
+        Some(BatchFault::OutOfOrder {
+            held: u64::MAX,
+            given: 0,
+        }),
+    ),
     (u64::MAX - 1, "batch 18446744073709551615\n", None),
     (0, "batch 1\n", None),
-    (0, "batch 1\n+ 7 0 0 0 0 -\n", Some(BatchFault::Present { line: 2 })),
+    (
+        0,
+        "batch 1\n+ 7 0 0 0 0 -\n",
+        Some(BatchFault::Present { line: 2 }),
+    ),
     (0, "batch 1\n- 7\n+ 7 0 0 0 0 -\n", None),
-    (0, "batch 1\n- 7\n+ 7 0 0 0 0 -\n- 8\n", Some(BatchFault::Absent { line: 4 })),
-    (0, "batch 1\n- 7\n- 7\n", Some(BatchFault::Absent { line: 3 })),
-    (0, "batch 1\n+ 8 0 0 0 0 -\n+ 8 0 0 0 0 -\n", Some(BatchFault::Present { line: 3 })),
+    (
+        0,
+        "batch 1\n- 7\n+ 7 0 0 0 0 -\n- 8\n",
+        Some(BatchFault::Absent { line: 4 }),
+    ),
+    (
+        0,
+        "batch 1\n- 7\n- 7\n",
+        Some(BatchFault::Absent { line: 3 }),
+    ),
+    (
+        0,
+        "batch 1\n+ 8 0 0 0 0 -\n+ 8 0 0 0 0 -\n",
+        Some(BatchFault::Present { line: 3 }),
+    ),
 ];
 
 #[test]

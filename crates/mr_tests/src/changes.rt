@@ -40,7 +40,14 @@ const FIRST: &[&str] = &["apply", "m", "b", "n"];
 const SECOND: &[&str] = &["apply", "n", "c", "o"];
 
 /// A record text, two batch texts, the commands, the last status and all that is printed.
-type Story<'a> = (&'a [u8], &'a [u8], &'a [u8], &'a [&'a [&'a str]], Status, &'a [u8]);
+type Story<'a> = (
+    &'a [u8],
+    &'a [u8],
+    &'a [u8],
+    &'a [&'a [&'a str]],
+    Status,
+    &'a [u8],
+);
 
 const SEVEN: &[u8] = b"7 0 0 0 0 -\n";
 
@@ -119,7 +126,12 @@ const STORIES: [Story<'static>; 9] = [
         SEVEN,
         b"",
         b"",
-        &[BUILD, &["apply", "m", "d", "o"], &["apply", "r", "d", "o"], &["list", "o"]],
+        &[
+            BUILD,
+            &["apply", "m", "d", "o"],
+            &["apply", "r", "d", "o"],
+            &["list", "o"],
+        ],
         Outside,
         b"0000000000000000000000000000000000000000000000000000000000000018\nmissing d\nbad map page 0 Size\nmissing o\n",
     ),
@@ -131,7 +143,10 @@ fn batches_on_small_maps(rt: HostRuntime) -> Result<(), Fail> {
     for (text, first, second, commands, status, printed) in STORIES {
         let files = [("r", text), ("b", first), ("c", second)];
         let (last, all) = ended::<XorHash, _>(&rt, alloc, &files, commands)?;
-        assert!(rt; last == status && all.as_slice() == printed, "{text:?} {first:?}");
+        assert!(rt;
+            last == status && all.as_slice() == printed,
+            "{text:?} {first:?}"
+        );
     }
     Ok(())
 }
@@ -243,7 +258,8 @@ fn replayed<R: Threads + Sync>(
     out.bytes().to_vec(alloc)
 }
 
-const ADDED: &[u8] = b"3dc5e49d0dd90c0871490744eed86c2bffa32ade24031889a406c2d8ac014654\nd36a3b98799c3fddbb8dd0d5189e04eff986d54b45438dac2c30f705e9226aa6\n";
+const ADDED: &[u8] =
+    b"3dc5e49d0dd90c0871490744eed86c2bffa32ade24031889a406c2d8ac014654\nd36a3b98799c3fddbb8dd0d5189e04eff986d54b45438dac2c30f705e9226aa6\n";
 
 #[test]
 fn two_thousand_additions(rt: HostRuntime) -> Result<(), Fail> {
@@ -255,7 +271,8 @@ fn two_thousand_additions(rt: HostRuntime) -> Result<(), Fail> {
     Ok(())
 }
 
-const MIXED: &[u8] = b"6152415f8bf47547fd72c48f1dc1824721e57081479e92584c6f0f4a67a5afc9\nb23bd4072d768be566844019331ea26e3d68165a424de212e6b2ae058657554c\nb6ec5a1f6fdd2d31905aa9d55f0f7b4c0d4fcc7c7e5ce6bb326a8c4b69f231af\n863e3026a75859c91f52901832ea82beeb6aa494851a81e60221feb052c6ae8e\n727fcdb18117443e122dec7372f64f057b800e619f2ace43817d793ac5b05955\n";
+const MIXED: &[u8] =
+    b"6152415f8bf47547fd72c48f1dc1824721e57081479e92584c6f0f4a67a5afc9\nb23bd4072d768be566844019331ea26e3d68165a424de212e6b2ae058657554c\nb6ec5a1f6fdd2d31905aa9d55f0f7b4c0d4fcc7c7e5ce6bb326a8c4b69f231af\n863e3026a75859c91f52901832ea82beeb6aa494851a81e60221feb052c6ae8e\n727fcdb18117443e122dec7372f64f057b800e619f2ace43817d793ac5b05955\n";
 
 #[test]
 fn batches_of_five_hundred_changes(rt: HostRuntime) -> Result<(), Fail> {
@@ -273,11 +290,14 @@ fn batches_of_five_hundred_changes(rt: HostRuntime) -> Result<(), Fail> {
 }
 
 // Each of three batches removes a hundred records of three hundred.
-const RISING: &[u8] = b"0b699124669a77bac035e06ffe0ba199b8679dc05113d572b41e2fdbabbf5fbc\n90acaaddaedb3c42175ab5e49cbfd734c391deee836a9f7c6f27b5422cc7e3e0\nf289b0a1009033fc8e9c819f3f2771bd47d49eb3f4b0c547d3fb386da0ccfc69\n23912edef75448391ad90c0bf5134c56195c3666328d28278c6d0dbd5dbbd950\n";
+const RISING: &[u8] =
+    b"0b699124669a77bac035e06ffe0ba199b8679dc05113d572b41e2fdbabbf5fbc\n90acaaddaedb3c42175ab5e49cbfd734c391deee836a9f7c6f27b5422cc7e3e0\nf289b0a1009033fc8e9c819f3f2771bd47d49eb3f4b0c547d3fb386da0ccfc69\n23912edef75448391ad90c0bf5134c56195c3666328d28278c6d0dbd5dbbd950\n";
 
-const FALLING: &[u8] = b"0b699124669a77bac035e06ffe0ba199b8679dc05113d572b41e2fdbabbf5fbc\nb059387ab3810b9e3fc054431eafcc3d825dc8f974306a594e6432920fa8d02d\ndbc88f1041e5e12ae16c6562a8598b2421a0a0e201616b6123a64a50cf82aa7d\n23912edef75448391ad90c0bf5134c56195c3666328d28278c6d0dbd5dbbd950\n";
+const FALLING: &[u8] =
+    b"0b699124669a77bac035e06ffe0ba199b8679dc05113d572b41e2fdbabbf5fbc\nb059387ab3810b9e3fc054431eafcc3d825dc8f974306a594e6432920fa8d02d\ndbc88f1041e5e12ae16c6562a8598b2421a0a0e201616b6123a64a50cf82aa7d\n23912edef75448391ad90c0bf5134c56195c3666328d28278c6d0dbd5dbbd950\n";
 
-const SCATTERED: &[u8] = b"0b699124669a77bac035e06ffe0ba199b8679dc05113d572b41e2fdbabbf5fbc\n0025562cee6c9b96307ba43602a0f40942548675c1be5e87d96dbc893ee994c2\nc6606979d7fbe05039d8698aa44049009b8abfe06224e79d1671f7dcde6e4f93\n23912edef75448391ad90c0bf5134c56195c3666328d28278c6d0dbd5dbbd950\n";
+const SCATTERED: &[u8] =
+    b"0b699124669a77bac035e06ffe0ba199b8679dc05113d572b41e2fdbabbf5fbc\n0025562cee6c9b96307ba43602a0f40942548675c1be5e87d96dbc893ee994c2\nc6606979d7fbe05039d8698aa44049009b8abfe06224e79d1671f7dcde6e4f93\n23912edef75448391ad90c0bf5134c56195c3666328d28278c6d0dbd5dbbd950\n";
 
 // Whether a map of so many records is emptied in this order, by so many batches of so many each.
 fn is_emptied<R: Threads + Sync>(
@@ -308,7 +328,8 @@ fn maps_that_are_emptied(rt: HostRuntime) -> Result<(), Fail> {
 }
 
 // A tree of three levels: nodes leave at two levels at once, and the root is shortened twice.
-const THREE_LEVELS: &[u8] = b"394626b291adbd1d0239790ccfda3c17cc848887af4f342bbec556ea730fda4f\n693049affa717523a9612efd048edfef6433a98d54635f0845effdd341045b51\n47eb4f70e1bc5e3919f1164dd09f194a5a1378973e371fa676f86955131cbd17\n9cbb9162205484042ac48c863f2856cc6b7e801dc9a810f1339b50a94ff94a22\n38a75929714c99fe7d673d31861d68df52f4d52b9ac3b73d7d4e3881464e5db4\n";
+const THREE_LEVELS: &[u8] =
+    b"394626b291adbd1d0239790ccfda3c17cc848887af4f342bbec556ea730fda4f\n693049affa717523a9612efd048edfef6433a98d54635f0845effdd341045b51\n47eb4f70e1bc5e3919f1164dd09f194a5a1378973e371fa676f86955131cbd17\n9cbb9162205484042ac48c863f2856cc6b7e801dc9a810f1339b50a94ff94a22\n38a75929714c99fe7d673d31861d68df52f4d52b9ac3b73d7d4e3881464e5db4\n";
 
 #[test]
 fn a_tree_of_three_levels_is_emptied(rt: HostRuntime) -> Result<(), Fail> {
@@ -317,7 +338,8 @@ fn a_tree_of_three_levels_is_emptied(rt: HostRuntime) -> Result<(), Fail> {
     Ok(())
 }
 
-const AGAIN: &[u8] = b"c229973f1f7a4c614bad5f25831a4127308820a1ac40a6c23a692ee15987b9a2\n3fd5d6f998cc4d3137a06a72a867387a88b89d59c6b4cea348b1430ee6633457\n";
+const AGAIN: &[u8] =
+    b"c229973f1f7a4c614bad5f25831a4127308820a1ac40a6c23a692ee15987b9a2\n3fd5d6f998cc4d3137a06a72a867387a88b89d59c6b4cea348b1430ee6633457\n";
 
 #[test]
 fn one_record_goes_and_comes(rt: HostRuntime) -> Result<(), Fail> {
