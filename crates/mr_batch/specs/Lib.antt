@@ -7,6 +7,7 @@ pub mod Applied
 pub mod Admissible
 pub mod Directory
 pub mod Replay
+pub mod Peak
 pub mod Refusing
 -- what only private functions and proofs use
 pub mod Presence
