@@ -1,5 +1,5 @@
--- The greatest number of nodes that a tree has along a batch: counted at the beginning and after each
--- single insertion, those of the records that a deletion set aside included.
+-- The greatest number of nodes that a tree has along a batch: counted at the beginning and after
+-- each single insertion, those of the records that a deletion set aside included.
 use Rattle.std.specs.Prelude.{ℕ, max, List, [], ◌∷◌}
 use Rattle.mr_record.specs.Sorting.{sorted_by_key}
 use Rattle.mr_record.specs.declared.record.Record.{Record}

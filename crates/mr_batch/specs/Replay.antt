@@ -25,7 +25,8 @@ abbrev pub replay : Tree → Changes → Tree
 replay t b = replayed t b.list
 
 -- the changes may be made to the records, and these are what they leave, in some order
-pub record IsLeft (before : List Record) (changes : List Change) (after : List Record) : Type 0 where
+pub record IsLeft (before : List Record) (changes : List Change) (after : List Record)
+    : Type 0 where
   pub list : List Record
   pub makes : applied before changes ≡ Some list
   pub same : IsPermutation list after

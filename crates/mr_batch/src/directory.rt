@@ -8,8 +8,8 @@ use std::alloc::{AllocError, Global};
 use std::collections::BTreeMap;
 use std::marker::Model;
 
-/// The rectangle of each record of a map, in map units, by record number. Contracts see its entries,
-/// in rising number.
+/// The rectangle of each record of a map, in map units, by record number. Contracts see its
+/// entries, in rising number.
 #[derive(Drop)]
 pub struct Directory {
     rects: BTreeMap<u64, Rect>,

@@ -81,8 +81,8 @@ fn replayed(alloc: Global, mut tree: Tree, held: u64, batch: &Batch) -> Result<T
 }
 
 /// The tree after a batch: its changes are made one by one, an addition as `insert` does it and a
-/// removal as `delete` does it. A batch that may not be applied is refused with the first cause, and
-/// the tree comes back. Whether numbers are there is asked of a directory, which is made once.
+/// removal as `delete` does it. A batch that may not be applied is refused with the first cause,
+/// and the tree comes back. Whether numbers are there is asked of a directory, which is made once.
 pub fn apply_plain(alloc: Global, tree: Tree, held: u64, batch: &Batch) -> Result<Tree, ApplyErr>
     requires { WellFormed tree }
     ensures exact { IfOk result (λ t. t ≡ replay tree batch.now) }
