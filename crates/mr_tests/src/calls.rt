@@ -10,9 +10,13 @@ use std::alloc::{AllocError, Global};
 use std::test::Fail;
 use std::thread::Threads;
 
+const AUDIT: &[&str] = &["audit", "m", "window:2,0,3,0", "p"];
+
+const APPLY: &[&str] = &["apply", "m", "b", "n"];
+
 // A command over the shelf that the one before left, and its calls. The pages of a map are synced
 // before its first page is written over the zeros that stand for it, and again after.
-const CALLS: [(&[&str], &str); 5] = [
+const CALLS: [(&[&str], &str); 7] = [
     (&["root", "r"], "size r\nread_at r\n"),
     (
         BUILD,
@@ -21,6 +25,11 @@ const CALLS: [(&[&str], &str); 5] = [
     (LIST, "size m\nread_at m\n"),
     (PROVE, "size m\nread_at m\ncreate p\nappend p\nsync p\n"),
     (CHECK, "size p\nread_at p\n"),
+    (AUDIT, "size m\nread_at m\nsize p\nread_at p\n"),
+    (
+        APPLY,
+        "size m\nread_at m\nsize b\nread_at b\ncreate n\nappend n\nsync n\nwrite_at n\nsync n\n",
+    ),
 ];
 
 // A command's status, and the shelf that it leaves.
@@ -41,6 +50,7 @@ fn the_calls_of_each_command(rt: HostRuntime) -> Result<(), Fail> {
     let alloc = rt.alloc();
     let mut shelf = MemShelf::new(alloc, Vec::new(alloc));
     shelf.put("r", SEVENTEEN)?;
+    shelf.put("b", b"batch 1\n- 7\n".as_slice())?;
     for (line, calls) in CALLS {
         let (status, left) = called(&rt, alloc, line, shelf)?;
         assert_eq!(rt; status, Status::Done);

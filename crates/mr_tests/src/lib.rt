@@ -12,6 +12,8 @@ mod calls;
 #[cfg(test)]
 mod changes;
 #[cfg(test)]
+mod grown;
+#[cfg(test)]
 mod large;
 #[cfg(test)]
 mod levels;
