@@ -1,5 +1,5 @@
-//! Batches of changes to a map: their texts, what they make of some records, and whether they may
-//! be applied.
+//! Batches of changes to a map: their texts, what they make of some records, whether they may be
+//! applied, and the tree after one.
 #![tactic(auto)]
 
 mod admission;

@@ -102,7 +102,7 @@ impl From<AllocError> for GrowErr {
 /// Inserts a record (Guttman 1984). From the root down, the child is taken whose rectangle grows
 /// least, and the leaf takes the record behind its others. A node that is too full is split into
 /// two that stand beside each other, and a root that is split gets a root above it. The rectangles
-/// of the whole tree are computed, once.
+/// of the nodes beside its way are computed anew.
 pub fn insert(alloc: Global, tree: Tree, one: Record) -> Result<Tree, GrowErr>
     requires { WellFormed tree }
     ensures exact { IfOk result (λ t. t ≡ ins one tree) }

@@ -12,7 +12,7 @@ fn fault(alloc: Global, text: &str) -> Option<TextFault> {
     }
 }
 
-const FAULTS: [(&str, Option<(u64, TextRule)>); 22] = [
+const FAULTS: [(&str, Option<(u64, TextRule)>); 28] = [
     ("", Some((1, TextRule::Head))),
     ("b", Some((1, TextRule::NoEnd))),
     ("batch 1", Some((1, TextRule::NoEnd))),
@@ -40,6 +40,15 @@ const FAULTS: [(&str, Option<(u64, TextRule)>); 22] = [
     ),
     ("batch 1\n- 5\n+ 7 0 0 0 0 -", Some((3, TextRule::NoEnd))),
     ("batch 1\n- 05\n+ 7", Some((2, TextRule::Number))),
+    ("batch 1\n+ 07 0 0 0 0 -\n", Some((2, TextRule::Number))),
+    ("batch 1\n+ 7 +0 0 0 0 -\n", Some((2, TextRule::Coordinate))),
+    ("batch 1\n+ 7 0 -0 0 0 -\n", Some((2, TextRule::Coordinate))),
+    ("batch 1\n+ 7 0 0 00 0 -\n", Some((2, TextRule::Coordinate))),
+    (
+        "batch 1\n+ 7 0 0 0 2147483648 -\n",
+        Some((2, TextRule::Coordinate)),
+    ),
+    ("batch 1\n+ 7 0 1 0 0 -\n", Some((2, TextRule::Order))),
     ("batch 1\n- 5\n+ 7 0 0 0 0 -\n", None),
 ];
 

@@ -3,6 +3,7 @@
 
 use crate::bench::{File, words};
 use crate::large::in_a_row;
+use crate::maps::{turned_leaves, two_leaves};
 use mr_outside::{MemShelf, MemSink, NoGate};
 use mr_tool::Status::{self, BadBatch, BadMap, BadText, BadWords, Done, Outside};
 use mr_tool::run;
@@ -338,6 +339,39 @@ fn a_tree_of_three_levels_is_emptied(rt: HostRuntime) -> Result<(), Fail> {
     Ok(())
 }
 
+// The root has 64 nodes below it, and one of them is split.
+const ROOT_SPLIT: &[u8] =
+    b"2b3c93efccf62f130f7b6a8da814b2d508ac00422f210f40e9d3f64c7166e2e1\n8904efcdc9d6ac1371cc73e86bd9f46f5811fb513ca1bea8efddffc4ba88b1c5\n";
+
+#[test]
+fn a_root_of_nodes_is_split(rt: HostRuntime) -> Result<(), Fail> {
+    let alloc = rt.alloc();
+    let mut text = format!(in alloc; "batch {}\n", 1)?;
+    text.push_str("+ 2000 5 0 5 0 -\n+ 2001 700 1 700 1 -\n")?;
+    let mut batches = Vec::new(alloc);
+    batches.push(text)?;
+    let printed = replayed(&rt, alloc, &in_a_row(alloc, 1024)?, &batches)?;
+    assert!(rt; printed.as_slice() == ROOT_SPLIT);
+    Ok(())
+}
+
+// The same batch on two files that stand for one map, with its leaves at other places.
+#[test]
+fn one_map_in_two_files(rt: HostRuntime) -> Result<(), Fail> {
+    let alloc = rt.alloc();
+    let (one, other) = (two_leaves(alloc)?, turned_leaves(alloc)?);
+    assert!(rt; one.as_slice() != other.as_slice());
+    let batch = b"batch 1\n- 7\n+ 18 3 3 3 3 -\n".as_slice();
+    let commands = [FIRST, &["list", "n"], &["list", "m"]];
+    let files = [("m", one.as_slice()), ("b", batch)];
+    let (status, printed) = ended::<XorHash, _>(&rt, alloc, &files, &commands)?;
+    assert!(rt; status == Done && printed.len() > 65);
+    let files = [("m", other.as_slice()), ("b", batch)];
+    let (status, same) = ended::<XorHash, _>(&rt, alloc, &files, &commands)?;
+    assert!(rt; status == Done && same.as_slice() == printed.as_slice());
+    Ok(())
+}
+
 const AGAIN: &[u8] =
     b"c229973f1f7a4c614bad5f25831a4127308820a1ac40a6c23a692ee15987b9a2\n3fd5d6f998cc4d3137a06a72a867387a88b89d59c6b4cea348b1430ee6633457\n";
 
@@ -369,24 +403,33 @@ fn map_of_seven<R: Threads + Sync>(rt: &R, alloc: Global) -> Result<Vec<u8>, All
     }
 }
 
-// How an application to this map ended where this call of the shelf fails: its status, what it
-// printed, whether the old map is as before, and the new one, empty where there is none.
+const ONE_MORE: &[u8] = b"batch 1\n+ 8 1 1 1 1 -\n";
+
+// Whether a file has these bytes.
+fn is_held(shelf: &MemShelf, name: &str, bytes: &[u8]) -> bool {
+    match shelf.file(name) {
+        Some(held) => held == bytes,
+        None => false,
+    }
+}
+
+// What an application to this map leaves where these calls of the shelf and the sink fail: its
+// status, what it printed, whether both inputs are as before, and the new map, empty where there is
+// none.
 fn stopped<R: Threads + Sync>(
     rt: &R,
     alloc: Global,
     map: &[u8],
     shelf_fails: u64,
+    sink_fails: u64,
 ) -> Result<(Status, Vec<u8>, bool, Vec<u8>), AllocError> {
     let mut shelf = MemShelf::new(alloc, [shelf_fails].to_vec(alloc)?);
     shelf.put("m", map)?;
-    shelf.put("b", b"batch 1\n+ 8 1 1 1 1 -\n".as_slice())?;
-    let mut out = MemSink::new(alloc, Vec::new(alloc));
+    shelf.put("b", ONE_MORE)?;
+    let mut out = MemSink::new(alloc, [sink_fails].to_vec(alloc)?);
     let line = words(alloc, FIRST)?;
     let (status, shelf) = run::<XorHash, _, _, _, _>(rt, alloc, &line, shelf, &mut out, &NoGate);
-    let kept = match shelf.file("m") {
-        Some(bytes) => bytes == map,
-        None => false,
-    };
+    let kept = is_held(&shelf, "m", map) && is_held(&shelf, "b", ONE_MORE);
     let new = match shelf.file("n") {
         Some(bytes) => bytes.to_vec(alloc)?,
         None => Vec::new(alloc),
@@ -410,7 +453,7 @@ fn each_call_of_an_application_fails_in_turn(rt: HostRuntime) -> Result<(), Fail
     let map = map_of_seven(&rt, alloc)?;
     let mut calls = 0u64;
     for call in 1..100u64 {
-        let (status, printed, kept, new) = stopped(&rt, alloc, &map, call)?;
+        let (status, printed, kept, new) = stopped(&rt, alloc, &map, call, 0)?;
         assert!(rt; kept, "call {call}");
         assert!(rt; may_stand(&rt, alloc, &new)?, "call {call}");
         if status == Done {
@@ -424,5 +467,8 @@ fn each_call_of_an_application_fails_in_turn(rt: HostRuntime) -> Result<(), Fail
     }
     // Two sizes and two reads, and then the file is made, written, synced, sealed and synced.
     assert_eq!(rt; calls, 9);
+    let (status, printed, kept, new) = stopped(&rt, alloc, &map, 0, 1)?;
+    assert!(rt; status == Outside && printed.is_empty() && kept);
+    assert!(rt; may_stand(&rt, alloc, &new)?);
     Ok(())
 }

@@ -80,11 +80,22 @@ fn leaf(alloc: Global, first: u8, last: u8) -> Result<Vec<u8>, AllocError> {
     Ok(bytes)
 }
 
-fn two_leaves(alloc: Global) -> Result<Vec<u8>, AllocError> {
+/// Page 0, an inner node and two leaves, of the records of `SEVENTEEN`.
+pub fn two_leaves(alloc: Global) -> Result<Vec<u8>, AllocError> {
     let mut bytes = page(alloc, TWO_HEAD)?;
     bytes.extend_from_slice(&page(alloc, TWO_ROOT)?)?;
     bytes.extend_from_slice(&page(alloc, &leaf(alloc, 1, 8)?)?)?;
     bytes.extend_from_slice(&page(alloc, &leaf(alloc, 9, 17)?)?)?;
+    sealed(alloc, bytes)
+}
+
+/// The same map with its leaves exchanged in the file.
+pub fn turned_leaves(alloc: Global) -> Result<Vec<u8>, AllocError> {
+    let root = edited(alloc, TWO_ROOT, &[(6, 3), (58, 2)])?;
+    let mut bytes = page(alloc, TWO_HEAD)?;
+    bytes.extend_from_slice(&page(alloc, &root)?)?;
+    bytes.extend_from_slice(&page(alloc, &leaf(alloc, 9, 17)?)?)?;
+    bytes.extend_from_slice(&page(alloc, &leaf(alloc, 1, 8)?)?)?;
     sealed(alloc, bytes)
 }
 

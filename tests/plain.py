@@ -1,0 +1,265 @@
+#!/usr/bin/env python3
+"""A plain, slow program for roots of maps after batches, written from docs/FORMATS.md alone.
+
+usage: tests/plain.py RECORDS [BATCH ..]
+
+Prints the root digest of the map of the record text in the file RECORDS, and then that after each batch in turn, or
+the line on the first batch that may not be applied. It takes texts to be without a fault. With no words it prints the
+constants of crates/mr_tests/src/changes.rt. It is no part of the gate.
+"""
+import hashlib
+import math
+import struct
+import sys
+
+
+def digest(bytes_):
+    return hashlib.sha256(bytes_).digest()
+
+
+# ---- rectangles (x0, y0, x1, y1)
+
+
+def union(rects):
+    return (min(r[0] for r in rects), min(r[1] for r in rects), max(r[2] for r in rects), max(r[3] for r in rects))
+
+
+def area(r):
+    return (r[2] - r[0]) * (r[3] - r[1])
+
+
+def growth(r, other):
+    return area(union([r, other])) - area(r)
+
+
+def waste(a, b):
+    return area(union([a, b])) - area(a) - area(b)
+
+
+def choose(rects, new):
+    return min(range(len(rects)), key=lambda i: (growth(rects[i], new), area(rects[i]), i))
+
+
+def split(rects, least):
+    pairs = [(i, j) for i in range(len(rects)) for j in range(i + 1, len(rects))]
+    i, j = min(pairs, key=lambda p: (-waste(rects[p[0]], rects[p[1]]), p))
+    groups, rounds = [[i], [j]], [rects[i], rects[j]]
+    left = [k for k in range(len(rects)) if k not in (i, j)]
+    while left:
+        needy = [g for g in groups if len(g) + len(left) == least]
+        if needy:
+            needy[0].extend(left)
+            break
+        k = min(left, key=lambda k: (-abs(growth(rounds[0], rects[k]) - growth(rounds[1], rects[k])), k))
+        left.remove(k)
+        g = min((0, 1), key=lambda g: (growth(rounds[g], rects[k]), area(rounds[g]), len(groups[g]), g))
+        groups[g].append(k)
+        rounds[g] = union([rounds[g], rects[k]])
+    return sorted(groups[0]), sorted(groups[1])
+
+
+# ---- trees: records (number, rectangle, payload) in leaves
+
+
+class Node:
+    def __init__(self, is_leaf, entries):
+        self.is_leaf, self.entries = is_leaf, entries
+        self.renew()
+
+    def rects(self):
+        return [e[1] if self.is_leaf else e.rect for e in self.entries]
+
+    def renew(self):
+        self.rect = union(self.rects()) if self.entries else None
+
+    def records(self):
+        return list(self.entries) if self.is_leaf else [r for e in self.entries for r in e.records()]
+
+    def level(self):
+        return 0 if self.is_leaf else 1 + self.entries[0].level()
+
+    def digest(self):
+        if self.is_leaf:
+            return digest(b"L" + bytes([len(self.entries)]) + b"".join(record_bytes(r) for r in self.entries))
+        front = b"N" + bytes([self.level(), len(self.entries)])
+        return digest(front + b"".join(struct.pack(">4i", *e.rect) + e.digest() for e in self.entries))
+
+
+def record_bytes(record):
+    number, rect, payload = record
+    return struct.pack(">Q4i", number, *rect) + bytes([len(payload)]) + payload
+
+
+def root(tree, batch):
+    if tree is None:
+        return digest(b"E\x01" + struct.pack(">Q", batch)).hex()
+    front = b"R\x01" + struct.pack(">QQ", batch, len(tree.records())) + bytes([tree.level()])
+    return digest(front + struct.pack(">4i", *tree.rect) + tree.digest()).hex()
+
+
+def grouped(entries, most):
+    """Entries are (rectangle, number that decides ties, item)."""
+    count = -(-len(entries) // most)
+    slices = math.isqrt(count - 1) + 1
+    first = lambda group: group * len(entries) // count
+    by_x = sorted(entries, key=lambda e: (e[0][0] + e[0][2], e[1]))
+    order = []
+    for j in range(slices):
+        piece = by_x[first(j * count // slices) : first((j + 1) * count // slices)]
+        order += sorted(piece, key=lambda e: (e[0][1] + e[0][3], e[1]))
+    return [[e[2] for e in order[first(g) : first(g + 1)]] for g in range(count)]
+
+
+def pack(records):
+    if not records:
+        return None
+    nodes = [Node(True, g) for g in grouped([(r[1], r[0], r) for r in records], 16)]
+    while len(nodes) > 1:
+        nodes = [Node(False, g) for g in grouped([(n.rect, i, n) for i, n in enumerate(nodes)], 64)]
+    return nodes[0]
+
+
+def settled(node):
+    """The node, or the two that it is split into."""
+    most, least = (16, 6) if node.is_leaf else (64, 24)
+    node.renew()
+    if len(node.entries) <= most:
+        return [node]
+    return [Node(node.is_leaf, [node.entries[k] for k in group]) for group in split(node.rects(), least)]
+
+
+def put(node, record):
+    if node.is_leaf:
+        node.entries.append(record)
+    else:
+        at = choose(node.rects(), record[1])
+        node.entries[at : at + 1] = put(node.entries[at], record)
+    return settled(node)
+
+
+def inserted(tree, record):
+    if tree is None:
+        return Node(True, [record])
+    nodes = put(tree, record)
+    return nodes[0] if len(nodes) == 1 else Node(False, nodes)
+
+
+def take(node, number, aside):
+    if node.is_leaf:
+        node.entries = [r for r in node.entries if r[0] != number]
+    else:
+        at = next(i for i, e in enumerate(node.entries) if any(r[0] == number for r in e.records()))
+        child = node.entries[at]
+        take(child, number, aside)
+        if len(child.entries) < (6 if child.is_leaf else 24):
+            del node.entries[at]
+            aside += child.records()
+    node.renew()
+
+
+def deleted(tree, number):
+    aside = []
+    take(tree, number, aside)
+    if tree.is_leaf and not tree.entries:
+        tree = None
+    while tree is not None and not tree.is_leaf and len(tree.entries) == 1:
+        tree = tree.entries[0]
+    for record in sorted(aside):
+        tree = inserted(tree, record)
+    return tree
+
+
+# ---- batches: (number, changes), a change a record or a number
+
+
+def fault(tree, held, batch):
+    number, changes = batch
+    if number != held + 1:
+        return "bad batch OutOfOrder held %d given %d" % (held, number)
+    there = {r[0] for r in tree.records()} if tree else set()
+    for line, change in enumerate(changes, 2):
+        if isinstance(change, tuple):
+            if change[0] in there:
+                return "bad batch line %d Present" % line
+            if len(there) == 2**20:
+                return "bad batch line %d Full" % line
+            there.add(change[0])
+        else:
+            if change not in there:
+                return "bad batch line %d Absent" % line
+            there.remove(change)
+    return None
+
+
+def lines_of(records, batches):
+    tree, held = pack(records), 0
+    yield root(tree, held)
+    for batch in batches:
+        bad = fault(tree, held, batch)
+        if bad:
+            yield bad
+            return
+        for change in batch[1]:
+            tree = inserted(tree, change) if isinstance(change, tuple) else deleted(tree, change)
+        held = batch[0]
+        yield root(tree, held)
+
+
+# ---- texts
+
+
+def record_of(fields):
+    payload = b"" if fields[5] == "-" else bytes.fromhex(fields[5])
+    return int(fields[0]), tuple(int(f) for f in fields[1:5]), payload
+
+
+def batch_of(text):
+    lines = [line.split(" ") for line in text.splitlines()]
+    return int(lines[0][1]), [record_of(f[1:]) if f[0] == "+" else int(f[1]) for f in lines[1:]]
+
+
+# ---- the constants of the tests
+
+
+def place(i):
+    x, y = i * 7919 % 20011, i * 104729 % 19997
+    return i, (x, y, x + i % 3, y + i % 5), bytes([i % 256])
+
+
+def places(first, last):
+    return [place(i) for i in range(first, last + 1)]
+
+
+def removals(step, count, each):
+    modulus = count * each
+    return [(b + 1, [(b * each + k) * step % modulus + 1 for k in range(each)]) for b in range(count)]
+
+
+def mixed(batch):
+    at = range((batch - 1) * 250, batch * 250)
+    return batch, [change for k in at for change in (k * 7 % 3000 + 1, place(3001 + k))]
+
+
+def point(number, x, y):
+    return number, (x, y, x, y), b""
+
+
+CONSTANTS = {
+    "ADDED": (places(1, 5000), [(1, places(5001, 7000))]),
+    "MIXED": (places(1, 3000), [mixed(b) for b in range(1, 5)]),
+    "RISING": (places(1, 300), removals(1, 3, 100)),
+    "FALLING": (places(1, 300), removals(299, 3, 100)),
+    "SCATTERED": (places(1, 300), removals(7, 3, 100)),
+    "THREE_LEVELS": (places(1, 1500), removals(11, 4, 375)),
+    "ROOT_SPLIT": ([point(i, i, 0) for i in range(1, 1025)], [(1, [point(2000, 5, 0), point(2001, 700, 1)])]),
+    "AGAIN": (places(1, 40), [(1, [7, place(7)] * 20)]),
+}
+
+if len(sys.argv) == 1:
+    for name, (records, batches) in CONSTANTS.items():
+        print(name, *lines_of(records, batches), sep="\n")
+else:
+    with open(sys.argv[1]) as text:
+        given = [record_of(line.split(" ")) for line in text.read().splitlines()]
+    for line in lines_of(given, [batch_of(open(name).read()) for name in sys.argv[2:]]):
+        print(line)
