@@ -6,3 +6,4 @@ pub mod Walking
 pub mod Directories
 pub mod Permuted
 pub mod Replaying
+pub mod Workloads

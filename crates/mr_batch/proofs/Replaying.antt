@@ -1,5 +1,5 @@
 -- Trees that change as their records do.
-use Rattle.std.proofs.Common.{◌≡◌, ℕ, ◌+◌, ◌<◌, ◌≤◌, ◌≢◌, true, false, eqb, List, [], ◌∷◌, length, get_or, drop, Option, Some, None, IsSome, is_some, refl, sym, ap, subst, ◌∙◌, ⊎_elim}
+use Rattle.std.proofs.Common.{◌≡◌, ℕ, ◌+◌, ◌<◌, ◌≤◌, true, false, eqb, List, [], ◌∷◌, length, get_or, drop, Option, Some, None, IsSome, is_some, refl, sym, ap, subst, ◌∙◌, ⊎_elim}
 use Rattle.std.proofs.lemmas.Bool.{cases_Bool}
 use Rattle.std.specs.List.Sorted.{IsPermutation}
 use Rattle.std.proofs.lemmas.List.Sorted.{IsPermutation-refl, IsPermutation-trans}
@@ -10,12 +10,12 @@ use Rattle.mr_tree.specs.WellFormed.{WellFormed}
 use Rattle.mr_tree.specs.declared.tree.Tree.{Tree}
 use Rattle.mr_grow.specs.Shrink.{WithoutOne}
 use Rattle.mr_batch.specs.declared.change.Change.{Change}
-use Rattle.mr_batch.specs.declared.change.Change.TheVariants.{Add, Remove}
+use Rattle.mr_batch.specs.declared.change.Change.TheVariants.{Remove}
 use Rattle.mr_batch.specs.Changes.{Changes}
 use Rattle.mr_batch.specs.Applied.{may_make, made, applied, IsAdmissible}
 use Rattle.mr_batch.specs.Admissible.{batch_fault}
 use Rattle.mr_batch.specs.declared.admission.BatchFault.{BatchFault}
-use Rattle.mr_batch.specs.Directory.{Entries, rect_at, rect_in, IsDirectoryOf, HaveNumbers}
+use Rattle.mr_batch.specs.Directory.{Entries, rect_in, IsDirectoryOf, HaveNumbers}
 use Rattle.mr_batch.specs.Replay.{changed, replayed, IsLeft}
 use Rattle.mr_batch.proofs.Numbered.{Apart}
 use Rattle.mr_batch.proofs.Permuted.{removal_leaves, made_then, applied_permuted, some_same}

@@ -9,5 +9,6 @@ pub mod Directory
 pub mod Replay
 pub mod Peak
 pub mod Refusing
+pub mod Workload
 -- what only private functions and proofs use
 pub mod Presence

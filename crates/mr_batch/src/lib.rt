@@ -10,6 +10,7 @@ mod line;
 mod links;
 mod replay;
 mod text;
+mod workload;
 
 pub use admission::{BatchFault, admit};
 pub use batch::Batch;
@@ -17,3 +18,4 @@ pub use change::Change;
 pub use directory::Directory;
 pub use replay::{ApplyErr, apply_plain};
 pub use text::read_batch;
+pub use workload::{generate, generate_queries};

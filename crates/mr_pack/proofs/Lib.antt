@@ -1,5 +1,6 @@
 pub mod Cuts
 pub mod Least
+pub mod Leaves
 pub mod Levels
 pub mod Natural
 pub mod Numbers

@@ -3,6 +3,7 @@
 #![tactic(auto)]
 
 mod grouping;
+mod joined;
 mod level;
 mod load;
 mod node;
@@ -11,4 +12,4 @@ mod placed;
 mod tests;
 mod twice;
 
-pub use load::{PackErr, pack};
+pub use load::{PackErr, pack, pack_joined};

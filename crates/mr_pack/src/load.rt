@@ -1,6 +1,7 @@
 ghost use Rattle.std.specs.Prelude.{◌≡◌, ◌≢◌, ◌≤◌, ◌^◌, ◌<◌, length, map, IfOk, IfErr, OnOk, AllPairs};
 ghost use Rattle.std.specs.List.Sorted.{IsPermutation};
 ghost use Rattle.mr_record.specs.declared.record.Record as types;
+ghost use Rattle.mr_tree.specs.Digest.{root as root_in};
 ghost use Rattle.mr_tree.specs.Tree.{records};
 ghost use Rattle.mr_tree.specs.WellFormed.{WellFormed};
 ghost use Rattle.mr_pack.specs.HalfFull.{IsHalfFullBelow};
@@ -9,12 +10,15 @@ ghost use Rattle.mr_pack.specs.Twice.{IsCause};
 ghost use Rattle.mr_pack.specs.declared.load.PackErr.TheVariants as errors;
 ghost use Rattle.mr_pack.specs.declared.node.Node.{Node as node};
 
+use crate::joined::first_root;
 use crate::level::{above, leaves};
 use crate::node::Node;
 use crate::twice::least_twice;
+use mr_outside::Gate;
 use mr_record::{Record, are_records};
-use mr_tree::Tree;
+use mr_tree::{Hash32, Tree};
 use std::alloc::{AllocError, Global};
+use std::thread::Threads;
 
 /// Why records were not packed.
 #[derive(Clone, Copy, Debug, PartialEq, Eq)]
@@ -89,4 +93,31 @@ pub fn pack(alloc: Global, list: Vec<Record>) -> Result<Tree, PackErr>
         Some(number) => Err(PackErr::NumberTwice { number }),
         None => Ok(packed(alloc, &list)?),
     }
+}
+
+/// Packs at most 2^20 records as `pack` does, and gives the root digest of the map beside the tree,
+/// at batch 0. The digests of the leaves are computed in joined halves (`in_halves` of `mr_halves`):
+/// piece `i` is the leaf at place `i` from the left, counted from 0, and the gate is told the last 8
+/// bytes of its digest as a big-endian number. No answer depends on the gate.
+pub fn pack_joined<H: Hash32, G: Gate, R: Threads + Sync>(
+    rt: &R,
+    alloc: Global,
+    list: Vec<Record>,
+    gate: &G,
+) -> Result<(Tree, [u8; 32]), PackErr>
+    requires { length list.items ≤ 2 ^ 20 }
+    ensures exact { IfOk result (λ p. p.0 ≡ pack list.items) }
+    ensures root { IfOk result (λ p. p.1 ≡ root_in H.of (pack list.items) 0) }
+    ensures apart { OnOk result
+        (AllPairs (λ (a b : types.Record). a.number ≢ b.number) list.items) }
+    ensures well_formed { IfOk result (λ p. WellFormed p.0) }
+    ensures half_full { IfOk result (λ p. IsHalfFullBelow p.0) }
+    ensures same_records { IfOk result (λ p. IsPermutation list.items (records p.0)) }
+    ensures refused { IfErr result (λ e. IsCause e list.items) }
+    ensures only_memory { AllPairs (λ (a b : types.Record). a.number ≢ b.number) list.items
+        → IfErr result (λ e. e ≡ errors.NoMemory) }
+{
+    let tree = pack(alloc, list)?;
+    let digest = first_root::<H, G, R>(rt, alloc, &tree, gate)?;
+    Ok((tree, digest))
 }

@@ -1,11 +1,10 @@
 //! Runs at sizes that matter, with ample memory. Roots come from a program of another language.
 
 use crate::bench::{Row, holds, words};
-use mr_outside::{Gate, MemSink, NoGate, StdShelf};
+use mr_outside::{MemSink, NoGate, StdShelf};
 use mr_tool::{Status, run};
 use mr_tree::{Sha, XorHash};
 use std::alloc::{AllocError, Global};
-use std::sync::atomic::{AtomicU64, Ordering};
 use std::test::Fail;
 
 /// A text of records at (I,0), from I = 1, without payloads.
@@ -130,34 +129,6 @@ fn a_full_leaf_of_long_payloads_is_accepted(rt: HostRuntime) -> Result<(), Fail>
         &file,
     );
     assert!(rt; holds::<Sha, _, _>(&rt, alloc, &NoGate, &root)?);
-    Ok(())
-}
-
-/// Counts the pieces of work that pass.
-#[derive(Drop)]
-struct Counted {
-    entered: AtomicU64,
-}
-
-impl Gate for Counted {
-    fn enter(&self, _piece: usize) {
-        self.entered.fetch_add(1, Ordering::SeqCst);
-    }
-
-    fn leave(&self, _piece: usize, _found: u64) {}
-}
-
-#[test]
-fn no_piece_of_work_is_handed_to_a_worker(rt: HostRuntime) -> Result<(), Fail> {
-    let alloc = rt.alloc();
-    let gate = Counted {
-        entered: AtomicU64::new(0),
-    };
-    let done: &[u8] = b"0000000000000000000000000000000000000000000000000000000000000018\n";
-    let files: [(&str, &[u8]); 1] = [("r", b"7 0 0 0 0 -\n")];
-    let one = Row(&["root", "r"], &files, &[], &[], Status::Done, done, &files);
-    assert!(rt; holds::<XorHash, _, _>(&rt, alloc, &gate, &one)?);
-    assert_eq!(rt; gate.entered.load(Ordering::SeqCst), 0);
     Ok(())
 }
 

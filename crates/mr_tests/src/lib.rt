@@ -12,13 +12,19 @@ mod calls;
 #[cfg(test)]
 mod changes;
 #[cfg(test)]
+mod gates;
+#[cfg(test)]
 mod grown;
+#[cfg(test)]
+mod joined;
 #[cfg(test)]
 mod large;
 #[cfg(test)]
 mod levels;
 #[cfg(test)]
 mod listed;
+#[cfg(test)]
+mod made;
 #[cfg(test)]
 mod maps;
 #[cfg(test)]
@@ -31,3 +37,5 @@ mod rows;
 mod splits;
 #[cfg(test)]
 mod tree;
+#[cfg(test)]
+mod workloads;

@@ -157,3 +157,5 @@ say_sized hash sized (Some (commands.Audit map query proof)) =
       sized_map next (λ tree batch.
           sized_needs proof.now (λ bytes. comes (say_audit_of hash query tree batch bytes)) (λ bytes. tt)),
     ))
+say_sized hash sized (Some (commands.Make count seed records)) = tt
+say_sized hash sized (Some (commands.Demo count seed)) = tt

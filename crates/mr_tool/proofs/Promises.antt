@@ -41,7 +41,7 @@ use Rattle.mr_tool.specs.Found.{Found}
 use Rattle.mr_tool.specs.Outcome.{Outcome}
 use Rattle.mr_tool.specs.Plan.{Plan, comes, opens, Input, IsInput}
 use Rattle.mr_tool.specs.Promises.{Holds, HoldsRecords, HoldsMap, HoldsProof, HoldsBatch, IsInOrder, CompletesWords, AnswersHonest, PrintsScan, IsWorth, AcceptsHonestOrCollides, Delivers, SaysWorth, AuditsAccepted, CollidesRightly}
-use Rattle.mr_tool.specs.Say.{given, given_map, needs, needs_map, prints, say, say_root_of, say_build_of, say_list_of, say_apply, say_apply_of, say_prove_of, say_check, say_check_of, say_audit, say_audit_of, say_finding}
+use Rattle.mr_tool.specs.Say.{given, given_map, needs, needs_map, prints, say, say_root_of, say_build_of, say_list_of, say_apply, say_apply_of, say_prove_of, say_check, say_check_of, say_audit, say_audit_of, say_finding, say_make_of}
 use Rattle.mr_tool.specs.Lines.{sound_line, collision_lines}
 use Rattle.mr_tool.specs.Words.{IsWord, words_of, Spells}
 use Rattle.mr_tool.specs.declared.ending.Ending.{Ending}
@@ -259,6 +259,10 @@ prove_done : (hash : List ℕ → List ℕ) (q : Query) (name : List ℕ) (tree 
 unfolding say_prove_of
 prove_done hash q name tree batch = refl
 
+make_done : (count seed : ℕ) (records : List ℕ) → (say_make_of count seed records).status ≡ Done
+unfolding say_make_of
+make_done count seed records = refl
+
 module _ (hash : List ℕ → List ℕ) (before after : Option Files) (status : Status) (text : List ℕ) where
   text_done : (name : List ℕ) (said : Result (List Record) TextFault → Outcome)
       → ((list : List Record) → (said (Ok list)).status ≡ Done) → HoldsRecords before name
@@ -313,6 +317,8 @@ module _ (hash : List ℕ → List ℕ) (before after : Option Files) (status : 
   done sized (commands.Audit map q name) each holds ends =
       audit_done hash before after status text map.now q name.now holds.tree holds.batch holds.bytes
       (proof hash holds.tree holds.batch q) holds.held holds.stands holds.own sized each.1.1.0 refl ends
+  done sized (commands.Make count seed records) each holds ends = ends.0 ∙ make_done count seed records.now
+  done sized (commands.Demo count seed) each holds ends = ends.0
 
 -- ---- the proofs of a map, checked against its root digest
 

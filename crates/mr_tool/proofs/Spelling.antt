@@ -1,13 +1,15 @@
 -- Commands by their words.
-use Rattle.std.proofs.Common.{◌≡◌, ◌≢◌, ℕ, ◌<◌, Bor, List, [], ◌∷◌, length, map, Option, Some, None, Result, Ok, refl, sym, ap, subst, ◌∙◌, arith}
-use Rattle.std.specs.Prelude.{bytes_eq, codes, false, true}
+use Rattle.std.proofs.Common.{◌≡◌, ◌≢◌, ℕ, ◌^◌, ◌<◌, Bor, List, [], ◌∷◌, length, map, Option, Some, None, Result, Ok, refl, sym, ap, subst, ◌∙◌, arith}
+use Rattle.std.specs.Prelude.{bytes_eq, codes, decimal, false, true}
 use Rattle.std.proofs.lemmas.Slice.Eq.{bytes_eq-Decides}
 use Rattle.hex.specs.Hex.{encode_lower}
+use Rattle.mr_record.specs.Decimal.{u64_of}
+use Rattle.mr_record.proofs.Decimals.{u64_of-decimal}
 use Rattle.mr_query.specs.Word.{IsQuery, query_of, word_of}
 use Rattle.mr_query.specs.declared.query.Query.{Query}
 use Rattle.mr_query.specs.declared.query.QueryFault.{QueryFault}
 use Rattle.mr_query.proofs.Words.{query_read}
-use Rattle.mr_tool.specs.Say.{say_root, say_build, say_list, say_apply, say_prove, say_check, say_audit}
+use Rattle.mr_tool.specs.Say.{say_root, say_build, say_list, say_apply, say_prove, say_check, say_audit, say_make, say_demo}
 use Rattle.mr_tool.specs.Spelling.{IsSpelled, AsksAs, digest_of_word}
 use Rattle.mr_tool.specs.Words.{IsDigest, Spells}
 use Rattle.mr_tool.specs.declared.words.Command.{Command}
@@ -29,6 +31,14 @@ one_digest a b is_a is_b e = same_some a b (sym (digest_read a is_a) ∙ ap dige
 one_query : (a b : Query) → IsQuery a → IsQuery b → word_of a ≡ word_of b → a ≡ b
 one_query a b is_a is_b e = same_ok a b (sym (query_read a is_a) ∙ ap query_of e
     ∙ query_read b is_b)
+
+same_number : (a b : ℕ) → ◌≡◌ {A = Option ℕ} (Some a) (Some b) → a ≡ b
+same_number a b e = cc
+
+-- two numbers of 64 bits with one word are one
+one_number : (a b : ℕ) → a < 2 ^ 64 → b < 2 ^ 64 → decimal a ≡ decimal b → a ≡ b
+one_number a b low_a low_b e = same_number a b (sym (u64_of-decimal a low_a) ∙ ap u64_of e
+    ∙ u64_of-decimal b low_b)
 
 -- words that begin with different words differ
 other_key : {A : Type 0} (a b : List ℕ) (xs ys : List (List ℕ)) → bytes_eq a b ≡ false
@@ -100,6 +110,22 @@ ask_same words (commands.Build map_a records_a) (commands.Build map_b records_b)
 ask_same words (commands.List a) (commands.List b) spells_a spells_b =
     let e = sym spells_a.spelled ∙ spells_b.spelled in
     λ hash. ap (say_list hash) (second _ _ _ _ e)
+ask_same words (commands.Make count_a seed_a file_a) (commands.Make count_b seed_b file_b)
+    spells_a spells_b =
+    let e = sym spells_a.spelled ∙ spells_b.spelled in
+    let counts : count_a ≡ count_b = one_number count_a count_b (omega (arith, spells_a.each.1.0.1))
+    (omega (arith, spells_b.each.1.0.1)) (second_of _ _ _ _ _ _ _ _ e) in
+    let seeds : seed_a ≡ seed_b = one_number seed_a seed_b (omega (arith, spells_a.each.1.1.0.1))
+    (omega (arith, spells_b.each.1.1.0.1)) (third_of _ _ _ _ _ _ _ _ e) in
+    let files : file_a.now ≡ file_b.now = fourth_of _ _ _ _ _ _ _ _ e in
+    λ hash i. say_make (counts i) (seeds i) (files i)
+ask_same words (commands.Demo count_a seed_a) (commands.Demo count_b seed_b) spells_a spells_b =
+    let e = sym spells_a.spelled ∙ spells_b.spelled in
+    let counts : count_a ≡ count_b = one_number count_a count_b (omega (arith, spells_a.each.1.0.1))
+    (omega (arith, spells_b.each.1.0.1)) (second_of_two _ _ _ _ _ _ e) in
+    let seeds : seed_a ≡ seed_b = one_number seed_a seed_b (omega (arith, spells_a.each.1.1.0.1))
+    (omega (arith, spells_b.each.1.1.0.1)) (third_of_two _ _ _ _ _ _ e) in
+    λ hash i. say_demo hash (counts i) (seeds i)
 ask_same words a b spells_a spells_b = other_key _ _ _ _ refl
     (sym spells_a.spelled ∙ spells_b.spelled)
 
@@ -148,22 +174,28 @@ not_two name a not_root not_list (commands.List map) spells = let same : name �
 not_two name a not_root not_list command spells = let long = ap length spells.spelled in absurd
     (omega (arith, long))
 
-pub not_three : (name a b : List ℕ) → (name ≡ codes "build" → ⊥) → IsSpelled (name ∷ a ∷ b ∷ []) None
-not_three name a b other (commands.Build map records) spells = let same : name ≡ codes "build" = cc in absurd
-    (other same)
-not_three name a b other command spells = let long = ap length spells.spelled in absurd (omega (arith, long))
+pub not_three : (name a b : List ℕ) → (name ≡ codes "build" → ⊥) → (name ≡ codes "demo" → ⊥)
+    → IsSpelled (name ∷ a ∷ b ∷ []) None
+not_three name a b not_build not_demo (commands.Build map records) spells =
+    let same : name ≡ codes "build" = cc in absurd (not_build same)
+not_three name a b not_build not_demo (commands.Demo count seed) spells =
+    let same : name ≡ codes "demo" = cc in absurd (not_demo same)
+not_three name a b not_build not_demo command spells = let long = ap length spells.spelled in absurd (omega (arith, long))
 
 pub not_four : (name a b c : List ℕ) → (name ≡ codes "apply" → ⊥) → (name ≡ codes "prove" → ⊥)
-    → (name ≡ codes "check" → ⊥) → (name ≡ codes "audit" → ⊥) → IsSpelled (name ∷ a ∷ b ∷ c ∷ []) None
-not_four name a b c not_apply not_prove not_check not_audit (commands.Apply old batch new) spells =
+    → (name ≡ codes "check" → ⊥) → (name ≡ codes "audit" → ⊥) → (name ≡ codes "make" → ⊥)
+    → IsSpelled (name ∷ a ∷ b ∷ c ∷ []) None
+not_four name a b c not_apply not_prove not_check not_audit not_make (commands.Apply old batch new) spells =
     let same : name ≡ codes "apply" = cc in absurd (not_apply same)
-not_four name a b c not_apply not_prove not_check not_audit (commands.Prove map asked proof) spells =
+not_four name a b c not_apply not_prove not_check not_audit not_make (commands.Prove map asked proof) spells =
     let same : name ≡ codes "prove" = cc in absurd (not_prove same)
-not_four name a b c not_apply not_prove not_check not_audit (commands.Check root asked proof) spells =
+not_four name a b c not_apply not_prove not_check not_audit not_make (commands.Check root asked proof) spells =
     let same : name ≡ codes "check" = cc in absurd (not_check same)
-not_four name a b c not_apply not_prove not_check not_audit (commands.Audit map asked proof) spells =
+not_four name a b c not_apply not_prove not_check not_audit not_make (commands.Audit map asked proof) spells =
     let same : name ≡ codes "audit" = cc in absurd (not_audit same)
-not_four name a b c not_apply not_prove not_check not_audit command spells =
+not_four name a b c not_apply not_prove not_check not_audit not_make (commands.Make count seed records) spells =
+    let same : name ≡ codes "make" = cc in absurd (not_make same)
+not_four name a b c not_apply not_prove not_check not_audit not_make command spells =
     let long = ap length spells.spelled in absurd (omega (arith, long))
 
 -- where it names the three files of a map, of a batch and of the map after it, they have names, which differ
@@ -253,6 +285,9 @@ no_length words not_2 not_3 not_4 (commands.Check root asked proof) spells = not
     (ap length spells.spelled)
 no_length words not_2 not_3 not_4 (commands.Audit map asked proof) spells = not_4
     (ap length spells.spelled)
+no_length words not_2 not_3 not_4 (commands.Make count seed records) spells = not_4
+    (ap length spells.spelled)
+no_length words not_2 not_3 not_4 (commands.Demo count seed) spells = not_3 (ap length spells.spelled)
 
 pub no_digest : (root asked proof : List ℕ) → digest_of_word root ≡ None
     → IsSpelled (codes "check" ∷ root ∷ asked ∷ proof ∷ []) None

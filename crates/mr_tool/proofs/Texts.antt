@@ -12,7 +12,10 @@ use Rattle.mr_outside.specs.declared.shelf.ShelfErr.TheVariants as shelf
 use Rattle.mr_outside.proofs.Changes.{IsChanged-grown, OfFile-put}
 use Rattle.mr_tool.specs.Ending.{Saves, Stops, halt_of}
 use Rattle.mr_tool.specs.Outcome.{text}
-use Rattle.mr_tool.specs.Say.{say_prove_of, say_written}
+use Rattle.mr_record.specs.RecordText.{text_of}
+use Rattle.mr_batch.specs.Workload.{generated}
+use Rattle.mr_tool.specs.Lines.{made_line}
+use Rattle.mr_tool.specs.Say.{say_make_of, say_prove_of, say_text, say_written}
 use Rattle.mr_tree.specs.declared.tree.Tree.{Tree}
 use Rattle.mr_query.specs.declared.query.Query.{Query}
 use Rattle.mr_proof.specs.Honest.{proof}
@@ -111,3 +114,9 @@ pub says_proof : (hash : List ℕ → List ℕ) (q : Query) (name : List ℕ) (t
     → bytes ≡ proof hash tree batch q → say_written name bytes ≡ say_prove_of hash q name tree batch
 unfolding say_prove_of
 says_proof hash q name tree batch bytes is = ap (say_written name) is
+
+-- the text of generated records is what was written
+pub says_made : (count seed : ℕ) (line name bytes : List ℕ) → line ≡ made_line count
+    → bytes ≡ text_of (generated count seed) → say_text line name bytes ≡ say_make_of count seed name
+unfolding say_make_of
+says_made count seed line name bytes lines texts = λ i. say_text (lines i) name (texts i)

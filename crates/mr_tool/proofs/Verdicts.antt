@@ -1,5 +1,5 @@
 -- What the command `check` says of a proof, by what the check answers for it.
-use Rattle.std.proofs.Common.{◌≡◌, ℕ, List, refl, sym, ap, subst}
+use Rattle.std.proofs.Common.{◌≡◌, ℕ, List, length, refl, sym, ap, subst, ◌∙◌, arith}
 use Rattle.std.specs.Prelude.{Option, Some, Result, Ok, Err}
 use Rattle.std.specs.Global.{Vec}
 use Rattle.mr_outside.specs.State.{Shelved}
@@ -9,7 +9,13 @@ use Rattle.mr_query.specs.declared.query.Query.{Query}
 use Rattle.mr_proof.specs.declared.rule.Fault.{Fault}
 use Rattle.mr_check.specs.declared.error.CheckErr.{CheckErr}
 use Rattle.mr_check.specs.Answers.{Checks}
+use Rattle.mr_proof.specs.Halves.{AcceptsHonest}
+use Rattle.mr_proof.specs.Honest.{proof}
 use Rattle.mr_proof.specs.Reading.{verdict}
+use Rattle.mr_query.specs.Scan.{scan}
+use Rattle.mr_tree.specs.Digest as digests
+use Rattle.mr_tree.specs.Tree.{records}
+use Rattle.mr_tree.specs.WellFormed.{WellFormed}
 use Rattle.mr_clash.specs.Finding.{found}
 use Rattle.mr_clash.specs.declared.finding.Finding.{Finding}
 use Rattle.mr_clash.specs.declared.finding.Finding.TheVariants as findings
@@ -92,3 +98,25 @@ comes_so name said before after bytes read ending was reads writes gives =
       outside = λ e. absurd (gives.settled.0 e);
       quiet = λ settled. was_read.read.2;
     }
+
+-- the honest proof is accepted with the answer of a scan
+pub accepted_scan : (hash : List ℕ → List ℕ) (q : Query) (t : Tree) (root bytes : List ℕ) → AcceptsHonest hash q
+    → WellFormed t → root ≡ digests.root hash t 0 → bytes ≡ proof hash t 0 q
+    → verdict hash root q bytes ≡ Ok (scan (records t) q)
+accepted_scan hash q t root bytes accepts well roots own =
+    (λ i. verdict hash (roots i) q (own i)) ∙ accepts t 0 well (omega arith)
+
+abbrev Verdict : Type 0
+Verdict = Result (List Record) Fault
+
+same_answer : (a b : List Record) → ◌≡◌ {A = Verdict} (Ok a) (Ok b) → a ≡ b
+same_answer a b e = cc
+
+-- what is answered is as long as the scan
+pub answer_length : (v : Verdict) (answer scanned : List Record) → v ≡ Ok answer → v ≡ Ok scanned
+    → length answer ≡ length scanned
+answer_length v answer scanned was is = ap length (same_answer answer scanned (sym was ∙ is))
+
+-- and is no fault
+pub no_fault : (v : Verdict) (fault : Fault) (scanned : List Record) → v ≡ Err fault → v ≡ Ok scanned → ⊥
+no_fault v fault scanned was is = absurd cc

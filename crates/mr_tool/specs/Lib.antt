@@ -5,6 +5,7 @@ pub mod Outcome
 pub mod Plan
 pub mod Lines
 pub mod Refusal
+pub mod Demo
 pub mod Say
 pub mod Spelling
 pub mod Answer

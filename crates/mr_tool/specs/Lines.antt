@@ -1,10 +1,15 @@
--- The lines on words, texts, batches and files that are refused.
+-- The lines that are printed: digests, lengths and numbers, and what is said of words, texts, batches
+-- and files that are refused.
 use Rattle.std.specs.Prelude.{ℕ, List, [], ◌∷◌, ◌++◌, codes, decimal}
 use Rattle.hex.specs.Hex.{encode_lower}
 use Rattle.mr_record.specs.declared.text_fault.TextFault.{TextFault}
 use Rattle.mr_record.specs.Rules.{text_rule_name}
 use Rattle.mr_batch.specs.declared.admission.BatchFault.{BatchFault}
 use Rattle.mr_batch.specs.declared.admission.BatchFault.TheVariants.{OutOfOrder, Present, Absent, Full}
+
+-- a digest in hexadecimal, and a line feed
+abbrev pub digest_line : List ℕ → List ℕ
+digest_line digest = encode_lower digest ++ 10 ∷ []
 
 -- the words spell no command
 abbrev pub bad_words_line : List ℕ
@@ -47,6 +52,14 @@ sound_line = codes "sound" ++ 10 ∷ []
 unfoldable pub collision_lines : (owned shown : List ℕ) → List ℕ
 collision_lines owned shown = codes "collision" ++ 10 ∷ encode_lower owned
     ++ 10 ∷ encode_lower shown ++ 10 ∷ []
+
+-- a name and a number, as `records 5`
+abbrev pub count_line : (name : List ℕ) → ℕ → List ℕ
+count_line name n = name ++ 32 ∷ decimal n ++ 10 ∷ []
+
+-- `made NUMBER`
+unfoldable pub made_line : ℕ → List ℕ
+made_line n = count_line (codes "made") n
 
 -- the shelf failed
 abbrev pub shelf_fault_line : List ℕ

@@ -1,6 +1,7 @@
 -- What a run promises of inputs that are in order, of honest proofs and of accepted ones: theorems
--- over what it answers, in the form in which they are quoted. They speak of files that are told.
-use Rattle.std.specs.Prelude.{◌≡◌, ◌⊎◌, ℕ, ◌^◌, ◌<◌, List, ◌++◌, Option, Some, None, Ok}
+-- over what it answers, in the form in which they are quoted. They speak of files that are told, but
+-- for the commands that read none.
+use Rattle.std.specs.Prelude.{◌≡◌, ◌⊎◌, ⊤, ℕ, ◌^◌, ◌<◌, List, ◌++◌, Option, Some, None, Ok}
 use Rattle.std.specs.Borrow.{Bor}
 use Rattle.mr_outside.specs.Files.{Files, file}
 use Rattle.mr_outside.specs.Told.{Takes}
@@ -92,6 +93,8 @@ IsInOrder hash told (commands.Apply old batch new) = HoldsBatch hash told old.no
 IsInOrder hash told (commands.Prove map q proof) = HoldsMap hash told map.now
 IsInOrder hash told (commands.Check root q proof) = HoldsProof hash told root q proof.now
 IsInOrder hash told (commands.Audit map q proof) = HoldsHonest hash told map.now q proof.now
+IsInOrder hash told (commands.Make count seed records) = ⊤
+IsInOrder hash told (commands.Demo count seed) = ⊤
 
 -- a command whose inputs are in order ends with status 0, unless memory ran out or something
 -- outside failed

@@ -1,6 +1,5 @@
 -- What each command says. The hash function is any one.
-use Rattle.std.specs.Prelude.{ℕ, List, [], ◌∷◌, ◌++◌, length, Option, Some, None, Result, Ok, Err}
-use Rattle.hex.specs.Hex.{encode_lower}
+use Rattle.std.specs.Prelude.{ℕ, List, ◌++◌, length, Option, Some, None, Result, Ok, Err}
 use Rattle.mr_record.specs.declared.record.Record.{Record}
 use Rattle.mr_record.specs.declared.text_fault.TextFault.{TextFault}
 use Rattle.mr_record.specs.RecordText.{records_of_text, text_of}
@@ -12,6 +11,7 @@ use Rattle.mr_batch.specs.Admissible.{batch_fault}
 use Rattle.mr_batch.specs.BatchText.{batch_of_text}
 use Rattle.mr_batch.specs.Changes.{Changes}
 use Rattle.mr_batch.specs.Replay.{replay}
+use Rattle.mr_batch.specs.Workload.{generated}
 use Rattle.mr_batch.specs.declared.admission.BatchFault.{BatchFault}
 use Rattle.mr_query.specs.Scan.{by_number}
 use Rattle.mr_query.specs.declared.query.Query.{Query}
@@ -21,8 +21,9 @@ use Rattle.mr_proof.specs.Reading.{verdict}
 use Rattle.mr_clash.specs.Finding.{found}
 use Rattle.mr_clash.specs.declared.finding.Finding.{Finding}
 use Rattle.mr_clash.specs.declared.finding.Finding.TheVariants as findings
+use Rattle.mr_tool.specs.Demo.{demo_lines}
 use Rattle.mr_tool.specs.Found.{Found, bad_map_line}
-use Rattle.mr_tool.specs.Lines.{bad_words_line, bad_text_line, bad_batch_line, missing_line, proof_line, sound_line, collision_lines}
+use Rattle.mr_tool.specs.Lines.{digest_line, bad_words_line, bad_text_line, bad_batch_line, missing_line, proof_line, made_line, sound_line, collision_lines}
 use Rattle.mr_tool.specs.Outcome.{Outcome, Nothing, File, map_of}
 use Rattle.mr_tool.specs.Outcome as content
 use Rattle.mr_tool.specs.Plan.{Input, Plan, comes, reads, opens}
@@ -39,10 +40,6 @@ ends status text = record { status = status; printed = text; written = Nothing }
 -- all was done
 abbrev pub prints : List ℕ → Outcome
 prints text = ends Done text
-
--- a digest in hexadecimal, and a line feed
-abbrev pub digest_line : List ℕ → List ℕ
-digest_line digest = encode_lower digest ++ 10 ∷ []
 
 -- a file that is missing, by its name
 abbrev pub says_missing : List ℕ → Outcome
@@ -123,13 +120,17 @@ abbrev pub say_apply : (List ℕ → List ℕ) → (old batch new : List ℕ) �
 say_apply hash old batch new = needs_map hash old (λ tree held. needs batch
     (λ text. comes (say_apply_of hash new tree held (batch_of_text text))))
 
+-- these bytes in a file, and a line on them
+abbrev pub say_text : (line name bytes : List ℕ) → Outcome
+say_text line name bytes = record {
+  status = Done;
+  printed = line;
+  written = File name (content.text bytes);
+}
+
 -- these bytes in a file, and their number
 abbrev pub say_written : List ℕ → List ℕ → Outcome
-say_written proof bytes = record {
-  status = Done;
-  printed = proof_line (length bytes);
-  written = File proof (content.text bytes);
-}
+say_written proof bytes = say_text (proof_line (length bytes)) proof bytes
 
 -- the honest proof for a query on a map in a file, and its length
 unfoldable pub say_prove_of : (List ℕ → List ℕ) → Query → List ℕ → Tree → ℕ → Outcome
@@ -170,6 +171,19 @@ abbrev pub say_audit : (List ℕ → List ℕ) → List ℕ → Query → List �
 say_audit hash map query proof = needs_map hash map
     (λ tree batch. needs proof (λ bytes. comes (say_audit_of hash query tree batch bytes)))
 
+-- the text of generated records in a file, and how many they are
+unfoldable pub say_make_of : (count seed : ℕ) → List ℕ → Outcome
+say_make_of count seed records =
+    say_text (made_line count) records (text_of (generated count seed))
+
+-- `make N SEED RECORDS`: the text of generated records, written to a file
+abbrev pub say_make : (count seed : ℕ) → List ℕ → Plan
+say_make count seed records = comes (say_make_of count seed records)
+
+-- `demo N SEED`: what generated queries give on the map of generated records
+abbrev pub say_demo : (List ℕ → List ℕ) → (count seed : ℕ) → Plan
+say_demo hash count seed = comes (prints (demo_lines hash count seed))
+
 -- what is said where words spell a command, and where they spell none
 abbrev pub say : (List ℕ → List ℕ) → Option Command → Plan
 say hash None = comes (ends BadWords bad_words_line)
@@ -180,3 +194,5 @@ say hash (Some (commands.Apply old batch new)) = say_apply hash old.now batch.no
 say hash (Some (commands.Prove map query proof)) = say_prove hash map.now query proof.now
 say hash (Some (commands.Check root query proof)) = say_check hash root query proof.now
 say hash (Some (commands.Audit map query proof)) = say_audit hash map.now query proof.now
+say hash (Some (commands.Make count seed records)) = say_make count seed records.now
+say hash (Some (commands.Demo count seed)) = say_demo hash count seed

@@ -1,10 +1,11 @@
 -- The command that words spell, if any.
-use Rattle.std.specs.Prelude.{◌≡◌, ℕ, nat_eq, ◌&&◌, if◌then◌else◌, List, length, ⊤, Option, Some, None}
+use Rattle.std.specs.Prelude.{◌≡◌, ℕ, ◌≤◌, nat_eq, ◌&&◌, if◌then◌else◌, List, length, decimal, ⊤, Option, Some, None}
 use Rattle.std.specs.List.{list_all}
 use Rattle.hex.specs.Hex.{decode_of}
 use Rattle.mr_record.specs.RecordText.{is_lower_digit, ok_bytes}
 use Rattle.mr_tool.specs.Say.{say}
-use Rattle.mr_tool.specs.Words.{Spells}
+use Rattle.mr_tool.specs.Words.{Spells, demo_limit}
+use Rattle.mr_tree.specs.Limits.{count_limit}
 use Rattle.mr_query.specs.Word.{IsAskable}
 use Rattle.mr_tool.specs.declared.words.Command.{Command}
 use Rattle.mr_tool.specs.declared.words.Command.TheVariants as commands
@@ -20,12 +21,20 @@ AsksAs a b = (hash : List ℕ → List ℕ) → say hash a ≡ say hash b
 
 -- ---- this serves private functions
 
--- the query of a command, if it has one, is a window or asks for 1 to 1,024 records
+-- the query of a command, if it has one, is a window or asks for 1 to 1,024 records, and the number
+-- of records that it is to generate is in its range
 abbrev pub MayBeAsked : Command → Type 0
 MayBeAsked (commands.Prove map q proof) = IsAskable q
 MayBeAsked (commands.Check root q proof) = IsAskable q
 MayBeAsked (commands.Audit map q proof) = IsAskable q
+MayBeAsked (commands.Make count seed records) = count ≤ count_limit
+MayBeAsked (commands.Demo count seed) = count ≤ demo_limit
 MayBeAsked _ = ⊤
+
+-- the number from `least` to `most` that the word writes in decimal, if it writes one
+abbrev pub IsNumberOf : (word : List ℕ) (least most : ℕ) → Option ℕ → Type 0
+IsNumberOf word least most (Some n) = (word ≡ decimal n) × (least ≤ n) × (n ≤ most)
+IsNumberOf word least most None = (n : ℕ) → word ≡ decimal n → least ≤ n → n ≤ most → ⊥
 
 -- the digest that 64 lower-case hexadecimal digits write
 unfoldable pub digest_of_word : List ℕ → Option (List ℕ)

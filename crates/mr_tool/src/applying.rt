@@ -4,7 +4,7 @@ ghost use Rattle.mr_batch.specs.BatchText.{batch_of_text};
 ghost use Rattle.mr_tool.specs.Ending.{Comes, Gives};
 ghost use Rattle.mr_tool.specs.Lines.{bad_batch_line as line_of};
 ghost use Rattle.mr_tool.specs.Plan.{comes};
-ghost use Rattle.mr_tool.specs.Say.{ends, needs, say_apply, say_apply_of, say_batch};
+ghost use Rattle.mr_tool.specs.Say.{ends, needs, say_apply, say_apply_of, say_batch, say_map};
 
 use crate::Status;
 use crate::ending::{Ending, Halt};
@@ -15,7 +15,7 @@ use crate::saving::save_map;
 use mr_batch::{ApplyErr, Batch, BatchFault, apply_plain, read_batch};
 use mr_outside::Shelf;
 use mr_record::TextErr;
-use mr_tree::{Hash32, Tree};
+use mr_tree::{Hash32, Tree, root_of};
 use std::alloc::{AllocError, Global};
 
 // The ending over a batch that may not be applied.
@@ -24,6 +24,22 @@ fn bad_batch(alloc: Global, fault: &BatchFault) -> Result<Ending, AllocError>
 {
     let line = bad_batch_line(alloc, fault)?;
     Ok(Ending::line(alloc, Status::BadBatch, line))
+}
+
+// The map of a tree after a batch, in a file, and its root.
+fn save_after<H: Hash32, S: Shelf>(
+    alloc: Global,
+    new: &str,
+    tree: &Tree,
+    batch: u64,
+    shelf: &mut S,
+) -> Result<Ending, Halt>
+    requires { WellFormed tree.now }
+    ensures { Comes (comes (say_map H.of new.now tree.now batch)) (S.state shelf.old)
+        (S.state shelf.new) result }
+{
+    let root = root_of::<H>(tree, batch);
+    save_map::<H, S>(alloc, new, tree, batch, &root, shelf)
 }
 
 // The map of a tree after a batch, in a file, and its root; or why the batch may not be applied.
@@ -40,7 +56,7 @@ fn apply_batch<H: Hash32, S: Shelf>(
         (S.state shelf.new) result }
 {
     match apply_plain(alloc, tree, held, batch) {
-        Ok(after) => save_map::<H, S>(alloc, new, &after, batch.number(), shelf),
+        Ok(after) => save_after::<H, S>(alloc, new, &after, batch.number(), shelf),
         Err(ApplyErr::Batch(_tree, fault)) => Ok(bad_batch(alloc, &fault)?),
         Err(ApplyErr::NoMemory) => Err(Halt::NoMemory),
     }

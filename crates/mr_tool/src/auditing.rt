@@ -1,4 +1,4 @@
-ghost use Rattle.std.specs.Prelude.{◌≡◌, IfOk};
+ghost use Rattle.std.specs.Prelude.{◌≡◌, IfOk, IfSome, IsSome};
 ghost use Rattle.mr_tree.specs.WellFormed.{WellFormed};
 ghost use Rattle.mr_query.specs.Word.{IsAskable};
 ghost use Rattle.mr_clash.specs.Finding.{found};
@@ -11,14 +11,38 @@ use crate::ending::{Ending, Halt};
 use crate::input::{missing, read};
 use crate::lines::{collision_lines, refused_line, sound_line};
 use crate::opening::open_map;
-use mr_clash::{Finding, audit};
+use mr_clash::{AuditErr, Finding, audit};
 use mr_outside::Shelf;
 use mr_query::Query;
-use mr_tree::{Hash32, Snapshot, Tree};
+use mr_tree::{Hash32, Nodes, NodesErr, Snapshot, Tree};
 use std::alloc::{AllocError, Global};
 
-// What is found of the bytes of a proof, by a map in memory: its nodes do not fail, except for want
-// of memory.
+// What is found of the bytes of a proof, by these nodes, which are told and never fail.
+fn finding_of_nodes<N: Nodes>(
+    alloc: Global,
+    nodes: &mut N,
+    query: &Query,
+    bytes: &[u8],
+) -> Result<Finding, AllocError>
+    requires askable { IsAskable query.now }
+    requires told { IsSome (N.stands nodes.old).tree }
+    requires calm { (n : N) → N.faults n ≡ 0 }
+    ensures { IfSome (N.stands nodes.old).tree (λ t. IfOk result (λ f.
+        f ≡ found N.Hash.of t (N.stands nodes.old).batch query.now bytes.now)) }
+{
+    match audit(alloc, nodes, query, bytes) {
+        Ok(finding) => Ok(finding),
+        Err(AuditErr::NoMemory) => Err(AllocError),
+        Err(AuditErr::Nodes(NodesErr::Changed { .. })) => unreachable!(),
+        Err(AuditErr::Nodes(NodesErr::Page { .. })) => unreachable!(),
+        Err(AuditErr::Nodes(NodesErr::Outside { .. })) => unreachable!(),
+        Err(AuditErr::Nodes(NodesErr::Missing)) => unreachable!(),
+        Err(AuditErr::Nodes(NodesErr::Fault)) => unreachable!(),
+        Err(AuditErr::Nodes(NodesErr::NoMemory)) => unreachable!(),
+    }
+}
+
+// What is found of the bytes of a proof, by a map in memory.
 fn finding_of<H: Hash32>(
     alloc: Global,
     tree: &Tree,
@@ -31,10 +55,7 @@ fn finding_of<H: Hash32>(
     ensures { IfOk result (λ f. f ≡ found H.of tree.now batch query.now bytes.now) }
 {
     let snapshot = Snapshot::<H>::of(alloc, tree, batch)?;
-    match audit(alloc, &mut snapshot.reader(), query, bytes) {
-        Ok(finding) => Ok(finding),
-        Err(_) => Err(AllocError),
-    }
+    finding_of_nodes(alloc, &mut snapshot.reader(), query, bytes)
 }
 
 // The ending over a finding.

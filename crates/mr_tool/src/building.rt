@@ -10,40 +10,45 @@ use crate::input::{missing, read};
 use crate::lines::bad_text_line;
 use crate::root::packed;
 use crate::saving::save_map;
-use mr_outside::Shelf;
+use mr_outside::{Gate, Shelf};
 use mr_record::{Record, TextErr, read_lines};
 use mr_tree::Hash32;
 use std::alloc::Global;
+use std::thread::Threads;
 
 // The map of some records, in a file, and its root.
-fn build_records<H: Hash32, S: Shelf>(
+fn build_records<H: Hash32, S: Shelf, G: Gate, R: Threads + Sync>(
+    rt: &R,
     alloc: Global,
     map: &str,
     records: Vec<Record>,
     shelf: &mut S,
+    gate: &G,
 ) -> Result<Ending, Halt>
     requires { IsRecordList records.items }
     ensures { Comes (comes (say_build_of H.of map.now (Ok records.items))) (S.state shelf.old)
         (S.state shelf.new) result }
 {
-    let Some(tree) = packed(alloc, records) else {
+    let Some(made) = packed::<H, G, R>(rt, alloc, records, gate) else {
         return Err(Halt::NoMemory);
     };
-    save_map::<H, S>(alloc, map, &tree, 0, shelf)
+    save_map::<H, S>(alloc, map, &made.0, 0, &made.1, shelf)
 }
 
 // The same for the records of a text, or its fault.
-fn build_text<H: Hash32, S: Shelf>(
+fn build_text<H: Hash32, S: Shelf, G: Gate, R: Threads + Sync>(
+    rt: &R,
     alloc: Global,
     map: &str,
     text: &[u8],
     shelf: &mut S,
+    gate: &G,
 ) -> Result<Ending, Halt>
     ensures { Comes (comes (say_build_of H.of map.now (records_of_text text.now)))
         (S.state shelf.old) (S.state shelf.new) result }
 {
     match read_lines(alloc, text) {
-        Ok(records) => build_records::<H, S>(alloc, map, records, shelf),
+        Ok(records) => build_records::<H, S, G, R>(rt, alloc, map, records, shelf, gate),
         Err(TextErr::Text(fault)) => Ok(Ending::line(
             alloc,
             Status::BadText,
@@ -55,11 +60,13 @@ fn build_text<H: Hash32, S: Shelf>(
 
 /// The map of the records of a file, written to another one: its nodes stand in preorder from page
 /// 1 on, and no page is free.
-pub(crate) fn build<H: Hash32, S: Shelf>(
+pub(crate) fn build<H: Hash32, S: Shelf, G: Gate, R: Threads + Sync>(
+    rt: &R,
     alloc: Global,
     map: &str,
     records: &str,
     shelf: &mut S,
+    gate: &G,
 ) -> Result<Ending, Halt>
     ensures { Comes (say_build H.of map.now records.now) (S.state shelf.old) (S.state shelf.new)
         result }
@@ -67,5 +74,5 @@ pub(crate) fn build<H: Hash32, S: Shelf>(
     let Some(text) = read(alloc, records, shelf)? else {
         return Ok(missing(alloc, records)?);
     };
-    build_text::<H, S>(alloc, map, &text, shelf)
+    build_text::<H, S, G, R>(rt, alloc, map, &text, shelf, gate)
 }

@@ -1,10 +1,10 @@
 ghost use Rattle.std.specs.Prelude.{◌≡◌, ◌++◌, codes, OnOk, IfOk};
 ghost use Rattle.std.specs.String.{string_bytes};
 ghost use Rattle.hex.specs.Hex.{encode_lower};
+ghost use Rattle.mr_tool.specs.Demo.{map_lines as lines_on_map, query_lines as lines_on_queries, total_lines as lines_on_totals};
 ghost use Rattle.mr_tool.specs.Found.{kept_text, bad_map_line};
-ghost use Rattle.mr_tool.specs.Lines.{bad_text_line, bad_batch_line, batch_fault_text, numbers_text, missing_line, proof_line as line_of_proof, collision_lines as collision_text, sound_line as line_of_sound};
+ghost use Rattle.mr_tool.specs.Lines.{bad_text_line, bad_batch_line, batch_fault_text, numbers_text, missing_line, proof_line as line_of_proof, count_line as line_of_count, made_line as line_made, digest_line, collision_lines as collision_text, sound_line as line_of_sound};
 ghost use Rattle.mr_tool.specs.Refusal.{found_text, refused_line};
-ghost use Rattle.mr_tool.specs.Say.{digest_line};
 
 use mr_batch::BatchFault;
 use mr_pages::{MapFault, MapRule};
@@ -141,6 +141,57 @@ pub(crate) fn proof_line(alloc: Global, size: usize) -> Result<String, AllocErro
     let mut line = format!(in alloc; "proof {size}")?;
     line.push('\n')?;
     Ok(line)
+}
+
+// A name and a number.
+fn count_line(alloc: Global, name: &str, number: u128) -> Result<String, AllocError>
+    ensures { IfOk result (λ s. string_bytes s ≡ line_of_count name.now number) }
+{
+    let mut line = format!(in alloc; "{name} {number}")?;
+    line.push('\n')?;
+    Ok(line)
+}
+
+// The line on records that were generated: `made NUMBER`.
+#[tactic(auto, unfolding(crate::specs::Lines::made_line))]
+pub(crate) fn made_line(alloc: Global, count: u32) -> Result<String, AllocError>
+    ensures { IfOk result (λ s. string_bytes s ≡ line_made count) }
+{
+    count_line(alloc, "made", u128::from(count))
+}
+
+// The lines on a map: how many records it has, the level of its root node, and its root digest.
+pub(crate) fn map_lines(
+    alloc: Global,
+    count: u32,
+    level: u8,
+    root: &[u8; 32],
+) -> Result<String, AllocError>
+    ensures { IfOk result (λ s. string_bytes s ≡ lines_on_map count level root.now) }
+{
+    let mut lines = count_line(alloc, "records", u128::from(count))?;
+    lines.push_str(count_line(alloc, "level", u128::from(level))?.as_str())?;
+    lines.push_str("root ")?;
+    lines.push_str(digest_line(alloc, root)?.as_str())?;
+    Ok(lines)
+}
+
+// The lines on queries, all of which were accepted.
+pub(crate) fn query_lines(alloc: Global, queries: usize) -> Result<String, AllocError>
+    ensures { IfOk result (λ s. string_bytes s ≡ lines_on_queries queries) }
+{
+    let mut lines = count_line(alloc, "queries", queries as u128)?;
+    lines.push_str(count_line(alloc, "accepted", queries as u128)?.as_str())?;
+    Ok(lines)
+}
+
+// The lines on the lengths of all answers and of all proofs.
+pub(crate) fn total_lines(alloc: Global, answers: u128, bytes: u128) -> Result<String, AllocError>
+    ensures { IfOk result (λ s. string_bytes s ≡ lines_on_totals answers bytes) }
+{
+    let mut lines = count_line(alloc, "answers", answers)?;
+    lines.push_str(count_line(alloc, "bytes", bytes)?.as_str())?;
+    Ok(lines)
 }
 
 // The lines on two strings that differ and have one hash.

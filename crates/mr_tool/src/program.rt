@@ -12,9 +12,11 @@ use crate::applying::apply;
 use crate::auditing::audit_query;
 use crate::building::build;
 use crate::checking::check_proof;
+use crate::demonstrating::demo;
 use crate::ending::{Ending, Halt};
 use crate::finish::finish;
 use crate::listing::list;
+use crate::making::make;
 use crate::proving::prove_query;
 use crate::root::root;
 use crate::{Command, Status, read_words};
@@ -24,17 +26,21 @@ use std::alloc::Global;
 use std::thread::Threads;
 
 // Carries out a command that borrows the shelf.
-fn lend<H: Hash32, S: Shelf>(
+fn lend<H: Hash32, S: Shelf, G: Gate, R: Threads + Sync>(
+    rt: &R,
     alloc: Global,
     command: &Command<'_>,
     shelf: &mut S,
+    gate: &G,
 ) -> Result<Ending, Halt>
     requires { MayBeAsked command.now }
     ensures { Comes (say H.of (Some command.now)) (S.state shelf.old) (S.state shelf.new) result }
 {
     match command {
-        Command::Root(records) => root::<H, S>(alloc, records, shelf),
-        Command::Build(map, records) => build::<H, S>(alloc, map, records, shelf),
+        Command::Root(records) => root::<H, S, G, R>(rt, alloc, records, shelf, gate),
+        Command::Build(map, records) => {
+            build::<H, S, G, R>(rt, alloc, map, records, shelf, gate)
+        }
         Command::List(map) => list::<H, S>(alloc, map, shelf),
         Command::Apply(old, batch, new) => apply::<H, S>(alloc, old, batch, new, shelf),
         Command::Prove(map, query, proof) => prove_query::<H, S>(alloc, map, query, proof, shelf),
@@ -42,14 +48,18 @@ fn lend<H: Hash32, S: Shelf>(
             alloc, digest, query, proof, shelf,
         ),
         Command::Audit(map, query, proof) => audit_query::<H, S>(alloc, map, query, proof, shelf),
+        Command::Make(count, seed, records) => make(alloc, *count, *seed, records, shelf),
+        Command::Demo(count, seed) => Ok(demo::<H, G, R>(rt, alloc, *count, *seed, gate)?),
     }
 }
 
 // Carries out a command.
-fn carry_out<H: Hash32, S: Shelf>(
+fn carry_out<H: Hash32, S: Shelf, G: Gate, R: Threads + Sync>(
+    rt: &R,
     alloc: Global,
     command: &Command<'_>,
     shelf: S,
+    gate: &G,
 ) -> (Result<Ending, Halt>, S)
     requires { MayBeAsked command.now }
     ensures comes { Comes (say H.of (Some command.now)) (S.state shelf) (S.state result.1)
@@ -58,20 +68,22 @@ fn carry_out<H: Hash32, S: Shelf>(
     ensures bytes { (bytes : List ℕ) → AreBytes bytes → AreBytes (H.of bytes) }
 {
     let mut shelf = shelf;
-    let came = lend::<H, S>(alloc, command, &mut shelf);
+    let came = lend::<H, S, G, R>(rt, alloc, command, &mut shelf, gate);
     (came, shelf)
 }
 
 /// Runs the program on the words after its name, and hands the shelf back beside the status.
 ///
-/// Inputs are read from the shelf by name, and all that is printed goes to the sink.
+/// Inputs are read from the shelf by name, and all that is printed goes to the sink. Where a map is
+/// made of records, the digests of its leaves are computed in joined halves, and the gate is passed
+/// before and after each leaf.
 pub fn run<H: Hash32, S: Shelf, W: Sink, G: Gate, R: Threads + Sync>(
-    _rt: &R,
+    rt: &R,
     alloc: Global,
     words: &[String],
     shelf: S,
     out: &mut W,
-    _gate: &G,
+    gate: &G,
 ) -> (Status, S)
     // The run answers what is said of the files, or it stopped for want of memory or for something
     // outside.
@@ -115,7 +127,7 @@ pub fn run<H: Hash32, S: Shelf, W: Sink, G: Gate, R: Threads + Sync>(
 {
     match read_words(words) {
         Some(command) => {
-            let (came, shelf) = carry_out::<H, S>(alloc, &command, shelf);
+            let (came, shelf) = carry_out::<H, S, G, R>(rt, alloc, &command, shelf, gate);
             (finish(out, came), shelf)
         }
         None => (finish(out, Err(Halt::Words)), shelf),

@@ -1,50 +1,63 @@
-ghost use Rattle.std.specs.Prelude.{◌≡◌, IfOk};
+ghost use Rattle.std.specs.Prelude.{◌≡◌, IfOk, IfSome, IsSome};
 ghost use Rattle.mr_tree.specs.WellFormed.{WellFormed};
 ghost use Rattle.mr_query.specs.Word.{IsAskable};
 ghost use Rattle.mr_proof.specs.Honest.{proof as honest_proof};
-ghost use Rattle.mr_tool.specs.Ending.{Comes, Saves};
-ghost use Rattle.mr_tool.specs.Outcome.{text};
+ghost use Rattle.mr_tool.specs.Ending.{Comes};
 ghost use Rattle.mr_tool.specs.Plan.{comes};
 ghost use Rattle.mr_tool.specs.Say.{say_prove, say_prove_of, say_written};
 
-use crate::Status;
 use crate::ending::{Ending, Halt};
 use crate::lines::proof_line;
 use crate::opening::open_map;
-use mr_outside::{MemSink, Shelf};
-use mr_prove::prove;
+use crate::saving::save_text;
+use crate::text::Text;
+use mr_outside::Shelf;
+use mr_prove::{ProveErr, prove};
 use mr_query::Query;
-use mr_tree::{Hash32, Snapshot, Tree};
+use mr_tree::{Hash32, Nodes, NodesErr, Snapshot, Tree};
 use std::alloc::{AllocError, Global};
 
-// The proof for a query on a map, in memory: neither its nodes nor this sink fail, except for want
-// of memory.
+// The proof for a query on the map of these nodes, which are told and never fail.
+pub(crate) fn proof_of_nodes<N: Nodes>(
+    alloc: Global,
+    nodes: &mut N,
+    query: &Query,
+) -> Result<Text, AllocError>
+    requires askable { IsAskable query.now }
+    requires told { IsSome (N.stands nodes.old).tree }
+    requires calm { (n : N) → N.faults n ≡ 0 }
+    ensures kept { N.kept nodes.old nodes.new }
+    ensures written { IfSome (N.stands nodes.old).tree (λ t. IfOk result (λ text. text.bytes.items
+        ≡ honest_proof N.Hash.of t (N.stands nodes.old).batch query.now)) }
+{
+    let mut out = Text::new(alloc);
+    match prove(alloc, nodes, query, &mut out) {
+        Ok(()) => Ok(out),
+        Err(ProveErr::NoMemory) => Err(AllocError),
+        Err(ProveErr::Sink) => unreachable!(),
+        Err(ProveErr::Nodes(NodesErr::Changed { .. })) => unreachable!(),
+        Err(ProveErr::Nodes(NodesErr::Page { .. })) => unreachable!(),
+        Err(ProveErr::Nodes(NodesErr::Outside { .. })) => unreachable!(),
+        Err(ProveErr::Nodes(NodesErr::Missing)) => unreachable!(),
+        Err(ProveErr::Nodes(NodesErr::Fault)) => unreachable!(),
+        Err(ProveErr::Nodes(NodesErr::NoMemory)) => unreachable!(),
+    }
+}
+
+// The proof for a query on a map.
 fn proof_of<H: Hash32>(
     alloc: Global,
     tree: &Tree,
     batch: u64,
     query: &Query,
-) -> Result<MemSink, AllocError>
+) -> Result<Text, AllocError>
     requires well_formed { WellFormed tree.now }
     requires askable { IsAskable query.now }
-    ensures { IfOk result (λ s. s.bytes ≡ honest_proof H.of tree.now batch query.now) }
+    ensures { IfOk result
+        (λ text. text.bytes.items ≡ honest_proof H.of tree.now batch query.now) }
 {
     let snapshot = Snapshot::<H>::of(alloc, tree, batch)?;
-    let mut out = MemSink::new(alloc, Vec::new(alloc));
-    match prove(alloc, &mut snapshot.reader(), query, &mut out) {
-        Ok(()) => Ok(out),
-        Err(_) => Err(AllocError),
-    }
-}
-
-// Makes a file of these bytes.
-fn save<S: Shelf>(name: &str, bytes: &[u8], shelf: &mut S) -> Result<(), Halt>
-    ensures { Saves name.now (text bytes.now) (S.state shelf.old) (S.state shelf.new) result }
-{
-    shelf.create(name)?;
-    shelf.append(name, bytes)?;
-    shelf.sync(name)?;
-    Ok(())
+    proof_of_nodes(alloc, &mut snapshot.reader(), query)
 }
 
 // A proof in a file, and the line on it.
@@ -58,8 +71,7 @@ fn write_proof<S: Shelf>(
         (S.state shelf.new) result }
 {
     let line = proof_line(alloc, bytes.len())?;
-    save(name, bytes, shelf)?;
-    Ok(Ending::line(alloc, Status::Done, line))
+    save_text(alloc, line, name, bytes, shelf)
 }
 
 // The proof for a query on a map, in a file.

@@ -4,49 +4,68 @@ ghost use Rattle.mr_tree.specs.Digest.{root as root_digest};
 ghost use Rattle.mr_tree.specs.WellFormed.{WellFormed};
 ghost use Rattle.mr_pack.specs.Pack.{pack as tree_of};
 ghost use Rattle.mr_tool.specs.Ending.{Comes, Gives};
-ghost use Rattle.mr_tool.specs.Say.{prints, digest_line as line_of, say_root, say_root_of};
+ghost use Rattle.mr_tool.specs.Lines.{digest_line as line_of};
+ghost use Rattle.mr_tool.specs.Say.{prints, say_root, say_root_of};
 
 use crate::Status;
 use crate::ending::{Ending, Halt};
 use crate::input::{missing, read};
 use crate::lines::{bad_text_line, digest_line};
-use mr_outside::Shelf;
-use mr_pack::{PackErr, pack};
+use mr_outside::{Gate, Shelf};
+use mr_pack::{PackErr, pack_joined};
 use mr_record::{Record, TextErr, read_lines};
-use mr_tree::{Hash32, Tree, root_of};
+use mr_tree::{Hash32, Tree};
 use std::alloc::{AllocError, Global};
+use std::thread::Threads;
 
-// The tree of records whose numbers differ, unless memory ran out.
-pub(crate) fn packed(alloc: Global, records: Vec<Record>) -> Option<Tree>
+// The tree of records whose numbers differ, and its root digest at batch 0, unless memory ran out.
+pub(crate) fn packed<H: Hash32, G: Gate, R: Threads + Sync>(
+    rt: &R,
+    alloc: Global,
+    records: Vec<Record>,
+    gate: &G,
+) -> Option<(Tree, [u8; 32])>
     requires { IsRecordList records.items }
-    ensures { IfSome result (λ tree. (tree ≡ tree_of records.items) × WellFormed tree) }
+    ensures tree { IfSome result (λ map. map.0 ≡ tree_of records.items) }
+    ensures well_formed { IfSome result (λ map. WellFormed map.0) }
+    ensures root { IfSome result (λ map. map.1 ≡ root_digest H.of map.0 0) }
 {
-    match pack(alloc, records) {
-        Ok(tree) => Some(tree),
+    match pack_joined::<H, G, R>(rt, alloc, records, gate) {
+        Ok(map) => Some(map),
         Err(PackErr::NumberTwice { number: _ }) => unreachable!(),
         Err(PackErr::NoMemory) => None,
     }
 }
 
 // The root of some records.
-fn root_of_records<H: Hash32>(alloc: Global, records: Vec<Record>) -> Result<Ending, AllocError>
+fn root_of_records<H: Hash32, G: Gate, R: Threads + Sync>(
+    rt: &R,
+    alloc: Global,
+    records: Vec<Record>,
+    gate: &G,
+) -> Result<Ending, AllocError>
     requires { IsRecordList records.items }
     ensures { let digest = root_digest H.of (tree_of records.items) 0 in
         IfOk result (λ e. Gives (prints (line_of digest)) e) }
 {
-    let Some(tree) = packed(alloc, records) else {
+    let Some(map) = packed::<H, G, R>(rt, alloc, records, gate) else {
         return Err(AllocError);
     };
-    let line = digest_line(alloc, &root_of::<H>(&tree, 0))?;
+    let line = digest_line(alloc, &map.1)?;
     Ok(Ending::line(alloc, Status::Done, line))
 }
 
 // The root of the records of a text, or its fault.
-fn root_of_text<H: Hash32>(alloc: Global, text: &[u8]) -> Result<Ending, AllocError>
+fn root_of_text<H: Hash32, G: Gate, R: Threads + Sync>(
+    rt: &R,
+    alloc: Global,
+    text: &[u8],
+    gate: &G,
+) -> Result<Ending, AllocError>
     ensures { IfOk result (λ e. Gives (say_root_of H.of (records_of_text text.now)) e) }
 {
     match read_lines(alloc, text) {
-        Ok(records) => root_of_records::<H>(alloc, records),
+        Ok(records) => root_of_records::<H, G, R>(rt, alloc, records, gate),
         Err(TextErr::Text(fault)) => Ok(Ending::line(
             alloc,
             Status::BadText,
@@ -57,15 +76,17 @@ fn root_of_text<H: Hash32>(alloc: Global, text: &[u8]) -> Result<Ending, AllocEr
 }
 
 /// The root digest of the records of a file.
-pub(crate) fn root<H: Hash32, S: Shelf>(
+pub(crate) fn root<H: Hash32, S: Shelf, G: Gate, R: Threads + Sync>(
+    rt: &R,
     alloc: Global,
     name: &str,
     shelf: &mut S,
+    gate: &G,
 ) -> Result<Ending, Halt>
     ensures { Comes (say_root H.of name.now) (S.state shelf.old) (S.state shelf.new) result }
 {
     let Some(text) = read(alloc, name, shelf)? else {
         return Ok(missing(alloc, name)?);
     };
-    Ok(root_of_text::<H>(alloc, &text)?)
+    Ok(root_of_text::<H, G, R>(rt, alloc, &text, gate)?)
 }

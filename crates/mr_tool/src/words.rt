@@ -2,11 +2,16 @@ ghost use Rattle.std.specs.Prelude.{◌≡◌, ◌≢◌, ◌↔◌, ◌∷◌, 
 ghost use Rattle.std.specs.String.{string_bytes};
 ghost use Rattle.std.specs.List.{list_all};
 ghost use Rattle.mr_record.specs.RecordText.{is_lower_digit};
-ghost use Rattle.mr_tool.specs.Spelling.{IsSpelled, AsksAs, digest_of_word};
+ghost use Rattle.mr_tool.specs.Spelling.{IsSpelled, AsksAs, IsNumberOf, digest_of_word};
 ghost use Rattle.mr_tool.specs.declared.words.Command as types;
 
 use hex::FromHex;
 use mr_query::{Query, read_query};
+use mr_record::read_u64;
+use mr_tree::COUNT_LIMIT;
+
+/// The most records of a demonstration.
+pub const DEMO_LIMIT: u64 = 1 << 16;
 
 /// What the user asks for. Files go by name.
 #[derive(Clone, Copy, Debug)]
@@ -29,6 +34,12 @@ pub enum Command<'a> {
     /// Say what the proof in the second file is worth against the map in the first one, for a
     /// query.
     Audit(&'a str, Query, &'a str),
+    /// Write so many generated records, from 0 to 2^20, to a file, and print how many they are. The
+    /// second number is the seed.
+    Make(u32, u64, &'a str),
+    /// Prove and check 64 generated queries in memory on a map of so many generated records, from 1
+    /// to 65,536, and print what that gave. The second number is the seed.
+    Demo(u32, u64),
 }
 
 // The command `root` on a file.
@@ -143,6 +154,39 @@ fn audit_words<'a>(map: &'a str, query: &str, proof: &'a str) -> Option<Command<
     Some(Command::Audit(map, asked, proof))
 }
 
+// The number between two bounds that a word writes in decimal.
+fn read_number(word: &str, least: u64, most: u64) -> Option<u64>
+    ensures { IsNumberOf word.now least most result }
+{
+    let number = read_u64(word.as_bytes())?;
+    if least <= number && number <= most {
+        Some(number)
+    } else {
+        None
+    }
+}
+
+// The command `make` on a number of records, a seed and a file.
+fn make_words<'a>(count: &str, seed: &str, records: &'a str) -> Option<Command<'a>>
+    ensures { IsSpelled (codes "make" ∷ count.now ∷ seed.now ∷ records.now ∷ []) result }
+{
+    let number = read_number(count, 0, COUNT_LIMIT)?;
+    let start = read_number(seed, 0, u64::MAX)?;
+    if records.is_empty() {
+        return None;
+    }
+    Some(Command::Make(number as u32, start, records))
+}
+
+// The command `demo` on a number of records and a seed.
+fn demo_words<'a>(count: &str, seed: &str) -> Option<Command<'a>>
+    ensures { IsSpelled (codes "demo" ∷ count.now ∷ seed.now ∷ []) result }
+{
+    let number = read_number(count, 1, DEMO_LIMIT)?;
+    let start = read_number(seed, 0, u64::MAX)?;
+    Some(Command::Demo(number as u32, start))
+}
+
 // The command of a name and one more word.
 fn two_words<'a>(name: &str, a: &'a str) -> Option<Command<'a>>
     ensures { IsSpelled (name.now ∷ a.now ∷ []) result }
@@ -158,10 +202,10 @@ fn two_words<'a>(name: &str, a: &'a str) -> Option<Command<'a>>
 fn three_words<'a>(name: &str, a: &'a str, b: &'a str) -> Option<Command<'a>>
     ensures { IsSpelled (name.now ∷ a.now ∷ b.now ∷ []) result }
 {
-    if name == "build" {
-        build_words(a, b)
-    } else {
-        None
+    match name {
+        "build" => build_words(a, b),
+        "demo" => demo_words(a, b),
+        _ => None,
     }
 }
 
@@ -174,6 +218,7 @@ fn four_words<'a>(name: &str, a: &'a str, b: &'a str, c: &'a str) -> Option<Comm
         "prove" => prove_words(a, b, c),
         "check" => check_words(a, b, c),
         "audit" => audit_words(a, b, c),
+        "make" => make_words(a, b, c),
         _ => None,
     }
 }

@@ -1,4 +1,4 @@
-use Rattle.std.proofs.Common.{sym, ap, ◌∙◌}
+use Rattle.std.proofs.Common.{sym, ◌∙◌}
 use Rattle.mr_tree.specs.Tree.{records}
 use Rattle.mr_batch.proofs.Walking.{fault_none}
 use Rattle.mr_batch.proofs.replay.apply_plain.Goals as goal

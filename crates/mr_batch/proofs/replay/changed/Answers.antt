@@ -2,7 +2,6 @@ use Rattle.std.proofs.Common.{IfOk, sym, subst}
 use Rattle.std.specs.List.Sorted.{IsPermutation}
 use Rattle.std.proofs.lemmas.Result.{IfOk-weaker}
 use Rattle.mr_tree.specs.Tree.{records}
-use Rattle.mr_tree.specs.declared.tree.Tree.{Tree}
 use Rattle.mr_batch.specs.Applied.{made}
 use Rattle.mr_batch.specs.declared.change.Change.{Change}
 use Rattle.mr_batch.proofs.Permuted.{addition_leaves}

@@ -1,6 +1,6 @@
 use Rattle.std.proofs.Common.{◌∙◌}
 use Rattle.mr_tree.specs.Tree.{records}
-use Rattle.mr_batch.proofs.Replaying.{numbers_of, none_is_meant, some_is_meant}
+use Rattle.mr_batch.proofs.Replaying.{none_is_meant, some_is_meant}
 use Rattle.mr_batch.proofs.replay.fault_of.Goals as goal
 
 pub returns-in-Ok : goal.returns-in-Ok

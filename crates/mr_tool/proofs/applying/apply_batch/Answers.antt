@@ -6,11 +6,11 @@ use Rattle.mr_tool.proofs.applying.apply_batch.Goals as goal
 
 pub returns-in-Ok : goal.returns-in-Ok
 returns-in-Ok g c =
-    subst (λ said. Comes (comes said) (g.S.Shelf.state c.args.shelf.now) (g.S.Shelf.state c.save_map.new.shelf)
-    c.save_map.result)
+    subst (λ said. Comes (comes said) (g.S.Shelf.state c.args.shelf.now) (g.S.Shelf.state c.save_after.new.shelf)
+    c.save_after.result)
     (says_saved g.H.Hashes.of c.args.new.now c.args.tree c.args.held c.args.batch.now c.in-Ok.after c.number.result
     c.in-Ok.ensures.exact c.number.ensures c.in-Ok.ensures.admissible)
-    c.save_map.ensures
+    c.save_after.ensures
 
 pub returns-in_ok-bad_batch-in-Err-Batch : goal.returns-in_ok-bad_batch-in-Err-Batch
 returns-in_ok-bad_batch-in-Err-Batch g c =

@@ -4,7 +4,7 @@ use Rattle.mr_tool.proofs.Apart.{never_twice}
 use Rattle.mr_tool.proofs.root.packed.Goals as goal
 
 pub unreachable-requires : goal.unreachable-requires
-unreachable-requires c =
+unreachable-requires g c =
     never_twice c.in-Err-NumberTwice.field-0-0 c.args.records.items c.requires.apart
     (subst (λ e. IsCause e c.args.records.items) c.in-Err-NumberTwice.field-0-is
     c.in-Err-NumberTwice.ensures.refused)

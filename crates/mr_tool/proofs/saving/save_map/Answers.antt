@@ -3,7 +3,8 @@ use Rattle.mr_tool.specs.Answer.{IsSettled}
 use Rattle.mr_tool.specs.Ending.{Comes}
 use Rattle.mr_tool.specs.Outcome.{map_of}
 use Rattle.mr_tool.specs.Plan.{comes}
-use Rattle.mr_tool.specs.Say.{say_map, digest_line}
+use Rattle.mr_tool.specs.Lines.{digest_line}
+use Rattle.mr_tool.specs.Say.{say_map}
 use Rattle.mr_tool.proofs.Going.{halted_is, comes_saved, comes_unsaved}
 use Rattle.mr_tool.proofs.saving.save_map.Goals as goal
 
@@ -27,6 +28,6 @@ returns g c =
     (g.S.Shelf.state c.args.shelf.now) (g.S.Shelf.state c.save.new.shelf) c.line.result c.in_ok-save.field-0 refl
     (record {
       status = c.line.ensures.status;
-      printed = c.line.ensures.printed ∙ c.in_ok-line.ensures ∙ ap digest_line c.root_of.ensures.value;
+      printed = c.line.ensures.printed ∙ c.in_ok-line.ensures ∙ ap digest_line c.requires.root;
       settled = subst IsSettled (sym c.line.ensures.status) ((λ e. cc), (λ e. cc));
     }) c.in_ok-save.ensures

@@ -1,0 +1,157 @@
+//! The root of a packed map, where the digests of the leaves are computed in joined halves.
+
+ghost use Rattle.std.specs.Prelude.{◌≡◌, List, ◌++◌, ◌<◌, ◌≤◌, ◌^◌, length, map, drop, All, OnOk, IfOk};
+ghost use Rattle.std.specs.Int.{w64, from_be_bytes};
+ghost use Rattle.std.specs.Borrow.{Bor};
+ghost use Rattle.mr_record.specs.declared.record.Record as types;
+ghost use Rattle.mr_tree.specs.Limits.{leaf_limit};
+ghost use Rattle.mr_tree.specs.Tree.{level as level_in};
+ghost use Rattle.mr_tree.specs.Digest.{digest as digest_in, root};
+ghost use Rattle.mr_tree.specs.Slim.{IsSlim};
+ghost use Rattle.mr_tree.specs.WellFormed.{WellFormed, HasOneLevel};
+ghost use Rattle.mr_tree.specs.declared.tree.Tree.TheFolds.{every-Tree};
+ghost use Rattle.mr_pack.specs.Leaves.{leaves as leaves_in, leaf_digest as digest_of_leaf, leaf_digests};
+
+use mr_halves::{Work, in_halves};
+use mr_outside::Gate;
+use mr_record::{Record, u64_of_bytes};
+use mr_tree::{
+    Hash32, Hashes, Tree, bounds, count_of, feed_entry, leaf_digest, level_of, open_inner,
+    root_digest,
+};
+use std::alloc::{AllocError, Global};
+use std::marker::PhantomData;
+use std::thread::Threads;
+
+// Adds the leaves of a tree, left to right, each by its records.
+fn gather_leaves<'a>(tree: &'a Tree, list: &mut Vec<&'a [Record]>) -> Result<(), AllocError>
+    ensures { OnOk result (map (λ (rs : Bor (List types.Record)). rs.now) list.new.items
+        ≡ map (λ (rs : Bor (List types.Record)). rs.now) list.old.items ++ leaves_in tree.now) }
+{
+    match tree {
+        Tree::Empty => {}
+        Tree::Leaf(records) => list.push(records.as_slice())?,
+        Tree::Inner(children) => {
+            for child in children.as_slice() {
+                gather_leaves(child, list)?;
+            }
+        }
+    }
+    Ok(())
+}
+
+// The number of leaves of a tree.
+fn leaf_count(tree: &Tree) -> usize
+    requires { length (leaves_in tree.now) < 2 ^ 64 }
+    ensures { result ≡ length (leaves_in tree.now) }
+{
+    match tree {
+        Tree::Empty => 0,
+        Tree::Leaf(_) => 1,
+        Tree::Inner(children) => {
+            let mut sum = 0;
+            for child in children.as_slice() {
+                sum += leaf_count(child);
+            }
+            sum
+        }
+    }
+}
+
+// What is done to each leaf: its digest is computed.
+#[derive(Drop)]
+struct LeafHashing<'a, H: Hash32> {
+    hash: PhantomData<H>,
+    leaf: PhantomData<&'a [Record]>,
+}
+
+// The last 8 bytes of a digest as a big-endian number.
+fn last_number(digest: &[u8; 32]) -> u64
+    ensures { result ≡ from_be_bytes w64 (drop 24 digest.now) }
+{
+    let (_, last) = digest.split_at(24);
+    u64_of_bytes(last)
+}
+
+impl<'a, H: Hash32> Work for LeafHashing<'a, H> {
+    type Piece = &'a [Record];
+
+    type Found = [u8; 32];
+
+    ghost may = { λ w rs. length rs.now ≤ leaf_limit };
+
+    ghost gives = { λ w rs. digest_of_leaf H.of rs.now };
+
+    ghost number_of = { λ digest. from_be_bytes w64 (drop 24 digest) };
+
+    fn carry_out(&self, piece: &&'a [Record]) -> Result<[u8; 32], AllocError> {
+        Ok(leaf_digest::<H>(piece))
+    }
+
+    fn number(found: &[u8; 32]) -> u64
+        ensures { result ≡ from_be_bytes w64 (drop 24 found.now) }
+    {
+        last_number(found)
+    }
+}
+
+// The digests of some leaves.
+fn hashed<H: Hash32, G: Gate, R: Threads + Sync>(
+    rt: &R,
+    alloc: Global,
+    list: &[&[Record]],
+    gate: &G,
+) -> Result<Vec<[u8; 32]>, AllocError>
+    requires { All (λ (rs : Bor (List types.Record)). length rs.now ≤ leaf_limit) list.now }
+    ensures { IfOk result (λ v. v.items
+        ≡ map (λ (rs : Bor (List types.Record)). digest_of_leaf H.of rs.now) list.now) }
+{
+    let work = LeafHashing::<H> {
+        hash: PhantomData,
+        leaf: PhantomData,
+    };
+    in_halves(rt, alloc, &work, list, gate)
+}
+
+// The digest of a node over the digests of its leaves.
+fn digest_over<H: Hashes>(tree: &Tree, level: u8, digests: &[[u8; 32]]) -> [u8; 32]
+    requires slim { IsSlim tree.now }
+    requires alike { every-Tree HasOneLevel tree.now }
+    requires level { level ≡ level_in tree.now }
+    requires digests { digests.now ≡ leaf_digests H.of tree.now }
+    ensures { result ≡ digest_in H.of tree.now }
+{
+    match tree {
+        Tree::Empty => H::start().finish(),
+        Tree::Leaf(_) => digests[0],
+        Tree::Inner(children) => {
+            let mut hasher = open_inner::<H>(level, children.as_slice().len() as u8);
+            let mut rest = digests;
+            for child in children.as_slice() {
+                let (front, back) = rest.split_at(leaf_count(child));
+                let digest = digest_over::<H>(child, level - 1, front);
+                feed_entry(&mut hasher, bounds(child), &digest);
+                rest = back;
+            }
+            hasher.finish()
+        }
+    }
+}
+
+// The root digest of the map with this tree at batch 0.
+pub(crate) fn first_root<H: Hash32, G: Gate, R: Threads + Sync>(
+    rt: &R,
+    alloc: Global,
+    tree: &Tree,
+    gate: &G,
+) -> Result<[u8; 32], AllocError>
+    requires { WellFormed tree.now }
+    ensures { IfOk result (λ digest. digest ≡ root H.of tree.now 0) }
+{
+    let mut list = Vec::new(alloc);
+    gather_leaves(tree, &mut list)?;
+    let digests = hashed::<H, G, R>(rt, alloc, &list, gate)?;
+    let level = level_of(tree);
+    let digest = digest_over::<H>(tree, level, &digests);
+    Ok(root_digest::<H>(0, count_of(tree), level, bounds(tree), &digest))
+}

@@ -1,0 +1,36 @@
+ghost use Rattle.std.specs.Prelude.{◌≡◌, [], Some};
+ghost use Rattle.mr_outside.specs.State.{Sunk};
+
+use mr_outside::{Sink, SinkErr};
+use std::alloc::Global;
+
+// A text in memory. It takes all that it is given, and refuses for want of memory alone.
+#[derive(Drop)]
+pub(crate) struct Text {
+    bytes: Vec<u8>,
+}
+
+impl Text {
+    pub(crate) fn new(alloc: Global) -> Text
+        ensures { result.bytes.items ≡ [] }
+    {
+        Text {
+            bytes: Vec::new(alloc),
+        }
+    }
+
+    pub(crate) fn bytes(&self) -> &[u8]
+        ensures { result.now ≡ self.now.bytes.items }
+    {
+        self.bytes.as_slice()
+    }
+}
+
+impl Sink for Text {
+    ghost state = { λ t. record { taken = Some t.bytes.items; faults = 0 } };
+
+    fn write(&mut self, bytes: &[u8]) -> Result<usize, SinkErr> {
+        self.bytes.extend_from_slice(bytes)?;
+        Ok(bytes.len())
+    }
+}
