@@ -1,11 +1,14 @@
 #!/usr/bin/env python3
-"""A plain, slow program for roots of maps after batches, written from docs/FORMATS.md alone.
+"""A plain, slow program for maps after batches and for generated workloads, written from docs/FORMATS.md alone.
 
 usage: tests/plain.py RECORDS [BATCH ..]
+       tests/plain.py make N SEED
+       tests/plain.py demo N SEED
 
 Prints the root digest of the map of the record text in the file RECORDS, and then that after each batch in turn, or
-the line on the first batch that may not be applied. It takes texts to be without a fault. With no words it prints the
-constants of crates/mr_tests/src/changes.rt. It is no part of the gate.
+the line on the first batch that may not be applied. It takes texts to be without a fault. `make` prints the text that
+the program's command of that name writes to a file, `demo` what the program's prints. With no words it prints the
+constants of the tests in crates/mr_tests. It is no part of the gate.
 """
 import hashlib
 import math
@@ -218,6 +221,94 @@ def batch_of(text):
     return int(lines[0][1]), [record_of(f[1:]) if f[0] == "+" else int(f[1]) for f in lines[1:]]
 
 
+def line_of(record):
+    number, rect, payload = record
+    return " ".join(map(str, [number, *rect, payload.hex() or "-"]))
+
+
+# ---- workloads that are made up
+
+
+def words(count, state):
+    for _ in range(count):
+        state = (state + 0x9E3779B97F4A7C15) % 2**64
+        z = (state ^ state >> 30) * 0xBF58476D1CE4E5B9 % 2**64
+        z = (z ^ z >> 27) * 0x94D049BB133111EB % 2**64
+        yield z ^ z >> 31
+
+
+def halves(word):
+    return word >> 32, word % 2**32
+
+
+def corner(word):
+    return tuple(half % 2000000 - 1000000 for half in halves(word))
+
+
+def generated(count, seed):
+    for number, word in enumerate(words(count, seed), 1):
+        (x, y), (a, b) = corner(word), halves(word)
+        yield number, (x, y, x + a % 64, y + b % 64), word.to_bytes(8, "big")
+
+
+def generated_queries(count, seed):
+    """A query is a window, or a centre and how many of the nearest records are asked for."""
+    for j, (x, y) in enumerate(map(corner, words(count, seed))):
+        yield (x, y, x + 20000, y + 20000) if j % 2 == 0 else ((x, y), 10)
+
+
+# ---- answers and the lengths of their proofs
+
+
+def overlap(a, b):
+    return a[0] <= b[2] and b[0] <= a[2] and a[1] <= b[3] and b[1] <= a[3]
+
+
+def distance(centre, r):
+    """The square of how far the rectangle is."""
+    return sum(max(r[i] - centre[i], centre[i] - r[i + 2], 0) ** 2 for i in (0, 1))
+
+
+def answer(records, query):
+    if len(query) == 4:
+        return [r for r in records if overlap(query, r[1])]
+    centre, most = query
+    return sorted(records, key=lambda r: (distance(centre, r[1]), r[0]))[:most]
+
+
+def item_length(node, meets):
+    if not meets(node.rect):
+        return 1 + 16 + 32
+    if node.is_leaf:
+        return 2 + sum(len(record_bytes(r)) for r in node.entries)
+    return 2 + sum(item_length(child, meets) for child in node.entries)
+
+
+def proof_length(tree, query):
+    """Of the proof on a map that is not empty."""
+    head = 4 + 1 + 1 + 8 + 8 + 1
+    if len(query) == 4:
+        return head + item_length(tree, lambda r: overlap(query, r))
+    centre, most = query
+    near = answer(tree.records(), query)
+    if len(near) < most:
+        return head + 1 + item_length(tree, lambda r: True)
+    radius = distance(centre, near[-1][1])
+    return head + 1 + 16 + item_length(tree, lambda r: distance(centre, r) <= radius)
+
+
+def demo_lines(count, seed):
+    records = list(generated(count, seed))
+    tree, queries = pack(records), list(generated_queries(64, seed))
+    yield "records %d" % count
+    yield "level %d" % tree.level()
+    yield "root " + root(tree, 0)
+    yield "queries 64"
+    yield "accepted 64"
+    yield "answers %d" % sum(len(answer(records, q)) for q in queries)
+    yield "bytes %d" % sum(proof_length(tree, q) for q in queries)
+
+
 # ---- the constants of the tests
 
 
@@ -258,6 +349,14 @@ CONSTANTS = {
 if len(sys.argv) == 1:
     for name, (records, batches) in CONSTANTS.items():
         print(name, *lines_of(records, batches), sep="\n")
+    print("MADE", root(pack(list(generated(2000, 1))), 0), sep="\n")
+    print("DEMO", *demo_lines(1000, 1), sep="\n")
+elif sys.argv[1:2] == ["make"]:
+    for record in generated(int(sys.argv[2]), int(sys.argv[3])):
+        print(line_of(record))
+elif sys.argv[1:2] == ["demo"]:
+    for line in demo_lines(int(sys.argv[2]), int(sys.argv[3])):
+        print(line)
 else:
     with open(sys.argv[1]) as text:
         given = [record_of(line.split(" ")) for line in text.read().splitlines()]
