@@ -96,9 +96,9 @@ pub fn pack(alloc: Global, list: Vec<Record>) -> Result<Tree, PackErr>
 }
 
 /// Packs at most 2^20 records as `pack` does, and gives the root digest of the map beside the tree,
-/// at batch 0. The digests of the leaves are computed in joined halves (`in_halves` of `mr_halves`):
-/// piece `i` is the leaf at place `i` from the left, counted from 0, and the gate is told the last 8
-/// bytes of its digest as a big-endian number. No answer depends on the gate.
+/// at batch 0. The digests of the leaves are computed in joined halves (`mr_halves`): piece `i` is
+/// the leaf at place `i` from the left, counted from 0, and the gate is told the last 8 bytes of its
+/// digest as a big-endian number. No answer depends on the gate.
 pub fn pack_joined<H: Hash32, G: Gate, R: Threads + Sync>(
     rt: &R,
     alloc: Global,

@@ -29,6 +29,9 @@ const EMPTY: &[File<'static>] = &[("r", b"")];
 const DEMO: &[u8] =
     b"records 1000\nlevel 1\nroot 3c63e6762943d4cb98f8db525ac0ce29923abcccfc44decc3eeb192c62c3eaf2\nqueries 64\naccepted 64\nanswers 356\nbytes 260172\n";
 
+const XOR_DEMO: &[u8] =
+    b"records 1000\nlevel 1\nroot 0000000000000000000000000000000000000000000000000000000000000049\nqueries 64\naccepted 64\nanswers 356\nbytes 260172\n";
+
 const LAST_DEMO: &[u8] =
     b"records 1\nlevel 0\nroot fe2d75074ed20c162554cf5a81df27ef2c33669e21780471451bab3bb060325a\nqueries 64\naccepted 64\nanswers 33\nbytes 4178\n";
 
@@ -91,11 +94,39 @@ const MADE: &[Row<'static>] = &[
     ),
 ];
 
+// Under the exclusive or of bytes, twice.
+const SHOWN: &[Row<'static>] = &[
+    Row(
+        &["demo", "1000", "1"],
+        NO_FILES,
+        &[],
+        &[],
+        Done,
+        XOR_DEMO,
+        NO_FILES,
+    ),
+    Row(
+        &["demo", "1000", "1"],
+        NO_FILES,
+        &[],
+        &[],
+        Done,
+        XOR_DEMO,
+        NO_FILES,
+    ),
+];
+
 #[test]
 fn what_is_made_and_shown(rt: HostRuntime) -> Result<(), Fail> {
     let alloc = rt.alloc();
     for row in MADE {
         assert!(rt; holds::<Sha, _, _>(&rt, alloc, &NoGate, row)?, "{row:?}");
+    }
+    for row in SHOWN {
+        assert!(rt;
+            holds::<XorHash, _, _>(&rt, alloc, &NoGate, row)?,
+            "{row:?}"
+        );
     }
     Ok(())
 }

@@ -1,5 +1,5 @@
--- The lines that are printed: digests, lengths and numbers, and what is said of words, texts, batches
--- and files that are refused.
+-- The lines that are printed: digests, lengths and numbers, and what is said of words, texts,
+-- batches and files that are refused.
 use Rattle.std.specs.Prelude.{ℕ, List, [], ◌∷◌, ◌++◌, codes, decimal}
 use Rattle.hex.specs.Hex.{encode_lower}
 use Rattle.mr_record.specs.declared.text_fault.TextFault.{TextFault}

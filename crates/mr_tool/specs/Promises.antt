@@ -1,6 +1,6 @@
 -- What a run promises of inputs that are in order, of honest proofs and of accepted ones: theorems
--- over what it answers, in the form in which they are quoted. They speak of files that are told, but
--- for the commands that read none.
+-- over what it answers, in the form in which they are quoted. They speak of files that are told,
+-- but for the commands that read none.
 use Rattle.std.specs.Prelude.{◌≡◌, ◌⊎◌, ⊤, ℕ, ◌^◌, ◌<◌, List, ◌++◌, Option, Some, None, Ok}
 use Rattle.std.specs.Borrow.{Bor}
 use Rattle.mr_outside.specs.Files.{Files, file}

@@ -5,6 +5,7 @@ mod given;
 
 use mr_outside::{StdShelf, StdSink};
 use mr_tree::Sha;
+use std::fs::File;
 use std::process::ExitCode;
 use std::rt::Env;
 use std::{env, io};
@@ -16,6 +17,14 @@ fn words<R: Env + AllocGlobal>(rt: &R) -> io::Result<Vec<String>> {
 }
 
 fn main(rt: HostRuntime) -> ExitCode {
+    // A file that is opened takes the lowest place that is free, and would take that of a standard
+    // stream that the caller closed. So these places are taken first, for reading alone: what is
+    // printed to a closed output then fails.
+    let _places = (
+        File::open(&rt, "/dev/null"),
+        File::open(&rt, "/dev/null"),
+        File::open(&rt, "/dev/null"),
+    );
     let shelf = StdShelf::new(&rt, rt.alloc());
     let mut out = StdSink::new(&rt);
     let (code, _shelf) = given::run_given::<Sha, _, _, _>(
