@@ -3,7 +3,7 @@
 
 use crate::gates::{fresh, is_passed};
 use mr_geom::Rect;
-use mr_outside::Gate;
+use mr_outside::{Gate, NoGate};
 use mr_pack::{PackErr, pack, pack_joined};
 use mr_record::{Payload, Record, u64_of_bytes};
 use mr_tree::{Hash32, Sha, Tree, XorHash, leaf_digest, root_of};
@@ -108,5 +108,15 @@ fn joined_halves_give_the_root(rt: HostRuntime) -> Result<(), Fail> {
         assert!(rt; agrees::<Sha, _>(&rt, alloc, count, leaves)?, "{count}");
     }
     assert!(rt; agrees::<XorHash, _>(&rt, alloc, 17, 2)?);
+    Ok(())
+}
+
+#[test]
+fn the_least_number_that_stands_twice_is_named(rt: HostRuntime) -> Result<(), Fail> {
+    let alloc = rt.alloc();
+    let mut list = records(alloc, 20)?;
+    list.append(&mut records(alloc, 3)?)?;
+    let refused = joined::<XorHash, _, _>(&rt, alloc, list, &NoGate).err();
+    assert_eq!(rt; refused, Some(PackErr::NumberTwice { number: 1 }));
     Ok(())
 }
