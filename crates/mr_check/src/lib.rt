@@ -10,8 +10,6 @@ mod head;
 mod item;
 mod radius;
 mod record;
-#[cfg(test)]
-mod tests;
 
 pub use client::check;
 pub use error::CheckErr;

@@ -7,8 +7,6 @@
 mod point;
 mod rect;
 mod region;
-#[cfg(test)]
-mod tests;
 
 pub use point::Point;
 pub use rect::{Rect, joined};

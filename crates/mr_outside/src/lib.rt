@@ -22,6 +22,3 @@ pub use shelf::{Shelf, ShelfErr};
 pub use sink::{Sink, SinkErr, write_all};
 pub use std_shelf::StdShelf;
 pub use std_sink::StdSink;
-
-#[cfg(test)]
-mod tests;

@@ -8,8 +8,6 @@ mod level;
 mod load;
 mod node;
 mod placed;
-#[cfg(test)]
-mod tests;
 mod twice;
 
 pub use load::{PackErr, pack, pack_joined};

@@ -6,8 +6,6 @@ mod circle;
 mod comma;
 mod query;
 mod selection;
-#[cfg(test)]
-mod tests;
 mod window;
 mod word;
 mod write;

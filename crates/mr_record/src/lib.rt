@@ -28,6 +28,3 @@ pub use record::{Record, are_records, is_record};
 pub use record_fault::{RecordFault, RecordRule};
 pub use text::{first_line, read_lines};
 pub use text_fault::{TextErr, TextFault, TextRule};
-
-#[cfg(test)]
-mod tests;

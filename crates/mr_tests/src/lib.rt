@@ -1,4 +1,4 @@
-//! Tests that cross crates: the program's top call on whole inputs, with values from outside.
+//! Tests by call and by whole runs of the program, with values from outside.
 #![tactic(auto)]
 
 #[cfg(test)]
@@ -11,6 +11,8 @@ mod bench;
 mod calls;
 #[cfg(test)]
 mod changes;
+#[cfg(test)]
+mod client;
 #[cfg(test)]
 mod gates;
 #[cfg(test)]
@@ -30,11 +32,21 @@ mod maps;
 #[cfg(test)]
 mod nearest;
 #[cfg(test)]
+mod outside;
+#[cfg(test)]
+mod packing;
+#[cfg(test)]
 mod proofs;
+#[cfg(test)]
+mod queries;
+#[cfg(test)]
+mod rects;
 #[cfg(test)]
 mod rows;
 #[cfg(test)]
 mod splits;
+#[cfg(test)]
+mod texts;
 #[cfg(test)]
 mod tree;
 #[cfg(test)]

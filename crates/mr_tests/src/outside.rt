@@ -1,7 +1,13 @@
+//! Files, outputs and gates by their calls: in memory with each call failing, over the real file system and output, and
+//! over runtimes that refuse or give little.
+
 ghost use Rattle.std.specs.Prelude.{◌≤◌, ⊤, Some, IsTrue, length};
 ghost use Rattle.mr_outside.specs.Told.{OfFile};
 
-use crate::*;
+use mr_outside::{
+    Gate, MemShelf, MemSink, NoGate, Shelf, ShelfErr, Sink, SinkErr, StdShelf, StdSink, read_all,
+    write_all,
+};
 use std::alloc::{AllocError, Allocator, Global};
 use std::cell::RefCell;
 use std::fmt::Display;

@@ -1,7 +1,9 @@
+//! The client by its call, on proofs of small maps put by hand, and each field by its reader.
+
 ghost use Rattle.std.specs.Prelude.{IfOk};
 ghost use Rattle.mr_query.specs.Word.{IsAskable};
 
-use crate::{CheckErr, check};
+use mr_check::{CheckErr, check};
 use mr_geom::Rect;
 use mr_proof::{Fault, Field, Rule, Want, read_field};
 use mr_query::Query;

@@ -1,9 +1,11 @@
-use crate::{
+//! Query words, regions and the answer of a scan, by their calls.
+
+use mr_geom::{Point, Rect, Region};
+use mr_outside::MemSink;
+use mr_query::{
     Area, Circle, Everywhere, Query, QueryFault, Window, answer, is_query, rank, read_query,
     write_query,
 };
-use mr_geom::{Point, Rect, Region};
-use mr_outside::MemSink;
 use mr_record::{Payload, Record};
 use std::alloc::{AllocError, Global};
 use std::test::Fail;

@@ -1,9 +1,11 @@
+//! Rectangles, distances and a region of the tests' own, by their calls.
+
 ghost use Rattle.std.specs.Prelude.{◌≤ℤ◌};
 ghost use Rattle.mr_geom.specs.Rectangle.{Rectangle};
 ghost use Rattle.std.proofs.Common.{arith};
 ghost use Rattle.std.proofs.lemmas.Int.{ints};
 
-use crate::{Point, Rect, Region};
+use mr_geom::{Point, Rect, Region};
 use std::test::Fail;
 
 fn rect(x0: i32, y0: i32, x1: i32, y1: i32) -> Result<Rect, &'static str> {

@@ -1,6 +1,11 @@
-use super::*;
+//! Numbers, records and their texts, read and written, by their calls.
+
 use mr_geom::Rect;
 use mr_outside::{MemSink, SinkErr};
+use mr_record::{
+    Payload, Record, TextErr, TextFault, TextRule, read_i32, read_line, read_lines, read_u64,
+    write_line,
+};
 use std::test::Fail;
 
 #[test]
