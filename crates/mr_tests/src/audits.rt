@@ -2,12 +2,11 @@
 //! are changed, and the proof is checked against the root digest and audited against the map. Strings
 //! and digests come from a program of another language.
 
-use crate::bench::{Row, holds, words};
+use crate::bench::{Row, file_of, first_other, ran, shelf_of};
 use crate::large::in_a_row;
 use crate::maps::{BUILD, SEVENTEEN};
-use mr_outside::{MemShelf, MemSink, NoGate};
+use mr_outside::{MemShelf, NoGate};
 use mr_tool::Status::{self, BadMap, BadWords, Collision, Done, Outside, Refused};
-use mr_tool::run;
 use mr_tree::XorHash;
 use std::alloc::{AllocError, Global};
 use std::test::Fail;
@@ -16,20 +15,21 @@ use std::thread::Threads;
 /// A text of records; the words that prove the answer to a query on their map; the bytes of the
 /// proof that are changed, by place and new value; the words that check the proof and those that
 /// audit it; the status of the audit; what the check prints and what the audit prints.
-pub type Audit<'a> = (
-    &'a [u8],
-    &'a [&'a str],
-    &'a [(usize, u8)],
-    &'a [&'a str],
-    &'a [&'a str],
-    Status,
-    &'a [u8],
-    &'a [u8],
+#[derive(Clone, Copy)]
+pub struct Audit<'a>(
+    pub &'a [u8],
+    pub &'a [&'a str],
+    pub &'a [(usize, u8)],
+    pub &'a [&'a str],
+    pub &'a [&'a str],
+    pub Status,
+    pub &'a [u8],
+    pub &'a [u8],
 );
 
 // Under the exclusive or of all bytes.
-const AUDITS: [Audit<'static>; 12] = [
-    (
+const AUDITS: &[Audit<'static>] = &[
+    Audit(
         b"7 0 0 0 0 -\n",
         &["prove", "m", "window:0,0,0,0", "p"],
         &[],
@@ -44,7 +44,7 @@ const AUDITS: [Audit<'static>; 12] = [
         b"7 0 0 0 0 -\n",
         b"sound\n7 0 0 0 0 -\n",
     ),
-    (
+    Audit(
         b"7 0 0 0 0 -\n",
         &["prove", "m", "window:1,1,2,2", "p"],
         &[],
@@ -59,7 +59,7 @@ const AUDITS: [Audit<'static>; 12] = [
         b"",
         b"sound\n",
     ),
-    (
+    Audit(
         b"",
         &["prove", "m", "window:0,0,0,0", "p"],
         &[],
@@ -74,7 +74,7 @@ const AUDITS: [Audit<'static>; 12] = [
         b"",
         b"sound\n",
     ),
-    (
+    Audit(
         b"7 0 0 0 0 -\n",
         &["prove", "m", "window:0,0,0,0", "p"],
         &[(36, 1), (44, 1)],
@@ -89,7 +89,7 @@ const AUDITS: [Audit<'static>; 12] = [
         b"7 1 0 1 0 -\n",
         b"collision\n5201000000000000000000000000000000010000000000000000000000000000000000000000000000000000000000000000000000000000000000000000000000004a\n5201000000000000000000000000000000010000000001000000000000000100000000000000000000000000000000000000000000000000000000000000000000004a\n",
     ),
-    (
+    Audit(
         b"7 0 0 0 0 0102\n",
         &["prove", "m", "window:0,0,0,0", "p"],
         &[],
@@ -104,7 +104,7 @@ const AUDITS: [Audit<'static>; 12] = [
         b"7 0 0 0 0 0102\n",
         b"sound\n7 0 0 0 0 0102\n",
     ),
-    (
+    Audit(
         b"7 0 0 0 0 0102\n",
         &["prove", "m", "window:0,0,0,0", "p"],
         &[(50, 2), (51, 1)],
@@ -119,7 +119,7 @@ const AUDITS: [Audit<'static>; 12] = [
         b"7 0 0 0 0 0201\n",
         b"collision\n4c01000000000000000700000000000000000000000000000000020102\n4c01000000000000000700000000000000000000000000000000020201\n",
     ),
-    (
+    Audit(
         SEVENTEEN,
         &["prove", "m", "window:2,0,3,0", "p"],
         &[],
@@ -134,7 +134,7 @@ const AUDITS: [Audit<'static>; 12] = [
         b"2 2 0 2 0 -\n3 3 0 3 0 -\n",
         b"sound\n2 2 0 2 0 -\n3 3 0 3 0 -\n",
     ),
-    (
+    Audit(
         SEVENTEEN,
         &["prove", "m", "window:2,0,3,0", "p"],
         &[(59, 3), (84, 2)],
@@ -149,7 +149,7 @@ const AUDITS: [Audit<'static>; 12] = [
         b"2 3 0 3 0 -\n3 2 0 2 0 -\n",
         b"collision\n4c080000000000000001000000010000000000000001000000000000000000000000020000000200000000000000020000000000000000000000000300000003000000000000000300000000000000000000000004000000040000000000000004000000000000000000000000050000000500000000000000050000000000000000000000000600000006000000000000000600000000000000000000000007000000070000000000000007000000000000000000000000080000000800000000000000080000000000\n4c080000000000000001000000010000000000000001000000000000000000000000030000000200000000000000020000000000000000000000000200000003000000000000000300000000000000000000000004000000040000000000000004000000000000000000000000050000000500000000000000050000000000000000000000000600000006000000000000000600000000000000000000000007000000070000000000000007000000000000000000000000080000000800000000000000080000000000\n",
     ),
-    (
+    Audit(
         SEVENTEEN,
         &["prove", "m", "window:2,0,3,0", "p"],
         &[(231, 10), (275, 0x4f)],
@@ -164,7 +164,7 @@ const AUDITS: [Audit<'static>; 12] = [
         b"2 2 0 2 0 -\n3 3 0 3 0 -\n",
         b"collision\n4e010200000001000000000000000800000000000000000000000000000000000000000000000000000000000000000000004c00000009000000000000001100000000000000000000000000000000000000000000000000000000000000000000004c\n4e010200000001000000000000000800000000000000000000000000000000000000000000000000000000000000000000004c0000000a000000000000001100000000000000000000000000000000000000000000000000000000000000000000004f\n",
     ),
-    (
+    Audit(
         b"7 0 0 0 0 -\n",
         &["prove", "m", "window:0,0,0,0", "p"],
         &[(5, b'K')],
@@ -179,7 +179,7 @@ const AUDITS: [Audit<'static>; 12] = [
         b"refused WrongKind at 5\n",
         b"refused WrongKind at 5\n",
     ),
-    (
+    Audit(
         b"7 0 0 0 0 -\n",
         &["prove", "m", "window:0,0,0,0", "p"],
         &[(13, 1)],
@@ -194,7 +194,7 @@ const AUDITS: [Audit<'static>; 12] = [
         b"refused WrongRoot at 50 found 0000000000000000000000000000000000000000000000000000000000000019\n",
         b"refused WrongRoot at 50 found 0000000000000000000000000000000000000000000000000000000000000019\n",
     ),
-    (
+    Audit(
         b"7 0 0 0 0 -\n",
         &["prove", "m", "window:0,0,0,0", "p"],
         &[],
@@ -211,60 +211,70 @@ const AUDITS: [Audit<'static>; 12] = [
     ),
 ];
 
-// The proof with these bytes changed, put in its place.
-fn changed(alloc: Global, shelf: &mut MemShelf, changes: &[(usize, u8)]) -> Result<(), AllocError> {
-    let mut proof = match shelf.file("p") {
-        Some(bytes) => bytes.to_vec(alloc)?,
-        None => Vec::new(alloc),
-    };
+// The shelf with these bytes of the proof changed.
+fn changed(
+    alloc: Global,
+    shelf: MemShelf,
+    changes: &[(usize, u8)],
+) -> Result<MemShelf, AllocError> {
+    let mut shelf = shelf;
+    let mut proof = file_of(alloc, &shelf, "p")?;
     for (place, byte) in changes {
         if *place < proof.len() {
             proof[*place] = *byte;
         }
     }
-    shelf.put("p", &proof)
+    shelf.put("p", &proof)?;
+    Ok(shelf)
 }
 
-// What the check and what the audit print, and their statuses.
-pub fn audited<R: Threads + Sync>(
+// The shelf on which the map is built and the answer proved, with the proof changed.
+fn prepared<R: Threads + Sync>(
     rt: &R,
     alloc: Global,
-    audit: Audit<'_>,
-) -> Result<(Vec<u8>, Vec<u8>, Status, Status), AllocError> {
-    let mut shelf = MemShelf::new(alloc, Vec::new(alloc));
-    shelf.put("r", audit.0)?;
-    let mut out = MemSink::new(alloc, Vec::new(alloc));
-    let line = words(alloc, BUILD)?;
-    let (_, shelf) = run::<XorHash, _, _, _, _>(rt, alloc, &line, shelf, &mut out, &NoGate);
-    let line = words(alloc, audit.1)?;
-    let (_, shelf) = run::<XorHash, _, _, _, _>(rt, alloc, &line, shelf, &mut out, &NoGate);
-    let mut shelf = shelf;
-    changed(alloc, &mut shelf, audit.2)?;
-    let line = words(alloc, audit.3)?;
-    let mut checked = MemSink::new(alloc, Vec::new(alloc));
-    let (taken, shelf) = run::<XorHash, _, _, _, _>(rt, alloc, &line, shelf, &mut checked, &NoGate);
-    let line = words(alloc, audit.4)?;
-    let mut found = MemSink::new(alloc, Vec::new(alloc));
-    let (status, _) = run::<XorHash, _, _, _, _>(rt, alloc, &line, shelf, &mut found, &NoGate);
-    Ok((
-        checked.bytes().to_vec(alloc)?,
-        found.bytes().to_vec(alloc)?,
-        taken,
-        status,
-    ))
+    audit: &Audit<'_>,
+) -> Result<MemShelf, AllocError> {
+    let shelf = shelf_of(alloc, &[("r", audit.0)], &[])?;
+    let (_, _, shelf) = ran::<XorHash, _, _, R>(rt, alloc, BUILD, shelf, &[], &NoGate)?;
+    let (_, _, shelf) = ran::<XorHash, _, _, R>(rt, alloc, audit.1, shelf, &[], &NoGate)?;
+    changed(alloc, shelf, audit.2)
+}
+
+// Whether the check and the audit end as is said, and print what is said.
+fn is_found<R: Threads + Sync>(
+    rt: &R,
+    alloc: Global,
+    audit: &Audit<'_>,
+) -> Result<bool, AllocError> {
+    let shelf = prepared(rt, alloc, audit)?;
+    let (taken, checked, shelf) = ran::<XorHash, _, _, R>(rt, alloc, audit.3, shelf, &[], &NoGate)?;
+    let (status, found, _) = ran::<XorHash, _, _, R>(rt, alloc, audit.4, shelf, &[], &NoGate)?;
+    let meant = if audit.5 == Refused { Refused } else { Done };
+    Ok(
+        taken == meant
+            && checked.as_slice() == audit.6
+            && status == audit.5
+            && found.as_slice() == audit.7,
+    )
+}
+
+/// The place of the first audit that ends otherwise than is said.
+pub fn first_otherwise<R: Threads + Sync>(
+    rt: &R,
+    alloc: Global,
+    audits: &[Audit<'_>],
+) -> Result<Option<usize>, AllocError> {
+    for (place, audit) in audits.iter().enumerate() {
+        if !is_found(rt, alloc, audit)? {
+            return Ok(Some(place));
+        }
+    }
+    Ok(None)
 }
 
 #[test]
 fn proofs_beside_their_maps(rt: HostRuntime) -> Result<(), Fail> {
-    let alloc = rt.alloc();
-    for audit in AUDITS {
-        let (checked, found, taken, status) = audited(&rt, alloc, audit)?;
-        assert!(rt; checked.as_slice() == audit.6, "{:?}", audit.2);
-        assert!(rt; found.as_slice() == audit.7, "{:?}", audit.2);
-        let meant = if audit.5 == Refused { Refused } else { Done };
-        assert!(rt; taken == meant, "{:?}", audit.2);
-        assert!(rt; status == audit.5, "{:?}", audit.2);
-    }
+    assert_eq!(rt; first_otherwise(&rt, rt.alloc(), AUDITS)?, None);
     Ok(())
 }
 
@@ -274,31 +284,22 @@ fn proofs_beside_their_maps(rt: HostRuntime) -> Result<(), Fail> {
 fn a_pair_below_two_levels(rt: HostRuntime) -> Result<(), Fail> {
     let alloc = rt.alloc();
     let text = in_a_row(alloc, 1025)?;
-    let (checked, found, taken, status) = audited(
-        &rt,
-        alloc,
-        (
-            text.as_bytes(),
-            &["prove", "m", "window:700,0,702,0", "p"],
-            &[(673, 0xb7), (698, 0xb6)],
-            &[
-                "check",
-                "0000000000000000000000000000000000000000000000000000000000000010",
-                "window:700,0,702,0",
-                "p",
-            ],
-            &["audit", "m", "window:700,0,702,0", "p"],
-            Collision,
-            b"",
-            b"",
-        ),
-    )?;
-    assert!(rt; taken == Done && status == Collision);
-    assert!(rt;
-        checked.as_slice()
-            == b"700 700 0 700 0 -\n701 701 0 701 0 -\n702 702 0 702 0 -\n".as_slice()
+    let audit = Audit(
+        text.as_bytes(),
+        &["prove", "m", "window:700,0,702,0", "p"],
+        &[(673, 0xb7), (698, 0xb6)],
+        &[
+            "check",
+            "0000000000000000000000000000000000000000000000000000000000000010",
+            "window:700,0,702,0",
+            "p",
+        ],
+        &["audit", "m", "window:700,0,702,0", "p"],
+        Collision,
+        b"700 700 0 700 0 -\n701 701 0 701 0 -\n702 702 0 702 0 -\n",
+        DEEP_PAIR,
     );
-    assert!(rt; found.as_slice() == DEEP_PAIR);
+    assert!(rt; is_found(&rt, alloc, &audit)?);
     Ok(())
 }
 
@@ -312,7 +313,7 @@ const NO_MAP: &[(&str, &[u8])] = &[("p", b"MRVO")];
 const BAD_MAP: &[(&str, &[u8])] = &[("m", b"MRMP")];
 
 // A map is read and judged before a proof is looked for.
-const REFUSED: [Row<'static>; 4] = [
+const REFUSED: &[Row<'static>] = &[
     Row(AUDIT, NO_MAP, &[], &[], Outside, b"missing m\n", NO_MAP),
     Row(
         AUDIT,
@@ -345,12 +346,6 @@ const REFUSED: [Row<'static>; 4] = [
 
 #[test]
 fn audits_without_a_map(rt: HostRuntime) -> Result<(), Fail> {
-    let alloc = rt.alloc();
-    for row in REFUSED {
-        assert!(rt;
-            holds::<XorHash, _, _>(&rt, alloc, &NoGate, &row)?,
-            "{row:?}"
-        );
-    }
+    assert_eq!(rt; first_other::<XorHash, _>(&rt, rt.alloc(), REFUSED)?, None);
     Ok(())
 }

@@ -1,12 +1,12 @@
 //! The calls that each command makes on the shelf, in their order, and the pieces of work that pass
 //! its gate.
 
-use crate::bench::words;
+use crate::bench::{ran, shelf_of};
 use crate::gates::{each_once, fresh};
 use crate::listed::Listed;
 use crate::maps::{BUILD, CHECK, LIST, PROVE, SEVENTEEN};
-use mr_outside::{Gate, MemShelf, MemSink};
-use mr_tool::{Status, run};
+use mr_outside::MemShelf;
+use mr_tool::Status;
 use mr_tree::XorHash;
 use std::alloc::{AllocError, Global};
 use std::test::Fail;
@@ -19,7 +19,7 @@ const APPLY: &[&str] = &["apply", "m", "b", "n"];
 // A command over the shelf that the one before left, its calls, and how many pieces pass the gate:
 // the leaves of a map that is made of a list of records. The pages of a map are synced before its
 // first page is written over the zeros that stand for it, and again after.
-const CALLS: [(&[&str], &str, usize); 9] = [
+const CALLS: &[(&[&str], &str, usize)] = &[
     (&["root", "r"], "size r\nread_at r\n", 2),
     (
         BUILD,
@@ -39,33 +39,47 @@ const CALLS: [(&[&str], &str, usize); 9] = [
     (&["demo", "33", "1"], "", 3),
 ];
 
-// A command's status, and the shelf that it leaves.
-fn called<G: Gate, R: Threads + Sync>(
+// The shelf that a command leaves, where it is done with these calls, each piece once through the gate.
+fn called<R: Threads + Sync>(
     rt: &R,
     alloc: Global,
     line: &[&str],
     shelf: MemShelf,
-    gate: &G,
-) -> Result<(Status, Listed), AllocError> {
-    let spoken = words(alloc, line)?;
-    let mut out = MemSink::new(alloc, Vec::new(alloc));
+    calls: &str,
+    pieces: usize,
+) -> Result<Option<MemShelf>, AllocError> {
+    let gate = fresh(alloc, pieces)?;
     let shelf = Listed::new(alloc, shelf);
-    Ok(run::<XorHash, _, _, _, _>(rt, alloc, &spoken, shelf, &mut out, gate))
+    let (status, _, left) = ran::<XorHash, _, _, R>(rt, alloc, line, shelf, &[], &gate)?;
+    if status == Status::Done && left.calls.as_str() == calls && each_once(&gate) {
+        Ok(Some(left.shelf))
+    } else {
+        Ok(None)
+    }
+}
+
+// The place of the first command that makes other calls, each over the shelf that the one before
+// left.
+fn first_miscalled<R: Threads + Sync>(
+    rt: &R,
+    alloc: Global,
+    shelf: MemShelf,
+) -> Result<Option<usize>, AllocError> {
+    let mut shelf = shelf;
+    for (place, (line, calls, pieces)) in CALLS.iter().enumerate() {
+        match called(rt, alloc, line, shelf, calls, *pieces)? {
+            Some(left) => shelf = left,
+            None => return Ok(Some(place)),
+        }
+    }
+    Ok(None)
 }
 
 #[test]
 fn the_calls_of_each_command(rt: HostRuntime) -> Result<(), Fail> {
     let alloc = rt.alloc();
-    let mut shelf = MemShelf::new(alloc, Vec::new(alloc));
-    shelf.put("r", SEVENTEEN)?;
-    shelf.put("b", b"batch 1\n- 7\n".as_slice())?;
-    for (line, calls, pieces) in CALLS {
-        let gate = fresh(alloc, pieces)?;
-        let (status, left) = called(&rt, alloc, line, shelf, &gate)?;
-        assert_eq!(rt; status, Status::Done);
-        assert!(rt; left.calls.as_str() == calls, "{line:?}");
-        assert!(rt; each_once(&gate), "{line:?}");
-        shelf = left.shelf;
-    }
+    let batch = b"batch 1\n- 7\n".as_slice();
+    let shelf = shelf_of(alloc, &[("r", SEVENTEEN), ("b", batch)], &[])?;
+    assert_eq!(rt; first_miscalled(&rt, alloc, shelf)?, None);
     Ok(())
 }

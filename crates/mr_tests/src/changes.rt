@@ -1,12 +1,12 @@
 //! Batches applied to maps that were built. Roots come from a program of another language, which
 //! follows the definitions of insertion and deletion.
 
-use crate::bench::{File, words};
+use crate::bench::{File, file_of, ran, ran_on, shelf_of};
 use crate::large::in_a_row;
 use crate::maps::{turned_leaves, two_leaves};
-use mr_outside::{MemShelf, MemSink, NoGate};
-use mr_tool::Status::{self, BadBatch, BadMap, BadText, BadWords, Done, Outside};
-use mr_tool::run;
+use crate::rows::first_good_line;
+use mr_outside::{MemShelf, NoGate};
+use mr_tool::Status::{self, BadBatch, BadMap, Done, Outside};
 use mr_tree::{Hash32, Sha, XorHash};
 use std::alloc::{AllocError, Global};
 use std::test::Fail;
@@ -19,19 +19,15 @@ fn ended<H: Hash32, R: Threads + Sync>(
     files: &[File<'_>],
     commands: &[&[&str]],
 ) -> Result<(Status, Vec<u8>), AllocError> {
-    let mut shelf = MemShelf::new(alloc, Vec::new(alloc));
-    for (name, bytes) in files {
-        shelf.put(name, bytes)?;
-    }
-    let mut out = MemSink::new(alloc, Vec::new(alloc));
+    let mut shelf = shelf_of(alloc, files, &[])?;
+    let mut printed = Vec::new(alloc);
     let mut last = Done;
     for command in commands {
-        let line = words(alloc, command)?;
-        let (status, left) = run::<H, _, _, _, _>(rt, alloc, &line, shelf, &mut out, &NoGate);
+        let (status, left) = ran_on::<H, R>(rt, alloc, command, shelf, &mut printed)?;
         shelf = left;
         last = status;
     }
-    Ok((last, out.bytes().to_vec(alloc)?))
+    Ok((last, printed))
 }
 
 const BUILD: &[&str] = &["build", "m", "r"];
@@ -41,7 +37,8 @@ const FIRST: &[&str] = &["apply", "m", "b", "n"];
 const SECOND: &[&str] = &["apply", "n", "c", "o"];
 
 /// A record text, two batch texts, the commands, the last status and all that is printed.
-type Story<'a> = (
+#[derive(Clone, Copy)]
+struct Story<'a>(
     &'a [u8],
     &'a [u8],
     &'a [u8],
@@ -53,9 +50,9 @@ type Story<'a> = (
 const SEVEN: &[u8] = b"7 0 0 0 0 -\n";
 
 // Under the exclusive or of all bytes.
-const STORIES: [Story<'static>; 9] = [
+const STORIES: &[Story<'static>] = &[
     // A leaf is split, and put together again.
-    (
+    Story(
         b"1 1 0 1 0 -\n2 2 0 2 0 -\n3 3 0 3 0 -\n4 4 0 4 0 -\n5 5 0 5 0 -\n6 6 0 6 0 -\n7 7 0 7 0 -\n8 8 0 8 0 -\n9 9 0 9 0 -\n10 10 0 10 0 -\n11 11 0 11 0 -\n12 12 0 12 0 -\n13 13 0 13 0 -\n14 14 0 14 0 -\n15 15 0 15 0 -\n16 16 0 16 0 -\n",
         b"batch 1\n+ 17 100 100 100 100 -\n",
         b"batch 2\n- 17\n",
@@ -64,7 +61,7 @@ const STORIES: [Story<'static>; 9] = [
         b"000000000000000000000000000000000000000000000000000000000000001e\n0000000000000000000000000000000000000000000000000000000000000004\n000000000000000000000000000000000000000000000000000000000000001c\n",
     ),
     // A map is emptied; the same batch comes again.
-    (
+    Story(
         SEVEN,
         b"batch 1\n- 7\n",
         b"batch 1\n- 7\n",
@@ -72,7 +69,7 @@ const STORIES: [Story<'static>; 9] = [
         BadBatch,
         b"0000000000000000000000000000000000000000000000000000000000000018\n0000000000000000000000000000000000000000000000000000000000000045\nbad batch OutOfOrder held 1 given 1\n",
     ),
-    (
+    Story(
         SEVEN,
         b"batch 1\n+ 7 1 1 1 1 -\n",
         b"",
@@ -80,7 +77,7 @@ const STORIES: [Story<'static>; 9] = [
         BadBatch,
         b"0000000000000000000000000000000000000000000000000000000000000018\nbad batch line 2 Present\n",
     ),
-    (
+    Story(
         SEVEN,
         b"batch 1\n- 8\n",
         b"",
@@ -88,7 +85,7 @@ const STORIES: [Story<'static>; 9] = [
         BadBatch,
         b"0000000000000000000000000000000000000000000000000000000000000018\nbad batch line 2 Absent\n",
     ),
-    (
+    Story(
         SEVEN,
         b"batch 1\n- 7\n- 7\n",
         b"",
@@ -96,7 +93,7 @@ const STORIES: [Story<'static>; 9] = [
         BadBatch,
         b"0000000000000000000000000000000000000000000000000000000000000018\nbad batch line 3 Absent\n",
     ),
-    (
+    Story(
         SEVEN,
         b"batch 2\n",
         b"",
@@ -105,7 +102,7 @@ const STORIES: [Story<'static>; 9] = [
         b"0000000000000000000000000000000000000000000000000000000000000018\nbad batch OutOfOrder held 0 given 2\n",
     ),
     // A batch without changes, and the records that are left.
-    (
+    Story(
         SEVEN,
         b"batch 1\n",
         b"batch 2\n- 7\n+ 8 1 2 3 4 0a\n+ 7 0 0 0 0 -\n",
@@ -114,7 +111,7 @@ const STORIES: [Story<'static>; 9] = [
         b"0000000000000000000000000000000000000000000000000000000000000018\n0000000000000000000000000000000000000000000000000000000000000019\n000000000000000000000000000000000000000000000000000000000000001a\n7 0 0 0 0 -\n8 1 2 3 4 0a\n7 0 0 0 0 -\n",
     ),
     // The text of the batch has a fault, and the map too: the map is read first.
-    (
+    Story(
         SEVEN,
         b"batch 1\n- 7",
         b"x",
@@ -123,7 +120,7 @@ const STORIES: [Story<'static>; 9] = [
         b"0000000000000000000000000000000000000000000000000000000000000018\nbad text line 2 NoEnd\nbad map page 0 Size\n",
     ),
     // A batch that is not there, beside a map that is in order and one that is not.
-    (
+    Story(
         SEVEN,
         b"",
         b"",
@@ -138,21 +135,25 @@ const STORIES: [Story<'static>; 9] = [
     ),
 ];
 
+fn is_told<R: Threads + Sync>(
+    rt: &R,
+    alloc: Global,
+    story: &Story<'_>,
+) -> Result<bool, AllocError> {
+    let files = [("r", story.0), ("b", story.1), ("c", story.2)];
+    let (last, printed) = ended::<XorHash, R>(rt, alloc, &files, story.3)?;
+    Ok(last == story.4 && printed.as_slice() == story.5)
+}
+
 #[test]
 fn batches_on_small_maps(rt: HostRuntime) -> Result<(), Fail> {
-    let alloc = rt.alloc();
-    for (text, first, second, commands, status, printed) in STORIES {
-        let files = [("r", text), ("b", first), ("c", second)];
-        let (last, all) = ended::<XorHash, _>(&rt, alloc, &files, commands)?;
-        assert!(rt;
-            last == status && all.as_slice() == printed,
-            "{text:?} {first:?}"
-        );
+    for story in STORIES {
+        assert!(rt; is_told(&rt, rt.alloc(), story)?, "{:?}", story.1);
     }
     Ok(())
 }
 
-const WORDS: [&[&str]; 6] = [
+const WORDS: &[&[&str]] = &[
     &["apply", "m", "b"],
     &["apply", "m", "b", "m"],
     &["apply", "m", "m", "n"],
@@ -163,11 +164,7 @@ const WORDS: [&[&str]; 6] = [
 
 #[test]
 fn words_that_apply_no_batch(rt: HostRuntime) -> Result<(), Fail> {
-    let alloc = rt.alloc();
-    for command in WORDS {
-        let (status, printed) = ended::<XorHash, _>(&rt, alloc, &[], &[command])?;
-        assert!(rt; status == BadWords && printed.as_slice() == b"bad words\n".as_slice());
-    }
+    assert_eq!(rt; first_good_line(&rt, rt.alloc(), WORDS, &[])?, None);
     Ok(())
 }
 
@@ -242,21 +239,24 @@ fn replayed<R: Threads + Sync>(
     text: &str,
     batches: &[String],
 ) -> Result<Vec<u8>, AllocError> {
-    let mut shelf = MemShelf::new(alloc, Vec::new(alloc));
-    shelf.put("r", text.as_bytes())?;
-    let mut out = MemSink::new(alloc, Vec::new(alloc));
-    let line = words(alloc, BUILD)?;
-    let (_, left) = run::<Sha, _, _, _, _>(rt, alloc, &line, shelf, &mut out, &NoGate);
-    shelf = left;
+    let shelf = shelf_of(alloc, &[("r", text.as_bytes())], &[])?;
+    let mut printed = Vec::new(alloc);
+    let (_, left) = ran_on::<Sha, R>(rt, alloc, BUILD, shelf, &mut printed)?;
+    let mut shelf = left;
     let (mut old, mut new) = ("m", "n");
     for batch in batches {
         shelf.put("b", batch.as_bytes())?;
-        let line = words(alloc, &["apply", old, "b", new])?;
-        let (_, left) = run::<Sha, _, _, _, _>(rt, alloc, &line, shelf, &mut out, &NoGate);
+        let (_, left) = ran_on::<Sha, R>(
+            rt,
+            alloc,
+            &["apply", old, "b", new],
+            shelf,
+            &mut printed,
+        )?;
         shelf = left;
         (old, new) = (new, old);
     }
-    out.bytes().to_vec(alloc)
+    Ok(printed)
 }
 
 const ADDED: &[u8] =
@@ -355,19 +355,28 @@ fn a_root_of_nodes_is_split(rt: HostRuntime) -> Result<(), Fail> {
     Ok(())
 }
 
+// The status and the text of one batch applied to this map, and of the two maps listed.
+fn with_one_batch<R: Threads + Sync>(
+    rt: &R,
+    alloc: Global,
+    map: &[u8],
+) -> Result<(Status, Vec<u8>), AllocError> {
+    let files = [
+        ("m", map),
+        ("b", b"batch 1\n- 7\n+ 18 3 3 3 3 -\n".as_slice()),
+    ];
+    ended::<XorHash, R>(rt, alloc, &files, &[FIRST, &["list", "n"], &["list", "m"]])
+}
+
 // The same batch on two files that stand for one map, with its leaves at other places.
 #[test]
 fn one_map_in_two_files(rt: HostRuntime) -> Result<(), Fail> {
     let alloc = rt.alloc();
     let (one, other) = (two_leaves(alloc)?, turned_leaves(alloc)?);
     assert!(rt; one.as_slice() != other.as_slice());
-    let batch = b"batch 1\n- 7\n+ 18 3 3 3 3 -\n".as_slice();
-    let commands = [FIRST, &["list", "n"], &["list", "m"]];
-    let files = [("m", one.as_slice()), ("b", batch)];
-    let (status, printed) = ended::<XorHash, _>(&rt, alloc, &files, &commands)?;
+    let (status, printed) = with_one_batch(&rt, alloc, &one)?;
     assert!(rt; status == Done && printed.len() > 65);
-    let files = [("m", other.as_slice()), ("b", batch)];
-    let (status, same) = ended::<XorHash, _>(&rt, alloc, &files, &commands)?;
+    let (status, same) = with_one_batch(&rt, alloc, &other)?;
     assert!(rt; status == Done && same.as_slice() == printed.as_slice());
     Ok(())
 }
@@ -392,25 +401,16 @@ fn one_record_goes_and_comes(rt: HostRuntime) -> Result<(), Fail> {
 
 // The map file of the record 7.
 fn map_of_seven<R: Threads + Sync>(rt: &R, alloc: Global) -> Result<Vec<u8>, AllocError> {
-    let mut shelf = MemShelf::new(alloc, Vec::new(alloc));
-    shelf.put("r", SEVEN)?;
-    let mut out = MemSink::new(alloc, Vec::new(alloc));
-    let line = words(alloc, BUILD)?;
-    let (_, shelf) = run::<XorHash, _, _, _, _>(rt, alloc, &line, shelf, &mut out, &NoGate);
-    match shelf.file("m") {
-        Some(bytes) => bytes.to_vec(alloc),
-        None => Ok(Vec::new(alloc)),
-    }
+    let shelf = shelf_of(alloc, &[("r", SEVEN)], &[])?;
+    let (_, _, shelf) = ran::<XorHash, _, _, R>(rt, alloc, BUILD, shelf, &[], &NoGate)?;
+    file_of(alloc, &shelf, "m")
 }
 
 const ONE_MORE: &[u8] = b"batch 1\n+ 8 1 1 1 1 -\n";
 
 // Whether a file has these bytes.
 fn is_held(shelf: &MemShelf, name: &str, bytes: &[u8]) -> bool {
-    match shelf.file(name) {
-        Some(held) => held == bytes,
-        None => false,
-    }
+    shelf.file(name) == Some(bytes)
 }
 
 // What an application to this map leaves where these calls of the shelf and the sink fail: its
@@ -423,23 +423,22 @@ fn stopped<R: Threads + Sync>(
     shelf_fails: u64,
     sink_fails: u64,
 ) -> Result<(Status, Vec<u8>, bool, Vec<u8>), AllocError> {
-    let mut shelf = MemShelf::new(alloc, [shelf_fails].to_vec(alloc)?);
-    shelf.put("m", map)?;
-    shelf.put("b", ONE_MORE)?;
-    let mut out = MemSink::new(alloc, [sink_fails].to_vec(alloc)?);
-    let line = words(alloc, FIRST)?;
-    let (status, shelf) = run::<XorHash, _, _, _, _>(rt, alloc, &line, shelf, &mut out, &NoGate);
+    let shelf = shelf_of(alloc, &[("m", map), ("b", ONE_MORE)], &[shelf_fails])?;
+    let (status, printed, shelf) = ran::<XorHash, _, _, R>(
+        rt,
+        alloc,
+        FIRST,
+        shelf,
+        &[sink_fails],
+        &NoGate,
+    )?;
     let kept = is_held(&shelf, "m", map) && is_held(&shelf, "b", ONE_MORE);
-    let new = match shelf.file("n") {
-        Some(bytes) => bytes.to_vec(alloc)?,
-        None => Vec::new(alloc),
-    };
-    Ok((status, out.bytes().to_vec(alloc)?, kept, new))
+    Ok((status, printed, kept, file_of(alloc, &shelf, "n")?))
 }
 
 // Whether a new map is whole, or has no seal, or no whole page.
 fn may_stand<R: Threads + Sync>(rt: &R, alloc: Global, new: &[u8]) -> Result<bool, AllocError> {
-    let (_, printed) = ended::<XorHash, _>(rt, alloc, &[("n", new)], &[&["list", "n"]])?;
+    let (_, printed) = ended::<XorHash, R>(rt, alloc, &[("n", new)], &[&["list", "n"]])?;
     Ok(
         printed.as_slice() == b"7 0 0 0 0 -\n8 1 1 1 1 -\n".as_slice()
             || printed.as_slice() == b"bad map page 0 Size\n".as_slice()
@@ -447,28 +446,34 @@ fn may_stand<R: Threads + Sync>(rt: &R, alloc: Global, new: &[u8]) -> Result<boo
     )
 }
 
+// Whether an application where these calls fail ended in order: done, or stopped with what it printed.
+fn is_in_order<R: Threads + Sync>(
+    rt: &R,
+    alloc: Global,
+    map: &[u8],
+    fails: (u64, u64),
+    want: Status,
+    said: &[u8],
+) -> Result<bool, AllocError> {
+    let (status, printed, kept, new) = stopped(rt, alloc, map, fails.0, fails.1)?;
+    Ok(
+        status == want
+            && (want == Done || printed.as_slice() == said)
+            && kept
+            && may_stand(rt, alloc, &new)?,
+    )
+}
+
 #[test]
 fn each_call_of_an_application_fails_in_turn(rt: HostRuntime) -> Result<(), Fail> {
     let alloc = rt.alloc();
     let map = map_of_seven(&rt, alloc)?;
-    let mut calls = 0u64;
-    for call in 1..100u64 {
-        let (status, printed, kept, new) = stopped(&rt, alloc, &map, call, 0)?;
-        assert!(rt; kept, "call {call}");
-        assert!(rt; may_stand(&rt, alloc, &new)?, "call {call}");
-        if status == Done {
-            break;
-        }
-        calls = call;
-        assert!(rt;
-            status == Outside && printed.as_slice() == b"shelf fault\n".as_slice(),
-            "call {call}"
-        );
-    }
     // Two sizes and two reads, and then the file is made, written, synced, sealed and synced.
-    assert_eq!(rt; calls, 9);
-    let (status, printed, kept, new) = stopped(&rt, alloc, &map, 0, 1)?;
-    assert!(rt; status == Outside && printed.is_empty() && kept);
-    assert!(rt; may_stand(&rt, alloc, &new)?);
+    for call in 1..10u64 {
+        let stopped = is_in_order(&rt, alloc, &map, (call, 0), Outside, b"shelf fault\n")?;
+        assert!(rt; stopped, "call {call}");
+    }
+    assert!(rt; is_in_order(&rt, alloc, &map, (10, 0), Done, b"")?);
+    assert!(rt; is_in_order(&rt, alloc, &map, (0, 1), Outside, b"")?);
     Ok(())
 }

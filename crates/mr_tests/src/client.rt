@@ -1,45 +1,20 @@
-//! The client by its call, on proofs of small maps put by hand, and each field by its reader.
+//! The client by its call, on proofs put by hand, and each field by its reader.
 
 ghost use Rattle.std.specs.Prelude.{IfOk};
 ghost use Rattle.mr_query.specs.Word.{IsAskable};
 
+use crate::rows::OPENED;
 use mr_check::{CheckErr, check};
 use mr_geom::Rect;
 use mr_proof::{Fault, Field, Rule, Want, read_field};
 use mr_query::Query;
 use mr_tree::{Sha, XorHash};
-use std::process::Abort;
+use std::alloc::{AllocError, Global};
 use std::test::Fail;
 
 // A leaf with record 7 at (0, 0), without a payload.
 const LEAF: [u8; 27] = [
     0x4c, 1, 0, 0, 0, 0, 0, 0, 0, 7, 0, 0, 0, 0, 0, 0, 0, 0, 0, 0, 0, 0, 0, 0, 0, 0, 0,
-];
-
-// A proof for a window on a map of one record at batch 0, which opens that leaf: the head, then the
-// leaf.
-const OPENED: [u8; 50] = [
-    0x4d, 0x52, 0x56, 0x4f, 1, 0x57, 0, 0, 0, 0, 0, 0, 0, 0, 0, 0, 0, 0, 0, 0, 0, 1, 0, 0x4c, 1, 0,
-    0, 0, 0, 0, 0, 0, 7, 0, 0, 0, 0, 0, 0, 0, 0, 0, 0, 0, 0, 0, 0, 0, 0, 0,
-];
-
-// The same with one byte more.
-const LONGER: [u8; 51] = [
-    0x4d, 0x52, 0x56, 0x4f, 1, 0x57, 0, 0, 0, 0, 0, 0, 0, 0, 0, 0, 0, 0, 0, 0, 0, 1, 0, 0x4c, 1, 0,
-    0, 0, 0, 0, 0, 0, 7, 0, 0, 0, 0, 0, 0, 0, 0, 0, 0, 0, 0, 0, 0, 0, 0, 0, 0,
-];
-
-// A proof that prunes the leaf: the head, then its rectangle, the point (0, 0), and its digest,
-// which ends in 4a.
-const PRUNED: [u8; 72] = [
-    0x4d, 0x52, 0x56, 0x4f, 1, 0x57, 0, 0, 0, 0, 0, 0, 0, 0, 0, 0, 0, 0, 0, 0, 0, 1, 0, 0x50, 0, 0,
-    0, 0, 0, 0, 0, 0, 0, 0, 0, 0, 0, 0, 0, 0, 0, 0, 0, 0, 0, 0, 0, 0, 0, 0, 0, 0, 0, 0, 0, 0, 0, 0,
-    0, 0, 0, 0, 0, 0, 0, 0, 0, 0, 0, 0, 0, 0x4a,
-];
-
-// A proof for a window on the empty map at batch 0.
-const EMPTY: [u8; 22] = [
-    0x4d, 0x52, 0x56, 0x4f, 1, 0x57, 0, 0, 0, 0, 0, 0, 0, 0, 0, 0, 0, 0, 0, 0, 0, 0,
 ];
 
 // A digest of 31 zero bytes and this one.
@@ -58,148 +33,53 @@ fn window(x0: i32, y0: i32, x1: i32, y1: i32) -> Result<Query, &'static str>
     }
 }
 
-fn refused(
-    rt: &impl Abort,
-    outcome: Result<Vec<mr_record::Record>, CheckErr>,
-    rule: Rule,
-    at: u64,
-) {
-    assert_eq!(rt; outcome.err(), Some(CheckErr::Fault(Fault { rule, at })));
-}
-
-#[test]
-fn an_opened_record_in_the_window_is_the_answer(rt: HostRuntime) -> Result<(), Fail> {
-    let q = window(0, 0, 0, 0)?;
-    let answer = check::<XorHash>(rt.alloc(), &digest(0x18), &q, &OPENED)
-        .ok()
-        .ok_or("the proof is right")?;
-    assert_eq!(rt; answer.len(), 1);
-    for record in &answer {
-        assert_eq!(rt; record.number, 7);
-        assert_eq!(rt; record.rect.corners(), (0, 0, 0, 0));
-        assert_eq!(rt; record.payload.bytes().len(), 0);
-    }
-    Ok(())
-}
-
-#[test]
-fn a_root_that_misses_the_window_is_pruned(rt: HostRuntime) -> Result<(), Fail> {
-    let q = window(1, 1, 2, 2)?;
-    let answer = check::<XorHash>(rt.alloc(), &digest(0x18), &q, &PRUNED)
-        .ok()
-        .ok_or("the proof is right")?;
-    assert_eq!(rt; answer.len(), 0);
-    Ok(())
-}
-
-#[test]
-fn bytes_too_many_and_too_few_are_refused(rt: HostRuntime) -> Result<(), Fail> {
-    let root = digest(0x18);
-    let q = window(0, 0, 0, 0)?;
-    refused(
-        &rt,
-        check::<XorHash>(rt.alloc(), &root, &q, &LONGER),
-        Rule::Trailing,
-        50,
-    );
-    refused(
-        &rt,
-        check::<XorHash>(rt.alloc(), &root, &q, &OPENED[..49]),
-        Rule::Short,
-        49,
-    );
-    refused(
-        &rt,
-        check::<XorHash>(rt.alloc(), &root, &q, &OPENED[..10]),
-        Rule::Short,
-        6,
-    );
-    refused(
-        &rt,
-        check::<XorHash>(rt.alloc(), &root, &q, &[]),
-        Rule::Short,
-        0,
-    );
-    Ok(())
-}
-
-#[test]
-fn a_proof_is_for_its_window_and_root_alone(rt: HostRuntime) -> Result<(), Fail> {
-    let root = digest(0x18);
-    let here = window(0, 0, 0, 0)?;
-    let there = window(1, 1, 2, 2)?;
-    refused(
-        &rt,
-        check::<XorHash>(rt.alloc(), &root, &there, &OPENED),
-        Rule::Needless,
-        49,
-    );
-    refused(
-        &rt,
-        check::<XorHash>(rt.alloc(), &root, &here, &PRUNED),
-        Rule::Hidden,
-        24,
-    );
-    let found = root;
-    let other = digest(0x19);
-    refused(
-        &rt,
-        check::<XorHash>(rt.alloc(), &other, &here, &OPENED),
-        Rule::WrongRoot { found },
-        50,
-    );
-    Ok(())
-}
-
-#[test]
-fn the_empty_map_answers_nothing(rt: HostRuntime) -> Result<(), Fail> {
-    let q = window(0, 0, 0, 0)?;
-    let answer = check::<XorHash>(rt.alloc(), &digest(0x44), &q, &EMPTY)
-        .ok()
-        .ok_or("the proof is right")?;
-    assert_eq!(rt; answer.len(), 0);
-    Ok(())
-}
-
 // A proof for a window on a map of level 1, which opens the root and its second child, that leaf,
 // and prunes its first.
-const INNER: [u8; 101] = [
+const INNER: &[u8] = &[
     0x4d, 0x52, 0x56, 0x4f, 1, 0x57, 0, 0, 0, 0, 0, 0, 0, 0, 0, 0, 0, 0, 0, 0, 0, 2, 1, 0x4e, 2,
     0x50, 0, 0, 0, 5, 0, 0, 0, 5, 0, 0, 0, 6, 0, 0, 0, 6, 0, 0, 0, 0, 0, 0, 0, 0, 0, 0, 0, 0, 0, 0,
     0, 0, 0, 0, 0, 0, 0, 0, 0, 0, 0, 0, 0, 0, 0, 0, 0, 0x11, 0x4c, 1, 0, 0, 0, 0, 0, 0, 0, 7, 0, 0,
     0, 0, 0, 0, 0, 0, 0, 0, 0, 0, 0, 0, 0, 0, 0,
 ];
 
+// Whether this proof is refused, under the exclusive or of all bytes, by this rule at this place.
+fn is_refused(alloc: Global, q: &Query, proof: &[u8], rule: Rule, at: u64) -> bool
+    requires { IsAskable q.now }
+{
+    let answer = check::<XorHash>(alloc, &digest(0x46), q, proof);
+    answer.err() == Some(CheckErr::Fault(Fault { rule, at }))
+}
+
+// How many records answer a query by this proof, none where it is refused.
+fn answers(alloc: Global, q: &Query, proof: &[u8]) -> usize
+    requires { IsAskable q.now }
+{
+    match check::<XorHash>(alloc, &digest(0x46), q, proof) {
+        Ok(answer) => answer.len(),
+        Err(_) => 0,
+    }
+}
+
+// The bytes with this one changed.
+fn changed(alloc: Global, bytes: &[u8], place: usize, change: u8) -> Result<Vec<u8>, AllocError> {
+    let mut changed = bytes.to_vec(alloc)?;
+    if place < changed.len() {
+        changed[place] ^= change;
+    }
+    Ok(changed)
+}
+
 #[test]
 fn a_node_above_a_leaf_is_read(rt: HostRuntime) -> Result<(), Fail> {
-    let root = digest(0x46);
+    let alloc = rt.alloc();
     let here = window(0, 0, 0, 0)?;
-    let answer = check::<XorHash>(rt.alloc(), &root, &here, &INNER)
-        .ok()
-        .ok_or("the proof is right")?;
-    assert_eq!(rt; answer.len(), 1);
+    assert_eq!(rt; answers(alloc, &here, INNER), 1);
     let pruned = window(6, 6, 7, 7)?;
-    refused(
-        &rt,
-        check::<XorHash>(rt.alloc(), &root, &pruned, &INNER),
-        Rule::Hidden,
-        26,
-    );
+    assert!(rt; is_refused(alloc, &pruned, INNER, Rule::Hidden, 26));
     let between = window(2, 2, 3, 3)?;
-    refused(
-        &rt,
-        check::<XorHash>(rt.alloc(), &root, &between, &INNER),
-        Rule::Needless,
-        100,
-    );
-    let mut higher = INNER;
-    higher[22] = 8;
-    refused(
-        &rt,
-        check::<XorHash>(rt.alloc(), &root, &here, &higher),
-        Rule::BadLevel,
-        22,
-    );
+    assert!(rt; is_refused(alloc, &between, INNER, Rule::Needless, 100));
+    let higher = changed(alloc, INNER, 22, 9)?;
+    assert!(rt; is_refused(alloc, &here, &higher, Rule::BadLevel, 22));
     Ok(())
 }
 
@@ -225,14 +105,13 @@ fn sha(bytes: &[u8]) -> [u8; 32] {
 
 #[test]
 fn every_change_of_one_byte_is_refused(rt: HostRuntime) -> Result<(), Fail> {
-    let root = sha_root();
-    let q = window(0, 0, 0, 0)?;
-    assert!(rt; check::<Sha>(rt.alloc(), &root, &q, &OPENED).is_ok());
+    let alloc = rt.alloc();
+    let (root, q) = (sha_root(), window(0, 0, 0, 0)?);
+    assert!(rt; check::<Sha>(alloc, &root, &q, OPENED).is_ok());
     for place in 0..50 {
         for change in 1..=u8::MAX {
-            let mut proof = OPENED;
-            proof[place] ^= change;
-            assert!(rt; check::<Sha>(rt.alloc(), &root, &q, &proof).is_err());
+            let proof = changed(alloc, OPENED, place, change)?;
+            assert!(rt; check::<Sha>(alloc, &root, &q, &proof).is_err());
         }
     }
     Ok(())

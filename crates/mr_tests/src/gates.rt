@@ -1,12 +1,12 @@
 //! The gate that a run is given: each piece of work passes it once, and two pieces are at work at
 //! once, since either one may wait behind the gate until the other has left.
 
-use crate::bench::words;
+use crate::bench::{ran, shelf_of};
 use crate::joined::{numbers, plain};
 use crate::maps::{BUILD, SEVENTEEN};
-use mr_outside::{Gate, MemShelf, MemSink};
+use mr_outside::Gate;
 use mr_record::read_lines;
-use mr_tool::{Status, run};
+use mr_tool::Status;
 use mr_tree::Sha;
 use std::alloc::{AllocError, Global};
 use std::hint::spin_loop;
@@ -133,35 +133,36 @@ const ROOT: &[u8] = b"fca9bc9b6913b889be0ca77137347077fd3728352e16c0e58283d2175d
 
 // Whether the map of those records is built, through this gate.
 fn builds<G: Gate, R: Threads + Sync>(rt: &R, alloc: Global, gate: &G) -> Result<bool, AllocError> {
-    let mut shelf = MemShelf::new(alloc, Vec::new(alloc));
-    shelf.put("r", SEVENTEEN)?;
-    let mut out = MemSink::new(alloc, Vec::new(alloc));
-    let line = words(alloc, BUILD)?;
-    let (status, _) = run::<Sha, _, _, _, _>(rt, alloc, &line, shelf, &mut out, gate);
-    Ok(status == Status::Done && out.bytes() == ROOT)
+    let shelf = shelf_of(alloc, &[("r", SEVENTEEN)], &[])?;
+    let (status, printed, _) = ran::<Sha, _, G, R>(rt, alloc, BUILD, shelf, &[], gate)?;
+    Ok(status == Status::Done && printed.as_slice() == ROOT)
 }
 
 // The numbers of the leaves of those records, by one thread.
-fn expected(rt: &impl Abort, alloc: Global) -> Result<Vec<u64>, Fail> {
-    let records = read_lines(alloc, SEVENTEEN).ok().ok_or("read")?;
-    let (tree, _) = plain::<Sha>(rt, alloc, records).ok().ok_or("packed")?;
+fn expected(rt: &impl Abort, alloc: Global) -> Option<Vec<u64>> {
+    let records = read_lines(alloc, SEVENTEEN).ok()?;
+    let (tree, _) = plain::<Sha>(rt, alloc, records).ok()?;
     let mut list = Vec::new(alloc);
-    numbers::<Sha>(&tree, &mut list)?;
-    Ok(list)
+    numbers::<Sha>(&tree, &mut list).ok()?;
+    Some(list)
+}
+
+fn gate_that_holds(alloc: Global, held: usize, awaited: usize) -> Result<Holding, AllocError> {
+    Ok(Holding {
+        passages: fresh(alloc, 2)?,
+        held,
+        awaited,
+        expired: AtomicU64::new(0),
+    })
 }
 
 #[test]
 fn gate_build(rt: HostRuntime) -> Result<(), Fail> {
     let alloc = rt.alloc();
-    let numbers = expected(&rt, alloc)?;
+    let numbers = expected(&rt, alloc).ok_or("two leaves")?;
     assert_eq!(rt; numbers.len(), 2);
     for (held, awaited) in [(1, 0), (0, 1)] {
-        let gate = Holding {
-            passages: fresh(alloc, 2)?,
-            held,
-            awaited,
-            expired: AtomicU64::new(0),
-        };
+        let gate = gate_that_holds(alloc, held, awaited)?;
         assert!(rt; builds(&rt, alloc, &gate)?, "{held}");
         assert_eq!(rt;
             gate.expired.load(Ordering::SeqCst),

@@ -1,13 +1,12 @@
 //! A map of three levels, and the proof of one path in it: with a byte changed, and cut off at each
 //! place. Digests and lines come from a program of another language.
 
-use crate::bench::words;
+use crate::bench::{ran, shelf_of};
 use crate::large::in_a_row;
 use crate::maps::BUILD;
 use crate::proofs::answered;
-use mr_outside::{MemShelf, MemSink, NoGate};
+use mr_outside::NoGate;
 use mr_tool::Status::{self, Refused};
-use mr_tool::run;
 use mr_tree::Sha;
 use sha2::{Digest, Sha256};
 use std::alloc::{AllocError, Global};
@@ -28,9 +27,13 @@ const PATH: &[&[&str]] = &[
 ];
 
 // The commands that build the map, prove a window on it and check the proof, the corners of the
-// window, and the length and the digest of the proof: nothing is opened, one path is, and all is.
-const WINDOWS: [(&[&[&str]], (u64, u64, u64, u64), usize, &str); 3] = [
-    (
+// window, and the length and the digest of the proof.
+#[derive(Clone, Copy)]
+struct Window<'a>(&'a [&'a [&'a str]], (u64, u64, u64, u64), usize, &'a str);
+
+// Nothing is opened, one path is, and all is.
+const WINDOWS: &[Window<'static>] = &[
+    Window(
         &[
             BUILD,
             &["prove", "m", "window:0,1,2000,1", "p"],
@@ -40,13 +43,13 @@ const WINDOWS: [(&[&[&str]], (u64, u64, u64, u64), usize, &str); 3] = [
         72,
         "ae776d030ffeb5487bc8d6448f00c8208e1469471e10c50333dec5ecd7ea5eac",
     ),
-    (
+    Window(
         PATH,
         (700, 0, 702, 0),
         2046,
         "1e0a8cb517908e395df1fffba701dad732dc738633cbfb2840b1958d60bf6622",
     ),
-    (
+    Window(
         &[
             BUILD,
             &["prove", "m", "window:1,0,1025,0", "p"],
@@ -74,16 +77,30 @@ pub fn digest(alloc: Global, bytes: &[u8]) -> Result<String, AllocError> {
     hex::encode(alloc, &Sha256::digest(bytes))
 }
 
+// What is printed for a window.
+fn printed(alloc: Global, window: &Window<'_>) -> Result<String, AllocError> {
+    let lines = scanned(alloc, window.1)?;
+    let length = window.2;
+    format!(in alloc; "{ROOT}\nproof {length}\n{lines}")
+}
+
+fn is_proved<R: Threads + Sync>(
+    rt: &R,
+    alloc: Global,
+    window: &Window<'_>,
+) -> Result<bool, AllocError> {
+    let text = in_a_row(alloc, RECORDS)?;
+    let (said, proof) = answered::<Sha, R>(rt, alloc, text.as_bytes(), window.0)?;
+    Ok(
+        said.as_slice() == printed(alloc, window)?.as_bytes()
+            && digest(alloc, &proof)?.as_str() == window.3,
+    )
+}
+
 #[test]
 fn windows_on_three_levels(rt: HostRuntime) -> Result<(), Fail> {
-    let alloc = rt.alloc();
-    let text = in_a_row(alloc, RECORDS)?;
-    for (commands, window, length, sha) in WINDOWS {
-        let (said, proof) = answered::<Sha, _>(&rt, alloc, text.as_bytes(), commands)?;
-        let lines = scanned(alloc, window)?;
-        let printed = format!(in alloc; "{ROOT}\nproof {length}\n{lines}")?;
-        assert!(rt; said.as_slice() == printed.as_bytes(), "{window:?}");
-        assert!(rt; digest(alloc, &proof)?.as_str() == sha, "{window:?}");
+    for window in WINDOWS {
+        assert!(rt; is_proved(&rt, rt.alloc(), window)?, "{:?}", window.1);
     }
     Ok(())
 }
@@ -101,12 +118,9 @@ fn judged<R: Threads + Sync>(
     alloc: Global,
     proof: &[u8],
 ) -> Result<(Status, Vec<u8>), AllocError> {
-    let mut shelf = MemShelf::new(alloc, Vec::new(alloc));
-    shelf.put("p", proof)?;
-    let mut out = MemSink::new(alloc, Vec::new(alloc));
-    let line = words(alloc, CHECK_PATH)?;
-    let (status, _) = run::<Sha, _, _, _, _>(rt, alloc, &line, shelf, &mut out, &NoGate);
-    Ok((status, out.bytes().to_vec(alloc)?))
+    let shelf = shelf_of(alloc, &[("p", proof)], &[])?;
+    let (status, said, _) = ran::<Sha, _, _, R>(rt, alloc, CHECK_PATH, shelf, &[], &NoGate)?;
+    Ok((status, said))
 }
 
 // The bytes with the lowest bit of this one changed.
@@ -136,7 +150,7 @@ fn each_byte_of_a_path_counts(rt: HostRuntime) -> Result<(), Fail> {
 }
 
 // A place of the proof, and the line on it where its byte is changed.
-const CHANGES: [(usize, &[u8]); 26] = [
+const CHANGES: &[(usize, &[u8])] = &[
     // Magic, version, kind.
     (0, b"refused BadMagic at 0\n"),
     (3, b"refused BadMagic at 0\n"),
@@ -197,14 +211,14 @@ fn what_is_said_of_a_changed_byte(rt: HostRuntime) -> Result<(), Fail> {
     let alloc = rt.alloc();
     let proof = path(&rt, alloc)?;
     for (place, line) in CHANGES {
-        let (_, said) = judged(&rt, alloc, &flipped(alloc, &proof, place)?)?;
-        assert!(rt; said.as_slice() == line, "{place}");
+        let (_, said) = judged(&rt, alloc, &flipped(alloc, &proof, *place)?)?;
+        assert!(rt; said.as_slice() == *line, "{place}");
     }
     Ok(())
 }
 
 // The fields of the proof: how often these widths stand behind one another.
-const FIELDS: [(usize, &[usize]); 8] = [
+const FIELDS: &[(usize, &[usize])] = &[
     // Magic, version, kind, batch, count and level.
     (1, &[4, 1, 1, 8, 8, 1]),
     // The root is opened: tag and entries. Of its children the first is pruned: tag, rectangle and
@@ -230,17 +244,36 @@ fn add_field(places: &mut Vec<usize>, width: usize) -> Result<(), AllocError> {
     Ok(())
 }
 
+fn add_fields(places: &mut Vec<usize>, widths: &[usize]) -> Result<(), AllocError> {
+    for width in widths {
+        add_field(places, *width)?;
+    }
+    Ok(())
+}
+
 // For each byte of the proof the place of its field.
 fn places(alloc: Global) -> Result<Vec<usize>, AllocError> {
     let mut places = Vec::new(alloc);
     for (times, widths) in FIELDS {
-        for _ in 0..times {
-            for width in widths {
-                add_field(&mut places, *width)?;
-            }
+        for _ in 0..*times {
+            add_fields(&mut places, widths)?;
         }
     }
     Ok(places)
+}
+
+// Whether the proof with this many bytes is cut off in the field at this place.
+fn is_short<R: Threads + Sync>(
+    rt: &R,
+    alloc: Global,
+    proof: &[u8],
+    length: usize,
+    place: usize,
+) -> Result<bool, AllocError> {
+    let (cut, _) = proof.split_at(length.min(proof.len()));
+    let (status, said) = judged(rt, alloc, cut)?;
+    let line = format!(in alloc; "refused Short at {place}\n")?;
+    Ok(status == Refused && said.as_slice() == line.as_bytes())
 }
 
 #[test]
@@ -250,11 +283,7 @@ fn each_cut_of_a_path_is_short(rt: HostRuntime) -> Result<(), Fail> {
     let places = places(alloc)?;
     assert_eq!(rt; places.len(), proof.len());
     for (length, place) in places.iter().enumerate() {
-        let (cut, _) = proof.split_at(length.min(proof.len()));
-        let (status, said) = judged(&rt, alloc, cut)?;
-        let line = format!(in alloc; "refused Short at {place}\n")?;
-        assert!(rt; status == Refused, "{length}");
-        assert!(rt; said.as_slice() == line.as_bytes(), "{length}");
+        assert!(rt; is_short(&rt, alloc, &proof, length, *place)?, "{length}");
     }
     Ok(())
 }

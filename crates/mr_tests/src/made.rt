@@ -3,15 +3,16 @@
 
 ghost use Rattle.mr_query.specs.Word.{IsAskable};
 
-use crate::bench::{File, Row, holds, words};
+use crate::bench::{File, Row, file_of, first_other, holds, ran, shelf_of};
 use crate::levels::digest;
+use crate::maps::BUILD;
 use crate::proofs::answered;
+use crate::rows::first_good_line;
 use mr_batch::generate_queries;
 use mr_outside::{MemShelf, MemSink, NoGate};
 use mr_query::{Query, write_query};
 use mr_record::read_u64;
-use mr_tool::Status::{self, BadWords, Done, Outside};
-use mr_tool::run;
+use mr_tool::Status::{self, Done, Outside};
 use mr_tree::{Sha, XorHash};
 use std::alloc::{AllocError, Global};
 use std::test::Fail;
@@ -118,20 +119,12 @@ const SHOWN: &[Row<'static>] = &[
 
 #[test]
 fn what_is_made_and_shown(rt: HostRuntime) -> Result<(), Fail> {
-    let alloc = rt.alloc();
-    for row in MADE {
-        assert!(rt; holds::<Sha, _, _>(&rt, alloc, &NoGate, row)?, "{row:?}");
-    }
-    for row in SHOWN {
-        assert!(rt;
-            holds::<XorHash, _, _>(&rt, alloc, &NoGate, row)?,
-            "{row:?}"
-        );
-    }
+    assert_eq!(rt; first_other::<Sha, _>(&rt, rt.alloc(), MADE)?, None);
+    assert_eq!(rt; first_other::<XorHash, _>(&rt, rt.alloc(), SHOWN)?, None);
     Ok(())
 }
 
-const WORDS: [&[&str]; 22] = [
+const WORDS: &[&[&str]] = &[
     &["make"],
     &["make", "1", "0"],
     &["make", "1", "0", ""],
@@ -158,14 +151,7 @@ const WORDS: [&[&str]; 22] = [
 
 #[test]
 fn words_that_make_nothing(rt: HostRuntime) -> Result<(), Fail> {
-    let alloc = rt.alloc();
-    for line in WORDS {
-        let row = Row(line, FIRST, &[], &[], BadWords, b"bad words\n", FIRST);
-        assert!(rt;
-            holds::<XorHash, _, _>(&rt, alloc, &NoGate, &row)?,
-            "{line:?}"
-        );
-    }
+    assert_eq!(rt; first_good_line(&rt, rt.alloc(), WORDS, FIRST)?, None);
     Ok(())
 }
 
@@ -188,76 +174,83 @@ fn made<R: Threads + Sync>(
     shelf_fails: u64,
     sink_fails: u64,
 ) -> Result<(Status, Vec<u8>, Vec<u8>), AllocError> {
-    let mut shelf = MemShelf::new(alloc, [shelf_fails].to_vec(alloc)?);
-    shelf.put("r", OLD)?;
-    let mut out = MemSink::new(alloc, [sink_fails].to_vec(alloc)?);
-    let spoken = words(alloc, &["make", "20", "3", "r"])?;
-    let (status, shelf) = run::<XorHash, _, _, _, _>(rt, alloc, &spoken, shelf, &mut out, &NoGate);
-    let left = match shelf.file("r") {
-        Some(bytes) => bytes.to_vec(alloc)?,
-        None => Vec::new(alloc),
-    };
-    Ok((status, out.bytes().to_vec(alloc)?, left))
+    let shelf = shelf_of(alloc, &[("r", OLD)], &[shelf_fails])?;
+    let line = &["make", "20", "3", "r"];
+    let (status, printed, shelf) = ran::<XorHash, _, _, R>(
+        rt,
+        alloc,
+        line,
+        shelf,
+        &[sink_fails],
+        &NoGate,
+    )?;
+    Ok((status, printed, file_of(alloc, &shelf, "r")?))
+}
+
+// Whether it is done with all that it has to print and to leave, where a call past the last fails.
+fn is_made<R: Threads + Sync>(rt: &R, alloc: Global, text: &[u8]) -> Result<bool, AllocError> {
+    let (status, printed, left) = made(rt, alloc, 4, 0)?;
+    Ok(status == Done && printed.as_slice() == b"made 20\n".as_slice() && left.as_slice() == text)
+}
+
+// Whether it stopped at this call of the shelf, with a front of the text or the file of before.
+fn is_stopped<R: Threads + Sync>(
+    rt: &R,
+    alloc: Global,
+    text: &[u8],
+    call: u64,
+) -> Result<bool, AllocError> {
+    let (status, printed, left) = made(rt, alloc, call, 0)?;
+    let as_before = left.as_slice() == OLD;
+    Ok(
+        status == Outside
+            && printed.as_slice() == b"shelf fault\n".as_slice()
+            && as_before == (call == 1)
+            && (as_before || text.starts_with(&left)),
+    )
+}
+
+// Whether it stopped at its line, with the whole text.
+fn is_unprinted<R: Threads + Sync>(rt: &R, alloc: Global, text: &[u8]) -> Result<bool, AllocError> {
+    let (status, printed, left) = made(rt, alloc, 0, 1)?;
+    Ok(status == Outside && printed.is_empty() && left.as_slice() == text)
 }
 
 #[test]
 fn each_call_of_making_fails_in_turn(rt: HostRuntime) -> Result<(), Fail> {
     let alloc = rt.alloc();
-    let (status, printed, text) = made(&rt, alloc, 0, 0)?;
-    assert_eq!(rt; status, Done);
-    assert!(rt; printed.as_slice() == b"made 20\n".as_slice());
+    let (_, _, text) = made(&rt, alloc, 0, 0)?;
     assert!(rt;
         digest(alloc, &text)?.as_str()
             == "5c5da43082743abe28354353307e4d0865ecb0f7f4c8ae44eda9c329d244bfb9"
     );
     // The file is made, written and synced.
     for call in 1..4u64 {
-        let (status, printed, left) = made(&rt, alloc, call, 0)?;
-        assert_eq!(rt; status, Outside);
-        assert!(rt; printed.as_slice() == b"shelf fault\n".as_slice());
-        let as_before = left.as_slice() == OLD;
-        assert_eq!(rt; as_before, call == 1);
-        assert!(rt; as_before || text.starts_with(&left), "call {call}");
+        assert!(rt; is_stopped(&rt, alloc, &text, call)?, "call {call}");
     }
-    let (status, _, left) = made(&rt, alloc, 4, 0)?;
-    assert!(rt; status == Done && left.as_slice() == text.as_slice());
-    let (status, printed, left) = made(&rt, alloc, 0, 1)?;
-    assert!(rt; status == Outside && printed.is_empty());
-    assert!(rt; left.as_slice() == text.as_slice());
+    assert!(rt; is_made(&rt, alloc, &text)?);
+    assert!(rt; is_unprinted(&rt, alloc, &text)?);
     Ok(())
 }
 
-// How a command ended over a shelf, what it printed, and the shelf that it left.
-fn ended<R: Threads + Sync>(
-    rt: &R,
-    alloc: Global,
-    line: &[String],
-    shelf: MemShelf,
-) -> Result<(Status, Vec<u8>, MemShelf), AllocError> {
-    let mut out = MemSink::new(alloc, Vec::new(alloc));
-    let (status, left) = run::<Sha, _, _, _, _>(rt, alloc, line, shelf, &mut out, &NoGate);
-    Ok((status, out.bytes().to_vec(alloc)?, left))
-}
-
 // The map in file `m` of the records that a demonstration makes, and its root.
-fn mapped<R: Threads + Sync>(rt: &R, alloc: Global) -> Result<(String, MemShelf), Fail> {
-    let shelf = MemShelf::new(alloc, Vec::new(alloc));
-    let line = words(alloc, &["make", "1000", "1", "r"])?;
-    let (_, _, shelf) = ended(rt, alloc, &line, shelf)?;
-    let line = words(alloc, &["build", "m", "r"])?;
-    let (_, said, shelf) = ended(rt, alloc, &line, shelf)?;
-    let root = str::from_utf8(&said).ok().ok_or("no text")?;
+fn mapped<R: Threads + Sync>(rt: &R, alloc: Global) -> Result<(String, MemShelf), AllocError> {
+    let shelf = shelf_of(alloc, &[], &[])?;
+    let line = &["make", "1000", "1", "r"];
+    let (_, _, shelf) = ran::<Sha, _, _, R>(rt, alloc, line, shelf, &[], &NoGate)?;
+    let (_, said, shelf) = ran::<Sha, _, _, R>(rt, alloc, BUILD, shelf, &[], &NoGate)?;
+    let root = str::from_utf8(&said).unwrap_or("");
     Ok((String::from_str(alloc, root.trim_end())?, shelf))
 }
 
 // The word of a query.
-fn word(alloc: Global, query: &Query) -> Result<String, Fail>
+fn word(alloc: Global, query: &Query) -> Option<String>
     requires { IsAskable query.now }
 {
     let mut out = MemSink::new(alloc, Vec::new(alloc));
-    write_query(&mut out, query).ok().ok_or("no word")?;
-    let text = str::from_utf8(out.bytes()).ok().ok_or("no text")?;
-    Ok(String::from_str(alloc, text)?)
+    write_query(&mut out, query).ok()?;
+    let text = str::from_utf8(out.bytes()).ok()?;
+    String::from_str(alloc, text).ok()
 }
 
 // The number in the line on a proof.
@@ -284,6 +277,18 @@ struct Figures {
     bytes: u64,
 }
 
+// The shelf with the proof of this query on the map in file `m`, and the length of the proof.
+fn proved<R: Threads + Sync>(
+    rt: &R,
+    alloc: Global,
+    query: &str,
+    shelf: MemShelf,
+) -> Result<(u64, MemShelf), AllocError> {
+    let line = &["prove", "m", query, "p"];
+    let (_, said, shelf) = ran::<Sha, _, _, R>(rt, alloc, line, shelf, &[], &NoGate)?;
+    Ok((proof_length(&said).unwrap_or(0), shelf))
+}
+
 // What these were with one query more, which is proved on the map in file `m` and checked.
 fn tried<R: Threads + Sync>(
     rt: &R,
@@ -292,13 +297,10 @@ fn tried<R: Threads + Sync>(
     query: &str,
     shelf: MemShelf,
     so_far: &Figures,
-) -> Result<(Figures, MemShelf), Fail> {
-    let line = words(alloc, &["prove", "m", query, "p"])?;
-    let (_, said, shelf) = ended(rt, alloc, &line, shelf)?;
-    let length = proof_length(&said).ok_or("no proof")?;
-    let mut line = words(alloc, &["check", root])?;
-    line.append(&mut words(alloc, &[query, "p"])?)?;
-    let (status, answer, shelf) = ended(rt, alloc, &line, shelf)?;
+) -> Result<(Figures, MemShelf), AllocError> {
+    let (length, shelf) = proved(rt, alloc, query, shelf)?;
+    let line = &["check", root, query, "p"];
+    let (status, answer, shelf) = ran::<Sha, _, _, R>(rt, alloc, line, shelf, &[], &NoGate)?;
     let figures = Figures {
         accepted: so_far.accepted.wrapping_add(u64::from(status == Done)),
         answers: so_far.answers.wrapping_add(lines(&answer)),
@@ -307,31 +309,49 @@ fn tried<R: Threads + Sync>(
     Ok((figures, shelf))
 }
 
-#[test]
-fn a_demonstration_adds_up(rt: HostRuntime) -> Result<(), Fail> {
-    let alloc = rt.alloc();
-    let (root, mut shelf) = mapped(&rt, alloc)?;
+// What all queries of a demonstration come to, proved and checked one by one.
+fn all_tried<R: Threads + Sync>(
+    rt: &R,
+    alloc: Global,
+    root: &str,
+    shelf: MemShelf,
+) -> Result<Figures, Fail> {
+    let mut shelf = shelf;
     let mut figures = Figures {
         accepted: 0,
         answers: 0,
         bytes: 0,
     };
     for query in &generate_queries(alloc, 64, 1)? {
-        let query = word(alloc, query)?;
-        let (sum, left) = tried(&rt, alloc, root.as_str(), query.as_str(), shelf, &figures)?;
+        let query = word(alloc, query).ok_or("no word")?;
+        let (sum, left) = tried(rt, alloc, root, query.as_str(), shelf, &figures)?;
         figures = sum;
         shelf = left;
     }
+    Ok(figures)
+}
+
+#[test]
+fn a_demonstration_adds_up(rt: HostRuntime) -> Result<(), Fail> {
+    let alloc = rt.alloc();
+    let (root, shelf) = mapped(&rt, alloc)?;
     let Figures {
         accepted,
         answers,
         bytes,
-    } = figures;
+    } = all_tried(&rt, alloc, root.as_str(), shelf)?;
     let printed = format!(in alloc;
         "records 1000\nlevel 1\nroot {root}\nqueries 64\naccepted {accepted}\nanswers {answers}\nbytes {bytes}\n"
     )?;
-    let line = words(alloc, &["demo", "1000", "1"])?;
-    let (status, said, _) = ended(&rt, alloc, &line, shelf)?;
-    assert!(rt; status == Done && said.as_slice() == printed.as_bytes());
+    let row = Row(
+        &["demo", "1000", "1"],
+        NO_FILES,
+        &[],
+        &[],
+        Done,
+        printed.as_bytes(),
+        NO_FILES,
+    );
+    assert!(rt; holds::<Sha, _>(&rt, alloc, &row)?);
     Ok(())
 }

@@ -1,10 +1,9 @@
 //! Map files, as rows of tables: the commands that write and list them and that prove windows on
 //! them, and files that stand for no map.
 
-use crate::bench::{File, Row, holds, words};
-use mr_outside::{MemShelf, MemSink, NoGate};
+use crate::bench::{File, Row, file_of, holds, ran, shelf_of};
+use mr_outside::NoGate;
 use mr_tool::Status::{self, BadMap, BadText, BadWords, Done, Outside};
-use mr_tool::run;
 use mr_tree::XorHash;
 use std::alloc::{AllocError, Global};
 use std::test::Fail;
@@ -108,37 +107,49 @@ pub const BUILD: &[&str] = &["build", "m", "r"];
 
 pub const LIST: &[&str] = &["list", "m"];
 
+// Whether a build over these files ends with this line, and leaves these.
+fn builds<R: Threads + Sync>(
+    rt: &R,
+    alloc: Global,
+    before: &[File<'_>],
+    line: &[u8],
+    after: &[File<'_>],
+) -> Result<bool, AllocError> {
+    holds::<XorHash, R>(rt, alloc, &Row(BUILD, before, &[], &[], Done, line, after))
+}
+
 #[test]
 fn maps_that_are_built(rt: HostRuntime) -> Result<(), Fail> {
     let alloc = rt.alloc();
     let two = two_leaves(alloc)?;
     assert_eq!(rt; two.len(), 16_384);
-    let before = [("r", SEVENTEEN)];
     let after = [("r", SEVENTEEN), ("m", two.as_slice())];
-    let built = Row(BUILD, &before, &[], &[], Done, FIFTEEN, &after);
-    assert!(rt; holds::<XorHash, _, _>(&rt, alloc, &NoGate, &built)?);
+    assert!(rt; builds(&rt, alloc, &[("r", SEVENTEEN)], FIFTEEN, &after)?);
     // Over another file of that name.
     let over = [("m", b"some text\n".as_slice()), ("r", SEVENTEEN)];
-    let built = Row(BUILD, &over, &[], &[], Done, FIFTEEN, &after);
-    assert!(rt; holds::<XorHash, _, _>(&rt, alloc, &NoGate, &built)?);
+    assert!(rt; builds(&rt, alloc, &over, FIFTEEN, &after)?);
+    Ok(())
+}
+
+#[test]
+fn maps_of_one_record_and_of_none(rt: HostRuntime) -> Result<(), Fail> {
+    let alloc = rt.alloc();
     let one = one(alloc)?;
     let text = b"7 0 0 0 0 -\n".as_slice();
     let after = [("r", text), ("m", one.as_slice())];
     let line = b"0000000000000000000000000000000000000000000000000000000000000018\n";
-    let built = Row(BUILD, &[("r", text)], &[], &[], Done, line, &after);
-    assert!(rt; holds::<XorHash, _, _>(&rt, alloc, &NoGate, &built)?);
+    assert!(rt; builds(&rt, alloc, &[("r", text)], line, &after)?);
     let none = map(alloc, &[NO_HEAD])?;
     let after = [("r", b"".as_slice()), ("m", none.as_slice())];
     let line = b"0000000000000000000000000000000000000000000000000000000000000044\n";
-    let built = Row(BUILD, &[("r", b"")], &[], &[], Done, line, &after);
-    assert!(rt; holds::<XorHash, _, _>(&rt, alloc, &NoGate, &built)?);
+    assert!(rt; builds(&rt, alloc, &[("r", b"")], line, &after)?);
     Ok(())
 }
 
 // Commands that end at once, over a record text that breaks a rule.
 const REFUSED_FILES: &[File<'static>] = &[("m", SEVENTEEN), ("r", b"7 0 0 0 0\n")];
 
-const REFUSED: [(&[&str], Status, &[u8]); 11] = [
+const REFUSED: &[(&[&str], Status, &[u8])] = &[
     (&["build", "m", "m"], BadWords, b"bad words\n"),
     (&["build", "m", ""], BadWords, b"bad words\n"),
     (&["build", "", "r"], BadWords, b"bad words\n"),
@@ -152,23 +163,27 @@ const REFUSED: [(&[&str], Status, &[u8]); 11] = [
     (&["list", "s"], Outside, b"missing s\n"),
 ];
 
+// Whether a command line over these files ends so, and leaves them.
+fn leaves<R: Threads + Sync>(
+    rt: &R,
+    alloc: Global,
+    line: &[&str],
+    files: &[File<'_>],
+    status: Status,
+    printed: &[u8],
+) -> Result<bool, AllocError> {
+    holds::<XorHash, R>(
+        rt,
+        alloc,
+        &Row(line, files, &[], &[], status, printed, files),
+    )
+}
+
 #[test]
 fn nothing_is_built(rt: HostRuntime) -> Result<(), Fail> {
-    let alloc = rt.alloc();
     for (line, status, printed) in REFUSED {
-        let row = Row(
-            line,
-            REFUSED_FILES,
-            &[],
-            &[],
-            status,
-            printed,
-            REFUSED_FILES,
-        );
-        assert!(rt;
-            holds::<XorHash, _, _>(&rt, alloc, &NoGate, &row)?,
-            "{line:?}"
-        );
+        let refused = leaves(&rt, rt.alloc(), line, REFUSED_FILES, *status, printed)?;
+        assert!(rt; refused, "{line:?}");
     }
     Ok(())
 }
@@ -181,9 +196,7 @@ fn lists<R: Threads + Sync>(
     status: Status,
     line: &[u8],
 ) -> Result<bool, AllocError> {
-    let files = [("m", bytes)];
-    let row = Row(LIST, &files, &[], &[], status, line, &files);
-    holds::<XorHash, _, _>(rt, alloc, &NoGate, &row)
+    leaves(rt, alloc, LIST, &[("m", bytes)], status, line)
 }
 
 #[test]
@@ -192,18 +205,25 @@ fn maps_that_are_listed(rt: HostRuntime) -> Result<(), Fail> {
     assert!(rt; lists(&rt, alloc, &one(alloc)?, Done, b"7 0 0 0 0 -\n")?);
     assert!(rt; lists(&rt, alloc, &map(alloc, &[NO_HEAD])?, Done, b"")?);
     assert!(rt; lists(&rt, alloc, &two_leaves(alloc)?, Done, SEVENTEEN)?);
-    // The record on the left has the greater number.
-    let head =
-        b"MRMP\x01\0\0\0\0\0\0\0\0\0\0\0\0\0\0\0\0\x02\0\0\0\x02\0\0\0\x01\0\0\0\0\0\0\0\0\0\0\0\x05\0\0\0\0\0\0\0\0\0\0\0\0\0\0\0\0\0\0\0\0\0\0\0\0\0\0\0\0\0\0\0\0\0\0\0\x4d";
-    let leaf =
-        b"L\x02\0\0\0\0\0\0\0\x02\0\0\0\0\0\0\0\0\0\0\0\0\0\0\0\0\0\0\0\0\0\0\0\0\x01\0\0\0\x05\0\0\0\0\0\0\0\x05\0\0\0\0\0";
-    let exchanged = map(alloc, &[head.as_slice(), leaf.as_slice()])?;
+    Ok(())
+}
+
+// Two records, of which the one on the left has the greater number.
+const EXCHANGED: &[&[u8]] = &[
+    b"MRMP\x01\0\0\0\0\0\0\0\0\0\0\0\0\0\0\0\0\x02\0\0\0\x02\0\0\0\x01\0\0\0\0\0\0\0\0\0\0\0\x05\0\0\0\0\0\0\0\0\0\0\0\0\0\0\0\0\0\0\0\0\0\0\0\0\0\0\0\0\0\0\0\0\0\0\0\x4d",
+    b"L\x02\0\0\0\0\0\0\0\x02\0\0\0\0\0\0\0\0\0\0\0\0\0\0\0\0\0\0\0\0\0\0\0\0\x01\0\0\0\x05\0\0\0\0\0\0\0\x05\0\0\0\0\0",
+];
+
+#[test]
+fn a_list_is_in_rising_number(rt: HostRuntime) -> Result<(), Fail> {
+    let alloc = rt.alloc();
+    let exchanged = map(alloc, EXCHANGED)?;
     assert!(rt; lists(&rt, alloc, &exchanged, Done, b"1 5 0 5 0 -\n2 0 0 0 0 -\n")?);
     Ok(())
 }
 
 // Places of the map of one record, the bytes there, and the line on it.
-const ONE_BROKEN: [(&[(usize, u8)], &[u8]); 9] = [
+const ONE_BROKEN: &[(&[(usize, u8)], &[u8])] = &[
     (&[(4095, b'l')], b"bad map page 0 Unsealed\n"),
     (&[(4, 2)], b"bad map page 0 Header\n"),
     (&[(4096, b'F')], b"bad map page 1 Page\n"),
@@ -220,7 +240,7 @@ const ONE_BROKEN: [(&[(usize, u8)], &[u8]); 9] = [
 
 // The same of the map of two leaves. Numbers 9 and 17 of the second leaf become 25 and 1, which
 // keeps its digest.
-const TWO_BROKEN: [(&[(usize, u8)], &[u8]); 2] = [
+const TWO_BROKEN: &[(&[(usize, u8)], &[u8])] = &[
     (&[(4096 + 58, 2)], b"bad map page 2 Twice\n"),
     (
         &[(3 * 4096 + 9, 25), (3 * 4096 + 209, 1)],
@@ -228,19 +248,29 @@ const TWO_BROKEN: [(&[(usize, u8)], &[u8]); 2] = [
     ),
 ];
 
+// The place of the first of these changes of a map with another line on it.
+fn first_unbroken<R: Threads + Sync>(
+    rt: &R,
+    alloc: Global,
+    map: &[u8],
+    changes: &[(&[(usize, u8)], &[u8])],
+) -> Result<Option<usize>, AllocError> {
+    for (place, (edits, line)) in changes.iter().enumerate() {
+        if !lists(rt, alloc, &edited(alloc, map, edits)?, BadMap, line)? {
+            return Ok(Some(place));
+        }
+    }
+    Ok(None)
+}
+
 #[test]
 fn pages_that_break_a_rule(rt: HostRuntime) -> Result<(), Fail> {
     let alloc = rt.alloc();
-    let map = one(alloc)?;
-    for (edits, line) in ONE_BROKEN {
-        let broken = edited(alloc, &map, edits)?;
-        assert!(rt; lists(&rt, alloc, &broken, BadMap, line)?, "{line:?}");
-    }
-    let map = two_leaves(alloc)?;
-    for (edits, line) in TWO_BROKEN {
-        let broken = edited(alloc, &map, edits)?;
-        assert!(rt; lists(&rt, alloc, &broken, BadMap, line)?, "{line:?}");
-    }
+    assert_eq!(rt; first_unbroken(&rt, alloc, &one(alloc)?, ONE_BROKEN)?, None);
+    assert_eq!(rt;
+        first_unbroken(&rt, alloc, &two_leaves(alloc)?, TWO_BROKEN)?,
+        None
+    );
     Ok(())
 }
 
@@ -254,86 +284,95 @@ fn files_that_stand_for_no_map(rt: HostRuntime) -> Result<(), Fail> {
     assert!(rt; lists(&rt, alloc, SEVENTEEN, BadMap, b"bad map page 0 Size\n")?);
     let zeros = page(alloc, b"")?;
     assert!(rt; lists(&rt, alloc, &zeros, BadMap, b"bad map page 0 Unsealed\n")?);
-    let third = map(
-        alloc,
-        &[&edited(alloc, ONE_HEAD, &[(25, 3)])?, ONE_LEAF, b""],
-    )?;
-    assert!(rt; lists(&rt, alloc, &third, BadMap, b"bad map page 2 Free\n")?);
-    // A root of one child.
+    Ok(())
+}
+
+// A third page, which nothing leads to.
+fn with_a_third_page(alloc: Global) -> Result<Vec<u8>, AllocError> {
+    let head = edited(alloc, ONE_HEAD, &[(25, 3)])?;
+    map(alloc, &[&head, ONE_LEAF, b""])
+}
+
+// A root of one child.
+fn with_a_thin_root(alloc: Global) -> Result<Vec<u8>, AllocError> {
     let head = edited(alloc, ONE_HEAD, &[(5, 1), (25, 3), (77, 4)])?;
     let root =
         b"N\x01\x01\0\0\0\x02\0\0\0\0\0\0\0\0\0\0\0\0\0\0\0\0\0\0\0\0\0\0\0\0\0\0\0\0\0\0\0\0\0\0\0\0\0\0\0\0\0\0\0\0\0\0\0\x4a";
-    let thin = map(alloc, &[&head, root.as_slice(), ONE_LEAF])?;
+    map(alloc, &[&head, root.as_slice(), ONE_LEAF])
+}
+
+#[test]
+fn nodes_that_no_map_has(rt: HostRuntime) -> Result<(), Fail> {
+    let alloc = rt.alloc();
+    let third = with_a_third_page(alloc)?;
+    assert!(rt; lists(&rt, alloc, &third, BadMap, b"bad map page 2 Free\n")?);
+    let thin = with_a_thin_root(alloc)?;
     assert!(rt; lists(&rt, alloc, &thin, BadMap, b"bad map page 1 Fill\n")?);
     Ok(())
 }
 
-// How a run ended over a file `r`, where these calls of the shelf fail: its status, what it
-// printed, and the file `m` that it leaves.
-fn built<R: Threads + Sync>(
+// How a command line ended over these files, where these calls of the shelf and of the sink fail: its
+// status, what it printed, and the file of this name that it left, empty where there is none.
+fn stopped<R: Threads + Sync>(
     rt: &R,
     alloc: Global,
-    shelf_fails: u64,
-    sink_fails: u64,
-) -> Result<(Status, Vec<u8>, Option<Vec<u8>>), AllocError> {
-    let mut shelf = MemShelf::new(alloc, [shelf_fails].to_vec(alloc)?);
-    shelf.put("r", SEVENTEEN)?;
-    let mut out = MemSink::new(alloc, [sink_fails].to_vec(alloc)?);
-    let spoken = words(alloc, BUILD)?;
-    let (status, shelf) = run::<XorHash, _, _, _, _>(rt, alloc, &spoken, shelf, &mut out, &NoGate);
-    let left = match shelf.file("m") {
-        Some(bytes) => Some(bytes.to_vec(alloc)?),
-        None => None,
-    };
-    Ok((status, out.bytes().to_vec(alloc)?, left))
+    line: &[&str],
+    files: &[File<'_>],
+    fails: (u64, u64),
+    name: &str,
+) -> Result<(Status, Vec<u8>, Vec<u8>), AllocError> {
+    let shelf = shelf_of(alloc, files, &[fails.0])?;
+    let (status, printed, shelf) = ran::<XorHash, _, _, R>(
+        rt,
+        alloc,
+        line,
+        shelf,
+        &[fails.1],
+        &NoGate,
+    )?;
+    Ok((status, printed, file_of(alloc, &shelf, name)?))
 }
 
-// Whether a build that was refused may leave this file.
-fn may_stand<R: Threads + Sync>(
+// Whether a build that was refused may leave this file, empty where there is none.
+fn may_stand<R: Threads + Sync>(rt: &R, alloc: Global, left: &[u8]) -> Result<bool, AllocError> {
+    Ok(
+        lists(rt, alloc, left, BadMap, b"bad map page 0 Size\n")?
+            || lists(rt, alloc, left, BadMap, b"bad map page 0 Unsealed\n")?,
+    )
+}
+
+// Whether a build is stopped at this call: it is whole only once its pages were synced and its seal
+// was written.
+fn stops_a_build<R: Threads + Sync>(
     rt: &R,
     alloc: Global,
-    left: &Option<Vec<u8>>,
+    two: &[u8],
+    call: u64,
 ) -> Result<bool, AllocError> {
-    let Some(bytes) = left else {
-        return Ok(true);
+    let (status, printed, left) = stopped(rt, alloc, BUILD, &[("r", SEVENTEEN)], (call, 0), "m")?;
+    let in_order = if call == 7 {
+        left.as_slice() == two
+    } else {
+        may_stand(rt, alloc, &left)?
     };
-    Ok(
-        bytes.as_slice() == two_leaves(alloc)?.as_slice()
-            || lists(rt, alloc, bytes, BadMap, b"bad map page 0 Size\n")?
-            || lists(rt, alloc, bytes, BadMap, b"bad map page 0 Unsealed\n")?,
-    )
+    Ok(status == Outside && printed.as_slice() == b"shelf fault\n".as_slice() && in_order)
 }
 
 #[test]
 fn each_call_of_a_build_fails_in_turn(rt: HostRuntime) -> Result<(), Fail> {
     let alloc = rt.alloc();
-    let mut calls = 0u64;
-    for call in 1..100u64 {
-        let (status, printed, left) = built(&rt, alloc, call, 0)?;
-        assert!(rt; may_stand(&rt, alloc, &left)?, "call {call}");
-        if status == Done {
-            break;
-        }
-        calls = call;
-        assert_eq!(rt; status, Outside);
-        assert!(rt;
-            printed.as_slice() == b"shelf fault\n".as_slice(),
-            "call {call}"
-        );
-        // It is whole only once its pages were synced and its seal was written.
-        let whole = match &left {
-            Some(bytes) => bytes.as_slice() == two_leaves(alloc)?.as_slice(),
-            None => false,
-        };
-        assert_eq!(rt; whole, call == 7);
-    }
+    let two = two_leaves(alloc)?;
     // A size, a read, and then the file is made, written, synced, sealed and synced.
-    assert_eq!(rt; calls, 7);
-    let (status, printed, left) = built(&rt, alloc, 0, 1)?;
-    assert_eq!(rt; status, Outside);
-    assert!(rt; printed.is_empty());
-    assert!(rt; may_stand(&rt, alloc, &left)?);
-    assert!(rt; left.is_some());
+    for call in 1..8u64 {
+        assert!(rt; stops_a_build(&rt, alloc, &two, call)?, "call {call}");
+    }
+    let files = [("r", SEVENTEEN)];
+    let (status, printed, left) = stopped(&rt, alloc, BUILD, &files, (8, 0), "m")?;
+    assert!(rt;
+        status == Done && printed.as_slice() == FIFTEEN && left.as_slice() == two.as_slice()
+    );
+    let (status, printed, left) = stopped(&rt, alloc, BUILD, &files, (0, 1), "m")?;
+    assert!(rt; status == Outside && printed.is_empty() && left.as_slice() == two.as_slice());
     Ok(())
 }
 
@@ -359,7 +398,7 @@ pub const CHECK: &[&str] = &[
 ];
 
 // Commands that make no proof.
-const UNPROVED: [(&[&str], Status, &[u8]); 8] = [
+const UNPROVED: &[(&[&str], Status, &[u8])] = &[
     (
         &["prove", "m", "window:1,0,0,0", "p"],
         BadWords,
@@ -404,9 +443,8 @@ fn proofs_that_are_not_written(rt: HostRuntime) -> Result<(), Fail> {
     let one = one(alloc)?;
     let files = [("m", one.as_slice()), ("t", b"a text".as_slice())];
     for (line, status, printed) in UNPROVED {
-        let row = Row(line, &files, &[], &[], status, printed, &files);
         assert!(rt;
-            holds::<XorHash, _, _>(&rt, alloc, &NoGate, &row)?,
+            leaves(&rt, alloc, line, &files, *status, printed)?,
             "{line:?}"
         );
     }
@@ -420,94 +458,71 @@ fn a_file_that_a_row_leaves_out_is_seen(rt: HostRuntime) -> Result<(), Fail> {
     let one = one(alloc)?;
     let files = [("m", one.as_slice())];
     let prove: &[&str] = &["prove", "m", "window:0,0,0,0", "p"];
-    let row = Row(prove, &files, &[], &[], Done, b"proof 50\n", &files);
-    assert!(rt; !holds::<XorHash, _, _>(&rt, alloc, &NoGate, &row)?);
+    assert!(rt; !leaves(&rt, alloc, prove, &files, Done, b"proof 50\n")?);
     let row = Row(LIST, &files, &[], &[], Done, b"7 0 0 0 0 -\n", &[]);
-    assert!(rt; !holds::<XorHash, _, _>(&rt, alloc, &NoGate, &row)?);
+    assert!(rt; !holds::<XorHash, _>(&rt, alloc, &row)?);
     Ok(())
-}
-
-// How a list of the map of seventeen records ended, where these calls fail: its status and what it
-// printed.
-fn listed<R: Threads + Sync>(
-    rt: &R,
-    alloc: Global,
-    shelf_fails: u64,
-    sink_fails: u64,
-) -> Result<(Status, Vec<u8>), AllocError> {
-    let mut shelf = MemShelf::new(alloc, [shelf_fails].to_vec(alloc)?);
-    shelf.put("m", &two_leaves(alloc)?)?;
-    let mut out = MemSink::new(alloc, [sink_fails].to_vec(alloc)?);
-    let spoken = words(alloc, LIST)?;
-    let (status, _) = run::<XorHash, _, _, _, _>(rt, alloc, &spoken, shelf, &mut out, &NoGate);
-    Ok((status, out.bytes().to_vec(alloc)?))
 }
 
 #[test]
 fn each_call_of_a_list_fails_in_turn(rt: HostRuntime) -> Result<(), Fail> {
     let alloc = rt.alloc();
+    let two = two_leaves(alloc)?;
+    let files = [("m", two.as_slice())];
     // A size and a read.
     for call in 1..3u64 {
-        let (status, printed) = listed(&rt, alloc, call, 0)?;
-        assert_eq!(rt; status, Outside);
-        assert!(rt; printed.as_slice() == b"shelf fault\n".as_slice());
+        let row = Row(
+            LIST,
+            &files,
+            &[call],
+            &[],
+            Outside,
+            b"shelf fault\n",
+            &files,
+        );
+        assert!(rt; holds::<XorHash, _>(&rt, alloc, &row)?, "call {call}");
     }
-    let (status, printed) = listed(&rt, alloc, 3, 0)?;
-    assert_eq!(rt; status, Done);
-    assert!(rt; printed.as_slice() == SEVENTEEN);
-    let (status, printed) = listed(&rt, alloc, 0, 3)?;
-    assert_eq!(rt; status, Outside);
-    assert!(rt; printed.as_slice() == b"1 1 0 1 0 -\n2 2 0 2 0 -\n".as_slice());
+    let row = Row(LIST, &files, &[3], &[], Done, SEVENTEEN, &files);
+    assert!(rt; holds::<XorHash, _>(&rt, alloc, &row)?);
+    let lines = b"1 1 0 1 0 -\n2 2 0 2 0 -\n";
+    let row = Row(LIST, &files, &[], &[3], Outside, lines, &files);
+    assert!(rt; holds::<XorHash, _>(&rt, alloc, &row)?);
     Ok(())
 }
 
-// How a proof of the map of seventeen records was written, where these calls fail: the run's
-// status, what it printed, and the file that it left.
-fn written<R: Threads + Sync>(
+// Whether a proof is stopped at this call, whole only where it was written and not synced.
+fn stops_a_proof<R: Threads + Sync>(
     rt: &R,
     alloc: Global,
-    shelf_fails: u64,
-    sink_fails: u64,
-) -> Result<(Status, Vec<u8>, Option<Vec<u8>>), AllocError> {
-    let mut shelf = MemShelf::new(alloc, [shelf_fails].to_vec(alloc)?);
-    shelf.put("m", &two_leaves(alloc)?)?;
-    let mut out = MemSink::new(alloc, [sink_fails].to_vec(alloc)?);
-    let spoken = words(alloc, PROVE)?;
-    let (status, shelf) = run::<XorHash, _, _, _, _>(rt, alloc, &spoken, shelf, &mut out, &NoGate);
-    let left = match shelf.file("p") {
-        Some(bytes) => Some(bytes.to_vec(alloc)?),
-        None => None,
-    };
-    Ok((status, out.bytes().to_vec(alloc)?, left))
+    two: &[u8],
+    proof: &[u8],
+    call: u64,
+) -> Result<bool, AllocError> {
+    let (status, printed, left) = stopped(rt, alloc, PROVE, &[("m", two)], (call, 0), "p")?;
+    Ok(
+        status == Outside
+            && printed.as_slice() == b"shelf fault\n".as_slice()
+            && (left.as_slice() == proof) == (call == 5),
+    )
 }
 
 #[test]
 fn each_call_of_a_proof_fails_in_turn(rt: HostRuntime) -> Result<(), Fail> {
     let alloc = rt.alloc();
-    let proof = proof_of_two(alloc)?;
+    let (two, proof) = (two_leaves(alloc)?, proof_of_two(alloc)?);
     assert_eq!(rt; proof.len(), 276);
     // A size, a read, and then the file is made, written and synced.
     for call in 1..6u64 {
-        let (status, printed, left) = written(&rt, alloc, call, 0)?;
-        assert_eq!(rt; status, Outside);
-        assert!(rt; printed.as_slice() == b"shelf fault\n".as_slice());
-        let whole = match &left {
-            Some(bytes) => bytes.as_slice() == proof.as_slice(),
-            None => false,
-        };
-        assert_eq!(rt; whole, call == 5);
+        assert!(rt;
+            stops_a_proof(&rt, alloc, &two, &proof, call)?,
+            "call {call}"
+        );
     }
-    let (status, printed, left) = written(&rt, alloc, 0, 0)?;
-    assert_eq!(rt; status, Done);
-    assert!(rt; printed.as_slice() == b"proof 276\n".as_slice());
-    let whole = match &left {
-        Some(bytes) => bytes.as_slice() == proof.as_slice(),
-        None => false,
-    };
-    assert!(rt; whole);
-    let files = [("p", proof.as_slice())];
+    let before = [("m", two.as_slice())];
+    let after = [("m", two.as_slice()), ("p", proof.as_slice())];
+    let row = Row(PROVE, &before, &[], &[], Done, b"proof 276\n", &after);
+    assert!(rt; holds::<XorHash, _>(&rt, alloc, &row)?);
     let lines = b"2 2 0 2 0 -\n3 3 0 3 0 -\n".as_slice();
-    let row = Row(CHECK, &files, &[], &[], Done, lines, &files);
-    assert!(rt; holds::<XorHash, _, _>(&rt, alloc, &NoGate, &row)?);
+    assert!(rt; leaves(&rt, alloc, CHECK, &[("p", &proof)], Done, lines)?);
     Ok(())
 }

@@ -12,6 +12,7 @@ use std::alloc::{AllocError, Allocator, Global};
 use std::cell::RefCell;
 use std::fmt::Display;
 use std::fs::{Metadata, OpenOptions};
+use std::path::PathBuf;
 use std::test::Fail;
 use std::{env, fs, io, process, rt};
 
@@ -34,26 +35,49 @@ impl Sink for Narrow {
     }
 }
 
+fn is_fault<T>(answer: &Result<T, ShelfErr>) -> bool {
+    matches!(answer, Err(ShelfErr::Fault))
+}
+
+fn is_missing<T>(answer: &Result<T, ShelfErr>) -> bool {
+    matches!(answer, Err(ShelfErr::Missing))
+}
+
+/// Whether the whole file is read, and has these bytes.
+fn reads<S: Shelf>(alloc: Global, shelf: &mut S, name: &str, bytes: &[u8]) -> bool {
+    match read_all(alloc, shelf, name) {
+        Ok(held) => held.as_slice() == bytes,
+        Err(_) => false,
+    }
+}
+
+/// Whether a file of these bytes is read at the second time only, where this call fails.
+fn reads_past(alloc: Global, bytes: &[u8], failing: u64) -> Result<bool, AllocError> {
+    let mut shelf = MemShelf::new(alloc, vec![in alloc; failing]?);
+    shelf.put("map", bytes)?;
+    let first = is_fault(&read_all(alloc, &mut shelf, "map"));
+    Ok(first && reads(alloc, &mut shelf, "map", bytes))
+}
+
 #[test]
 fn reads_a_file_of_three_pieces_past_each_fault(rt: HostRuntime) -> Result<(), Fail> {
     let alloc = rt.alloc();
     let bytes = many_bytes(alloc, 150_000)?;
     for failing in 1..=4u64 {
-        let mut shelf = MemShelf::new(alloc, vec![in alloc; failing]?);
-        shelf.put("map", bytes.as_slice())?;
-        assert!(rt;
-            matches!(read_all(alloc, &mut shelf, "map"), Err(ShelfErr::Fault)),
-            "at {failing}"
-        );
-        let again = read_all(alloc, &mut shelf, "map")?;
-        assert!(rt; again.as_slice() == bytes.as_slice(), "after {failing}");
+        assert!(rt; reads_past(alloc, &bytes, failing)?, "at {failing}");
     }
-    // It makes four calls, so a fifth that would fail is not reached.
+    Ok(())
+}
+
+/// It makes four calls, so a fifth that would fail is not reached.
+#[test]
+fn reads_a_file_of_three_pieces_in_four_calls(rt: HostRuntime) -> Result<(), Fail> {
+    let alloc = rt.alloc();
+    let bytes = many_bytes(alloc, 150_000)?;
     let mut shelf = MemShelf::new(alloc, vec![in alloc; 5]?);
     shelf.put("map", bytes.as_slice())?;
-    let whole = read_all(alloc, &mut shelf, "map")?;
-    assert!(rt; whole.as_slice() == bytes.as_slice());
-    assert!(rt; matches!(shelf.size("map"), Err(ShelfErr::Fault)));
+    assert!(rt; reads(alloc, &mut shelf, "map", &bytes));
+    assert!(rt; is_fault(&shelf.size("map")));
     Ok(())
 }
 
@@ -61,19 +85,37 @@ fn reads_a_file_of_three_pieces_past_each_fault(rt: HostRuntime) -> Result<(), F
 fn tells_an_absent_file_from_an_empty_one(rt: HostRuntime) -> Result<(), Fail> {
     let alloc = rt.alloc();
     let mut shelf = MemShelf::new(alloc, vec![in alloc]?);
-    assert!(rt; matches!(read_all(alloc, &mut shelf, ""), Err(ShelfErr::Missing)));
+    assert!(rt; is_missing(&read_all(alloc, &mut shelf, "")));
     shelf.put("", b"")?;
-    assert!(rt; read_all(alloc, &mut shelf, "")?.is_empty());
+    assert!(rt; reads(alloc, &mut shelf, "", b""));
+    Ok(())
+}
+
+/// Two files, of which the first was another before.
+fn two_files(alloc: Global) -> Result<MemShelf, AllocError> {
+    let mut shelf = MemShelf::new(alloc, vec![in alloc]?);
     shelf.put("a", b"one")?;
     shelf.put("b", b"two")?;
     shelf.put("a", b"other")?;
+    Ok(shelf)
+}
+
+#[test]
+fn puts_one_file_and_keeps_the_others(rt: HostRuntime) -> Result<(), Fail> {
+    let shelf = two_files(rt.alloc())?;
     assert!(rt; shelf.file("a") == Some(b"other".as_slice()));
     assert!(rt; shelf.file("b") == Some(b"two".as_slice()));
     assert!(rt; shelf.file("c").is_none());
+    Ok(())
+}
+
+#[test]
+fn reads_up_to_the_end_of_a_file(rt: HostRuntime) -> Result<(), Fail> {
+    let mut shelf = two_files(rt.alloc())?;
     let mut into = [9; 4];
     assert!(rt; matches!(shelf.read_at("a", 3, &mut into), Ok(2)));
-    assert_eq!(rt; into, [b'e', b'r', 9, 9]);
     assert!(rt; matches!(shelf.read_at("a", 6, &mut into), Ok(0)));
+    assert_eq!(rt; into, [b'e', b'r', 9, 9]);
     Ok(())
 }
 
@@ -99,36 +141,45 @@ fn write_a_file(shelf: &mut MemShelf) -> Result<(), ShelfErr> {
     shelf.sync("map")
 }
 
+/// The call that fails, the file that is left, and whether all calls were answered.
+const LEFT: &[(u64, &[u8], bool)] = &[
+    (1, b"as it was", false),
+    (2, b"abc", false),
+    (3, b"abcdefg", false),
+    (4, b"aXcdefghi", false),
+    (5, b"aXYZefghi", false),
+    (6, b"aXYZefghi", true),
+];
+
+/// Whether five calls that write leave these bytes, and another file as it was.
+fn leaves(alloc: Global, failing: u64, bytes: &[u8], done: bool) -> Result<bool, AllocError> {
+    let mut shelf = MemShelf::new(alloc, vec![in alloc; failing]?);
+    shelf.put("map", b"as it was")?;
+    shelf.put("other", b"other")?;
+    let answer = write_a_file(&mut shelf);
+    let answered = if done {
+        answer.is_ok()
+    } else {
+        is_fault(&answer)
+    };
+    let kept = shelf.file("other") == Some(b"other".as_slice());
+    Ok(answered && kept && shelf.file("map") == Some(bytes))
+}
+
 #[test]
 fn writes_a_file_in_memory_up_to_each_fault(rt: HostRuntime) -> Result<(), Fail> {
-    let alloc = rt.alloc();
-    let left = [
-        (1, b"as it was".as_slice(), false),
-        (2, b"abc".as_slice(), false),
-        (3, b"abcdefg".as_slice(), false),
-        (4, b"aXcdefghi".as_slice(), false),
-        (5, b"aXYZefghi".as_slice(), false),
-        (6, b"aXYZefghi".as_slice(), true),
-    ];
-    for (failing, bytes, done) in left {
-        let mut shelf = MemShelf::new(alloc, vec![in alloc; failing]?);
-        shelf.put("map", b"as it was")?;
-        shelf.put("other", b"other")?;
-        let answer = write_a_file(&mut shelf);
-        assert!(rt;
-            matches!(answer, Ok(()) | Err(ShelfErr::Fault)),
-            "at {failing}"
-        );
-        assert!(rt; answer.is_ok() == done, "at {failing}");
-        assert!(rt; shelf.file("map") == Some(bytes), "at {failing}");
-        assert!(rt;
-            shelf.file("other") == Some(b"other".as_slice()),
-            "at {failing}"
-        );
+    for (failing, bytes, done) in LEFT {
+        assert!(rt; leaves(rt.alloc(), *failing, bytes, *done)?, "at {failing}");
     }
+    Ok(())
+}
+
+#[test]
+fn a_file_that_is_absent_is_not_written(rt: HostRuntime) -> Result<(), Fail> {
+    let alloc = rt.alloc();
     let mut shelf = MemShelf::new(alloc, Vec::new(alloc));
-    assert!(rt; matches!(shelf.append("map", b"more"), Err(ShelfErr::Missing)));
-    assert!(rt; matches!(shelf.sync("map"), Err(ShelfErr::Missing)));
+    assert!(rt; is_missing(&shelf.append("map", b"more")));
+    assert!(rt; is_missing(&shelf.sync("map")));
     assert!(rt; shelf.file("map").is_none());
     Ok(())
 }
@@ -209,77 +260,133 @@ fn a_short_read_ends_the_file(rt: HostRuntime) -> Result<(), Fail> {
     Ok(())
 }
 
+/// A new folder and the names of two files in it.
+#[derive(Drop)]
+struct Room {
+    folder: PathBuf,
+    path: PathBuf,
+    other: PathBuf,
+}
+
+fn new_folder(rt: &HostRuntime, word: &str) -> Result<PathBuf, Fail> {
+    let alloc = rt.alloc();
+    let name = format!(in alloc; "mr_outside-{word}-{}", process::id(rt.process()))?;
+    let folder = env::temp_dir(rt)?.join(alloc, name.as_str())?;
+    fs::create_dir(rt, folder.as_path())?;
+    Ok(folder)
+}
+
+fn new_room(rt: &HostRuntime, word: &str) -> Result<Room, Fail> {
+    let folder = new_folder(rt, word)?;
+    Ok(Room {
+        path: folder.join(rt.alloc(), "map")?,
+        other: folder.join(rt.alloc(), "other")?,
+        folder,
+    })
+}
+
+/// Whether two bytes are read at the end of a file of 70,000, and none past it.
+fn ends<S: Shelf>(shelf: &mut S, name: &str) -> bool {
+    let mut into = [9; 4];
+    let end = shelf.read_at(name, 69_998, &mut into);
+    let past = shelf.read_at(name, u64::MAX, &mut into);
+    matches!((end, past), (Ok(2), Ok(0))) && into == [220, 221, 9, 9]
+}
+
+/// The name of a file of 70,000 bytes goes to another file between two calls: whether its size is
+/// told, all of it read and its end known from then on, and the other file read by another shelf.
+fn reads_what_it_opened<R: rt::Files>(
+    rt: &R,
+    alloc: Global,
+    path: &str,
+    other: &str,
+    bytes: &[u8],
+) -> Result<[bool; 4], Fail> {
+    let mut shelf = StdShelf::new(rt, alloc);
+    let size = shelf.size(path);
+    fs::rename(rt, other, path)?;
+    let whole = reads(alloc, &mut shelf, path, bytes);
+    let end = ends(&mut shelf, path);
+    let other = reads(alloc, &mut StdShelf::new(rt, alloc), path, b"another file");
+    Ok([matches!(size, Ok(70_000)), whole, end, other])
+}
+
 #[test]
 fn reads_the_real_file_system(rt: HostRuntime) -> Result<(), Fail> {
     let alloc = rt.alloc();
-    let folder = format!(in alloc; "mr_outside-{}", process::id(rt.process()))?;
-    let folder = env::temp_dir(&rt)?.join(alloc, folder.as_str())?;
-    let path = folder.join(alloc, "map")?;
-    let other = folder.join(alloc, "other")?;
-    fs::create_dir(&rt, folder.as_path())?;
+    let room = new_room(&rt, "reads")?;
+    let (path, other) = (room.path.as_str(), room.other.as_str());
     let bytes = many_bytes(alloc, 70_000)?;
-    fs::write(&rt, path.as_path(), bytes.as_slice())?;
-    fs::write(&rt, other.as_path(), b"another file")?;
-    let mut shelf = StdShelf::new(&rt, alloc);
-    let size = shelf.size(path.as_str());
-    let on_folder = shelf.read_at(folder.as_str(), 0, &mut []);
-    // The name goes to another file between two calls.
-    fs::rename(&rt, other.as_path(), path.as_path())?;
-    let whole = read_all(alloc, &mut shelf, path.as_str());
-    let other = read_all(alloc, &mut StdShelf::new(&rt, alloc), path.as_str());
-    let mut into = [9; 4];
-    let end = shelf.read_at(path.as_str(), 69_998, &mut into);
-    let past = shelf.read_at(path.as_str(), u64::MAX, &mut into);
-    fs::remove_file(&rt, path.as_path())?;
-    let gone = StdShelf::new(&rt, alloc).size(path.as_str());
-    fs::remove_dir(&rt, folder.as_path())?;
-    assert!(rt; matches!(size, Ok(70_000)));
-    assert!(rt; whole?.as_slice() == bytes.as_slice());
-    assert!(rt; other?.as_slice() == b"another file".as_slice());
-    assert!(rt; matches!((end, past), (Ok(2), Ok(0))));
-    assert_eq!(rt; into, [220, 221, 9, 9]);
-    assert!(rt; matches!(on_folder, Err(ShelfErr::Fault)));
-    assert!(rt; matches!(gone, Err(ShelfErr::Missing)));
-    assert!(rt; matches!(shelf.size(""), Err(ShelfErr::Fault)));
+    fs::write(&rt, path, bytes.as_slice())?;
+    fs::write(&rt, other, b"another file")?;
+    let seen = reads_what_it_opened(&rt, alloc, path, other, &bytes)?;
+    fs::remove_file(&rt, path)?;
+    fs::remove_dir(&rt, room.folder.as_path())?;
+    assert_eq!(rt; seen, [true; 4]);
     Ok(())
+}
+
+#[test]
+fn a_folder_and_what_is_absent_are_no_files(rt: HostRuntime) -> Result<(), Fail> {
+    let room = new_room(&rt, "absent")?;
+    let mut shelf = StdShelf::new(&rt, rt.alloc());
+    let on_folder = is_fault(&shelf.read_at(room.folder.as_str(), 0, &mut []));
+    let made = is_fault(&shelf.create(room.folder.as_str()));
+    let absent = is_missing(&shelf.size(room.path.as_str()));
+    let unnamed = is_fault(&shelf.size(""));
+    fs::remove_dir(&rt, room.folder.as_path())?;
+    assert_eq!(rt; [on_folder, made, absent, unnamed], [true; 4]);
+    Ok(())
+}
+
+/// Whether a file is not there, and then is made, written, synced and read.
+fn writes_a_file<R: rt::Files>(
+    alloc: Global,
+    shelf: &mut StdShelf<'_, R>,
+    path: &str,
+) -> [bool; 7] {
+    [
+        is_missing(&shelf.append(path, b"more")),
+        shelf.create(path).is_ok(),
+        shelf.append(path, b"abcdef").is_ok(),
+        shelf.append(path, b"ghi").is_ok(),
+        shelf.write_at(path, 1, b"XYZ").is_ok(),
+        shelf.sync(path).is_ok(),
+        reads(alloc, shelf, path, b"aXYZefghi"),
+    ]
+}
+
+/// Whether a file that is read and written is read as it is then, and one that is made again is empty.
+fn writes_what_it_read<R: rt::Files>(
+    alloc: Global,
+    shelf: &mut StdShelf<'_, R>,
+    input: &str,
+) -> [bool; 5] {
+    [
+        reads(alloc, shelf, input, b"an input"),
+        shelf.append(input, b" that grew").is_ok(),
+        reads(alloc, shelf, input, b"an input that grew"),
+        shelf.create(input).is_ok(),
+        matches!(shelf.size(input), Ok(0)),
+    ]
 }
 
 #[test]
 fn writes_the_real_file_system(rt: HostRuntime) -> Result<(), Fail> {
     let alloc = rt.alloc();
-    let folder = format!(in alloc; "mr_outside-writes-{}", process::id(rt.process()))?;
-    let folder = env::temp_dir(&rt)?.join(alloc, folder.as_str())?;
-    let path = folder.join(alloc, "map")?;
-    let other = folder.join(alloc, "other")?;
-    fs::create_dir(&rt, folder.as_path())?;
-    fs::write(&rt, other.as_path(), b"an input")?;
+    let room = new_room(&rt, "writes")?;
+    let (path, other) = (room.path.as_str(), room.other.as_str());
+    fs::write(&rt, other, b"an input")?;
     let mut shelf = StdShelf::new(&rt, alloc);
-    let absent = shelf.append(path.as_str(), b"more");
-    let read = read_all(alloc, &mut shelf, other.as_str());
-    let made = shelf.create(path.as_str());
-    let grown = shelf.append(path.as_str(), b"abcdef");
-    let more = shelf.append(path.as_str(), b"ghi");
-    let changed = shelf.write_at(path.as_str(), 1, b"XYZ");
-    let synced = shelf.sync(path.as_str());
-    let seen = read_all(alloc, &mut shelf, path.as_str());
-    let stands = fs::read(&rt, path.as_path());
-    let input = shelf.append(other.as_str(), b" that grew");
-    let input_seen = read_all(alloc, &mut shelf, other.as_str());
-    let emptied = shelf.create(path.as_str());
-    let size = shelf.size(path.as_str());
-    let on_folder = shelf.create(folder.as_str());
-    fs::remove_file(&rt, path.as_path())?;
-    fs::remove_file(&rt, other.as_path())?;
-    fs::remove_dir(&rt, folder.as_path())?;
-    assert!(rt; matches!(absent, Err(ShelfErr::Missing)));
-    assert!(rt; read?.as_slice() == b"an input".as_slice());
-    assert!(rt; made.is_ok() && grown.is_ok() && more.is_ok());
-    assert!(rt; changed.is_ok() && synced.is_ok() && input.is_ok() && emptied.is_ok());
-    assert!(rt; seen?.as_slice() == b"aXYZefghi".as_slice());
-    assert!(rt; stands?.as_slice() == b"aXYZefghi".as_slice());
-    assert!(rt; input_seen?.as_slice() == b"an input that grew".as_slice());
-    assert!(rt; matches!(size, Ok(0)));
-    assert!(rt; matches!(on_folder, Err(ShelfErr::Fault)));
+    let written = writes_a_file(alloc, &mut shelf, path);
+    let stands = fs::read(&rt, path)?;
+    let input = writes_what_it_read(alloc, &mut shelf, other);
+    fs::remove_file(&rt, path)?;
+    fs::remove_file(&rt, other)?;
+    fs::remove_dir(&rt, room.folder.as_path())?;
+    assert_eq!(rt; written, [true; 7]);
+    assert!(rt; stands.as_slice() == b"aXYZefghi".as_slice());
+    assert_eq!(rt; input, [true; 5]);
     Ok(())
 }
 

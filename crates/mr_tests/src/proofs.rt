@@ -1,10 +1,9 @@
 //! Windows proved on a map that was built, and their proofs checked: three commands over one shelf.
 
-use crate::bench::words;
+use crate::bench::{Row, file_of, holds, ran_on, shelf_of};
 use crate::maps::BUILD;
 use crate::rows::{CHECK, EMPTY, FOUR_PLACES, NONE, ONE, OPENED, PROOF_OF_PLACES, PRUNED};
-use mr_outside::{MemShelf, MemSink, NoGate};
-use mr_tool::run;
+use mr_tool::Status;
 use mr_tree::{Hash32, Sha, XorHash};
 use std::alloc::{AllocError, Global};
 use std::test::Fail;
@@ -18,28 +17,88 @@ pub fn answered<H: Hash32, R: Threads + Sync>(
     text: &[u8],
     commands: &[&[&str]],
 ) -> Result<(Vec<u8>, Vec<u8>), AllocError> {
-    let mut shelf = MemShelf::new(alloc, Vec::new(alloc));
-    shelf.put("r", text)?;
-    let mut out = MemSink::new(alloc, Vec::new(alloc));
+    let mut shelf = shelf_of(alloc, &[("r", text)], &[])?;
+    let mut printed = Vec::new(alloc);
     for command in commands {
-        let line = words(alloc, command)?;
-        let (_, left) = run::<H, _, _, _, _>(rt, alloc, &line, shelf, &mut out, &NoGate);
+        let (_, left) = ran_on::<H, R>(rt, alloc, command, shelf, &mut printed)?;
         shelf = left;
     }
-    let proof = match shelf.file("p") {
-        Some(bytes) => bytes.to_vec(alloc)?,
-        None => Vec::new(alloc),
-    };
-    Ok((out.bytes().to_vec(alloc)?, proof))
+    Ok((printed, file_of(alloc, &shelf, "p")?))
 }
 
 /// A text of records, the commands that build their map, prove the answer to a query on it and
 /// check the proof, all that is printed, and the proof.
-pub type Answer<'a> = (&'a [u8], &'a [&'a [&'a str]], &'a [u8], &'a [u8]);
+#[derive(Clone, Copy)]
+pub struct Answer<'a>(
+    pub &'a [u8],
+    pub &'a [&'a [&'a str]],
+    pub &'a [u8],
+    pub &'a [u8],
+);
+
+/// Whether all is printed and proved as is said.
+pub fn is_answered<H: Hash32, R: Threads + Sync>(
+    rt: &R,
+    alloc: Global,
+    answer: &Answer<'_>,
+) -> Result<bool, AllocError> {
+    let (said, left) = answered::<H, R>(rt, alloc, answer.0, answer.1)?;
+    Ok(said.as_slice() == answer.2 && left.as_slice() == answer.3)
+}
+
+/// The place of the first answer that is another than is said.
+pub fn first_other_answer<H: Hash32, R: Threads + Sync>(
+    rt: &R,
+    alloc: Global,
+    answers: &[Answer<'_>],
+) -> Result<Option<usize>, AllocError> {
+    for (place, answer) in answers.iter().enumerate() {
+        if !is_answered::<H, R>(rt, alloc, answer)? {
+            return Ok(Some(place));
+        }
+    }
+    Ok(None)
+}
+
+/// A root, a query and a proof, with the status of its check and what that prints.
+#[derive(Clone, Copy)]
+pub struct Check<'a>(
+    pub &'a str,
+    pub &'a str,
+    pub &'a [u8],
+    pub Status,
+    pub &'a [u8],
+);
+
+// Whether a check ends and prints as is said, and leaves the proof as it was.
+fn is_checked<R: Threads + Sync>(
+    rt: &R,
+    alloc: Global,
+    check: &Check<'_>,
+) -> Result<bool, AllocError> {
+    let words = ["check", check.0, check.1, "p"];
+    let files = [("p", check.2)];
+    let row = Row(&words, &files, &[], &[], check.3, check.4, &files);
+    holds::<XorHash, R>(rt, alloc, &row)
+}
+
+/// The place of the first check, under the exclusive or of all bytes, that ends otherwise.
+pub fn first_other_check<R: Threads + Sync>(
+    rt: &R,
+    alloc: Global,
+    checks: &[Check<'_>],
+) -> Result<Option<usize>, AllocError> {
+    for (place, check) in checks.iter().enumerate() {
+        if !is_checked(rt, alloc, check)? {
+            return Ok(Some(place));
+        }
+    }
+    Ok(None)
+}
 
 // Under the exclusive or of all bytes.
-const ANSWERS: [Answer<'static>; 3] = [
-    (
+const ANSWERS: &[Answer<'static>] = &[
+    Answer(
         b"7 0 0 0 0 -\n",
         &[
             BUILD,
@@ -49,7 +108,7 @@ const ANSWERS: [Answer<'static>; 3] = [
         b"0000000000000000000000000000000000000000000000000000000000000018\nproof 50\n7 0 0 0 0 -\n",
         OPENED,
     ),
-    (
+    Answer(
         b"7 0 0 0 0 -\n",
         &[
             BUILD,
@@ -59,7 +118,7 @@ const ANSWERS: [Answer<'static>; 3] = [
         b"0000000000000000000000000000000000000000000000000000000000000018\nproof 72\n",
         PRUNED,
     ),
-    (
+    Answer(
         b"",
         &[
             BUILD,
@@ -73,17 +132,15 @@ const ANSWERS: [Answer<'static>; 3] = [
 
 #[test]
 fn windows_on_small_maps(rt: HostRuntime) -> Result<(), Fail> {
-    let alloc = rt.alloc();
-    for (text, commands, printed, proof) in ANSWERS {
-        let (said, left) = answered::<XorHash, _>(&rt, alloc, text, commands)?;
-        assert!(rt; said.as_slice() == printed, "{printed:?}");
-        assert!(rt; left.as_slice() == proof, "{printed:?}");
-    }
+    assert_eq!(rt;
+        first_other_answer::<XorHash, _>(&rt, rt.alloc(), ANSWERS)?,
+        None
+    );
     Ok(())
 }
 
 // Under SHA-256.
-const PLACES: Answer<'static> = (
+const PLACES: Answer<'static> = Answer(
     FOUR_PLACES,
     &[
         BUILD,
@@ -101,10 +158,6 @@ const PLACES: Answer<'static> = (
 
 #[test]
 fn a_window_on_four_places(rt: HostRuntime) -> Result<(), Fail> {
-    let alloc = rt.alloc();
-    let (text, commands, printed, proof) = PLACES;
-    let (said, left) = answered::<Sha, _>(&rt, alloc, text, commands)?;
-    assert!(rt; said.as_slice() == printed);
-    assert!(rt; left.as_slice() == proof);
+    assert!(rt; is_answered::<Sha, _>(&rt, rt.alloc(), &PLACES)?);
     Ok(())
 }

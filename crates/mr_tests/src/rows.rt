@@ -1,12 +1,14 @@
 //! Runs as tables, a row a line. Their values are computed by hand or by a program of another
 //! language.
 
-use crate::bench::{File, Row, holds};
-use mr_outside::NoGate;
+use crate::bench::{File, Row, first_other, holds};
+use crate::proofs::{Check, first_other_check};
 use mr_tool::Status::{BadText, BadWords, Done, Outside, Refused};
 use mr_tree::{Sha, XorHash};
 use sha2::{Digest, Sha256};
+use std::alloc::{AllocError, Global};
 use std::test::Fail;
+use std::thread::Threads;
 
 const ROOT: &[&str] = &["root", "r"];
 
@@ -106,39 +108,33 @@ const SHA_ROOTS: &[Row<'static>] = &[
 
 #[test]
 fn roots(rt: HostRuntime) -> Result<(), Fail> {
-    let alloc = rt.alloc();
-    for row in ROOTS {
-        assert!(rt;
-            holds::<XorHash, _, _>(&rt, alloc, &NoGate, row)?,
-            "{row:?}"
-        );
-    }
-    for row in SHA_ROOTS {
-        assert!(rt; holds::<Sha, _, _>(&rt, alloc, &NoGate, row)?, "{row:?}");
-    }
+    assert_eq!(rt; first_other::<XorHash, _>(&rt, rt.alloc(), ROOTS)?, None);
+    assert_eq!(rt; first_other::<Sha, _>(&rt, rt.alloc(), SHA_ROOTS)?, None);
     Ok(())
+}
+
+// The line of the root of record 7 at (0,0), by its literal preimages.
+fn literal_root(alloc: Global) -> Result<String, AllocError> {
+    let leaf = b"\x4c\x01\0\0\0\0\0\0\0\x07\0\0\0\0\0\0\0\0\0\0\0\0\0\0\0\0\0";
+    let front = b"\x52\x01\0\0\0\0\0\0\0\0\0\0\0\0\0\0\0\x01\0\0\0\0\0\0\0\0\0\0\0\0\0\0\0\0\0";
+    let mut root = front.to_vec(alloc)?;
+    root.extend_from_slice(&Sha256::digest(leaf.as_slice()))?;
+    let mut line = hex::encode(alloc, &Sha256::digest(root.as_slice()))?;
+    line.push('\n')?;
+    Ok(line)
 }
 
 #[test]
 fn the_root_is_sha_256_of_the_literal_preimages(rt: HostRuntime) -> Result<(), Fail> {
     let alloc = rt.alloc();
-    let leaf = b"\x4c\x01\0\0\0\0\0\0\0\x07\0\0\0\0\0\0\0\0\0\0\0\0\0\0\0\0\0";
-    assert_eq!(rt; leaf.len(), 27);
-    let mut root =
-        b"\x52\x01\0\0\0\0\0\0\0\0\0\0\0\0\0\0\0\x01\0\0\0\0\0\0\0\0\0\0\0\0\0\0\0\0\0".to_vec(
-            alloc,
-        )?;
-    root.extend_from_slice(&Sha256::digest(leaf.as_slice()))?;
-    assert_eq!(rt; root.len(), 67);
-    let mut line = hex::encode(alloc, &Sha256::digest(root.as_slice()))?;
-    line.push('\n')?;
+    let line = literal_root(alloc)?;
     let row = Row(ROOT, SEVEN, &[], &[], Done, line.as_bytes(), SEVEN);
-    assert!(rt; holds::<Sha, _, _>(&rt, alloc, &NoGate, &row)?);
+    assert!(rt; holds::<Sha, _>(&rt, alloc, &row)?);
     Ok(())
 }
 
 // Texts that break a rule, with the line on it.
-const TEXTS: [(&[u8], &[u8]); 17] = [
+const TEXTS: &[(&[u8], &[u8])] = &[
     (b"+5 0 0 0 0 -\n", b"bad text line 1 Number\n"),
     (b"05 0 0 0 0 -\n", b"bad text line 1 Number\n"),
     (b"7 0 0 0 0 -", b"bad text line 1 NoEnd\n"),
@@ -161,16 +157,21 @@ const TEXTS: [(&[u8], &[u8]); 17] = [
     ),
 ];
 
+fn is_refused<R: Threads + Sync>(
+    rt: &R,
+    alloc: Global,
+    text: &[u8],
+    line: &[u8],
+) -> Result<bool, AllocError> {
+    let files = [("r", text)];
+    let row = Row(ROOT, &files, &[], &[], BadText, line, &files);
+    holds::<XorHash, R>(rt, alloc, &row)
+}
+
 #[test]
 fn texts_that_break_a_rule(rt: HostRuntime) -> Result<(), Fail> {
-    let alloc = rt.alloc();
     for (text, line) in TEXTS {
-        let files = [("r", text)];
-        let row = Row(ROOT, &files, &[], &[], BadText, line, &files);
-        assert!(rt;
-            holds::<XorHash, _, _>(&rt, alloc, &NoGate, &row)?,
-            "{text:?}"
-        );
+        assert!(rt; is_refused(&rt, rt.alloc(), text, line)?, "{text:?}");
     }
     Ok(())
 }
@@ -184,7 +185,7 @@ const OTHER: &str = "00000000000000000000000000000000000000000000000000000000000
 pub const NONE: &str = "0000000000000000000000000000000000000000000000000000000000000044";
 
 // Words that spell no command.
-const LINES: [&[&str]; 19] = [
+const LINES: &[&[&str]] = &[
     &[],
     &[""],
     &["root"],
@@ -211,16 +212,25 @@ const LINES: [&[&str]; 19] = [
     &["check", ONE, "nearest:0,0,0", "p"],
 ];
 
+/// The place of the first of some command lines that is no run of bad words, over these files.
+pub fn first_good_line<R: Threads + Sync>(
+    rt: &R,
+    alloc: Global,
+    lines: &[&[&str]],
+    files: &[File<'_>],
+) -> Result<Option<usize>, AllocError> {
+    for (place, line) in lines.iter().enumerate() {
+        let row = Row(line, files, &[], &[], BadWords, b"bad words\n", files);
+        if !holds::<XorHash, R>(rt, alloc, &row)? {
+            return Ok(Some(place));
+        }
+    }
+    Ok(None)
+}
+
 #[test]
 fn words_that_spell_no_command(rt: HostRuntime) -> Result<(), Fail> {
-    let alloc = rt.alloc();
-    for line in LINES {
-        let row = Row(line, SEVEN, &[], &[], BadWords, b"bad words\n", SEVEN);
-        assert!(rt;
-            holds::<XorHash, _, _>(&rt, alloc, &NoGate, &row)?,
-            "{line:?}"
-        );
-    }
+    assert_eq!(rt; first_good_line(&rt, rt.alloc(), LINES, SEVEN)?, None);
     Ok(())
 }
 
@@ -249,53 +259,52 @@ const CUT: &[u8] =
 
 const TEN: &[u8] = b"MRVO\x01W\0\0\0\0";
 
-// A root, a query and a proof, with the status and what is printed.
-const CHECKS: [(&str, &str, &[u8], mr_tool::Status, &[u8]); 15] = [
-    (ONE, HERE, OPENED, Done, b"7 0 0 0 0 -\n"),
-    (ONE, THERE, PRUNED, Done, b""),
-    (NONE, HERE, EMPTY, Done, b""),
-    (ONE, HERE, LONGER, Refused, b"refused Trailing at 50\n"),
-    (ONE, HERE, CUT, Refused, b"refused Short at 49\n"),
-    (ONE, HERE, TEN, Refused, b"refused Short at 6\n"),
-    (ONE, HERE, b"", Refused, b"refused Short at 0\n"),
-    (
+const CHECKS: &[Check<'static>] = &[
+    Check(ONE, HERE, OPENED, Done, b"7 0 0 0 0 -\n"),
+    Check(ONE, THERE, PRUNED, Done, b""),
+    Check(NONE, HERE, EMPTY, Done, b""),
+    Check(ONE, HERE, LONGER, Refused, b"refused Trailing at 50\n"),
+    Check(ONE, HERE, CUT, Refused, b"refused Short at 49\n"),
+    Check(ONE, HERE, TEN, Refused, b"refused Short at 6\n"),
+    Check(ONE, HERE, b"", Refused, b"refused Short at 0\n"),
+    Check(
         ONE,
         HERE,
         b"MRVO\x02",
         Refused,
         b"refused BadVersion at 4\n",
     ),
-    (ONE, THERE, OPENED, Refused, b"refused Needless at 49\n"),
-    (ONE, HERE, PRUNED, Refused, b"refused Hidden at 24\n"),
-    (
+    Check(ONE, THERE, OPENED, Refused, b"refused Needless at 49\n"),
+    Check(ONE, HERE, PRUNED, Refused, b"refused Hidden at 24\n"),
+    Check(
         OTHER,
         HERE,
         OPENED,
         Refused,
         b"refused WrongRoot at 50 found 0000000000000000000000000000000000000000000000000000000000000018\n",
     ),
-    (
+    Check(
         ONE,
         HERE,
         b"MRVO\x01W\0\0\0\0\0\0\0\0\0\0\0\0\0\0\0\x01\x01L",
         Refused,
         b"refused BadTag at 23\n",
     ),
-    (
+    Check(
         ONE,
         HERE,
         b"MRVO\x01W\0\0\0\0\0\0\0\0\0\0\0\0\0\0\0\x01\x07N\x01N\x41",
         Refused,
         b"refused BadEntries at 26\n",
     ),
-    (
+    Check(
         ONE,
         HERE,
         b"MRVO\x01W\0\0\0\0\0\0\0\0\0\0\0\0\0\0\0\x01\x08",
         Refused,
         b"refused BadLevel at 22\n",
     ),
-    (
+    Check(
         ONE,
         HERE,
         b"MRVO\x01W\0\0\0\0\0\0\0\0\0\0\0\0\0\0\0\x01\0",
@@ -306,16 +315,7 @@ const CHECKS: [(&str, &str, &[u8], mr_tool::Status, &[u8]); 15] = [
 
 #[test]
 fn checks_of_a_proof(rt: HostRuntime) -> Result<(), Fail> {
-    let alloc = rt.alloc();
-    for (root, query, proof, status, printed) in CHECKS {
-        let words = ["check", root, query, "p"];
-        let files = [("p", proof)];
-        let row = Row(&words, &files, &[], &[], status, printed, &files);
-        assert!(rt;
-            holds::<XorHash, _, _>(&rt, alloc, &NoGate, &row)?,
-            "{printed:?}"
-        );
-    }
+    assert_eq!(rt; first_other_check(&rt, rt.alloc(), CHECKS)?, None);
     Ok(())
 }
 
@@ -351,9 +351,6 @@ const ANSWERS: &[Row<'static>] = &[
 
 #[test]
 fn an_answer_of_two_places_and_what_fails(rt: HostRuntime) -> Result<(), Fail> {
-    let alloc = rt.alloc();
-    for row in ANSWERS {
-        assert!(rt; holds::<Sha, _, _>(&rt, alloc, &NoGate, row)?, "{row:?}");
-    }
+    assert_eq!(rt; first_other::<Sha, _>(&rt, rt.alloc(), ANSWERS)?, None);
     Ok(())
 }
