@@ -231,6 +231,22 @@ fn mixed(alloc: Global, batch: u64, first: u64) -> Result<String, AllocError> {
     Ok(text)
 }
 
+// The shelf on which this batch was applied to the map of the first name, behind what was printed.
+fn applied<R: Threads + Sync>(
+    rt: &R,
+    alloc: Global,
+    shelf: MemShelf,
+    batch: &[u8],
+    names: (&str, &str),
+    printed: &mut Vec<u8>,
+) -> Result<MemShelf, AllocError> {
+    let mut shelf = shelf;
+    shelf.put("b", batch)?;
+    let line = &["apply", names.0, "b", names.1];
+    let (_, left) = ran_on::<Sha, R>(rt, alloc, line, shelf, printed)?;
+    Ok(left)
+}
+
 // The lines that a build of this text prints and then each batch in turn, as the owner applies it and
 // a server that has the same map and the same batches.
 fn replayed<R: Threads + Sync>(
@@ -243,18 +259,14 @@ fn replayed<R: Threads + Sync>(
     let mut printed = Vec::new(alloc);
     let (_, left) = ran_on::<Sha, R>(rt, alloc, BUILD, shelf, &mut printed)?;
     let mut shelf = left;
-    let (mut old, mut new) = ("m", "n");
-    for batch in batches {
-        shelf.put("b", batch.as_bytes())?;
-        let (_, left) = ran_on::<Sha, R>(
-            rt,
-            alloc,
-            &["apply", old, "b", new],
-            shelf,
-            &mut printed,
-        )?;
+    for (place, batch) in batches.iter().enumerate() {
+        let names = if place % 2 == 0 {
+            ("m", "n")
+        } else {
+            ("n", "m")
+        };
+        let left = applied(rt, alloc, shelf, batch.as_bytes(), names, &mut printed)?;
         shelf = left;
-        (old, new) = (new, old);
     }
     Ok(printed)
 }
