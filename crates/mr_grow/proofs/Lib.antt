@@ -9,3 +9,5 @@ pub mod Distinct
 pub mod Shrunk
 pub mod Shortened
 pub mod Dropping
+pub mod Grouped
+pub mod Settled

@@ -79,9 +79,7 @@ impl<R: rt::Files> Shelf for StdShelf<'_, R> {
         ensures reads { self.new.reads ≡ self.old.reads }
     {
         let answer = length_by_name(self.rt, self.alloc, &mut self.opened, name);
-        if answer.is_err() {
-            self.faults = self.faults.saturating_add(1);
-        }
+        count_refusal(&mut self.faults, &answer);
         answer
     }
 
@@ -99,11 +97,8 @@ impl<R: rt::Files> Shelf for StdShelf<'_, R> {
             CountsRead before after result }
     {
         let answer = read_by_name(self.rt, self.alloc, &mut self.opened, name, at, into);
-        if answer.is_ok() {
-            self.reads = self.reads.saturating_add(1);
-        } else {
-            self.faults = self.faults.saturating_add(1);
-        }
+        count_refusal(&mut self.faults, &answer);
+        count_answer(&mut self.reads, &answer);
         answer
     }
 
@@ -170,12 +165,22 @@ impl<R: rt::Files> Shelf for StdShelf<'_, R> {
 }
 
 /// Counts a fault just where the call is refused.
-fn count_refusal(faults: &mut u64, answer: &Result<(), ShelfErr>)
+fn count_refusal<T>(faults: &mut u64, answer: &Result<T, ShelfErr>)
     ensures refused { OnErr answer.now (faults.new ≡ next_count faults.old) }
     ensures quiet { OnOk answer.now (faults.new ≡ faults.old) }
 {
     if answer.is_err() {
         *faults = faults.saturating_add(1);
+    }
+}
+
+/// Counts a read just where the call is answered.
+fn count_answer<T>(reads: &mut u64, answer: &Result<T, ShelfErr>)
+    ensures answered { OnOk answer.now (reads.new ≡ next_count reads.old) }
+    ensures quiet { OnErr answer.now (reads.new ≡ reads.old) }
+{
+    if answer.is_ok() {
+        *reads = reads.saturating_add(1);
     }
 }
 

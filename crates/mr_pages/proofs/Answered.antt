@@ -1,5 +1,5 @@
 -- What opening a file answers, and that it is the only answer.
-use Rattle.std.proofs.Common.{Fits, w8, ◌≡◌, ℕ, zero, suc, ◌/◌, ◌<◌, ◌^◌, true, false, List, [], length, get_or, sym, ap, subst, ◌∙◌, arith, inl, inr}
+use Rattle.std.proofs.Common.{Fits, w8, ◌≡◌, ℕ, zero, suc, ◌/◌, ◌<◌, ◌^◌, true, false, List, [], length, get_or, sym, refl, ap, subst, ◌∙◌, arith, inl, inr}
 use Rattle.std.specs.Prelude.{Option, Some, None, Result, Ok, Err, replicate, if◌then◌else◌, MatchOption, IfOk}
 use Rattle.std.proofs.lemmas.List.{get_or_default}
 use Rattle.mr_record.specs.Bytes.{AreBytes}
@@ -13,6 +13,8 @@ use Rattle.mr_outside.specs.declared.shelf.ShelfErr.{ShelfErr}
 use Rattle.mr_outside.specs.declared.shelf.ShelfErr.TheVariants as shelf
 use Rattle.mr_outside.proofs.Pieces.{OfFile-map}
 use Rattle.mr_outside.specs.Told.{OfFile}
+use Rattle.mr_outside.specs.State.{Shelved}
+use Rattle.mr_outside.specs.Causes.{ShelfCauses}
 use Rattle.mr_pages.specs.declared.rule.MapRule.TheVariants as rule
 use Rattle.mr_pages.specs.declared.rule.MapFault.{MapFault}
 use Rattle.mr_pages.specs.declared.error.MapErr.{MapErr}
@@ -23,7 +25,7 @@ use Rattle.mr_pages.specs.Stands.{Stands}
 use Rattle.mr_pages.specs.Faults.{file_faults, first_of, mapfault}
 use Rattle.mr_pages.specs.Law.{IsOnlyMap}
 use Rattle.mr_pages.specs.Walking.{Opens}
-use Rattle.mr_pages.specs.Opening.{of_shelf, Fails, FindsOut, OrFails, Answers, SomeBytes, Tells}
+use Rattle.mr_pages.specs.Opening.{of_shelf, Fails, FindsOut, OrFails, Answers, SomeBytes, Tells, MapCauses}
 use Rattle.mr_pages.proofs.AsRead.{stands_there}
 use Rattle.mr_pages.proofs.Agreement.{is_file, spelled_as_read, agrees, are_whole_pages}
 
@@ -192,6 +194,30 @@ fails_of shelf.Missing = tt
 fails_of shelf.Fault = tt
 fails_of shelf.NoMemory = tt
 
+-- ---- the causes of a refusal
+
+-- a call of the shelf was refused
+pub causes_failed : {A : Type 0} (name : List ℕ) (before after : Shelved) (e : ShelfErr) →
+    ShelfCauses {A = A} name before after (Err e) → MapCauses name before after (Err (of_shelf e))
+causes_failed name before after shelf.Missing c =
+    record { missing = λ is. c.missing refl; fault = λ is. absurd (cc); faults = c.faults; quiet = inr tt }
+causes_failed name before after shelf.Fault c =
+    record { missing = λ is. absurd (cc); fault = λ is. c.fault refl; faults = c.faults; quiet = inr tt }
+causes_failed name before after shelf.NoMemory c =
+    record { missing = λ is. absurd (cc); fault = λ is. absurd (cc); faults = c.faults; quiet = inr tt }
+
+-- all calls of the shelf were answered
+pub causes_quiet : (name : List ℕ) (before after : Shelved) (r : Result (Tree × ℕ) MapErr) → FindsOut r →
+    after.faults ≡ before.faults → MapCauses name before after r
+causes_quiet name before after (Ok m) f same =
+    record { missing = λ is. absurd (cc); fault = λ is. absurd (cc); faults = omega (arith, same); quiet = inl same }
+causes_quiet name before after (Err (errors.Map g)) f same =
+    record { missing = λ is. absurd (cc); fault = λ is. absurd (cc); faults = omega (arith, same); quiet = inl same }
+causes_quiet name before after (Err errors.Missing) f same = absurd f
+causes_quiet name before after (Err errors.Fault) f same = absurd f
+causes_quiet name before after (Err errors.NoMemory) f same =
+    record { missing = λ is. absurd (cc); fault = λ is. absurd (cc); faults = omega (arith, same); quiet = inl same }
+
 -- ---- the clauses of the call that opens a file
 
 ok_same : (m : Tree × ℕ) (t : Tree) (b : ℕ) → OrFails (Ok m) (Ok (t, b)) → (m.0 ≡ t) × (m.1 ≡ b)
@@ -216,3 +242,14 @@ pub only_of : (form : Form) (hash : List ℕ → List ℕ) (told : Option Files)
 only_of form hash told name (Ok m) tells =
     OfFile-map told name _ _ (λ bytes t u c k. ok_same m u c (t.map u c k)) tells
 only_of form hash told name (Err e) tells = tt
+
+pub fault_of : (form : Form) (hash : List ℕ → List ℕ) (told : Option Files) (name : List ℕ)
+    (r : Result (Tree × ℕ) MapErr) →
+    OfFile told name (Fails r) (λ bytes. Tells form hash bytes r) → (f : MapFault) → r ≡ Err (errors.Map f) →
+    OfFile told name ⊥ (λ bytes. mapfault hash (file_of form bytes) ≡ Some f)
+fault_of form hash told name (Ok m) tells f e = absurd (cc)
+fault_of form hash told name (Err (errors.Map g)) tells f e =
+    let same : g ≡ f = cc in OfFile-map told name _ _ (λ bytes t. t.answers ∙ ap Some same) tells
+fault_of form hash told name (Err errors.Missing) tells f e = absurd (cc)
+fault_of form hash told name (Err errors.Fault) tells f e = absurd (cc)
+fault_of form hash told name (Err errors.NoMemory) tells f e = absurd (cc)

@@ -4,9 +4,14 @@ use Rattle.std.proofs.Math.Seq.{take-add}
 use Rattle.std.proofs.lemmas.List.{append-nil, drop_all}
 use borrow.Rule.Slice.PartMut.{put_mid}
 use Rattle.mr_outside.specs.Files.{Files}
+use Rattle.std.specs.Prelude.{Err}
 use Rattle.mr_outside.specs.Told.{OfFile}
+use Rattle.mr_outside.specs.State.{Shelved}
+use Rattle.mr_outside.specs.Causes.{ShelfCauses}
+use Rattle.mr_outside.specs.declared.shelf.ShelfErr.{ShelfErr}
+use Rattle.mr_outside.specs.declared.shelf.ShelfErr.TheVariants as shelf
 use Rattle.mr_outside.specs.Reading.{GivesFrom}
-use Rattle.mr_outside.proofs.Pieces.{OfFile-map, OfFile-both}
+use Rattle.mr_outside.proofs.Pieces.{OfFile-map, OfFile-both, ShelfCauses-later}
 use Rattle.mr_outside.proofs.InPlace.{take-put_mid_within}
 
 -- what stands in front once the next piece was read
@@ -66,3 +71,19 @@ OfFile-whole told name size at so_far long far =
 pub OfFile-none : (told : Option Files) (name : List ℕ) (size : ℕ) (so_far : List ℕ) →
     OfFile told name ⊥ (λ bytes. size ≡ length bytes) → OfFile told name ⊥ (IsFront size 0 so_far)
 OfFile-none told name size so_far = OfFile-map told name _ _ (λ bytes e. record { size_is = e; front_is = refl })
+
+-- ---- the causes of a refusal
+
+-- first calls that were answered and left the files as they are, then one that was refused
+pub then_refused : {A B : Type 0} (name : List ℕ) (before between after : Shelved) (e : ShelfErr) →
+    between.files ≡ before.files → between.faults ≡ before.faults →
+    ShelfCauses {A = A} name between after (Err e) → ShelfCauses {A = B} name before after (Err e)
+then_refused name before between after e files quiet later =
+    let all = ShelfCauses-later name before between after (Err e) files quiet later in
+    record { missing = λ is. all.missing (cc); fault = λ is. all.fault (cc); faults = all.faults; quiet = tt }
+
+-- no call was refused, but memory was out
+pub no_memory : {A : Type 0} (name : List ℕ) (before after : Shelved) → before.faults ≤ after.faults →
+    ShelfCauses {A = A} name before after (Err shelf.NoMemory)
+no_memory name before after later =
+    record { missing = λ is. absurd (cc); fault = λ is. absurd (cc); faults = later; quiet = tt }

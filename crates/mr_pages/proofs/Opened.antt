@@ -1,14 +1,16 @@
 -- What opening a file comes to, rule by rule.
 use Rattle.std.proofs.Common.{◌≡◌, ◌≢◌, ℕ, List, [], ◌∷◌, ◌++◌, length, refl, sym, ap, subst, ◌∙◌}
-use Rattle.std.specs.Prelude.{◌==◌, not, Option, Some, None, Ok}
+use Rattle.std.specs.Prelude.{◌==◌, not, Option, Some, None, Ok, Err}
 use Rattle.std.proofs.lemmas.Bool.{eq-eqb, ne_eqb, not_from_true}
 use Rattle.std.proofs.lemmas.List.{length-map}
 use Rattle.mr_record.specs.declared.record.Record.{Record}
 use Rattle.mr_tree.specs.declared.tree.Tree.{Tree}
 use Rattle.mr_pages.specs.declared.rule.MapRule.TheVariants as rule
 use Rattle.mr_pages.specs.declared.rule.MapFault.{MapFault}
+use Rattle.mr_pages.specs.declared.error.MapErr.{MapErr}
+use Rattle.mr_pages.specs.declared.error.MapErr.TheVariants as errors
 use Rattle.mr_pages.specs.declared.seen.Seen.{Seen}
-use Rattle.mr_pages.specs.Walking.{Saw, Loses, Opens}
+use Rattle.mr_pages.specs.Walking.{Saw, Loses, Roots, Opens}
 use Rattle.mr_pages.specs.Page.{Head}
 use Rattle.mr_pages.specs.File.{File}
 use Rattle.mr_pages.specs.Stands.{whole_tree}
@@ -33,6 +35,13 @@ module _ (hash : List ℕ → List ℕ) (file : File) (h : Head) (sealed : file.
   pub walk_stops : (f : MapFault) → first_of (walk_faults hash file.pages [] met) ≡ Some f → mapfault hash file ≡ Some f
   walk_stops f e = by_head f (first_front (walk_faults hash file.pages [] met)
       (count_fault ++ free_faults file (reached met) followed) f e)
+
+  pub walk_refused : (e : MapErr) (s : Seen) → Roots hash file.pages file.node h.root (Err e) s →
+      Opens hash file (Err e)
+  walk_refused (errors.Map f) s r = walk_stops f r
+  walk_refused errors.Missing s r = r
+  walk_refused errors.Fault s r = r
+  walk_refused errors.NoMemory s r = tt
 
   pub count_stops : (found : ℕ) → walk_faults hash file.pages [] met ≡ [] →
       found ≡ length (numbers_of (all_records met)) → h.count ≢ found →

@@ -56,3 +56,11 @@ first_page now xs at None h =
     omega (arith, low, ap length (take_all 4096 (drop at xs) (omega (arith, low))))
 first_page now xs at (Some y) h =
     h.same ∙ ap (take 4096) (take_all (length xs - at) (drop at xs) (omega (arith, length-drop at xs)))
+
+-- what is spelled from the number that a page has, and compared with it
+pub free_is : (page spelled : List ℕ) (next : ℕ) (same : Bool) → next ≡ from_be_bytes w32 (slice_range page 1 5) →
+    spelled ≡ free_page 4096 next → same ≡ bytes_eq spelled page →
+    (if same then Some next else None) ≡ free_in 4096 page
+free_is page spelled next same number spells is =
+    ap (λ b. if b then Some next else None) (is ∙ ap (λ xs. bytes_eq xs page) spells)
+    ∙ ap (λ n. if bytes_eq (free_page 4096 n) page then Some n else None) number

@@ -9,7 +9,7 @@ use mr_outside::ShelfErr;
 use std::alloc::{AllocError, AllocFailed};
 
 /// Why a map was not opened.
-#[derive(Clone, Copy, Debug, PartialEq, Eq)]
+#[derive(Clone, Copy)]
 pub enum MapErr {
     /// The file stands for no map, by this fault.
     Map(MapFault),

@@ -4,7 +4,7 @@ ghost use Rattle.std.specs.Prelude.{◌≡◌};
 ghost use Rattle.mr_pages.specs.Rules.{map_rule_name};
 
 /// The rules of a map file. Which of them a file breaks first is not said by this order.
-#[derive(Clone, Copy, Debug, PartialEq, Eq)]
+#[derive(Clone, Copy)]
 pub enum MapRule {
     /// The length is 0, no multiple of a page's size, or above 2^20 pages.
     Size,
@@ -58,7 +58,7 @@ impl MapRule {
 }
 
 /// The first rule that a file breaks, and the page at which it does.
-#[derive(Clone, Copy, Debug, PartialEq, Eq)]
+#[derive(Clone, Copy)]
 pub struct MapFault {
     pub page: u32,
     pub rule: MapRule,

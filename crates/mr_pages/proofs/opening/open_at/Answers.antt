@@ -1,7 +1,22 @@
 use Rattle.std.proofs.Common.{◌∙◌, sym}
+use Rattle.std.proofs.lemmas.Result.{err_from_is_err_and}
 use Rattle.mr_pages.specs.Walking.{head_of}
-use Rattle.mr_pages.proofs.Opened.{chain_stops, lost_stops, lost_of, opens}
+use Rattle.mr_pages.proofs.Opened.{walk_refused, count_stops, chain_stops, lost_stops, lost_of, opens}
 use Rattle.mr_pages.proofs.opening.open_at.Goals as goal
+
+pub returns-in_err-tree : goal.returns-in_err-tree
+returns-in_err-tree g c =
+    let p = err_from_is_err_and c.from_residual-in_err-tree.result c.from_residual-in_err-tree.ensures.1 in
+    rw (p.1, p.2)
+    (walk_refused g.H.Hashes.of (g.P.Pages.file c.args.pages.now) (head_of c.args.head.now) c.requires.sealed
+    c.in_err-tree.field-0.0 _ c.in_err-tree.ensures)
+
+pub returns-then-head-found : goal.returns-then-head-found
+returns-then-head-found g c =
+    let p = c.in_ok-tree.ensures.1 in
+    count_stops g.H.Hashes.of (g.P.Pages.file c.args.pages.now)
+    (head_of c.args.head.now) c.requires.sealed c.count-found.result p.none
+    (c.count-found.ensures ∙ p.saw.met.count) c.if-head-found.true
 
 pub returns-in-Some : goal.returns-in-Some
 returns-in-Some g c =

@@ -15,6 +15,9 @@ open-requires g c =
           (is_file first_form first_form_is bytes (cells_are_bytes bytes c.type_inv.bytes));
     }
 
+pub returns-in-None-clause-are : goal.returns-in-None-clause-are
+returns-in-None-clause-are g c = cells_are_bytes c.args.bytes.now c.type_inv.bytes
+
 pub returns-in-None-clause-answers : goal.returns-in-None-clause-answers
 returns-in-None-clause-answers g c = odd_fault first_form g.H.Hashes.of c.args.bytes.now c.in-None.ensures
 

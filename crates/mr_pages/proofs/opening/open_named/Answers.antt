@@ -1,27 +1,73 @@
+use Rattle.std.proofs.Common.{◌≡◌, false, arith, ◌∙◌}
+use Rattle.std.specs.Prelude.{Option, Some, None, Err, MatchOption}
+use Rattle.std.specs.Option.{is_some}
+use Rattle.std.proofs.lemmas.Result.{err_from_is_err_and}
+use Rattle.mr_outside.proofs.Pieces.{ShelfCauses-later}
+use Rattle.mr_pages.specs.Opening.{of_shelf}
 use Rattle.mr_pages.specs.PageBytes.{first_form}
 use Rattle.mr_pages.proofs.HeadLaws.{first_form_is}
 use Rattle.mr_pages.proofs.Agreement.{agrees}
-use Rattle.mr_pages.proofs.Answered.{told_read}
+use Rattle.mr_pages.proofs.Answered.{some_failed, some_odd, told_failed, told_odd, told_read, fails_of, causes_failed, causes_quiet}
 use Rattle.mr_pages.proofs.opening.open_named.Goals as goal
 
-pub returns-clause-told : goal.returns-clause-told
-returns-clause-told g c =
-    told_read first_form first_form_is g.H.Hashes.of g.met.H.Hashes.sized (g.S.Shelf.state c.args.shelf.now).files
-    (g.S.Shelf.state c.size.new.self).files c.args.name.now c.in_ok-bytes.bytes.items c.deref.result.now
-    c.open_bytes.result c.in_ok-size.ensures.files c.deref.ensures.value c.in_ok-bytes.ensures.bytes
-    c.open_bytes.ensures.are c.open_bytes.ensures.answers
+none_gives : {A : Type 0} (o : Option A) (P : Type 0) (Q : A → Type 0) → is_some o ≡ false → MatchOption o P Q → P
+none_gives None P Q e h = h
+none_gives (Some x) P Q e h = absurd (cc)
 
-pub returns-clause-law : goal.returns-clause-law
-returns-clause-law g c = λ bytes all. agrees first_form first_form_is g.H.Hashes.of g.met.H.Hashes.sized bytes all
+pub returns-in_err-size : goal.returns-in_err-size
+returns-in_err-size g c =
+    let p = err_from_is_err_and c.from_residual.result c.from_residual.ensures.1 in
+    let e = c.in_err-size.field-0.0 in
+    rw (p.1, p.2)
+    record {
+      told = told_failed first_form first_form_is g.H.Hashes.of g.met.H.Hashes.sized _ _ (Err (of_shelf e))
+          (fails_of e);
+      some = some_failed first_form first_form_is g.H.Hashes.of g.met.H.Hashes.sized (Err (of_shelf e)) (fails_of e);
+      law = λ bytes all. agrees first_form first_form_is g.H.Hashes.of g.met.H.Hashes.sized bytes all;
+      causes = causes_failed _ _ _ e c.in_err-size.ensures.causes;
+      files = c.in_err-size.ensures.files;
+      reads = omega (arith, c.in_err-size.ensures.reads);
+    }
 
-pub returns-then-is_none-clause-law : goal.returns-then-is_none-clause-law
-returns-then-is_none-clause-law g c = λ bytes all. agrees first_form first_form_is g.H.Hashes.of g.met.H.Hashes.sized
-    bytes all
+pub returns-then-is_none : goal.returns-then-is_none
+returns-then-is_none g c = record {
+  told = told_odd first_form first_form_is g.H.Hashes.of g.met.H.Hashes.sized _ _ c.in_ok-size.size
+      c.in_ok-size.ensures.length (none_gives _ _ _ c.if-is_none.ensures c.page_count.ensures);
+  some = some_odd first_form first_form_is g.H.Hashes.of g.met.H.Hashes.sized c.in_ok-size.size
+      (none_gives _ _ _ c.if-is_none.ensures c.page_count.ensures);
+  law = λ bytes all. agrees first_form first_form_is g.H.Hashes.of g.met.H.Hashes.sized bytes all;
+  causes = causes_quiet _ _ _ _ tt c.in_ok-size.ensures.causes.quiet;
+  files = c.in_ok-size.ensures.files;
+  reads = omega (arith, c.in_ok-size.ensures.reads);
+}
 
-pub returns-in_err-size-clause-law : goal.returns-in_err-size-clause-law
-returns-in_err-size-clause-law g c = λ bytes all. agrees first_form first_form_is g.H.Hashes.of g.met.H.Hashes.sized
-    bytes all
+pub returns-in_err-bytes : goal.returns-in_err-bytes
+returns-in_err-bytes g c =
+    let p = err_from_is_err_and c.from_residual-in_err-bytes.result c.from_residual-in_err-bytes.ensures.1 in
+    let e = c.in_err-bytes.field-0.0 in
+    rw (p.1, p.2)
+    record {
+      told = told_failed first_form first_form_is g.H.Hashes.of g.met.H.Hashes.sized _ _ (Err (of_shelf e))
+          (fails_of e);
+      some = some_failed first_form first_form_is g.H.Hashes.of g.met.H.Hashes.sized (Err (of_shelf e)) (fails_of e);
+      law = λ bytes all. agrees first_form first_form_is g.H.Hashes.of g.met.H.Hashes.sized bytes all;
+      causes = causes_failed _ _ _ e
+          (ShelfCauses-later _ _ _ _ _ c.in_ok-size.ensures.files c.in_ok-size.ensures.causes.quiet
+          c.in_err-bytes.ensures.causes);
+      files = c.in_err-bytes.ensures.files ∙ c.in_ok-size.ensures.files;
+      reads = omega (arith, c.in_ok-size.ensures.reads, c.in_err-bytes.ensures.reads);
+    }
 
-pub returns-in_err-bytes-clause-law : goal.returns-in_err-bytes-clause-law
-returns-in_err-bytes-clause-law g c = λ bytes all. agrees first_form first_form_is g.H.Hashes.of g.met.H.Hashes.sized
-    bytes all
+pub returns : goal.returns
+returns g c = record {
+  told = told_read first_form first_form_is g.H.Hashes.of g.met.H.Hashes.sized (g.S.Shelf.state c.args.shelf.now).files
+      (g.S.Shelf.state c.size.new.self).files c.args.name.now c.in_ok-bytes.bytes.items c.deref.result.now
+      c.open_bytes.result c.in_ok-size.ensures.files c.deref.ensures.value c.in_ok-bytes.ensures.bytes
+      c.open_bytes.ensures.are c.open_bytes.ensures.answers;
+  some = (c.deref.result.now, c.open_bytes.ensures.are, c.open_bytes.ensures.answers);
+  law = λ bytes all. agrees first_form first_form_is g.H.Hashes.of g.met.H.Hashes.sized bytes all;
+  causes = causes_quiet _ _ _ _ c.open_bytes.ensures.found
+      (c.in_ok-bytes.ensures.causes.quiet ∙ c.in_ok-size.ensures.causes.quiet);
+  files = c.in_ok-bytes.ensures.files ∙ c.in_ok-size.ensures.files;
+  reads = omega (arith, c.in_ok-size.ensures.reads, c.in_ok-bytes.ensures.reads);
+}

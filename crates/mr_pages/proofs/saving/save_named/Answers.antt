@@ -1,13 +1,12 @@
-use Rattle.std.proofs.Common.{◌≡◌, ◌/◌, ◌^◌, ◌<◌, ◌∙◌, length, sym, subst, ap, arith}
+use Rattle.std.proofs.Common.{◌≡◌, inl, refl, ◌/◌, ◌^◌, ◌<◌, ◌∙◌, length, sym, subst, ap, arith}
 use Rattle.std.specs.Prelude.{OnOk}
 use Rattle.mr_outside.specs.Files.{with_file}
 use Rattle.mr_outside.specs.Writing.{IsChanged}
-use Rattle.mr_pages.specs.Page.{IsHead}
 use Rattle.mr_pages.specs.Saved.{IsHalfWritten, MayStand}
 use Rattle.mr_pages.specs.Putting.{IsImage}
 use Rattle.mr_pages.specs.PageBytes.{first_form}
 use Rattle.mr_pages.proofs.HeadLaws.{first_form_is}
-use Rattle.mr_pages.proofs.SavedStands.{saved_stands, saved_head_fits}
+use Rattle.mr_pages.proofs.SavedStands.{saved_stands}
 use Rattle.mr_pages.proofs.Imaged.{saved_is, half_stands, leaves_as, head_is, pages_fit}
 use Rattle.mr_pages.proofs.saving.save_named.Goals as goal
 
@@ -60,3 +59,9 @@ returns-clause-left g c =
     c.write_head_page.array_long)
     c.args.name.now (g.S.Shelf.state c.args.shelf.now).files
     (g.S.Shelf.state c.write_pages.new.shelf).files c.write_pages.ensures.left
+
+pub returns-in_err-pages-clause-left : goal.returns-in_err-pages-clause-left
+returns-in_err-pages-clause-left g c = inl refl
+
+pub returns-clause-causes : goal.returns-clause-causes
+returns-clause-causes g c = c.write_pages.ensures.causes
