@@ -131,8 +131,8 @@ pub fn first_other<H: Hash32, R: Threads + Sync>(
     Ok(None)
 }
 
-/// The words of a command line.
-pub fn words(alloc: Global, words: &[&str]) -> Result<Vec<String>, AllocError> {
+// The words of a command line.
+fn words(alloc: Global, words: &[&str]) -> Result<Vec<String>, AllocError> {
     let mut all = Vec::new(alloc);
     for word in words {
         all.push(String::from_str(alloc, word)?)?;

@@ -465,7 +465,7 @@ fn proofs_for_the_nearest_beside_their_maps(rt: HostRuntime) -> Result<(), Fail>
 /// How many records I at (I,0) there are; the commands that build their map, prove the nearest 1,024
 /// to (0,0) and check the proof; the root digest; the length and the digest of the proof.
 #[derive(Clone, Copy)]
-pub struct Many<'a>(u64, &'a [&'a [&'a str]], &'a str, usize, &'a str);
+struct Many<'a>(u64, &'a [&'a [&'a str]], &'a str, usize, &'a str);
 
 // Under SHA-256: one less than are asked for, as many, and one more.
 const MANY: &[Many<'static>] = &[
