@@ -1,6 +1,6 @@
 -- What is said of a batch, by whether it may be applied.
 use Rattle.std.proofs.Common.{◌≡◌, ℕ, List, refl, sym, ap, subst, ◌∙◌}
-use Rattle.std.specs.Prelude.{Option, Some, None, Ok, Err}
+use Rattle.std.specs.Prelude.{Option, Some, None, Result, Err}
 use Rattle.mr_outside.specs.State.{Shelved}
 use Rattle.mr_record.specs.declared.record.Record.{Record}
 use Rattle.mr_tree.specs.Tree.{records}
@@ -14,13 +14,14 @@ use Rattle.mr_batch.specs.declared.admission.BatchFault.{BatchFault}
 use Rattle.mr_batch.specs.declared.replay.ApplyErr.{ApplyErr}
 use Rattle.mr_batch.specs.declared.replay.ApplyErr.TheVariants as refusals
 use Rattle.mr_batch.proofs.Walking.{admitted}
-use Rattle.mr_tool.specs.Ending.{Comes, Gives}
+use Rattle.mr_tool.specs.Ending.{Comes, GivesOrStops}
 use Rattle.mr_tool.specs.Lines.{bad_batch_line}
 use Rattle.mr_tool.specs.Plan.{comes}
 use Rattle.mr_tool.specs.Say.{ends, say_admitted, say_batch, say_map}
 use Rattle.mr_tool.specs.declared.ending.Ending.{Ending}
+use Rattle.mr_tool.specs.declared.ending.Halt.{Halt}
 use Rattle.mr_tool.specs.declared.status.Status.TheVariants.{BadBatch}
-use Rattle.mr_tool.proofs.Going.{comes_at_once}
+use Rattle.mr_tool.proofs.Going.{comes_given}
 
 -- nothing hinders a batch that may be applied
 no_fault : (rs : List Record) (held : ℕ) (b : Changes) → IsAdmissible rs held b → batch_fault rs held b ≡ None
@@ -43,10 +44,10 @@ says_saved hash new t held b after number is numbered may =
 
 -- a batch that was refused is said to be, and no file changes
 pub comes_refused : (hash : List ℕ → List ℕ) (new : List ℕ) (t : Tree) (held : ℕ) (b : Changes) (back : Tree)
-    (f : BatchFault) (error : ApplyErr) (at : Shelved) (ending : Ending) → error ≡ refusals.Batch back f
-    → IsApplyCause error t held b → Gives (ends BadBatch (bad_batch_line f)) ending
-    → Comes (comes (say_batch hash new t held b)) at at (Ok ending)
-comes_refused hash new t held b back f error at ending is cause gives =
+    (f : BatchFault) (error : ApplyErr) (at : Shelved) (result : Result Ending Halt) → error ≡ refusals.Batch back f
+    → IsApplyCause error t held b → GivesOrStops (ends BadBatch (bad_batch_line f)) result
+    → Comes (comes (say_batch hash new t held b)) at at result
+comes_refused hash new t held b back f error at result is cause gives =
     let why = subst (λ e. IsApplyCause e t held b) is cause in
-    subst (λ said. Comes (comes said) at at (Ok ending)) (sym (ap (say_admitted hash new t b) why.1))
-    (comes_at_once (ends BadBatch (bad_batch_line f)) at ending refl gives)
+    subst (λ said. Comes (comes said) at at result) (sym (ap (say_admitted hash new t b) why.1))
+    (comes_given (ends BadBatch (bad_batch_line f)) at result refl gives)

@@ -1,7 +1,11 @@
 -- The text of an ending: its line, then its records.
-use Rattle.std.proofs.Common.{◌≡◌, ℕ, List, [], ◌++◌, sym, ap, ◌∙◌, append_assoc, append-nil}
+use Rattle.std.proofs.Common.{◌≡◌, ℕ, List, [], ◌++◌, sym, ap, subst, ◌∙◌, append_assoc, append-nil, arith}
+use Rattle.std.specs.Prelude.{Result, Ok, Err, OnOk}
+use Rattle.mr_outside.specs.Causes.{SinkCauses}
+use Rattle.mr_outside.specs.Faults.{Rose}
 use Rattle.mr_outside.specs.State.{Sunk}
 use Rattle.mr_outside.specs.Told.{Takes, TakesFront}
+use Rattle.mr_outside.specs.declared.sink.SinkErr.{SinkErr}
 use Rattle.mr_outside.proofs.Taking.{Takes-append}
 use Rattle.mr_record.specs.declared.record.Record.{Record}
 use Rattle.mr_record.specs.RecordText.{text_of}
@@ -35,4 +39,26 @@ front_after before between after first second takes part = record {
   rest = part.rest;
   whole = ap (λ text. first ++ text) part.whole ∙ sym (append_assoc first part.front part.rest);
   takes = Takes-append before between after first part.front takes part.takes;
+}
+
+-- both parts, where the second was written
+pub whole_after : (before between after : Sunk) (first second : List ℕ) (result : Result Unit SinkErr)
+    → Takes before between first → OnOk result (Takes between after second)
+    → OnOk result (Takes before after (first ++ second))
+whole_after before between after first second (Ok done) takes more =
+    Takes-append before between after first second takes more
+whole_after before between after first second (Err error) takes more = tt
+
+-- a call behind one that counted no fault
+pub causes_after : (before between after : Sunk) (result : Result Unit SinkErr)
+    → between.faults ≡ before.faults → SinkCauses between after result → SinkCauses before after result
+causes_after before between after (Ok done) same causes = record {
+  fault = λ e. subst (λ n. Rose n after.faults) same (causes.fault e);
+  faults = omega (arith, same, causes.faults);
+  quiet = causes.quiet ∙ same;
+}
+causes_after before between after (Err error) same causes = record {
+  fault = λ e. subst (λ n. Rose n after.faults) same (causes.fault e);
+  faults = omega (arith, same, causes.faults);
+  quiet = tt;
 }

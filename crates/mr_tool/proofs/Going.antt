@@ -17,7 +17,7 @@ use Rattle.mr_pages.specs.Opening.{Answers, Fails, MapCauses, OrFails, SomeBytes
 use Rattle.mr_pages.specs.declared.error.MapErr.{MapErr}
 use Rattle.mr_pages.specs.declared.error.MapErr.TheVariants as errors
 use Rattle.mr_pages.specs.declared.rule.MapFault.{MapFault}
-use Rattle.mr_tool.specs.Ending.{Gives, Comes, Came, Stops, Ends, GivesUp, Blames, IsCalm, NoneFalls, IsTaken, FindsMap, IsWell, WasFound, Reads, HoldsMap, Opens, Saves, printed_of}
+use Rattle.mr_tool.specs.Ending.{Gives, GivesOrStops, Misses, Comes, Came, Stops, Ends, GivesUp, Blames, IsCalm, NoneFalls, IsTaken, FindsMap, IsWell, WasFound, Reads, HoldsMap, Opens, Saves, printed_of}
 use Rattle.mr_tool.specs.Found.{Found, Shows, bad_map_line}
 use Rattle.mr_tool.specs.Outcome.{Outcome, Content, Nothing, File, map_of, IsLaidOut, IsLeft, MayLeave}
 use Rattle.mr_tool.specs.Plan.{Plan, comes, reads, opens, Input, IsInput, IsAbsent, LacksInput}
@@ -114,6 +114,34 @@ comes_at_once said at ending writes gives = record {
   quiet = λ settled. refl;
 }
 
+-- the same where memory may have run out
+pub comes_given : (said : Outcome) (at : Shelved) (result : Result Ending Halt) → said.written ≡ Nothing
+    → GivesOrStops said result → Comes (comes said) at at result
+comes_given said at (Ok ending) writes gives = comes_at_once said at ending writes gives
+comes_given said at (Err halt) writes is = record {
+  counts = record { faults = omega arith; reads = omega arith };
+  came = (
+    subst (Stops at at) (sym is) tt,
+    subst (λ w. MayLeave w at.files at.files) (sym writes) refl,
+  );
+  outside = tt;
+  quiet = tt;
+}
+
+-- a refusal for want of memory
+pub out_of_memory : (said : Outcome) (result : Result Ending Halt) → IsErrAnd result (λ h. h ≡ halts.NoMemory)
+    → GivesOrStops said result
+out_of_memory said (Ok ending) is = absurd is
+out_of_memory said (Err halt) is = is
+
+-- bytes that were read, and what came of them
+pub comes_read : (name : List ℕ) (next : List ℕ → Plan) (before between after : Shelved) (bytes : Vec ℕ)
+    (read : Option (Vec ℕ)) (result : Result Ending Halt) → read ≡ Some bytes
+    → Reads name before between (Ok read) → Comes (next bytes.items) between after result
+    → Comes (needs name next) before after result
+comes_read name next before between after bytes read result was =
+    comes_behind name next before between after bytes (Ok read) result (ap (λ r. Ok r) was)
+
 -- ---- behind a file that was read as a map
 
 -- what came of a map or a fault that was found came of the bytes
@@ -174,7 +202,31 @@ comes_missing hash name next before after ending counts files miss status printe
       quiet = λ settled. absurd (settled.0 status);
     }
 
+-- where the one file that is read is missing
+pub comes_missed : (name : List ℕ) (next : List ℕ → Plan) (before after : Shelved) (read : Option (Vec ℕ))
+    (result : Result Ending Halt) → read ≡ None → Reads name before after (Ok read) → Misses name result
+    → Comes (needs name next) before after result
+comes_missed name next before after read (Ok ending) was got gives =
+    let missed : Reads name before after (Ok None) = subst (λ r. Reads name before after (Ok r)) was got in
+    record {
+      counts = missed.counts;
+      came = (None, missed.read.0, tt, (gives.0, gives.1, missed.files));
+      outside = λ e. elim missed.read.1 [ inl rose ↦ inl rose | inr absent ↦ inr (inl absent) ];
+      quiet = λ settled. absurd (settled.0 gives.0);
+    }
+comes_missed name next before after read (Err halt) was got is = record {
+  counts = got.counts;
+  came = (subst (Stops before after) (sym is) tt, inl got.files);
+  outside = tt;
+  quiet = tt;
+}
+
 -- and where the command stopped
+pub comes_unread : (name : List ℕ) (next : List ℕ → Plan) (before after : Shelved) (halt : Halt)
+    → Reads name before after (Err halt) → Comes (needs name next) before after (Err halt)
+comes_unread name next before after halt got =
+    record { counts = got.counts; came = (got.read, inl got.files); outside = tt; quiet = tt }
+
 pub comes_halted : (name : List ℕ) (next : List ℕ → Plan) (before after : Shelved) (halt : Halt)
     → NoneFalls before after → after.files ≡ before.files → Stops before after halt
     → Comes (needs name next) before after (Err halt)

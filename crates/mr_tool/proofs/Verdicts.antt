@@ -1,9 +1,8 @@
 -- What the command `check` says of a proof, by what the check answers for it.
 use Rattle.std.proofs.Common.{◌≡◌, ℕ, List, length, refl, sym, ap, subst, ◌∙◌, arith}
-use Rattle.std.specs.Prelude.{Option, Some, Result, Ok, Err}
-use Rattle.std.specs.Global.{Vec}
-use Rattle.mr_outside.specs.State.{Shelved}
+use Rattle.std.specs.Prelude.{Result, Ok, Err}
 use Rattle.mr_record.specs.declared.record.Record.{Record}
+use Rattle.mr_record.specs.declared.text_fault.TextFault.{TextFault}
 use Rattle.mr_tree.specs.declared.tree.Tree.{Tree}
 use Rattle.mr_query.specs.declared.query.Query.{Query}
 use Rattle.mr_proof.specs.declared.rule.Fault.{Fault}
@@ -20,12 +19,10 @@ use Rattle.mr_clash.specs.Finding.{found}
 use Rattle.mr_clash.specs.declared.finding.Finding.{Finding}
 use Rattle.mr_clash.specs.declared.finding.Finding.TheVariants as findings
 use Rattle.mr_tool.specs.Answer.{IsSettled}
-use Rattle.mr_tool.specs.Ending.{Gives, Comes, Reads, printed_of}
-use Rattle.mr_tool.specs.Outcome.{Outcome, Nothing, IsLeft}
-use Rattle.mr_tool.specs.Plan.{comes}
-use Rattle.mr_tool.specs.Say.{needs, say_verdict, say_check_of, say_finding, say_audit_of}
+use Rattle.mr_tool.specs.Ending.{Gives, printed_of}
+use Rattle.mr_tool.specs.Outcome.{Outcome, Nothing}
+use Rattle.mr_tool.specs.Say.{say_verdict, say_check_of, say_finding, say_audit_of, say_root_of}
 use Rattle.mr_tool.specs.declared.ending.Ending.{Ending}
-use Rattle.mr_tool.specs.declared.ending.Halt.{Halt}
 
 -- the error that it answers, as one of these
 pub checks_as : (hash : List ℕ → List ℕ) (root : List ℕ) (q : Query) (bytes : List ℕ)
@@ -62,6 +59,12 @@ finding_writes (findings.Refused fault) = refl
 finding_writes (findings.Sound answer) = refl
 finding_writes (findings.Collision owned shown) = refl
 
+-- nor does the command `root`
+pub root_writes : (hash : List ℕ → List ℕ) (found : Result (List Record) TextFault)
+    → (say_root_of hash found).written ≡ Nothing
+root_writes hash (Ok records) = refl
+root_writes hash (Err fault) = refl
+
 -- nor does the command `audit`
 pub audit_writes : (hash : List ℕ → List ℕ) (q : Query) (t : Tree) (batch : ℕ) (bytes : List ℕ)
     → (say_audit_of hash q t batch bytes).written ≡ Nothing
@@ -72,32 +75,6 @@ pub says_finding : (hash : List ℕ → List ℕ) (q : Query) (t : Tree) (batch 
     → f ≡ found hash t batch q bytes → say_finding f ≡ say_audit_of hash q t batch bytes
 unfolding say_audit_of
 says_finding hash q t batch bytes f is = ap say_finding is
-
--- a command that needs one file and writes none
-pub comes_so : (name : List ℕ) (said : List ℕ → Outcome) (before after : Shelved) (bytes : Vec ℕ)
-    (read : Result (Option (Vec ℕ)) Halt) (ending : Ending)
-    → read ≡ Ok (Some bytes) → Reads name before after read → (said bytes.items).written ≡ Nothing
-    → Gives (said bytes.items) ending
-    → Comes (needs name (λ b. comes (said b))) before after (Ok ending)
-comes_so name said before after bytes read ending was reads writes gives =
-    let was_read : Reads name before after (Ok (Some bytes)) = subst (Reads name before after) was
-    reads in
-    record {
-      counts = was_read.counts;
-      came = (
-        Some bytes.items,
-        was_read.read.0,
-        was_read.read.1,
-        (
-          gives.status,
-          gives.printed,
-          subst (λ w. IsLeft w before.files after.files) (sym writes)
-              was_read.files,
-        ),
-      );
-      outside = λ e. absurd (gives.settled.0 e);
-      quiet = λ settled. was_read.read.2;
-    }
 
 -- the honest proof is accepted with the answer of a scan
 pub accepted_scan : (hash : List ℕ → List ℕ) (q : Query) (t : Tree) (root bytes : List ℕ) → AcceptsHonest hash q

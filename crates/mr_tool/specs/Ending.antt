@@ -20,7 +20,7 @@ use Rattle.mr_tool.specs.Found.{Found}
 use Rattle.mr_tool.specs.Lines.{bad_words_line, shelf_fault_line}
 use Rattle.mr_tool.specs.Outcome.{Outcome, Content, File, IsLeft, MayLeave}
 use Rattle.mr_tool.specs.Plan.{Plan, comes, reads, opens, Input, IsInput, IsFound, IsAbsent, LacksInput}
-use Rattle.mr_tool.specs.Say.{needs_map}
+use Rattle.mr_tool.specs.Say.{needs_map, says_missing}
 use Rattle.mr_tool.specs.declared.ending.Ending.{Ending}
 use Rattle.mr_tool.specs.declared.ending.Halt.{Halt}
 use Rattle.mr_tool.specs.declared.ending.Halt.TheVariants as halts
@@ -36,6 +36,17 @@ pub record Gives (said : Outcome) (ending : Ending) : Type 0 where
   pub status : ending.status ≡ said.status
   pub printed : printed_of ending ≡ said.printed
   pub settled : IsSettled ending.status
+
+-- this is said, or memory ran out
+abbrev pub GivesOrStops : Outcome → Result Ending Halt → Type 0
+GivesOrStops said (Ok ending) = Gives said ending
+GivesOrStops said (Err halt) = halt ≡ halts.NoMemory
+
+-- the line on a missing file, or memory ran out
+abbrev pub Misses : List ℕ → Result Ending Halt → Type 0
+Misses name (Ok ending) = (ending.status ≡ Outside)
+    × (printed_of ending ≡ (says_missing name).printed)
+Misses name (Err halt) = halt ≡ halts.NoMemory
 
 -- ---- before it is printed
 

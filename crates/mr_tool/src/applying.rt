@@ -1,26 +1,25 @@
-ghost use Rattle.std.specs.Prelude.{IfOk};
 ghost use Rattle.mr_tree.specs.WellFormed.{WellFormed};
 ghost use Rattle.mr_batch.specs.BatchText.{batch_of_text};
-ghost use Rattle.mr_tool.specs.Ending.{Comes, Gives};
+ghost use Rattle.mr_tool.specs.Ending.{Comes, GivesOrStops};
 ghost use Rattle.mr_tool.specs.Lines.{bad_batch_line as line_of};
 ghost use Rattle.mr_tool.specs.Plan.{comes};
 ghost use Rattle.mr_tool.specs.Say.{ends, needs, say_apply, say_apply_of, say_batch, say_map};
 
 use crate::Status;
 use crate::ending::{Ending, Halt};
-use crate::input::{missing, read};
-use crate::lines::{bad_batch_line, bad_text_line};
+use crate::input::{bad_text, missing, read};
+use crate::lines::bad_batch_line;
 use crate::opening::open_map;
 use crate::saving::save_map;
 use mr_batch::{ApplyErr, Batch, BatchFault, apply_plain, read_batch};
 use mr_outside::Shelf;
 use mr_record::TextErr;
 use mr_tree::{Hash32, Tree, root_of};
-use std::alloc::{AllocError, Global};
+use std::alloc::Global;
 
 // The ending over a batch that may not be applied.
-fn bad_batch(alloc: Global, fault: &BatchFault) -> Result<Ending, AllocError>
-    ensures { IfOk result (λ e. Gives (ends Status.BadBatch (line_of fault.now)) e) }
+fn bad_batch(alloc: Global, fault: &BatchFault) -> Result<Ending, Halt>
+    ensures { GivesOrStops (ends Status.BadBatch (line_of fault.now)) result }
 {
     let line = bad_batch_line(alloc, fault)?;
     Ok(Ending::line(alloc, Status::BadBatch, line))
@@ -57,7 +56,7 @@ fn apply_batch<H: Hash32, S: Shelf>(
 {
     match apply_plain(alloc, tree, held, batch) {
         Ok(after) => save_after::<H, S>(alloc, new, &after, batch.number(), shelf),
-        Err(ApplyErr::Batch(_tree, fault)) => Ok(bad_batch(alloc, &fault)?),
+        Err(ApplyErr::Batch(_tree, fault)) => bad_batch(alloc, &fault),
         Err(ApplyErr::NoMemory) => Err(Halt::NoMemory),
     }
 }
@@ -77,11 +76,7 @@ fn apply_text<H: Hash32, S: Shelf>(
 {
     match read_batch(alloc, text) {
         Ok(batch) => apply_batch::<H, S>(alloc, tree, held, &batch, new, shelf),
-        Err(TextErr::Text(fault)) => Ok(Ending::line(
-            alloc,
-            Status::BadText,
-            bad_text_line(alloc, &fault)?,
-        )),
+        Err(TextErr::Text(fault)) => bad_text(alloc, &fault),
         Err(TextErr::NoMemory) => Err(Halt::NoMemory),
     }
 }
@@ -100,10 +95,11 @@ fn apply_file<H: Hash32, S: Shelf>(
         (λ text. comes (say_apply_of H.of new.now tree held (batch_of_text text))))
         (S.state shelf.old) (S.state shelf.new) result }
 {
-    let Some(text) = read(alloc, batch, shelf)? else {
-        return Ok(missing(alloc, batch)?);
-    };
-    apply_text::<H, S>(alloc, tree, held, &text, new, shelf)
+    match read(alloc, batch, shelf) {
+        Ok(Some(text)) => apply_text::<H, S>(alloc, tree, held, &text, new, shelf),
+        Ok(None) => missing(alloc, batch),
+        Err(halt) => Err(halt),
+    }
 }
 
 /// The map in a file after the batch in another one, written to a third one.

@@ -2,14 +2,15 @@ ghost use Rattle.std.specs.Prelude.{◌≡◌, IfOk, IfSome, IsSome};
 ghost use Rattle.mr_tree.specs.WellFormed.{WellFormed};
 ghost use Rattle.mr_query.specs.Word.{IsAskable};
 ghost use Rattle.mr_clash.specs.Finding.{found};
-ghost use Rattle.mr_tool.specs.Ending.{Comes, Gives};
+ghost use Rattle.mr_tool.specs.Ending.{Comes, GivesOrStops};
 ghost use Rattle.mr_tool.specs.Plan.{comes};
 ghost use Rattle.mr_tool.specs.Say.{needs, say_audit, say_audit_of, say_finding};
 
 use crate::Status;
+use crate::checking::refused;
 use crate::ending::{Ending, Halt};
 use crate::input::{missing, read};
-use crate::lines::{collision_lines, refused_line, sound_line};
+use crate::lines::{collision_lines, sound_line};
 use crate::opening::open_map;
 use mr_clash::{AuditErr, Finding, audit};
 use mr_outside::Shelf;
@@ -59,15 +60,11 @@ fn finding_of<H: Hash32>(
 }
 
 // The ending over a finding.
-fn say_found(alloc: Global, finding: Finding) -> Result<Ending, AllocError>
-    ensures { IfOk result (λ e. Gives (say_finding finding) e) }
+fn say_found(alloc: Global, finding: Finding) -> Result<Ending, Halt>
+    ensures { GivesOrStops (say_finding finding) result }
 {
     match finding {
-        Finding::Refused(fault) => Ok(Ending::line(
-            alloc,
-            Status::Refused,
-            refused_line(alloc, &fault)?,
-        )),
+        Finding::Refused(fault) => refused(alloc, &fault),
         Finding::Sound(answer) => Ok(Ending::both(
             Status::Done,
             sound_line(alloc)?,
@@ -88,10 +85,10 @@ fn audit_bytes<H: Hash32>(
     batch: u64,
     query: &Query,
     bytes: &[u8],
-) -> Result<Ending, AllocError>
+) -> Result<Ending, Halt>
     requires well_formed { WellFormed tree.now }
     requires askable { IsAskable query.now }
-    ensures { IfOk result (λ e. Gives (say_audit_of H.of query.now tree.now batch bytes.now) e) }
+    ensures { GivesOrStops (say_audit_of H.of query.now tree.now batch bytes.now) result }
 {
     let finding = finding_of::<H>(alloc, tree, batch, query, bytes)?;
     say_found(alloc, finding)
@@ -112,10 +109,11 @@ fn audit_file<H: Hash32, S: Shelf>(
         (λ bytes. comes (say_audit_of H.of query.now tree.now batch bytes)))
         (S.state shelf.old) (S.state shelf.new) result }
 {
-    let Some(bytes) = read(alloc, name, shelf)? else {
-        return Ok(missing(alloc, name)?);
-    };
-    Ok(audit_bytes::<H>(alloc, tree, batch, query, &bytes)?)
+    match read(alloc, name, shelf) {
+        Ok(Some(bytes)) => audit_bytes::<H>(alloc, tree, batch, query, &bytes),
+        Ok(None) => missing(alloc, name),
+        Err(halt) => Err(halt),
+    }
 }
 
 /// What the proof in a file is worth against the map in another one, for a query.

@@ -4,10 +4,8 @@ ghost use Rattle.mr_tool.specs.Ending.{Comes};
 ghost use Rattle.mr_tool.specs.Plan.{comes};
 ghost use Rattle.mr_tool.specs.Say.{say_build, say_build_of};
 
-use crate::Status;
 use crate::ending::{Ending, Halt};
-use crate::input::{missing, read};
-use crate::lines::bad_text_line;
+use crate::input::{bad_text, missing, read};
 use crate::root::packed;
 use crate::saving::save_map;
 use mr_outside::{Gate, Shelf};
@@ -49,11 +47,7 @@ fn build_text<H: Hash32, S: Shelf, G: Gate, R: Threads + Sync>(
 {
     match read_lines(alloc, text) {
         Ok(records) => build_records::<H, S, G, R>(rt, alloc, map, records, shelf, gate),
-        Err(TextErr::Text(fault)) => Ok(Ending::line(
-            alloc,
-            Status::BadText,
-            bad_text_line(alloc, &fault)?,
-        )),
+        Err(TextErr::Text(fault)) => bad_text(alloc, &fault),
         Err(TextErr::NoMemory) => Err(Halt::NoMemory),
     }
 }
@@ -71,8 +65,9 @@ pub(crate) fn build<H: Hash32, S: Shelf, G: Gate, R: Threads + Sync>(
     ensures { Comes (say_build H.of map.now records.now) (S.state shelf.old) (S.state shelf.new)
         result }
 {
-    let Some(text) = read(alloc, records, shelf)? else {
-        return Ok(missing(alloc, records)?);
-    };
-    build_text::<H, S, G, R>(rt, alloc, map, &text, shelf, gate)
+    match read(alloc, records, shelf) {
+        Ok(Some(text)) => build_text::<H, S, G, R>(rt, alloc, map, &text, shelf, gate),
+        Ok(None) => missing(alloc, records),
+        Err(halt) => Err(halt),
+    }
 }

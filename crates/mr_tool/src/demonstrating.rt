@@ -13,7 +13,7 @@ ghost use Rattle.mr_tool.specs.Say.{prints};
 
 use crate::Status;
 use crate::ending::Ending;
-use crate::lines::{map_lines, query_lines, total_lines};
+use crate::lines::{map_lines, push_queries, push_totals};
 use crate::proving::proof_of_nodes;
 use crate::root::packed;
 use mr_batch::{generate, generate_queries};
@@ -28,7 +28,7 @@ use std::thread::Threads;
 const DEMO_QUERIES: u32 = 64;
 
 // How many records the answers to some queries have, and how many bytes their proofs.
-#[derive(Clone, Copy, Debug)]
+#[derive(Clone, Copy)]
 pub(crate) struct Totals {
     answers: u128,
     bytes: u128,
@@ -148,8 +148,8 @@ fn tried<H: Hash32>(
 {
     let totals = totals_of::<H>(alloc, tree, root, queries)?;
     let mut lines = map_lines(alloc, count, level_of(tree), root)?;
-    lines.push_str(query_lines(alloc, queries.len())?.as_str())?;
-    lines.push_str(total_lines(alloc, totals.answers, totals.bytes)?.as_str())?;
+    push_queries(alloc, &mut lines, queries.len())?;
+    push_totals(alloc, &mut lines, totals.answers, totals.bytes)?;
     Ok(lines)
 }
 

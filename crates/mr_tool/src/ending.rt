@@ -57,7 +57,7 @@ impl Ending {
 }
 
 // Why no command comes to its end.
-#[derive(Clone, Copy, Debug)]
+#[derive(Clone, Copy)]
 pub(crate) enum Halt {
     // The words spell no command.
     Words,

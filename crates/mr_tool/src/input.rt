@@ -1,14 +1,14 @@
-ghost use Rattle.std.specs.Prelude.{◌≡◌, IfOk};
-ghost use Rattle.std.specs.String.{string_bytes};
 ghost use Rattle.mr_record.specs.Bytes.{AreBytes};
-ghost use Rattle.mr_tool.specs.Ending.{Reads, printed_of};
-ghost use Rattle.mr_tool.specs.Say.{says_missing};
+ghost use Rattle.mr_tool.specs.Ending.{GivesOrStops, Misses, Reads};
+ghost use Rattle.mr_tool.specs.Lines.{bad_text_line as line_of};
+ghost use Rattle.mr_tool.specs.Say.{ends};
 
 use crate::Status;
 use crate::ending::{Ending, Halt};
-use crate::lines::missing_line;
+use crate::lines::{bad_text_line, missing_line};
 use mr_outside::{Shelf, ShelfErr, read_all};
-use std::alloc::{AllocError, Global};
+use mr_record::TextFault;
+use std::alloc::Global;
 
 // What the type tells of its values.
 fn are_bytes(_bytes: &[u8])
@@ -35,9 +35,17 @@ pub(crate) fn read<S: Shelf>(
 }
 
 // The ending over a file that is missing.
-pub(crate) fn missing(alloc: Global, name: &str) -> Result<Ending, AllocError>
-    ensures status { IfOk result (λ e. e.status ≡ (says_missing name.now).status) }
-    ensures printed { IfOk result (λ e. printed_of e ≡ (says_missing name.now).printed) }
+pub(crate) fn missing(alloc: Global, name: &str) -> Result<Ending, Halt>
+    ensures { Misses name.now result }
 {
-    Ok(Ending::line(alloc, Status::Outside, missing_line(alloc, name)?))
+    let line = missing_line(alloc, name)?;
+    Ok(Ending::line(alloc, Status::Outside, line))
+}
+
+// The ending over a text that is refused.
+pub(crate) fn bad_text(alloc: Global, fault: &TextFault) -> Result<Ending, Halt>
+    ensures { GivesOrStops (ends Status.BadText (line_of fault.now)) result }
+{
+    let line = bad_text_line(alloc, fault)?;
+    Ok(Ending::line(alloc, Status::BadText, line))
 }

@@ -1,4 +1,4 @@
-ghost use Rattle.std.specs.Prelude.{◌≡◌, ◌++◌, codes, OnOk, IfOk};
+ghost use Rattle.std.specs.Prelude.{◌≡◌, ◌++◌, ◌∷◌, [], codes, decimal, OnOk, IfOk};
 ghost use Rattle.std.specs.String.{string_bytes};
 ghost use Rattle.hex.specs.Hex.{encode_lower};
 ghost use Rattle.mr_tool.specs.Demo.{map_lines as lines_on_map, query_lines as lines_on_queries, total_lines as lines_on_totals};
@@ -12,13 +12,21 @@ use mr_proof::{Fault, Rule};
 use mr_record::TextFault;
 use std::alloc::{AllocError, Global};
 
+// Puts some bytes in hexadecimal.
+fn push_hex(alloc: Global, line: &mut String, bytes: &[u8]) -> Result<(), AllocError>
+    ensures { OnOk result
+        (string_bytes line.new ≡ string_bytes line.old ++ encode_lower bytes.now) }
+{
+    line.push_str(hex::encode(alloc, bytes)?.as_str())
+}
+
 // Puts the root digest that was computed, where it is another than the held one.
 fn push_found(alloc: Global, line: &mut String, rule: &Rule) -> Result<(), AllocError>
     ensures { OnOk result (string_bytes line.new ≡ string_bytes line.old ++ found_text rule.now) }
 {
     if let Rule::WrongRoot { found } = rule {
         line.push_str(" found ")?;
-        line.push_str(hex::encode(alloc, found)?.as_str())?;
+        push_hex(alloc, line, found)?;
     }
     Ok(())
 }
@@ -55,6 +63,14 @@ fn push_numbers(alloc: Global, line: &mut String, held: u64, given: u64) -> Resu
     line.push_str(format!(in alloc; " held {held} given {given}")?.as_str())
 }
 
+// Puts the line of a batch that breaks a rule, and the rule.
+fn push_place(alloc: Global, line: &mut String, at: u64, rule: &str) -> Result<(), AllocError>
+    ensures { OnOk result (string_bytes line.new ≡ string_bytes line.old
+        ++ (codes "line " ++ decimal at ++ 32 ∷ rule.now)) }
+{
+    line.push_str(format!(in alloc; "line {at} {rule}")?.as_str())
+}
+
 // Puts why a batch may not be applied.
 fn push_batch_fault(alloc: Global, line: &mut String, fault: &BatchFault) -> Result<(), AllocError>
     ensures { OnOk result
@@ -65,15 +81,9 @@ fn push_batch_fault(alloc: Global, line: &mut String, fault: &BatchFault) -> Res
             line.push_str("OutOfOrder")?;
             push_numbers(alloc, line, *held, *given)
         }
-        BatchFault::Present { line: at } => {
-            line.push_str(format!(in alloc; "line {at} Present")?.as_str())
-        }
-        BatchFault::Absent { line: at } => {
-            line.push_str(format!(in alloc; "line {at} Absent")?.as_str())
-        }
-        BatchFault::Full { line: at } => {
-            line.push_str(format!(in alloc; "line {at} Full")?.as_str())
-        }
+        BatchFault::Present { line: at } => push_place(alloc, line, *at, "Present"),
+        BatchFault::Absent { line: at } => push_place(alloc, line, *at, "Absent"),
+        BatchFault::Full { line: at } => push_place(alloc, line, *at, "Full"),
     }
 }
 
@@ -101,10 +111,9 @@ fn push_digests(
         ++ (codes " held " ++ encode_lower held.now ++ codes " found " ++ encode_lower found.now)) }
 {
     line.push_str(" held ")?;
-    line.push_str(hex::encode(alloc, held)?.as_str())?;
+    push_hex(alloc, line, held)?;
     line.push_str(" found ")?;
-    line.push_str(hex::encode(alloc, found)?.as_str())?;
-    Ok(())
+    push_hex(alloc, line, found)
 }
 
 // Puts what differs, where a rule keeps it.
@@ -160,6 +169,23 @@ pub(crate) fn made_line(alloc: Global, count: u32) -> Result<String, AllocError>
     count_line(alloc, "made", u128::from(count))
 }
 
+// Puts a line of a name and a number.
+fn push_count(alloc: Global, lines: &mut String, name: &str, number: u128) -> Result<(), AllocError>
+    ensures { OnOk result
+        (string_bytes lines.new ≡ string_bytes lines.old ++ line_of_count name.now number) }
+{
+    lines.push_str(count_line(alloc, name, number)?.as_str())
+}
+
+// Puts the line on a map's root digest.
+fn push_root(alloc: Global, lines: &mut String, root: &[u8; 32]) -> Result<(), AllocError>
+    ensures { OnOk result
+        (string_bytes lines.new ≡ string_bytes lines.old ++ (codes "root " ++ digest_line root.now)) }
+{
+    lines.push_str("root ")?;
+    lines.push_str(digest_line(alloc, root)?.as_str())
+}
+
 // The lines on a map: how many records it has, the level of its root node, and its root digest.
 pub(crate) fn map_lines(
     alloc: Global,
@@ -170,28 +196,45 @@ pub(crate) fn map_lines(
     ensures { IfOk result (λ s. string_bytes s ≡ lines_on_map count level root.now) }
 {
     let mut lines = count_line(alloc, "records", u128::from(count))?;
-    lines.push_str(count_line(alloc, "level", u128::from(level))?.as_str())?;
-    lines.push_str("root ")?;
-    lines.push_str(digest_line(alloc, root)?.as_str())?;
+    push_count(alloc, &mut lines, "level", u128::from(level))?;
+    push_root(alloc, &mut lines, root)?;
     Ok(lines)
 }
 
-// The lines on queries, all of which were accepted.
-pub(crate) fn query_lines(alloc: Global, queries: usize) -> Result<String, AllocError>
-    ensures { IfOk result (λ s. string_bytes s ≡ lines_on_queries queries) }
+// Puts the lines on queries, all of which were accepted.
+pub(crate) fn push_queries(
+    alloc: Global,
+    lines: &mut String,
+    queries: usize,
+) -> Result<(), AllocError>
+    ensures { OnOk result
+        (string_bytes lines.new ≡ string_bytes lines.old ++ lines_on_queries queries) }
 {
-    let mut lines = count_line(alloc, "queries", queries as u128)?;
-    lines.push_str(count_line(alloc, "accepted", queries as u128)?.as_str())?;
-    Ok(lines)
+    push_count(alloc, lines, "queries", queries as u128)?;
+    push_count(alloc, lines, "accepted", queries as u128)
 }
 
-// The lines on the lengths of all answers and of all proofs.
-pub(crate) fn total_lines(alloc: Global, answers: u128, bytes: u128) -> Result<String, AllocError>
-    ensures { IfOk result (λ s. string_bytes s ≡ lines_on_totals answers bytes) }
+// Puts the lines on the lengths of all answers and of all proofs.
+pub(crate) fn push_totals(
+    alloc: Global,
+    lines: &mut String,
+    answers: u128,
+    bytes: u128,
+) -> Result<(), AllocError>
+    ensures { OnOk result
+        (string_bytes lines.new ≡ string_bytes lines.old ++ lines_on_totals answers bytes) }
 {
-    let mut lines = count_line(alloc, "answers", answers)?;
-    lines.push_str(count_line(alloc, "bytes", bytes)?.as_str())?;
-    Ok(lines)
+    push_count(alloc, lines, "answers", answers)?;
+    push_count(alloc, lines, "bytes", bytes)
+}
+
+// Puts some bytes as a line of hexadecimal.
+fn push_hex_line(alloc: Global, lines: &mut String, bytes: &[u8]) -> Result<(), AllocError>
+    ensures { OnOk result
+        (string_bytes lines.new ≡ string_bytes lines.old ++ (encode_lower bytes.now ++ 10 ∷ [])) }
+{
+    push_hex(alloc, lines, bytes)?;
+    lines.push('\n')
 }
 
 // The lines on two strings that differ and have one hash.
@@ -204,12 +247,9 @@ pub(crate) fn collision_lines(
     ensures { IfOk result (λ s. string_bytes s ≡ collision_text owned.now shown.now) }
 {
     let mut lines = String::new(alloc);
-    lines.push_str("collision")?;
-    lines.push('\n')?;
-    lines.push_str(hex::encode(alloc, owned)?.as_str())?;
-    lines.push('\n')?;
-    lines.push_str(hex::encode(alloc, shown)?.as_str())?;
-    lines.push('\n')?;
+    lines.push_str("collision\n")?;
+    push_hex_line(alloc, &mut lines, owned)?;
+    push_hex_line(alloc, &mut lines, shown)?;
     Ok(lines)
 }
 

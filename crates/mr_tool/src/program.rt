@@ -37,18 +37,22 @@ fn lend<H: Hash32, S: Shelf, G: Gate, R: Threads + Sync>(
     ensures { Comes (say H.of (Some command.now)) (S.state shelf.old) (S.state shelf.new) result }
 {
     match command {
-        Command::Root(records) => root::<H, S, G, R>(rt, alloc, records, shelf, gate),
+        Command::Root(records) => root::<H, S, G, R>(rt, alloc, *records, shelf, gate),
         Command::Build(map, records) => {
-            build::<H, S, G, R>(rt, alloc, map, records, shelf, gate)
+            build::<H, S, G, R>(rt, alloc, *map, *records, shelf, gate)
         }
-        Command::List(map) => list::<H, S>(alloc, map, shelf),
-        Command::Apply(old, batch, new) => apply::<H, S>(alloc, old, batch, new, shelf),
-        Command::Prove(map, query, proof) => prove_query::<H, S>(alloc, map, query, proof, shelf),
-        Command::Check(digest, query, proof) => check_proof::<H, S>(
-            alloc, digest, query, proof, shelf,
-        ),
-        Command::Audit(map, query, proof) => audit_query::<H, S>(alloc, map, query, proof, shelf),
-        Command::Make(count, seed, records) => make(alloc, *count, *seed, records, shelf),
+        Command::List(map) => list::<H, S>(alloc, *map, shelf),
+        Command::Apply(old, batch, new) => apply::<H, S>(alloc, *old, *batch, *new, shelf),
+        Command::Prove(map, query, proof) => {
+            prove_query::<H, S>(alloc, *map, query, *proof, shelf)
+        }
+        Command::Check(digest, query, proof) => {
+            check_proof::<H, S>(alloc, digest, query, *proof, shelf)
+        }
+        Command::Audit(map, query, proof) => {
+            audit_query::<H, S>(alloc, *map, query, *proof, shelf)
+        }
+        Command::Make(count, seed, records) => make(alloc, *count, *seed, *records, shelf),
         Command::Demo(count, seed) => Ok(demo::<H, G, R>(rt, alloc, *count, *seed, gate)?),
     }
 }

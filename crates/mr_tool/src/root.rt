@@ -1,21 +1,21 @@
-ghost use Rattle.std.specs.Prelude.{◌≡◌, Some, IfOk, IfSome};
+ghost use Rattle.std.specs.Prelude.{◌≡◌, Some, IfSome};
 ghost use Rattle.mr_record.specs.RecordText.{IsRecordList, records_of_text};
 ghost use Rattle.mr_tree.specs.Digest.{root as root_digest};
 ghost use Rattle.mr_tree.specs.WellFormed.{WellFormed};
 ghost use Rattle.mr_pack.specs.Pack.{pack as tree_of};
-ghost use Rattle.mr_tool.specs.Ending.{Comes, Gives};
+ghost use Rattle.mr_tool.specs.Ending.{Comes, GivesOrStops};
 ghost use Rattle.mr_tool.specs.Lines.{digest_line as line_of};
 ghost use Rattle.mr_tool.specs.Say.{prints, say_root, say_root_of};
 
 use crate::Status;
 use crate::ending::{Ending, Halt};
-use crate::input::{missing, read};
-use crate::lines::{bad_text_line, digest_line};
+use crate::input::{bad_text, missing, read};
+use crate::lines::digest_line;
 use mr_outside::{Gate, Shelf};
 use mr_pack::{PackErr, pack_joined};
 use mr_record::{Record, TextErr, read_lines};
 use mr_tree::{Hash32, Tree};
-use std::alloc::{AllocError, Global};
+use std::alloc::Global;
 use std::thread::Threads;
 
 // The tree of records whose numbers differ, and its root digest at batch 0, unless memory ran out.
@@ -43,13 +43,13 @@ fn root_of_records<H: Hash32, G: Gate, R: Threads + Sync>(
     alloc: Global,
     records: Vec<Record>,
     gate: &G,
-) -> Result<Ending, AllocError>
+) -> Result<Ending, Halt>
     requires { IsRecordList records.items }
     ensures { let digest = root_digest H.of (tree_of records.items) 0 in
-        IfOk result (λ e. Gives (prints (line_of digest)) e) }
+        GivesOrStops (prints (line_of digest)) result }
 {
     let Some(map) = packed::<H, G, R>(rt, alloc, records, gate) else {
-        return Err(AllocError);
+        return Err(Halt::NoMemory);
     };
     let line = digest_line(alloc, &map.1)?;
     Ok(Ending::line(alloc, Status::Done, line))
@@ -61,17 +61,13 @@ fn root_of_text<H: Hash32, G: Gate, R: Threads + Sync>(
     alloc: Global,
     text: &[u8],
     gate: &G,
-) -> Result<Ending, AllocError>
-    ensures { IfOk result (λ e. Gives (say_root_of H.of (records_of_text text.now)) e) }
+) -> Result<Ending, Halt>
+    ensures { GivesOrStops (say_root_of H.of (records_of_text text.now)) result }
 {
     match read_lines(alloc, text) {
         Ok(records) => root_of_records::<H, G, R>(rt, alloc, records, gate),
-        Err(TextErr::Text(fault)) => Ok(Ending::line(
-            alloc,
-            Status::BadText,
-            bad_text_line(alloc, &fault)?,
-        )),
-        Err(TextErr::NoMemory) => Err(AllocError),
+        Err(TextErr::Text(fault)) => bad_text(alloc, &fault),
+        Err(TextErr::NoMemory) => Err(Halt::NoMemory),
     }
 }
 
@@ -85,8 +81,9 @@ pub(crate) fn root<H: Hash32, S: Shelf, G: Gate, R: Threads + Sync>(
 ) -> Result<Ending, Halt>
     ensures { Comes (say_root H.of name.now) (S.state shelf.old) (S.state shelf.new) result }
 {
-    let Some(text) = read(alloc, name, shelf)? else {
-        return Ok(missing(alloc, name)?);
-    };
-    Ok(root_of_text::<H, G, R>(rt, alloc, &text, gate)?)
+    match read(alloc, name, shelf) {
+        Ok(Some(text)) => root_of_text::<H, G, R>(rt, alloc, &text, gate),
+        Ok(None) => missing(alloc, name),
+        Err(halt) => Err(halt),
+    }
 }

@@ -14,7 +14,7 @@ use mr_tree::COUNT_LIMIT;
 pub const DEMO_LIMIT: u64 = 1 << 16;
 
 /// What the user asks for. Files go by name.
-#[derive(Clone, Copy, Debug)]
+#[derive(Clone, Copy)]
 pub enum Command<'a> {
     /// Print the root digest of the records of a file.
     Root(&'a str),

@@ -12,9 +12,8 @@ returns-in-Ok g c =
     c.in-Ok.ensures.exact c.number.ensures c.in-Ok.ensures.admissible)
     c.save_after.ensures
 
-pub returns-in_ok-bad_batch-in-Err-Batch : goal.returns-in_ok-bad_batch-in-Err-Batch
-returns-in_ok-bad_batch-in-Err-Batch g c =
+pub returns-in-Err-Batch : goal.returns-in-Err-Batch
+returns-in-Err-Batch g c =
     comes_refused g.H.Hashes.of c.args.new.now c.args.tree c.args.held c.args.batch.now c.in-Err-Batch._tree
-    c.in-Err-Batch.fault c.in-Err-Batch.field-0 (g.S.Shelf.state c.args.shelf.now)
-    c.in_ok-bad_batch-in-Err-Batch.field-0 c.in-Err-Batch.field-0-is c.in-Err-Batch.ensures.refused
-    c.in_ok-bad_batch-in-Err-Batch.ensures
+    c.in-Err-Batch.fault c.in-Err-Batch.field-0 (g.S.Shelf.state c.args.shelf.now) c.bad_batch.result
+    c.in-Err-Batch.field-0-is c.in-Err-Batch.ensures.refused c.bad_batch.ensures

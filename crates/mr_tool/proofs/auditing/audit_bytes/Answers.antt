@@ -1,11 +1,10 @@
 use Rattle.std.proofs.Common.{subst}
-use Rattle.std.specs.Prelude.{IfOk}
-use Rattle.mr_tool.specs.Ending.{Gives}
+use Rattle.mr_tool.specs.Ending.{GivesOrStops}
 use Rattle.mr_tool.proofs.Verdicts.{says_finding}
 use Rattle.mr_tool.proofs.auditing.audit_bytes.Goals as goal
 
 pub returns : goal.returns
 returns g c =
-    subst (λ said. IfOk c.say_found.result (λ e. Gives said e))
+    subst (λ said. GivesOrStops said c.say_found.result)
     (says_finding g.H.Hashes.of c.args.query.now c.args.tree.now c.args.batch c.args.bytes.now c.in_ok-finding.finding
     c.in_ok-finding.ensures) c.say_found.ensures

@@ -1,11 +1,9 @@
-use Rattle.std.proofs.Common.{sym, subst, ◌∙◌}
+use Rattle.std.proofs.Common.{sym, subst}
 use Rattle.std.specs.Prelude.{Ok, Err}
 use Rattle.mr_record.specs.RecordText.{text_of}
 use Rattle.mr_check.specs.declared.error.CheckErr.TheVariants as errors
-use Rattle.mr_tool.specs.Ending.{Gives}
-use Rattle.mr_tool.specs.Refusal.{refused_line}
-use Rattle.mr_tool.specs.Say.{ends, prints}
-use Rattle.mr_tool.specs.declared.status.Status.TheVariants.{Refused}
+use Rattle.mr_tool.specs.Ending.{Gives, GivesOrStops}
+use Rattle.mr_tool.specs.Say.{prints}
 use Rattle.mr_tool.proofs.Verdicts.{checks_as, says_verdict, gives}
 use Rattle.mr_tool.proofs.checking.check_bytes.Goals as goal
 
@@ -18,14 +16,11 @@ returns-in-Ok g c =
     (gives (prints (text_of c.in-Ok.records.items)) c.records.result ((λ e. cc), (λ e. cc))
     c.records.ensures.status c.records.ensures.printed)
 
-pub returns-in_ok-refused_line-in-Err-Fault : goal.returns-in_ok-refused_line-in-Err-Fault
-returns-in_ok-refused_line-in-Err-Fault g c =
+pub returns-in-Err-Fault : goal.returns-in-Err-Fault
+returns-in-Err-Fault g c =
     let exact = checks_as g.H.Hashes.of c.args.root.now c.args.query.now c.args.bytes.now _
     (errors.Fault c.in-Err-Fault.fault) c.in-Err-Fault.field-0-is c.in-Err-Fault.ensures.exact
     in
     let said = says_verdict g.H.Hashes.of c.args.root.now c.args.query.now c.args.bytes.now
     (Err c.in-Err-Fault.fault) exact in
-    subst (λ outcome. Gives outcome c.line.result) (sym said)
-    (gives (ends Refused (refused_line c.in-Err-Fault.fault)) c.line.result
-    ((λ e. cc), (λ e. cc)) c.line.ensures.status
-    (c.line.ensures.printed ∙ c.in_ok-refused_line-in-Err-Fault.ensures))
+    subst (λ outcome. GivesOrStops outcome c.refused.result) (sym said) c.refused.ensures
