@@ -164,13 +164,13 @@ const REFUSED: &[(&[&str], Status, &[u8])] = &[
 ];
 
 // Whether a command line over these files ends so, and leaves them.
-fn leaves<R: Threads + Sync>(
+fn leaves<'a, R: Threads + Sync>(
     rt: &R,
     alloc: Global,
-    line: &[&str],
-    files: &[File<'_>],
+    line: &'a [&'a str],
+    files: &'a [File<'a>],
     status: Status,
-    printed: &[u8],
+    printed: &'a [u8],
 ) -> Result<bool, AllocError> {
     holds::<XorHash, R>(
         rt,
@@ -506,6 +506,27 @@ fn stops_a_proof<R: Threads + Sync>(
     )
 }
 
+// Whether the proof is written on this map, and nothing else.
+fn is_written<'a, R: Threads + Sync>(
+    rt: &R,
+    alloc: Global,
+    two: &'a [u8],
+    proof: &'a [u8],
+) -> Result<bool, AllocError> {
+    let before = [("m", two)];
+    let after = [("m", two), ("p", proof)];
+    let row = Row(PROVE, &before, &[], &[], Done, b"proof 276\n", &after);
+    holds::<XorHash, R>(rt, alloc, &row)
+}
+
+// Whether the proof is accepted with two records.
+fn is_accepted<R: Threads + Sync>(rt: &R, alloc: Global, proof: &[u8]) -> Result<bool, AllocError> {
+    let files = [("p", proof)];
+    let lines = b"2 2 0 2 0 -\n3 3 0 3 0 -\n";
+    let row = Row(CHECK, &files, &[], &[], Done, lines, &files);
+    holds::<XorHash, R>(rt, alloc, &row)
+}
+
 #[test]
 fn each_call_of_a_proof_fails_in_turn(rt: HostRuntime) -> Result<(), Fail> {
     let alloc = rt.alloc();
@@ -518,11 +539,7 @@ fn each_call_of_a_proof_fails_in_turn(rt: HostRuntime) -> Result<(), Fail> {
             "call {call}"
         );
     }
-    let before = [("m", two.as_slice())];
-    let after = [("m", two.as_slice()), ("p", proof.as_slice())];
-    let row = Row(PROVE, &before, &[], &[], Done, b"proof 276\n", &after);
-    assert!(rt; holds::<XorHash, _>(&rt, alloc, &row)?);
-    let lines = b"2 2 0 2 0 -\n3 3 0 3 0 -\n".as_slice();
-    assert!(rt; leaves(&rt, alloc, CHECK, &[("p", &proof)], Done, lines)?);
+    assert!(rt; is_written(&rt, alloc, &two, &proof)?);
+    assert!(rt; is_accepted(&rt, alloc, &proof)?);
     Ok(())
 }

@@ -74,7 +74,7 @@ pub struct Check<'a>(
 fn is_checked<R: Threads + Sync>(
     rt: &R,
     alloc: Global,
-    check: &Check<'_>,
+    check: &Check<'static>,
 ) -> Result<bool, AllocError> {
     let words = ["check", check.0, check.1, "p"];
     let files = [("p", check.2)];
@@ -86,7 +86,7 @@ fn is_checked<R: Threads + Sync>(
 pub fn first_other_check<R: Threads + Sync>(
     rt: &R,
     alloc: Global,
-    checks: &[Check<'_>],
+    checks: &[Check<'static>],
 ) -> Result<Option<usize>, AllocError> {
     for (place, check) in checks.iter().enumerate() {
         if !is_checked(rt, alloc, check)? {
