@@ -180,7 +180,7 @@ fn push_count(alloc: Global, lines: &mut String, name: &str, number: u128) -> Re
 // Puts the line on a map's root digest.
 fn push_root(alloc: Global, lines: &mut String, root: &[u8; 32]) -> Result<(), AllocError>
     ensures { OnOk result
-        (string_bytes lines.new ≡ string_bytes lines.old ++ (codes "root " ++ digest_line root.now)) }
+        (string_bytes lines.new ≡ string_bytes lines.old ++ codes "root " ++ digest_line root.now) }
 {
     lines.push_str("root ")?;
     lines.push_str(digest_line(alloc, root)?.as_str())

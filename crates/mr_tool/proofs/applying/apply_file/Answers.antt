@@ -9,7 +9,8 @@ use Rattle.mr_tool.proofs.applying.apply_file.Goals as goal
 
 pub returns-in-Ok-Some : goal.returns-in-Ok-Some
 returns-in-Ok-Some g c =
-    let next = λ (text : List ℕ). comes (say_apply_of g.H.Hashes.of c.args.new.now c.args.tree c.args.held (batch_of_text text)) in
+    let next = λ (text : List ℕ).
+    comes (say_apply_of g.H.Hashes.of c.args.new.now c.args.tree c.args.held (batch_of_text text)) in
     let between = g.S.Shelf.state c.read.new.shelf in
     let after = g.S.Shelf.state c.apply_text.new.shelf in
     comes_read c.args.batch.now next (g.S.Shelf.state c.args.shelf.now) between after c.in-Ok-Some.text
@@ -18,12 +19,14 @@ returns-in-Ok-Some g c =
 
 pub returns-in-Ok-None : goal.returns-in-Ok-None
 returns-in-Ok-None g c =
-    let next = λ (text : List ℕ). comes (say_apply_of g.H.Hashes.of c.args.new.now c.args.tree c.args.held (batch_of_text text)) in
+    let next = λ (text : List ℕ).
+    comes (say_apply_of g.H.Hashes.of c.args.new.now c.args.tree c.args.held (batch_of_text text)) in
     comes_missed c.args.batch.now next (g.S.Shelf.state c.args.shelf.now) (g.S.Shelf.state c.read.new.shelf)
     c.in-Ok-None.field-0 c.missing.result c.in-Ok-None.field-0-is c.in-Ok-None.ensures c.missing.ensures
 
 pub returns-in-Err : goal.returns-in-Err
 returns-in-Err g c =
-    let next = λ (text : List ℕ). comes (say_apply_of g.H.Hashes.of c.args.new.now c.args.tree c.args.held (batch_of_text text)) in
+    let next = λ (text : List ℕ).
+    comes (say_apply_of g.H.Hashes.of c.args.new.now c.args.tree c.args.held (batch_of_text text)) in
     comes_unread c.args.batch.now next (g.S.Shelf.state c.args.shelf.now) (g.S.Shelf.state c.read.new.shelf)
     c.in-Err.halt c.in-Err.ensures

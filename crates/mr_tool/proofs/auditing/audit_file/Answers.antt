@@ -13,7 +13,8 @@ returns-in-Ok-Some g c =
     let bytes = c.in-Ok-Some.bytes.items in
     comes_read c.args.name.now (λ b. comes (said b)) (g.S.Shelf.state c.args.shelf.now) between between
     c.in-Ok-Some.bytes c.in-Ok-Some.field-0 c.audit_bytes.result c.in-Ok-Some.field-0-is c.in-Ok-Some.ensures
-    (comes_given (said bytes) between c.audit_bytes.result (audit_writes g.H.Hashes.of c.args.query.now c.args.tree.now c.args.batch bytes)
+    (comes_given (said bytes) between c.audit_bytes.result
+    (audit_writes g.H.Hashes.of c.args.query.now c.args.tree.now c.args.batch bytes)
     (subst (λ b. GivesOrStops (said b) c.audit_bytes.result) c.deref.ensures.value c.audit_bytes.ensures))
 
 pub returns-in-Ok-None : goal.returns-in-Ok-None
