@@ -1,6 +1,6 @@
 //! The auditor beside the client: a map is built, a window is proved on it, some bytes of the proof
-//! are changed, and the proof is checked against the root digest and audited against the map. Strings
-//! and digests come from a program of another language.
+//! are changed, and the proof is checked against the root digest and audited against the map.
+//! Strings and digests come from a program of another language.
 
 use crate::bench::{Row, file_of, first_other, ran, shelf_of};
 use crate::large::in_a_row;

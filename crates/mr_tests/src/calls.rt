@@ -39,7 +39,8 @@ const CALLS: &[(&[&str], &str, usize)] = &[
     (&["demo", "33", "1"], "", 3),
 ];
 
-// The shelf that a command leaves, where it is done with these calls, each piece once through the gate.
+// The shelf that a command leaves, where it is done with these calls, each piece once through the
+// gate.
 fn called<R: Threads + Sync>(
     rt: &R,
     alloc: Global,

@@ -3,7 +3,7 @@
 
 use crate::bench::{File, file_of, ran, ran_on, shelf_of};
 use crate::large::in_a_row;
-use crate::maps::{turned_leaves, two_leaves};
+use crate::maps::{BUILD, turned_leaves, two_leaves};
 use crate::rows::first_good_line;
 use mr_outside::{MemShelf, NoGate};
 use mr_tool::Status::{self, BadBatch, BadMap, Done, Outside};
@@ -29,8 +29,6 @@ fn ended<H: Hash32, R: Threads + Sync>(
     }
     Ok((last, printed))
 }
-
-const BUILD: &[&str] = &["build", "m", "r"];
 
 const FIRST: &[&str] = &["apply", "m", "b", "n"];
 
@@ -184,7 +182,7 @@ fn places(alloc: Global, records: u64) -> Result<String, AllocError> {
     Ok(text)
 }
 
-// A batch that adds so many records, the first with this number.
+// A batch that adds `count` records, numbered from `first` on.
 fn additions(alloc: Global, batch: u64, first: u64, count: u64) -> Result<String, AllocError> {
     let mut text = format!(in alloc; "batch {batch}\n")?;
     for i in 0..count {
@@ -194,7 +192,7 @@ fn additions(alloc: Global, batch: u64, first: u64, count: u64) -> Result<String
     Ok(text)
 }
 
-// The number at a place of the numbers from 1 to the modulus, in steps.
+// The numbers from 1 to the modulus, taken in steps: the one at this place.
 fn stepped(place: u64, step: u64, modulus: u64) -> u64 {
     match place.wrapping_mul(step).checked_rem(modulus) {
         Some(rest) => rest.wrapping_add(1),
@@ -202,7 +200,7 @@ fn stepped(place: u64, step: u64, modulus: u64) -> u64 {
     }
 }
 
-// A batch that removes so many records, from this place on.
+// A batch that removes `count` records: of the numbers in steps, those from the place `first` on.
 fn removals(
     alloc: Global,
     batch: u64,
@@ -231,7 +229,8 @@ fn mixed(alloc: Global, batch: u64, first: u64) -> Result<String, AllocError> {
     Ok(text)
 }
 
-// The shelf on which this batch was applied to the map of the first name, behind what was printed.
+// The shelf on which `apply` made a map of the second name from one of the first; what it printed
+// stands behind what was printed before.
 fn applied<R: Threads + Sync>(
     rt: &R,
     alloc: Global,
@@ -247,8 +246,8 @@ fn applied<R: Threads + Sync>(
     Ok(left)
 }
 
-// The lines that a build of this text prints and then each batch in turn, as the owner applies it and
-// a server that has the same map and the same batches.
+// The lines that a build of this text prints and then each batch in turn, as the owner applies it
+// and a server that has the same map and the same batches.
 fn replayed<R: Threads + Sync>(
     rt: &R,
     alloc: Global,
@@ -458,7 +457,8 @@ fn may_stand<R: Threads + Sync>(rt: &R, alloc: Global, new: &[u8]) -> Result<boo
     )
 }
 
-// Whether an application where these calls fail ended in order: done, or stopped with what it printed.
+// Whether an application where these calls fail ended in order: done, or stopped with what it
+// printed.
 fn is_in_order<R: Threads + Sync>(
     rt: &R,
     alloc: Global,

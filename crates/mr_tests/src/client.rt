@@ -17,7 +17,7 @@ const LEAF: [u8; 27] = [
     0x4c, 1, 0, 0, 0, 0, 0, 0, 0, 7, 0, 0, 0, 0, 0, 0, 0, 0, 0, 0, 0, 0, 0, 0, 0, 0, 0,
 ];
 
-// A digest of 31 zero bytes and this one.
+// A digest of 31 zero bytes and this last one.
 fn digest(last: u8) -> [u8; 32] {
     let mut digest = [0; 32];
     digest[31] = last;
@@ -50,7 +50,7 @@ fn is_refused(alloc: Global, q: &Query, proof: &[u8], rule: Rule, at: u64) -> bo
     answer.err() == Some(CheckErr::Fault(Fault { rule, at }))
 }
 
-// How many records answer a query by this proof, none where it is refused.
+// How many records this proof answers the query with; 0 where it is refused.
 fn answers(alloc: Global, q: &Query, proof: &[u8]) -> usize
     requires { IsAskable q.now }
 {
@@ -60,7 +60,7 @@ fn answers(alloc: Global, q: &Query, proof: &[u8]) -> usize
     }
 }
 
-// The bytes with this one changed.
+// The bytes with the one at this place combined with `change` by exclusive or.
 fn changed(alloc: Global, bytes: &[u8], place: usize, change: u8) -> Result<Vec<u8>, AllocError> {
     let mut changed = bytes.to_vec(alloc)?;
     if place < changed.len() {

@@ -107,7 +107,7 @@ pub const BUILD: &[&str] = &["build", "m", "r"];
 
 pub const LIST: &[&str] = &["list", "m"];
 
-// Whether a build over these files ends with this line, and leaves these.
+// Whether `build` over the files `before` prints this line, and leaves the files `after`.
 fn builds<R: Threads + Sync>(
     rt: &R,
     alloc: Global,
@@ -146,7 +146,8 @@ fn maps_of_one_record_and_of_none(rt: HostRuntime) -> Result<(), Fail> {
     Ok(())
 }
 
-// Commands that end at once, over a record text that breaks a rule.
+// Commands that build and list nothing, over a record text that breaks a rule; the status and the
+// line of each.
 const REFUSED_FILES: &[File<'static>] = &[("m", SEVENTEEN), ("r", b"7 0 0 0 0\n")];
 
 const REFUSED: &[(&[&str], Status, &[u8])] = &[
@@ -163,7 +164,7 @@ const REFUSED: &[(&[&str], Status, &[u8])] = &[
     (&["list", "s"], Outside, b"missing s\n"),
 ];
 
-// Whether a command line over these files ends so, and leaves them.
+// Whether a command line ends with this status, prints this, and leaves the files as they were.
 fn leaves<'a, R: Threads + Sync>(
     rt: &R,
     alloc: Global,
@@ -188,7 +189,7 @@ fn nothing_is_built(rt: HostRuntime) -> Result<(), Fail> {
     Ok(())
 }
 
-// Whether a list of these bytes ends so.
+// Whether `list` on a map file of these bytes ends with this status and prints this.
 fn lists<R: Threads + Sync>(
     rt: &R,
     alloc: Global,
@@ -222,7 +223,7 @@ fn a_list_is_in_rising_number(rt: HostRuntime) -> Result<(), Fail> {
     Ok(())
 }
 
-// Places of the map of one record, the bytes there, and the line on it.
+// Bytes put into the map of one record, each with its place, and the line that `list` then prints.
 const ONE_BROKEN: &[(&[(usize, u8)], &[u8])] = &[
     (&[(4095, b'l')], b"bad map page 0 Unsealed\n"),
     (&[(4, 2)], b"bad map page 0 Header\n"),
@@ -238,8 +239,8 @@ const ONE_BROKEN: &[(&[(usize, u8)], &[u8])] = &[
     (&[(81, 1)], b"bad map page 1 Free\n"),
 ];
 
-// The same of the map of two leaves. Numbers 9 and 17 of the second leaf become 25 and 1, which
-// keeps its digest.
+// Bytes put into the map of two leaves. In the second row numbers 9 and 17 of the second leaf
+// become 25 and 1, which keeps its digest.
 const TWO_BROKEN: &[(&[(usize, u8)], &[u8])] = &[
     (&[(4096 + 58, 2)], b"bad map page 2 Twice\n"),
     (
@@ -248,7 +249,7 @@ const TWO_BROKEN: &[(&[(usize, u8)], &[u8])] = &[
     ),
 ];
 
-// The place of the first of these changes of a map with another line on it.
+// The place of the first of these rows for which `list` prints another line than it says.
 fn first_unbroken<R: Threads + Sync>(
     rt: &R,
     alloc: Global,
@@ -287,13 +288,13 @@ fn files_that_stand_for_no_map(rt: HostRuntime) -> Result<(), Fail> {
     Ok(())
 }
 
-// A third page, which nothing leads to.
+// The map of one record with a third page, which nothing leads to.
 fn with_a_third_page(alloc: Global) -> Result<Vec<u8>, AllocError> {
     let head = edited(alloc, ONE_HEAD, &[(25, 3)])?;
     map(alloc, &[&head, ONE_LEAF, b""])
 }
 
-// A root of one child.
+// The map of one record with a root of one child above its leaf.
 fn with_a_thin_root(alloc: Global) -> Result<Vec<u8>, AllocError> {
     let head = edited(alloc, ONE_HEAD, &[(5, 1), (25, 3), (77, 4)])?;
     let root =
@@ -302,7 +303,7 @@ fn with_a_thin_root(alloc: Global) -> Result<Vec<u8>, AllocError> {
 }
 
 #[test]
-fn nodes_that_no_map_has(rt: HostRuntime) -> Result<(), Fail> {
+fn pages_that_no_map_has(rt: HostRuntime) -> Result<(), Fail> {
     let alloc = rt.alloc();
     let third = with_a_third_page(alloc)?;
     assert!(rt; lists(&rt, alloc, &third, BadMap, b"bad map page 2 Free\n")?);
@@ -311,8 +312,8 @@ fn nodes_that_no_map_has(rt: HostRuntime) -> Result<(), Fail> {
     Ok(())
 }
 
-// How a command line ended over these files, where these calls of the shelf and of the sink fail: its
-// status, what it printed, and the file of this name that it left, empty where there is none.
+// How a command line ended over these files, where these calls of the shelf and of the sink fail:
+// its status, what it printed, and the file of this name that it left, empty where there is none.
 fn stopped<R: Threads + Sync>(
     rt: &R,
     alloc: Global,
@@ -490,7 +491,8 @@ fn each_call_of_a_list_fails_in_turn(rt: HostRuntime) -> Result<(), Fail> {
     Ok(())
 }
 
-// Whether a proof is stopped at this call, whole only where it was written and not synced.
+// Whether `prove` is stopped at this call, and its proof is whole only where it was written and not
+// synced.
 fn stops_a_proof<R: Threads + Sync>(
     rt: &R,
     alloc: Global,

@@ -1,5 +1,5 @@
-//! Queries for nearest records: proved on a map that was built, checked, and audited. Proofs, digests
-//! and answers come from a program of another language.
+//! Queries for nearest records: proved on a map that was built, checked, and audited. Proofs,
+//! digests and answers come from a program of another language.
 
 use crate::audits::{Audit, first_otherwise};
 use crate::large::in_a_row;
@@ -462,8 +462,8 @@ fn proofs_for_the_nearest_beside_their_maps(rt: HostRuntime) -> Result<(), Fail>
     Ok(())
 }
 
-/// How many records I at (I,0) there are; the commands that build their map, prove the nearest 1,024
-/// to (0,0) and check the proof; the root digest; the length and the digest of the proof.
+/// How many records I at (I,0) there are; the commands that build their map, prove the nearest
+/// 1,024 to (0,0) and check the proof; the root digest; the length and the digest of the proof.
 #[derive(Clone, Copy)]
 struct Many<'a>(u64, &'a [&'a [&'a str]], &'a str, usize, &'a str);
 

@@ -293,36 +293,39 @@ fn ends<S: Shelf>(shelf: &mut S, name: &str) -> bool {
     matches!((end, past), (Ok(2), Ok(0))) && into == [220, 221, 9, 9]
 }
 
-/// The name of a file of 70,000 bytes goes to another file between two calls: whether its size is
-/// told, all of it read and its end known from then on, and the other file read by another shelf.
+/// The name of a file of 70,000 bytes goes to another file between two calls: whether its size was
+/// told and a folder refused before, all of it read and its end known from then on, and the other
+/// file read by another shelf.
 fn reads_what_it_opened<R: rt::Files>(
     rt: &R,
     alloc: Global,
-    path: &str,
-    other: &str,
+    room: &Room,
     bytes: &[u8],
-) -> Result<[bool; 4], Fail> {
+) -> Result<[bool; 5], Fail> {
+    let path = room.path.as_str();
     let mut shelf = StdShelf::new(rt, alloc);
     let size = shelf.size(path);
-    fs::rename(rt, other, path)?;
+    let on_folder = is_fault(&shelf.read_at(room.folder.as_str(), 0, &mut []));
+    fs::rename(rt, room.other.as_str(), path)?;
     let whole = reads(alloc, &mut shelf, path, bytes);
     let end = ends(&mut shelf, path);
     let other = reads(alloc, &mut StdShelf::new(rt, alloc), path, b"another file");
-    Ok([matches!(size, Ok(70_000)), whole, end, other])
+    Ok([matches!(size, Ok(70_000)), on_folder, whole, end, other])
 }
 
 #[test]
 fn reads_the_real_file_system(rt: HostRuntime) -> Result<(), Fail> {
     let alloc = rt.alloc();
     let room = new_room(&rt, "reads")?;
-    let (path, other) = (room.path.as_str(), room.other.as_str());
     let bytes = many_bytes(alloc, 70_000)?;
-    fs::write(&rt, path, bytes.as_slice())?;
-    fs::write(&rt, other, b"another file")?;
-    let seen = reads_what_it_opened(&rt, alloc, path, other, &bytes)?;
-    fs::remove_file(&rt, path)?;
+    fs::write(&rt, room.path.as_str(), bytes.as_slice())?;
+    fs::write(&rt, room.other.as_str(), b"another file")?;
+    let seen = reads_what_it_opened(&rt, alloc, &room, &bytes)?;
+    fs::remove_file(&rt, room.path.as_str())?;
+    let gone = is_missing(&StdShelf::new(&rt, alloc).size(room.path.as_str()));
     fs::remove_dir(&rt, room.folder.as_path())?;
-    assert_eq!(rt; seen, [true; 4]);
+    assert_eq!(rt; seen, [true; 5]);
+    assert!(rt; gone);
     Ok(())
 }
 
@@ -339,14 +342,26 @@ fn a_folder_and_what_is_absent_are_no_files(rt: HostRuntime) -> Result<(), Fail>
     Ok(())
 }
 
-/// Whether a file is not there, and then is made, written, synced and read.
+/// Whether the first file is not there, and the second is read.
+fn reads_one_of_two<R: rt::Files>(
+    alloc: Global,
+    shelf: &mut StdShelf<'_, R>,
+    path: &str,
+    input: &str,
+) -> [bool; 2] {
+    [
+        is_missing(&shelf.append(path, b"more")),
+        reads(alloc, shelf, input, b"an input"),
+    ]
+}
+
+/// Whether a file is made, written, synced and read.
 fn writes_a_file<R: rt::Files>(
     alloc: Global,
     shelf: &mut StdShelf<'_, R>,
     path: &str,
-) -> [bool; 7] {
+) -> [bool; 6] {
     [
-        is_missing(&shelf.append(path, b"more")),
         shelf.create(path).is_ok(),
         shelf.append(path, b"abcdef").is_ok(),
         shelf.append(path, b"ghi").is_ok(),
@@ -356,18 +371,19 @@ fn writes_a_file<R: rt::Files>(
     ]
 }
 
-/// Whether a file that is read and written is read as it is then, and one that is made again is empty.
+/// Whether a file that was read and is written is read as it is then, and one that was written and
+/// is made again is empty.
 fn writes_what_it_read<R: rt::Files>(
     alloc: Global,
     shelf: &mut StdShelf<'_, R>,
+    path: &str,
     input: &str,
-) -> [bool; 5] {
+) -> [bool; 4] {
     [
-        reads(alloc, shelf, input, b"an input"),
         shelf.append(input, b" that grew").is_ok(),
         reads(alloc, shelf, input, b"an input that grew"),
-        shelf.create(input).is_ok(),
-        matches!(shelf.size(input), Ok(0)),
+        shelf.create(path).is_ok(),
+        matches!(shelf.size(path), Ok(0)),
     ]
 }
 
@@ -378,15 +394,15 @@ fn writes_the_real_file_system(rt: HostRuntime) -> Result<(), Fail> {
     let (path, other) = (room.path.as_str(), room.other.as_str());
     fs::write(&rt, other, b"an input")?;
     let mut shelf = StdShelf::new(&rt, alloc);
+    let read = reads_one_of_two(alloc, &mut shelf, path, other);
     let written = writes_a_file(alloc, &mut shelf, path);
     let stands = fs::read(&rt, path)?;
-    let input = writes_what_it_read(alloc, &mut shelf, other);
+    let again = writes_what_it_read(alloc, &mut shelf, path, other);
     fs::remove_file(&rt, path)?;
     fs::remove_file(&rt, other)?;
     fs::remove_dir(&rt, room.folder.as_path())?;
-    assert_eq!(rt; written, [true; 7]);
+    assert_eq!(rt; (read, written, again), ([true; 2], [true; 6], [true; 4]));
     assert!(rt; stands.as_slice() == b"aXYZefghi".as_slice());
-    assert_eq!(rt; input, [true; 5]);
     Ok(())
 }
 

@@ -113,7 +113,7 @@ fn roots(rt: HostRuntime) -> Result<(), Fail> {
     Ok(())
 }
 
-// The line of the root of record 7 at (0,0), by its literal preimages.
+// The line that `root` prints for record 7 at (0,0), by SHA-256 of the literal bytes.
 fn literal_root(alloc: Global) -> Result<String, AllocError> {
     let leaf = b"\x4c\x01\0\0\0\0\0\0\0\x07\0\0\0\0\0\0\0\0\0\0\0\0\0\0\0\0\0";
     let front = b"\x52\x01\0\0\0\0\0\0\0\0\0\0\0\0\0\0\0\x01\0\0\0\0\0\0\0\0\0\0\0\0\0\0\0\0\0";
@@ -212,7 +212,7 @@ const LINES: &[&[&str]] = &[
     &["check", ONE, "nearest:0,0,0", "p"],
 ];
 
-/// The place of the first of some command lines that is no run of bad words, over these files.
+/// The place of the first of these command lines that does not end with bad words over these files.
 pub fn first_good_line<R: Threads + Sync>(
     rt: &R,
     alloc: Global,
@@ -238,22 +238,22 @@ const HERE: &str = "window:0,0,0,0";
 
 const THERE: &str = "window:1,1,2,2";
 
-// A window's proof that opens the record's leaf.
+// A window's proof on the map of record 7 that opens its leaf.
 pub const OPENED: &[u8] =
     b"MRVO\x01W\0\0\0\0\0\0\0\0\0\0\0\0\0\0\0\x01\0L\x01\0\0\0\0\0\0\0\x07\0\0\0\0\0\0\0\0\0\0\0\0\0\0\0\0\0";
 
-// The same with a byte more.
+// `OPENED` with a byte more.
 const LONGER: &[u8] =
     b"MRVO\x01W\0\0\0\0\0\0\0\0\0\0\0\0\0\0\0\x01\0L\x01\0\0\0\0\0\0\0\x07\0\0\0\0\0\0\0\0\0\0\0\0\0\0\0\0\0\0";
 
-// A window's proof that prunes it.
+// A window's proof on the map of record 7 that prunes its leaf.
 pub const PRUNED: &[u8] =
     b"MRVO\x01W\0\0\0\0\0\0\0\0\0\0\0\0\0\0\0\x01\0P\0\0\0\0\0\0\0\0\0\0\0\0\0\0\0\0\0\0\0\0\0\0\0\0\0\0\0\0\0\0\0\0\0\0\0\0\0\0\0\0\0\0\0\0\0\0\0\x4a";
 
 // A window's proof on the empty map.
 pub const EMPTY: &[u8] = b"MRVO\x01W\0\0\0\0\0\0\0\0\0\0\0\0\0\0\0\0";
 
-// Its first 49 and its first 10 bytes.
+// The first 49 and the first 10 bytes of `OPENED`.
 const CUT: &[u8] =
     b"MRVO\x01W\0\0\0\0\0\0\0\0\0\0\0\0\0\0\0\x01\0L\x01\0\0\0\0\0\0\0\x07\0\0\0\0\0\0\0\0\0\0\0\0\0\0\0\0";
 
@@ -319,7 +319,7 @@ fn checks_of_a_proof(rt: HostRuntime) -> Result<(), Fail> {
     Ok(())
 }
 
-/// The proof of a window on them, by its bytes: their leaf is opened.
+/// The proof of a window on the four places, by its bytes: their leaf is opened.
 pub const PROOF_OF_PLACES: &[u8] =
     b"\x4d\x52\x56\x4f\x01\x57\x00\x00\x00\x00\x00\x00\x00\x00\x00\x00\x00\x00\x00\x00\x00\x04\x00\x4c\x04\x00\x00\x00\x00\x00\x00\x00\x68\x07\xf2\x4d\x40\x1f\x4a\xdd\x40\x07\xf4\x49\x10\x1f\x4c\xb2\x00\x0a\x54\x69\x65\x72\x67\x61\x72\x74\x65\x6e\x00\x00\x00\x00\x00\x00\x00\x65\x07\xf9\x46\x68\x1f\x4d\x59\xf8\x07\xf9\x46\x68\x1f\x4d\x59\xf8\x11\x42\x72\x61\x6e\x64\x65\x6e\x62\x75\x72\x67\x65\x72\x20\x54\x6f\x72\x00\x00\x00\x00\x00\x00\x00\x66\x07\xf9\x07\xe8\x1f\x4d\xb3\xd0\x07\xf9\x07\xe8\x1f\x4d\xb3\xd0\x09\x52\x65\x69\x63\x68\x73\x74\x61\x67\x00\x00\x00\x00\x00\x00\x00\x67\x07\xfe\x1c\xb0\x1f\x4e\x09\xc0\x07\xfe\x1c\xb0\x1f\x4e\x09\xc0\x0b\x46\x65\x72\x6e\x73\x65\x68\x74\x75\x72\x6d";
 
@@ -338,7 +338,7 @@ pub const CHECK: &[&str] = &[
     "p",
 ];
 
-// Two lines are two writes, and a file of one piece is two calls.
+// Where calls fail: two lines are two writes, and a file of one piece is two calls of the shelf.
 const ANSWERS: &[Row<'static>] = &[
     Row(CHECK, PROOF, &[], &[], Done, TWO_PLACES, PROOF),
     Row(CHECK, PROOF, &[3], &[3], Done, TWO_PLACES, PROOF),

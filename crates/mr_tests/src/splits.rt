@@ -1,5 +1,5 @@
-//! Choice and split on small lists of rectangles. What is chosen and how lists are split comes from a
-//! plain program of another language, which follows the definitions.
+//! Choice and split on small lists of rectangles. What is chosen and how lists are split comes from
+//! a plain program of another language, which follows the definitions.
 
 use mr_geom::Rect;
 use mr_split::{choose, split};
