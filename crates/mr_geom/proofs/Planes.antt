@@ -1,5 +1,5 @@
 -- Facts on the points of rectangles: what meets, what lies in what, and the least rectangle round two.
-use Rattle.std.proofs.Common.{◌≡◌, ℤ, ◌≤ℤ◌, Bool, true, false, T, IsTrue, ◌↔◌, refl, sym, inl, inr, arith}
+use Rattle.std.proofs.Common.{◌≡◌, ℤ, ◌≤ℤ◌, Bool, true, false, T, IsTrue, ◌↔◌, refl, sym, subst, inl, inr, arith}
 use Rattle.std.specs.Prelude.{int_le, ◌&&◌}
 use Rattle.std.proofs.lemmas.Float.{T_from_true}
 use Rattle.std.proofs.lemmas.Bool.{and_parts, cases_Bool, false≢true}
@@ -8,6 +8,10 @@ use Rattle.std.proofs.lemmas.Int.{ints, clamps}
 use Rattle.mr_geom.specs.Rectangle.{Rectangle, IsOrdered, union, area}
 use Rattle.mr_geom.specs.Plane.{Holds, Meets, touches, Inside, IsLeastRound}
 use Rattle.mr_geom.proofs.Rectangles.{IsOrdered-union, area-≤, true_from_T}
+
+-- what holds of two rectangles holds of those that are equal to them
+pub at_both : (a a' b b' : Rectangle) (P : Rectangle → Rectangle → Type 0) → a ≡ a' → b ≡ b' → P a b → P a' b'
+at_both a a' b b' P p q h = subst (P a') q (subst (λ r. P r b) p h)
 
 -- neither lies wholly to one side of the other
 pub record SidesMeet (a b : Rectangle) : Type 0 where
@@ -203,6 +207,11 @@ touches_is a b false o q e = elim (cases_Bool (touches a b)) [
   | inl t ↦ absurd (false≢true (e.1 (Meets-SidesMeet a b o q (sides-touches a b t))))
   | inr f ↦ sym f
 ]
+
+-- the same of rectangles that are equal to two in order
+pub touches_at : (a a' b b' : Rectangle) (r : Bool) → a ≡ a' → b ≡ b' → IsOrdered a → IsOrdered b →
+    (IsTrue r ↔ Meets a' b') → r ≡ touches a' b'
+touches_at a a' b b' r p q o ordered = touches_is a' b' r (subst IsOrdered p o) (subst IsOrdered q ordered)
 
 -- the same, the other way round
 pub touches-meets : (a b : Rectangle) → IsOrdered a → IsOrdered b → (touches a b ≡ true) ↔ Meets a b

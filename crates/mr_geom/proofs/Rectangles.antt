@@ -31,6 +31,10 @@ int_min_same a = omega (arith, ints, clamps)
 int_max_same : (a : ℤ) → int_max a a ≡ a
 int_max_same a = omega (arith, ints, clamps)
 
+-- the union of rectangles that are equal to two
+pub union_at : (a a' b b' r : Rectangle) → a ≡ a' → b ≡ b' → r ≡ union a b → r ≡ union a' b'
+union_at a a' b b' r p q h = h ∙ (λ i. union (p i) (q i))
+
 pub union_comm : (a b : Rectangle) → union a b ≡ union b a
 union_comm a b =
     same_rectangle _ _ (int_min_comm a.x0 b.x0) (int_min_comm a.y0 b.y0) (int_max_comm a.x1 b.x1)

@@ -1,3 +1,5 @@
+//! Points.
+
 /// A point of the plane, in map units.
 #[derive(Clone, Copy, Debug, PartialEq, Eq)]
 pub struct Point {

@@ -1,3 +1,5 @@
+//! Parts of the plane.
+
 ghost use Rattle.std.specs.Prelude.{◌↔◌, IsTrue};
 ghost use Rattle.mr_geom.specs.Rectangle.{Rectangle, IsOrdered};
 ghost use Rattle.mr_geom.specs.Plane.{Inside};

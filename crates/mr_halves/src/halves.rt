@@ -1,3 +1,5 @@
+//! Halves of a list, and halves of these.
+
 ghost use Rattle.std.specs.Prelude.{◌≡◌, ℕ, ◌+◌, ◌^◌, ◌<◌, ◌≤◌, map, length, All, IfOk};
 ghost use Rattle.std.specs.Thread.{IsSync};
 

@@ -1,4 +1,5 @@
 pub mod formers
+pub mod Bytes
 pub mod Files
 pub mod Faults
 pub mod State

@@ -1,10 +1,12 @@
+//! Calls that fail by their number.
+
 ghost use Rattle.std.specs.Prelude.{◌≡◌};
 ghost use Rattle.mr_outside.specs.Memory.{no_calls, next_fails, called};
 
 use std::marker::Model;
 
-/// Calls that are numbered from 1, of which those whose number is in a list fail. The number stands
-/// once it is 2^64 - 1. A call takes time in the length of that list, which is for tests.
+// Calls that are numbered from 1, of which those whose number is in a list fail. The number stands
+// once it is 2^64 - 1. A call takes time in the length of that list, which is for tests.
 #[derive(Drop)]
 pub(crate) struct Calls {
     fail: Vec<u64>,
@@ -33,7 +35,7 @@ impl Calls {
         }
     }
 
-    /// Makes the next call, and answers whether it fails.
+    // Makes the next call, and answers whether it fails.
     pub(crate) fn next_fails(&mut self) -> bool
         ensures answer { result ≡ next_fails self.old }
         ensures after { self.new ≡ called self.old }

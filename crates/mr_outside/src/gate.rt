@@ -1,3 +1,5 @@
+//! Where workers pass.
+
 /// Where workers pass before and after each piece of their work. A test's gate can hold a piece; no
 /// answer depends on a gate.
 pub trait Gate: Sync {

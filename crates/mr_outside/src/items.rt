@@ -1,3 +1,5 @@
+//! A list that a recursive type may hold.
+
 ghost use Rattle.std.specs.Prelude.{◌≡◌};
 
 use std::marker::Model;

@@ -1,7 +1,8 @@
-//! What the program is given from outside: files, an output, a gate for workers; and a list that a
-//! tree may hold.
+//! What the program is given from outside: files, an output, a gate for workers; a list that a tree
+//! may hold; and room for a few bytes.
 #![tactic(auto)]
 
+mod buffer;
 mod calls;
 mod gate;
 mod items;
@@ -13,6 +14,7 @@ mod sink;
 mod std_shelf;
 mod std_sink;
 
+pub use buffer::Buffer;
 pub use gate::{Gate, NoGate};
 pub use items::Items;
 pub use mem_shelf::MemShelf;

@@ -1,4 +1,7 @@
+//! Files in memory.
+
 ghost use Rattle.std.specs.Prelude.{◌≡◌, ◌+◌, ◌-◌, ◌≤◌, ◌++◌, ◌↔◌, ◌⊎◌, [], ⊤, Some, None, IsTrue, IfOk, OnOk, OnErr, IsErrOf, option_map, length, min, take, drop};
+ghost use Rattle.mr_outside.specs.Bytes.{AreBytes};
 ghost use Rattle.mr_outside.specs.Files.{file, with_file, grown, replaced, overwritten};
 ghost use Rattle.mr_outside.specs.Told.{OfFile};
 ghost use Rattle.mr_outside.specs.Causes.{ShelfCauses, CountsRead};
@@ -72,14 +75,14 @@ impl Shelf for MemShelf {
         ensures after { self.new ≡ record self.old { calls = called self.old.calls } }
         ensures fails { IsErrOf result ShelfErr.Fault ↔ IsTrue (next_fails self.old.calls) }
         ensures memory { ¬ IsErrOf result ShelfErr.NoMemory }
+        ensures bytes { OfFile (Some self.old.files) name.now ⊤ AreBytes }
         ensures length { IfOk result (λ n. OfFile (Some self.old.files) name.now ⊥
             (λ bytes. n ≡ length bytes)) }
         ensures causes { ShelfCauses name.now (shelved self.old) (shelved self.new) result }
     {
-        if self.calls.next_fails() {
-            return Err(ShelfErr::Fault);
-        }
+        let fails = self.calls.next_fails();
         match bytes_of(&self.files, name) {
+            _ if fails => Err(ShelfErr::Fault),
             Some(bytes) => Ok(bytes.len() as u64),
             None => Err(ShelfErr::Missing),
         }
@@ -188,12 +191,20 @@ impl Shelf for MemShelf {
 }
 
 fn bytes_of<'a>(files: &'a BTreeMap<String, Vec<u8>>, name: &str) -> Option<&'a [u8]>
-    ensures { option_map (λ bytes. bytes.now) result ≡ file (files_of files.now) name.now }
+    ensures bytes { OfFile (Some (files_of files.now)) name.now ⊤ AreBytes }
+    ensures found { option_map (λ bytes. bytes.now) result ≡ file (files_of files.now) name.now }
 {
     match files.get(name) {
-        Some(bytes) => Some(bytes.as_slice()),
+        Some(bytes) => Some(cells(bytes)),
         None => None,
     }
+}
+
+fn cells(list: &Vec<u8>) -> &[u8]
+    ensures all { result.now ≡ list.now.items }
+    ensures bytes { AreBytes result.now }
+{
+    list.as_slice()
 }
 
 fn set_file(
@@ -212,7 +223,7 @@ fn set_file(
     Ok(())
 }
 
-/// Puts the bytes to the end of the named file.
+// Puts the bytes to the end of the named file.
 fn grow(files: &mut BTreeMap<String, Vec<u8>>, name: &str, bytes: &[u8]) -> Result<(), ShelfErr>
     ensures grown { OnOk result
         (files_of files.new ≡ grown name.now bytes.now (files_of files.old)) }
@@ -230,7 +241,7 @@ fn grow(files: &mut BTreeMap<String, Vec<u8>>, name: &str, bytes: &[u8]) -> Resu
     }
 }
 
-/// Replaces the bytes of the named file from a place on.
+// Replaces the bytes of the named file from a place on.
 fn overwrite(
     files: &mut BTreeMap<String, Vec<u8>>,
     name: &str,
@@ -264,7 +275,7 @@ fn replace(held: &mut [u8], at: usize, bytes: &[u8])
     place.copy_from_slice(bytes);
 }
 
-/// Copies what stands from a place on to the front of `into`, as far as both go.
+// Copies what stands from a place on to the front of `into`, as far as both go.
 fn copy_from(bytes: &[u8], at: u64, into: &mut [u8]) -> usize
     ensures count { result ≡ min (length into.old) (length bytes.now - at) }
     ensures copied { into.new ≡ take result (drop at bytes.now) ++ drop result into.old }

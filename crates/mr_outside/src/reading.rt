@@ -1,3 +1,5 @@
+//! A file read whole, in pieces.
+
 ghost use Rattle.std.specs.Prelude.{◌≡◌, ◌+◌, ◌-◌, ◌≤◌, ◌++◌, length, min, take, drop, vec_len, IfOk};
 ghost use Rattle.mr_outside.specs.Told.{OfFile};
 ghost use Rattle.mr_outside.specs.Causes.{ShelfCauses};
@@ -6,8 +8,8 @@ ghost use Rattle.mr_outside.specs.Reading.{piece_count};
 use crate::{Shelf, ShelfErr};
 use std::alloc::{AllocError, Global};
 
-/// The most bytes that are asked for at once.
-const PIECE: usize = 65_536;
+// The most bytes that are asked for at once.
+pub(crate) const PIECE: usize = 65_536;
 
 /// The bytes of a file, read in pieces up to the length that `size` answers.
 ///
@@ -29,13 +31,13 @@ pub fn read_all<S: Shelf>(alloc: Global, shelf: &mut S, name: &str) -> Result<Ve
     read_up_to(alloc, shelf, name, size, piece.as_mut_slice())
 }
 
-fn buffer(alloc: Global, size: usize) -> Result<Vec<u8>, AllocError>
+pub(crate) fn buffer(alloc: Global, size: usize) -> Result<Vec<u8>, AllocError>
     ensures { IfOk result (λ v. vec_len v ≡ size) }
 {
     vec![in alloc; 0u8; size]
 }
 
-/// Reads up to this many bytes from the front of a file, through a buffer for each piece.
+// Reads up to this many bytes from the front of a file, through a buffer for each piece.
 fn read_up_to<S: Shelf>(
     alloc: Global,
     shelf: &mut S,
@@ -63,7 +65,7 @@ fn read_up_to<S: Shelf>(
     Ok(bytes)
 }
 
-/// Reads the piece of a file that follows the bytes that are there, and puts it to their end.
+// Reads the piece of a file that follows the bytes that are there, and puts it to their end.
 fn read_piece<S: Shelf>(
     shelf: &mut S,
     name: &str,

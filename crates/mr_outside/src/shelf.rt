@@ -1,4 +1,7 @@
+//! Files by name, and why a call on them is refused.
+
 ghost use Rattle.std.specs.Prelude.{◌≡◌, ◌+◌, ◌≤◌, [], length, None, IfOk, OnOk, OnErr, IsErrOf, ⊤};
+ghost use Rattle.mr_outside.specs.Bytes.{AreBytes};
 ghost use Rattle.mr_outside.specs.Files.{with_file, grown, overwritten};
 ghost use Rattle.mr_outside.specs.State.{Shelved};
 ghost use Rattle.mr_outside.specs.Told.{OfFile};
@@ -40,8 +43,9 @@ pub trait Shelf {
     /// The files where they are told, and the counts.
     ghost state: { Self → Shelved };
 
-    /// The length of the file in bytes.
+    /// The length of the file in bytes. What is told of it are bytes, whatever is answered.
     fn size(&mut self, name: &str) -> Result<u64, ShelfErr>
+        ensures bytes { OfFile (state self.old).files name.now ⊤ AreBytes }
         ensures length { IfOk result (λ n. OfFile (state self.old).files name.now ⊥
             (λ bytes. n ≡ length bytes)) }
         ensures causes { ShelfCauses name.now (state self.old) (state self.new) result }

@@ -1,3 +1,5 @@
+//! What takes bytes, and why it refuses.
+
 ghost use Rattle.std.specs.Prelude.{◌≡◌, ◌<◌, ◌≤◌, length, take, IfOk, OnOk, OnErr};
 ghost use Rattle.mr_outside.specs.State.{Sunk};
 ghost use Rattle.mr_outside.specs.Told.{Takes, TakesFront};

@@ -1,3 +1,5 @@
+//! The real file system.
+
 ghost use Rattle.std.specs.Prelude.{◌≡◌, ◌<◌, ◌≤◌, vec_len, length, take, drop, None, [], IfOk, IfSome, OnOk, OnErr};
 ghost use Rattle.mr_outside.specs.Faults.{next_count};
 ghost use Rattle.mr_outside.specs.Told.{OfFile};
@@ -9,28 +11,38 @@ ghost use Rattle.mr_outside.specs.Edge.{untold_shelf};
 ghost use Rattle.std.specs.Io.KnownBytes.{Consumes, IsAtEnd};
 
 use crate::{Shelf, ShelfErr};
-use std::alloc::Global;
+use std::alloc::{AllocError, Global};
 use std::fs::{self, OpenFile, OpenOptions};
 use std::io::{self, Read, Seek, SeekFrom, Write};
+use std::os::unix::fs::MetadataExt;
 use std::rt;
 
-/// The bytes that one call of the system is asked for.
-const CHUNK: usize = 4096;
+// The most bytes that one call of the system is asked for.
+const CHUNK: usize = 65_536;
 
-/// What a file is opened for.
+// What a file is opened for.
 #[derive(Clone, Copy)]
 enum Access {
     Read,
     Write,
-    /// To write it from its beginning, whether or not it was there.
+    // To write it from its beginning, whether or not it was there.
     Create,
 }
 
-/// An open file, the name that it was opened by, and whether it may be written.
+// What tells files apart, whatever their names: a device, and a number on it, which is 0 where the
+// file system tells none.
+#[derive(Clone, Copy)]
+struct Node {
+    device: u64,
+    number: u64,
+}
+
+// An open file, the name that it was opened by, and whether it may be written.
 #[derive(Drop)]
 struct Opened<F> {
     name: String,
     file: F,
+    node: Node,
     writes: bool,
 }
 
@@ -39,11 +51,17 @@ struct Opened<F> {
 ///
 /// Each file that was opened is kept open: calls that read go to the file that had this name at the
 /// first of them, or at the first call after it that wrote.
+///
+/// To create what is open already by another name is a fault, and the file is as before. Two names
+/// are of one file where the system gives both the same device and number: other spellings of a
+/// path, symbolic and hard links, a folder that is mounted twice. Not so where it gives one file
+/// two numbers, as some network file systems do, nor where a file system tells no numbers.
 #[derive(Drop)]
 pub struct StdShelf<'a, R: rt::Files> {
     rt: &'a R,
     alloc: Global,
     opened: Vec<Opened<R::File>>,
+    chunk: Vec<u8>,
     faults: u64,
     reads: u64,
 }
@@ -58,6 +76,7 @@ impl<'a, R: rt::Files> StdShelf<'a, R> {
             rt,
             alloc,
             opened: Vec::new(alloc),
+            chunk: Vec::new(alloc),
             faults: 0,
             reads: 0,
         }
@@ -96,7 +115,8 @@ impl<R: rt::Files> Shelf for StdShelf<'_, R> {
             let after = untold_shelf self.new.faults self.new.reads in
             CountsRead before after result }
     {
-        let answer = read_by_name(self.rt, self.alloc, &mut self.opened, name, at, into);
+        let (opened, chunk) = (&mut self.opened, &mut self.chunk);
+        let answer = read_by_name(self.rt, self.alloc, opened, chunk, name, at, into);
         count_refusal(&mut self.faults, &answer);
         count_answer(&mut self.reads, &answer);
         answer
@@ -164,7 +184,7 @@ impl<R: rt::Files> Shelf for StdShelf<'_, R> {
     }
 }
 
-/// Counts a fault just where the call is refused.
+// Counts a fault just where the call is refused.
 fn count_refusal<T>(faults: &mut u64, answer: &Result<T, ShelfErr>)
     ensures refused { OnErr answer.now (faults.new ≡ next_count faults.old) }
     ensures quiet { OnOk answer.now (faults.new ≡ faults.old) }
@@ -174,7 +194,7 @@ fn count_refusal<T>(faults: &mut u64, answer: &Result<T, ShelfErr>)
     }
 }
 
-/// Counts a read just where the call is answered.
+// Counts a read just where the call is answered.
 fn count_answer<T>(reads: &mut u64, answer: &Result<T, ShelfErr>)
     ensures answered { OnOk answer.now (reads.new ≡ next_count reads.old) }
     ensures quiet { OnErr answer.now (reads.new ≡ reads.old) }
@@ -192,8 +212,8 @@ fn refusal(error: io::Error) -> ShelfErr {
     }
 }
 
-/// Refuses what stands by this name and is no regular file. To open a pipe would wait for its other
-/// end, so this is asked before a file is opened.
+// Refuses what stands by this name and is no regular file. To open a pipe would wait for its other
+// end, so this is asked before a file is opened.
 fn check_regular<R: rt::Files>(rt: &R, name: &str, access: Access) -> Result<(), ShelfErr> {
     if name.is_empty() {
         return Err(ShelfErr::Fault);
@@ -206,7 +226,7 @@ fn check_regular<R: rt::Files>(rt: &R, name: &str, access: Access) -> Result<(),
     }
 }
 
-/// Opens a regular file.
+// Opens a regular file, which is made where it is created and was not there. It is not emptied.
 fn open_file<R: rt::Files>(rt: &R, name: &str, access: Access) -> Result<R::File, ShelfErr> {
     check_regular(rt, name, access)?;
     let mut how = OpenOptions::new();
@@ -216,16 +236,47 @@ fn open_file<R: rt::Files>(rt: &R, name: &str, access: Access) -> Result<R::File
     }
     if matches!(access, Access::Create) {
         how.create(true);
-        how.truncate(true);
     }
-    let file = how.open(rt, name).map_err(refusal)?;
-    if !file.metadata().map_err(refusal)?.is_file() {
-        return Err(ShelfErr::Fault);
-    }
-    Ok(file)
+    how.open(rt, name).map_err(refusal)
 }
 
-/// Keeps a file, in place of another of the same name, and answers its place.
+// What tells an open file from others, unless it is no regular one.
+fn node_of<F: OpenFile>(file: &F) -> Result<Node, ShelfErr> {
+    let about = file.metadata().map_err(refusal)?;
+    if !about.is_file() {
+        return Err(ShelfErr::Fault);
+    }
+    Ok(Node {
+        device: about.dev(),
+        number: about.ino(),
+    })
+}
+
+fn is_same(one: Node, other: Node) -> bool {
+    one.number != 0 && one.number == other.number && one.device == other.device
+}
+
+// Whether this file is open by another name.
+fn is_open_elsewhere<F>(opened: &[Opened<F>], name: &str, node: Node) -> bool {
+    opened
+        .iter()
+        .any(|one| one.name.as_str() != name && is_same(one.node, node))
+}
+
+// Leaves an open file empty, unless it is open by another name.
+fn empty<F: OpenFile>(
+    opened: &[Opened<F>],
+    name: &str,
+    node: Node,
+    file: &F,
+) -> Result<(), ShelfErr> {
+    if is_open_elsewhere(opened, name, node) {
+        return Err(ShelfErr::Fault);
+    }
+    file.set_len(0).map_err(refusal)
+}
+
+// Keeps a file, in place of another of the same name, and answers its place.
 fn keep<F: Drop>(opened: &mut Vec<Opened<F>>, one: Opened<F>) -> Result<usize, ShelfErr>
     ensures { IfOk result (λ place. place < vec_len opened.new) }
 {
@@ -239,14 +290,14 @@ fn keep<F: Drop>(opened: &mut Vec<Opened<F>>, one: Opened<F>) -> Result<usize, S
     }
 }
 
-/// The place of the named file among those that are open.
+// The place of the named file among those that are open.
 fn place_of<F>(opened: &[Opened<F>], name: &str) -> Option<usize>
     ensures { IfSome result (λ place. place < length opened.now) }
 {
     opened.iter().position(|one| one.name.as_str() == name)
 }
 
-/// Opens a file and keeps it. Memory comes first, so that no file is made or emptied in vain.
+// Opens a file and keeps it. Memory comes first, so that no file is made or emptied in vain.
 fn open_kept<R: rt::Files>(
     rt: &R,
     alloc: Global,
@@ -259,18 +310,23 @@ fn open_kept<R: rt::Files>(
     let text = String::from_str(alloc, name)?;
     opened.reserve(1)?;
     let file = open_file(rt, name, access)?;
+    let node = node_of(&file)?;
+    if matches!(access, Access::Create) {
+        empty(opened, name, node, &file)?;
+    }
     let writes = !matches!(access, Access::Read);
     keep(
         opened,
         Opened {
             name: text,
             file,
+            node,
             writes,
         },
     )
 }
 
-/// The place of the named file, which is opened if it is not open.
+// The place of the named file, which is opened if it is not open.
 fn place_to_read<R: rt::Files>(
     rt: &R,
     alloc: Global,
@@ -285,7 +341,7 @@ fn place_to_read<R: rt::Files>(
     }
 }
 
-/// The place of the named file, which is opened if it is not open for writing.
+// The place of the named file, which is opened if it is not open for writing.
 fn place_to_write<R: rt::Files>(
     rt: &R,
     alloc: Global,
@@ -315,6 +371,7 @@ fn read_by_name<R: rt::Files>(
     rt: &R,
     alloc: Global,
     opened: &mut Vec<Opened<R::File>>,
+    chunk: &mut Vec<u8>,
     name: &str,
     at: u64,
     into: &mut [u8],
@@ -322,7 +379,19 @@ fn read_by_name<R: rt::Files>(
     ensures { IfOk result (λ n. FillsFront into.old into.new n) }
 {
     let place = place_to_read(rt, alloc, opened, name)?;
-    read_from(&mut opened[place].file, at, into).map_err(refusal)
+    make_room(alloc, chunk, CHUNK)?;
+    read_from(&mut opened[place].file, chunk.as_mut_slice(), at, into).map_err(refusal)
+}
+
+// Makes a buffer as long as this at its first use.
+fn make_room(alloc: Global, chunk: &mut Vec<u8>, size: usize) -> Result<(), AllocError>
+    requires { 0 < size }
+    ensures { OnOk result (0 < vec_len chunk.new) }
+{
+    if chunk.is_empty() {
+        *chunk = vec![in alloc; 0u8; size]?;
+    }
+    Ok(())
 }
 
 fn create_by_name<R: rt::Files>(
@@ -373,19 +442,24 @@ fn write_to<F: Write + Seek>(file: &mut F, to: SeekFrom, bytes: &[u8]) -> io::Re
     file.write_all(bytes)
 }
 
-/// Reads from a place on, which may stand behind the end of the file.
-fn read_from<F: Read + Seek + OpenFile>(file: &mut F, at: u64, into: &mut [u8]) -> io::Result<usize>
+// Reads from a place on, which may stand behind the end of the file.
+fn read_from<F: Read + Seek + OpenFile>(
+    file: &mut F,
+    chunk: &mut [u8],
+    at: u64,
+    into: &mut [u8],
+) -> io::Result<usize>
+    requires { 0 < length chunk.old }
     ensures { IfOk result (λ n. FillsFront into.old into.new n) }
 {
     if at >= file.metadata()?.len() {
         return Ok(0);
     }
     file.seek(SeekFrom::Start(at))?;
-    let mut chunk = [0u8; CHUNK];
-    fill(file, &mut chunk, into)
+    fill(file, chunk, into)
 }
 
-/// Reads to the end of `into` or of the file, through a buffer.
+// Reads to the end of `into` or of the file, through a buffer.
 fn fill<F: Read>(file: &mut F, chunk: &mut [u8], into: &mut [u8]) -> io::Result<usize>
     requires { 0 < length chunk.old }
     ensures within { IfOk result (λ n. n ≤ length into.old) }
@@ -405,7 +479,7 @@ fn fill<F: Read>(file: &mut F, chunk: &mut [u8], into: &mut [u8]) -> io::Result<
     Ok(count)
 }
 
-/// Reads once, and copies what came to the front of `into`.
+// Reads once, and copies what came to the front of `into`.
 fn read_chunk<F: Read>(file: &mut F, chunk: &mut [u8], into: &mut [u8]) -> io::Result<usize>
     requires room { 0 < length chunk.old }
     requires wanted { 0 < length into.old }

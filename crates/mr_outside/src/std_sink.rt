@@ -1,3 +1,5 @@
+//! The real standard output.
+
 ghost use Rattle.std.specs.Prelude.{◌≡◌, ◌<◌, ◌≤◌, IfOk, OnErr, length, take};
 ghost use Rattle.mr_outside.specs.Faults.{next_count};
 ghost use Rattle.mr_outside.specs.Told.{Takes};
