@@ -1,5 +1,5 @@
 -- A line of a batch text that is cut at its spaces.
-use Rattle.std.proofs.Common.{◌≡◌, ℕ, ◌<◌, ◌≤◌, Bool, true, false, cond, List, [], ◌∷◌, length, None, Result, Ok, Err, refl, sym, ap, ◌∙◌, arith}
+use Rattle.std.proofs.Common.{◌≡◌, ℕ, ◌<◌, ◌≤◌, Bool, true, false, cond, List, [], ◌∷◌, length, None, Result, Ok, Err, refl, ap, ◌∙◌, arith}
 use Rattle.std.specs.Prelude.{bytes_eq, codes}
 use Rattle.mr_record.specs.declared.text_fault.TextRule.TheVariants.{Form, Head}
 use Rattle.mr_record.specs.declared.text_fault.TextFault.{TextFault}
@@ -11,8 +11,9 @@ use Rattle.mr_record.specs.RecordText.{record_of_fields}
 use Rattle.mr_record.proofs.Fields.{fields_one, fields_cut, fields_filled}
 use Rattle.mr_batch.specs.declared.change.Change.{Change}
 use Rattle.mr_batch.specs.Changes.{Changes}
-use Rattle.mr_batch.specs.BatchText.{head_of_fields, head_of_line, removal_of_fields, change_of_fields, change_of_line, changes_after, batch_behind, batch_of_lines, batch_of_text}
-use Rattle.mr_batch.specs.Answer.{Refuses}
+use Rattle.mr_batch.specs.BatchText.{head_of_fields, head_of_line, removal_of_fields, change_of_fields, change_of_line, change_lines, batch_behind, batch_of_lines, batch_of_text}
+use Rattle.mr_record.specs.Answer.{Refuses}
+use Rattle.mr_record.specs.LineTexts.{values_after}
 
 one_field : (line : List ℕ) → head_of_fields (line ∷ []) ≡ None
 unfolding head_of_fields
@@ -64,14 +65,6 @@ unfolding lines_of batch_of_lines
 no_head [] none = refl
 no_head (b ∷ text) none = absurd (omega arith)
 
--- ---- the loop
-
-pub all_read : (changes : List Change) (rest : List ℕ) (meant : Result (List Change) TextFault) → length rest ≡ 0 →
-    changes_after changes (lines_of rest) ≡ meant → meant ≡ Ok changes
-unfolding lines_of changes_after
-all_read changes [] meant none e = sym e
-all_read changes (b ∷ rest) meant none e = absurd (omega arith)
-
 -- ---- the changes behind the head
 
 pub two_or_more : (text front back : List ℕ) → IsCutAt 32 text front back → 2 ≤ length (fields_of text)
@@ -80,13 +73,13 @@ two_or_more text front back cut =
     rw (fields_cut text front back cut) (omega arith)
 
 pub behind_refused : (n : ℕ) (lines : List Line) (e : TextErr) (meant : Result Changes TextFault) →
-    meant ≡ batch_behind n lines → Refuses e (changes_after [] lines) → Refuses e meant
+    meant ≡ batch_behind n lines → Refuses e (values_after change_lines [] lines) → Refuses e meant
 unfolding batch_behind
 behind_refused n lines (errors.Text fault) meant is broken = is ∙ rw broken refl
 behind_refused n lines errors.NoMemory meant is broken = tt
 
 pub behind_read : (n : ℕ) (lines : List Line) (changes : List Change) (meant : Result Changes TextFault) →
-    meant ≡ batch_behind n lines → changes_after [] lines ≡ Ok changes →
+    meant ≡ batch_behind n lines → values_after change_lines [] lines ≡ Ok changes →
     meant ≡ Ok (record { number = n; list = changes })
 unfolding batch_behind
 behind_read n lines changes meant is read = is ∙ rw read refl

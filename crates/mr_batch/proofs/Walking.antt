@@ -289,7 +289,7 @@ fault_none rs held b e =
     let both = ordered_then (eqb b.number (held + 1)) (first_hindrance rs 2 b.list) (OutOfOrder held b.number) e in
     record { next = eqb-true b.number (held + 1) both.0; made = (applied_alike rs 2 b.list).0 both.1 }
 
-none_fault : (rs : List Record) (held : ℕ) (b : Changes) → IsAdmissible rs held b → batch_fault rs held b ≡ None
+pub none_fault : (rs : List Record) (held : ℕ) (b : Changes) → IsAdmissible rs held b → batch_fault rs held b ≡ None
 none_fault rs held b is =
     let t : eqb b.number (held + 1) ≡ true = eq-eqb b.number (held + 1) is.next in
     let free : first_hindrance rs 2 b.list ≡ None = (applied_alike rs 2 b.list).1 is.made in

@@ -1,29 +1,19 @@
 -- What a call that reads a batch text answers.
-use Rattle.std.specs.Prelude.{◌≡◌, ℕ, ◌+◌, List, ◌++◌, ◌∷◌, [], length, Result, Ok, Err, ⊤, ◌⊎◌}
-use Rattle.std.specs.Global.{Vec}
-use Rattle.mr_batch.specs.declared.change.Change.{Change}
+use Rattle.std.specs.Prelude.{◌≡◌, ℕ, ◌^◌, ◌<◌, List, ◌++◌, ◌∷◌, [], Result, Ok, Err, ⊤, ◌⊎◌}
 use Rattle.mr_record.specs.declared.text_fault.TextRule.TheVariants.{Head}
 use Rattle.mr_record.specs.declared.text_fault.TextFault.{TextFault}
 use Rattle.mr_record.specs.declared.text_fault.TextErr.{TextErr}
 use Rattle.mr_record.specs.declared.text_fault.TextErr.TheVariants.{Text, NoMemory}
 use Rattle.mr_record.specs.Lines.{Line, lines_of}
+use Rattle.mr_record.specs.LineTexts.{IsFirstFaultBy}
+use Rattle.mr_record.specs.Answer.{Refuses}
 use Rattle.mr_batch.specs.Changes.{Changes}
-use Rattle.mr_batch.specs.BatchText.{IsBatch, batch_text, number_of_line, change_after}
-
--- the refusal is the fault that is meant, or memory ran out
-abbrev pub Refuses : {A : Type 0} → TextErr → Result A TextFault → Type 0
-Refuses (Text fault) meant = meant ≡ Err fault
-Refuses NoMemory meant = ⊤
+use Rattle.mr_batch.specs.BatchText.{head_line, number_of_line, AreChanges, change_lines}
 
 -- the answer is the one that is meant, unless memory ran out
 abbrev pub Answers : Result Changes TextErr → Result Changes TextFault → Type 0
 Answers (Ok b) meant = meant ≡ Ok b
 Answers (Err e) meant = Refuses e meant
-
--- the same of changes alone
-abbrev pub ListAnswers : Result (Vec Change) TextErr → Result (List Change) TextFault → Type 0
-ListAnswers (Ok v) meant = meant ≡ Ok v.items
-ListAnswers (Err e) meant = Refuses e meant
 
 -- the text has no first line, or one that breaks the fault's rule first
 pub record IsHeadFault (text : List ℕ) (fault : TextFault) : Type 0 where
@@ -32,16 +22,13 @@ pub record IsHeadFault (text : List ℕ) (fault : TextFault) : Type 0 where
   pub breaks : (line : Line) (rest : List Line) → lines_of text ≡ line ∷ rest
       → number_of_line line ≡ Err fault.rule
 
--- The lines before the fault's line are the lines of a batch, and behind these changes the fault's
--- line breaks the fault's rule first.
+-- the first line is that of a batch, and the fault is the first of the lines behind it
 pub record IsChangeFault (text : List ℕ) (fault : TextFault) : Type 0 where
-  pub earlier : Changes
-  pub held : IsBatch earlier
-  pub counted : fault.line ≡ length earlier.list + 2
-  pub line : Line
-  pub rest : List Line
-  pub lines : lines_of text ≡ lines_of (batch_text earlier) ++ line ∷ rest
-  pub breaks : change_after (length earlier.list) line ≡ Err fault.rule
+  pub number : ℕ
+  pub fits : number < 2 ^ 64
+  pub behind : List Line
+  pub lines : lines_of text ≡ lines_of (head_line number ++ 10 ∷ []) ++ behind
+  pub broken : IsFirstFaultBy change_lines AreChanges behind fault
 
 -- the fault is that of the first line, or that of the first line behind it that breaks a rule
 abbrev pub IsFirstFault : List ℕ → TextFault → Type 0

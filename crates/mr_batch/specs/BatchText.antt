@@ -1,14 +1,14 @@
 -- The text of a batch: the line `batch N`, then a line for each change, `+ ` and a record line or
--- `- ` and a number. A fault has the least faulty line, and on it the first rule of the list of
--- `TextRule` that the line breaks.
-use Rattle.std.specs.Prelude.{ℕ, ◌+◌, ◌^◌, ◌<◌, ◌≤◌, not, nat_le, if◌then◌else◌, List, [], ◌∷◌, ◌++◌, length, All, Option, None, Result, Ok, Err, ok_or, flat_map, bytes_eq, codes, decimal}
+-- `- ` and a number.
+use Rattle.std.specs.Prelude.{ℕ, ◌^◌, ◌<◌, ◌≤◌, not, if◌then◌else◌, List, [], ◌∷◌, ◌++◌, length, All, Option, None, Result, Ok, Err, ok_or, flat_map, bytes_eq, codes, decimal}
 use Rattle.mr_record.specs.declared.text_fault.TextRule.{TextRule}
-use Rattle.mr_record.specs.declared.text_fault.TextRule.TheVariants.{TooMany, NoEnd, Head, Form, Number}
+use Rattle.mr_record.specs.declared.text_fault.TextRule.TheVariants.{NoEnd, Head, Form, Number}
 use Rattle.mr_record.specs.declared.text_fault.TextFault.{TextFault}
 use Rattle.mr_record.specs.Decimal.{u64_of}
 use Rattle.mr_record.specs.Lines.{Line, lines_of, fields_of}
 use Rattle.mr_record.specs.Record.{IsRecord}
-use Rattle.mr_record.specs.RecordText.{line_of, record_of_fields, on_line}
+use Rattle.mr_record.specs.LineTexts.{Reader, on_line, values_after}
+use Rattle.mr_record.specs.RecordText.{line_of, record_of_fields}
 use Rattle.mr_record.specs.Results.{◌>>=◌}
 use Rattle.mr_batch.specs.declared.change.Change.{Change}
 use Rattle.mr_batch.specs.declared.change.Change.TheVariants.{Add, Remove}
@@ -42,11 +42,15 @@ abbrev pub IsChange : Change → Type 0
 IsChange (Add r) = IsRecord r
 IsChange (Remove n) = n < 2 ^ 64
 
+-- changes that a text may hold
+pub record AreChanges (changes : List Change) : Type 0 where
+  pub each : All IsChange changes
+  pub count : length changes ≤ change_limit
+
 -- a batch that a text may hold
 pub record IsBatch (b : Changes) : Type 0 where
   pub number : b.number < 2 ^ 64
-  pub each : All IsChange b.list
-  pub count : length b.list ≤ change_limit
+  pub changes : AreChanges b.list
 
 -- ---- what a line spells
 
@@ -90,25 +94,16 @@ change_of_line line = change_of_fields (fields_of line)
 unfoldable pub number_of_line : Line → Result ℕ TextRule
 number_of_line line = if not line.ended then Err NoEnd else ok_or (head_of_line line.bytes) Head
 
--- the change of a line behind so many lines of changes, else the first rule that it breaks
-unfoldable pub change_after : ℕ → Line → Result Change TextRule
-change_after count line =
-    if nat_le change_limit count then Err TooMany
-    else if not line.ended then Err NoEnd
-    else change_of_line line.bytes
-
--- The changes of the lines behind the earlier changes, else the first fault. The earlier changes
--- had a line each, and stand behind the head, which is line 1.
-unfoldable pub changes_after : List Change → List Line → Result (List Change) TextFault
-changes_after earlier [] = Ok earlier
-changes_after earlier (line ∷ lines) = do
-  one ← on_line (length earlier + 2) (change_after (length earlier) line)
-  changes_after (earlier ++ one ∷ []) lines
+-- how the lines behind the first spell changes
+abbrev pub change_lines : Reader Change
+change_lines =
+    record
+    { limit = change_limit; first = 2; read = λ earlier. change_of_line; spell = change_line }
 
 -- the batch with the number and the changes of the lines, else the first fault
 unfoldable pub batch_behind : ℕ → List Line → Result Changes TextFault
 batch_behind number lines = do
-  changes ← changes_after [] lines
+  changes ← values_after change_lines [] lines
   Ok (record { number = number; list = changes })
 
 -- the batch of the lines of a text, else its fault

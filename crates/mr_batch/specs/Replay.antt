@@ -1,4 +1,4 @@
--- The tree after a batch: its changes are made one after the other, by insertion and deletion.
+-- The tree after batches: their changes are made one after the other, by insertion and deletion.
 use Rattle.std.specs.Prelude.{◌≡◌, List, [], ◌∷◌, Some}
 use Rattle.std.specs.List.Sorted.{IsPermutation}
 use Rattle.mr_record.specs.declared.record.Record.{Record}
@@ -20,9 +20,10 @@ unfoldable pub replayed : Tree → List Change → Tree
 replayed t [] = t
 replayed t (c ∷ changes) = replayed (changed t c) changes
 
--- the tree after a batch
-abbrev pub replay : Tree → Changes → Tree
-replay t b = replayed t b.list
+-- the tree after batches in their order
+abbrev pub replay : Tree → List Changes → Tree
+replay t [] = t
+replay t (b ∷ batches) = replay (replayed t b.list) batches
 
 -- the changes may be made to the records, and these are what they leave, in some order
 pub record IsLeft (before : List Record) (changes : List Change) (after : List Record)

@@ -25,7 +25,7 @@ pub enum BatchFault {
     Full { line: u64 },
 }
 
-/// Whether the record number of the change at the place `i` is there before that change.
+// Whether the record number of the change at the place `i` is there before that change.
 fn is_present(dir: &Directory, batch: &Batch, i: usize) -> bool
     requires { i < length batch.now.list }
     ensures { result ≡ after_all (knows dir.now) (take i batch.now.list)
@@ -37,7 +37,7 @@ fn is_present(dir: &Directory, batch: &Batch, i: usize) -> bool
     }
 }
 
-/// The count of records after a change, or why it may not be made.
+// The count of records after a change, or why it may not be made.
 fn step(present: bool, count: usize, line: u64, change: &Change) -> Result<usize, BatchFault>
     ensures { MatchResult result
         (λ n. (n ≡ count_after count change.now) × (hindered present count line change.now ≡ None))
@@ -52,7 +52,7 @@ fn step(present: bool, count: usize, line: u64, change: &Change) -> Result<usize
     }
 }
 
-/// The changes one by one, beginning with so many records.
+// The changes one by one, beginning with so many records.
 fn check_changes(dir: &Directory, mut count: usize, batch: &Batch) -> Result<(), BatchFault>
     ensures { MatchResult result
         (λ _. first_hindered (knows dir.now) count 2 batch.now.list ≡ None)
@@ -65,7 +65,7 @@ fn check_changes(dir: &Directory, mut count: usize, batch: &Batch) -> Result<(),
     Ok(())
 }
 
-/// The number of the batch, then its changes.
+// The number of the batch, then its changes.
 fn check_all(dir: &Directory, count: usize, held: u64, batch: &Batch) -> Result<(), BatchFault>
     ensures { MatchResult result (λ _. fault_by (knows dir.now) count held batch.now ≡ None)
         (λ fault. fault_by (knows dir.now) count held batch.now ≡ Some fault) }

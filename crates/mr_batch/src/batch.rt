@@ -1,3 +1,5 @@
+//! A batch of changes.
+
 ghost use Rattle.std.specs.Prelude.{◌≡◌, ◌^◌, ◌<◌, ◌≤◌, length, slice_index, slice_index_or, None};
 ghost use Rattle.mr_batch.specs.Changes.{Changes, numbers};
 ghost use Rattle.mr_batch.specs.Earlier.{IsLastBelow, IsLinked};
@@ -26,8 +28,8 @@ impl Model for Batch {
 }
 
 impl Batch {
-    /// The batch of these changes, where `links` has at each place the last earlier change of the
-    /// same record number.
+    // The batch of these changes, where `links` has at each place the last earlier change of the
+    // same record number.
     pub(crate) fn new(number: u64, changes: Vec<Change>, links: Vec<Option<usize>>) -> Batch
         requires { IsLinked changes.items links.items }
         ensures { let batch : Changes = record { number = number; list = changes.items } in

@@ -1,3 +1,5 @@
+//! One change of a map.
+
 ghost use Rattle.std.specs.Prelude.{◌≡◌};
 ghost use Rattle.mr_batch.specs.Changes.{named};
 ghost use Rattle.mr_batch.specs.Presence.{adds};
@@ -24,7 +26,7 @@ impl Change {
         }
     }
 
-    /// Whether a record comes in.
+    // Whether a record comes in.
     pub(crate) fn is_addition(&self) -> bool
         ensures { result ≡ adds self.now }
     {

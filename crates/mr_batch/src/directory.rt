@@ -1,3 +1,5 @@
+//! The rectangles of a map by record number.
+
 ghost use Rattle.std.specs.Prelude.{◌≡◌, ◌≢◌, ℕ, ◌==◌, ◌+◌, Some, None, is_some, length, IfOk, OnOk, OnErr, AllPairs, if◌then◌else◌};
 ghost use Rattle.mr_record.specs.declared.record.Record as types;
 ghost use Rattle.mr_batch.specs.Directory.{AreRising, rect_at, IsDirectoryOf};

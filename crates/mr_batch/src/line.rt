@@ -7,7 +7,7 @@ ghost use Rattle.mr_batch.specs.BatchText.{head_of_fields, head_of_line, additio
 use crate::Change;
 use mr_record::{TextRule, cut, read_line, read_u64};
 
-/// Whether no space stands in the text.
+// Whether no space stands in the text.
 #[tactic(auto, using(crate::proofs::Cuttings::two_or_more, mr_record::proofs::Fields::fields_one))]
 fn is_one_field(text: &[u8]) -> bool
     ensures { MatchBool result (fields_of text.now ≡ text.now ∷ [])
@@ -19,7 +19,7 @@ fn is_one_field(text: &[u8]) -> bool
     }
 }
 
-/// The number of a batch, from the parts of its first line.
+// The number of a batch, from the parts of its first line.
 #[tactic(auto, using(crate::proofs::Cuttings::head_steps))]
 fn read_head_parts(word: &[u8], number: &[u8]) -> Option<u64>
     ensures { result ≡ head_of_fields (word.now ∷ fields_of number.now) }
@@ -33,7 +33,7 @@ fn read_head_parts(word: &[u8], number: &[u8]) -> Option<u64>
     read_u64(number)
 }
 
-/// The number of a batch, from `batch N`.
+// The number of a batch, from `batch N`.
 #[tactic(auto, using(crate::proofs::Cuttings::head_one, mr_record::proofs::Fields::fields_cut))]
 pub(crate) fn read_head(line: &[u8]) -> Option<u64>
     ensures { result ≡ head_of_line line.now }
@@ -44,7 +44,7 @@ pub(crate) fn read_head(line: &[u8]) -> Option<u64>
     }
 }
 
-/// An addition, from the line behind `+ `.
+// An addition, from the line behind `+ `.
 fn read_addition(rest: &[u8]) -> Result<Change, TextRule>
     ensures { result ≡ addition_of_fields (fields_of rest.now) }
 {
@@ -60,7 +60,7 @@ fn read_number(field: &[u8]) -> Result<Change, TextRule>
     Ok(Change::Remove(number))
 }
 
-/// A removal, from the line behind `- `.
+// A removal, from the line behind `- `.
 #[tactic(auto, using(crate::proofs::Cuttings::removal_more))]
 fn read_removal(rest: &[u8]) -> Result<Change, TextRule>
     ensures { result ≡ removal_of_fields (fields_of rest.now) }
@@ -71,7 +71,7 @@ fn read_removal(rest: &[u8]) -> Result<Change, TextRule>
     read_number(rest)
 }
 
-/// A change, from the parts of its line.
+// A change, from the parts of its line.
 #[tactic(auto, unfolding(crate::specs::BatchText::change_of_fields))]
 fn read_signed(sign: &[u8], rest: &[u8]) -> Result<Change, TextRule>
     ensures { result ≡ change_of_fields (sign.now ∷ fields_of rest.now) }
@@ -85,7 +85,7 @@ fn read_signed(sign: &[u8], rest: &[u8]) -> Result<Change, TextRule>
     Err(TextRule::Form)
 }
 
-/// Reads one line without its line feed: `+ ` and a record line, or `- ` and a number.
+// Reads one line without its line feed: `+ ` and a record line, or `- ` and a number.
 #[tactic(auto, using(crate::proofs::Cuttings::change_one, mr_record::proofs::Fields::fields_cut))]
 pub(crate) fn read_change(line: &[u8]) -> Result<Change, TextRule>
     ensures { result ≡ change_of_line line.now }

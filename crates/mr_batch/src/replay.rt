@@ -1,6 +1,6 @@
 //! Trees after batches.
 
-ghost use Rattle.std.specs.Prelude.{◌≡◌, true, IfOk, IfErr, OnOk};
+ghost use Rattle.std.specs.Prelude.{◌≡◌, [], ◌∷◌, true, IfOk, IfErr, OnOk};
 ghost use Rattle.std.specs.List.Sorted.{IsPermutation};
 ghost use Rattle.mr_tree.specs.Tree.{records as records_in};
 ghost use Rattle.mr_tree.specs.WellFormed.{WellFormed};
@@ -85,7 +85,7 @@ fn replayed(alloc: Global, mut tree: Tree, held: u64, batch: &Batch) -> Result<T
 /// and the tree comes back. Whether numbers are there is asked of a directory, which is made once.
 pub fn apply_plain(alloc: Global, tree: Tree, held: u64, batch: &Batch) -> Result<Tree, ApplyErr>
     requires { WellFormed tree }
-    ensures exact { IfOk result (λ t. t ≡ replay tree batch.now) }
+    ensures exact { IfOk result (λ t. t ≡ replay tree (batch.now ∷ [])) }
     ensures well_formed { IfOk result WellFormed }
     ensures records { IfOk result
         (λ t. IsLeft (records_in tree) batch.now.list (records_in t)) }

@@ -1,21 +1,22 @@
 //! A batch as a text.
 
-ghost use Rattle.std.specs.Prelude.{◌≡◌, ◌<◌, [], length, IfOk, IfErr, Ok};
+ghost use Rattle.std.specs.Prelude.{◌≡◌, IfOk, IfErr, Ok};
 ghost use Rattle.mr_record.specs.Lines.{lines_of};
 ghost use Rattle.mr_batch.specs.Changes.{Changes};
-ghost use Rattle.mr_batch.specs.BatchText.{IsBatch, batch_text, number_of_line, change_after, changes_after, batch_behind, batch_of_lines, batch_of_text};
-ghost use Rattle.mr_batch.specs.Answer.{Answers, ListAnswers, Refuses, IsRefusal};
+ghost use Rattle.mr_batch.specs.BatchText.{IsBatch, batch_text, number_of_line, batch_behind, batch_of_lines, batch_of_text};
+ghost use Rattle.mr_record.specs.Answer.{Refuses};
+ghost use Rattle.mr_batch.specs.Answer.{Answers, IsRefusal};
 
 use crate::line::{read_change, read_head};
 use crate::links::links;
 use crate::{Batch, Change};
-use mr_record::{TextErr, TextFault, TextRule, first_line};
-use std::alloc::Global;
+use mr_record::{LineReader, TextErr, TextFault, TextRule, first_line, read_values};
+use std::alloc::{AllocError, Global};
 
-/// The most changes of a batch.
+// The most changes of a batch.
 const CHANGE_LIMIT: usize = 1 << 20;
 
-/// The number on the first line.
+// The number on the first line.
 #[tactic(auto, unfolding(crate::specs::BatchText::number_of_line))]
 fn read_number(line: &[u8], ended: bool) -> Result<u64, TextRule>
     ensures { result ≡ number_of_line (record { bytes = line.now; ended = ended }) }
@@ -26,7 +27,7 @@ fn read_number(line: &[u8], ended: bool) -> Result<u64, TextRule>
     read_head(line).ok_or(TextRule::Head)
 }
 
-/// The number of a batch, and the text behind the first line.
+// The number of a batch, and the text behind the first line.
 #[tactic(auto, unfolding(crate::specs::BatchText::batch_of_lines))]
 fn take_head(text: &[u8]) -> Result<(u64, &[u8]), TextErr>
     ensures goes_on { IfOk result (λ head. batch_of_text text.now
@@ -46,51 +47,39 @@ fn take_head(text: &[u8]) -> Result<(u64, &[u8]), TextErr>
     }
 }
 
-/// The change of a line behind so many lines of changes.
-#[tactic(auto, unfolding(crate::specs::BatchText::change_after))]
-fn read_after(count: usize, line: &[u8], ended: bool) -> Result<Change, TextRule>
-    ensures { result ≡ change_after count (record { bytes = line.now; ended = ended }) }
-{
-    if count >= CHANGE_LIMIT {
-        return Err(TextRule::TooMany);
-    }
-    if !ended {
-        return Err(TextRule::NoEnd);
-    }
-    read_change(line)
-}
+// Reads changes. It has nothing to keep of the earlier ones.
+#[derive(Drop)]
+struct ReadsChanges;
 
-/// Reads the first line, adds its change, and gives the text behind it.
-#[tactic(auto, unfolding(crate::specs::BatchText::changes_after))]
-fn take_line<'a>(changes: &mut Vec<Change>, text: &'a [u8]) -> Result<&'a [u8], TextErr>
-    requires filled { 0 < length text.now }
-    ensures shorter { IfOk result (λ rest. length rest.now < length text.now) }
-    ensures goes_on { IfOk result (λ rest. changes_after changes.old.items (lines_of text.now)
-        ≡ changes_after changes.new.items (lines_of rest.now)) }
-    ensures refused { IfErr result
-        (λ e. Refuses e (changes_after changes.old.items (lines_of text.now))) }
-{
-    let (line, ended, rest) = first_line(text);
-    let number = changes.len() as u64 + 2;
-    match read_after(changes.len(), line, ended) {
-        Err(rule) => Err(TextErr::Text(TextFault { line: number, rule })),
-        Ok(one) => {
-            changes.push(one)?;
-            Ok(rest)
-        }
-    }
-}
+impl LineReader for ReadsChanges {
+    type Value = Change;
 
-/// The changes of the lines behind the first.
-fn read_changes(alloc: Global, text: &[u8]) -> Result<Vec<Change>, TextErr>
-    ensures { ListAnswers result (changes_after [] (lines_of text.now)) }
-{
-    let mut changes = Vec::new(alloc);
-    let mut rest = text;
-    while !rest.is_empty() {
-        rest = take_line(&mut changes, rest)?;
+    ghost use Rattle.std.specs.Prelude.{⊤};
+    ghost use Rattle.mr_batch.specs.BatchText.{change_lines};
+
+    ghost reader = { change_lines };
+
+    ghost keeps = { λ r earlier. ⊤ };
+
+    fn limit() -> usize {
+        CHANGE_LIMIT
     }
-    Ok(changes)
+
+    fn first() -> u8 {
+        2
+    }
+
+    fn shortest() -> usize {
+        b"- 0\n".len()
+    }
+
+    fn read(&self, _earlier: &[Change], line: &[u8]) -> Result<Change, TextRule> {
+        read_change(line)
+    }
+
+    fn keep(&mut self, _earlier: &[Change], _one: &Change) -> Result<(), AllocError> {
+        Ok(())
+    }
 }
 
 #[tactic(auto, using(crate::proofs::Cuttings::behind_head))]
@@ -98,7 +87,7 @@ fn read_all(alloc: Global, text: &[u8]) -> Result<Batch, TextErr>
     ensures { Answers result (batch_of_text text.now) }
 {
     let (number, rest) = take_head(text)?;
-    let changes = read_changes(alloc, rest)?;
+    let changes = read_values(alloc, ReadsChanges, rest)?;
     let links = links(alloc, &changes)?;
     Ok(Batch::new(number, changes, links))
 }

@@ -15,10 +15,10 @@ use rand_core::utils::NextWord;
 use rand_xoshiro::SplitMix64;
 use std::alloc::{AllocError, Global};
 
-/// How wide and high a made-up window is, in map units.
+// How wide and high a made-up window is, in map units.
 const WINDOW_SIDE: i32 = 20_000;
 
-/// How many records a made-up query for the nearest asks for.
+// How many records a made-up query for the nearest asks for.
 const NEIGHBOURS: u16 = 10;
 
 fn next_word(generator: &mut SplitMix64) -> u64

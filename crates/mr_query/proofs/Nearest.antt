@@ -1,19 +1,17 @@
 -- The radius and the nearest of some records depend on those alone that lie within the radius; and the radius is told
 -- by counts.
-use Rattle.std.proofs.Common.{◌≡◌, ℕ, suc, ◌+◌, ◌<◌, ◌≤◌, Bool, true, false, cond, leb, ltb, ◌||◌, List, [], ◌∷◌, length, take, Option, Some, None, refl, sym, ap, subst, ◌∙◌, inl, inr, arith}
-use Rattle.std.specs.Prelude.{filter, map}
-use Rattle.std.specs.List.{count_by}
-use Rattle.std.specs.Ordering.{ordering_then, is_lt, nat_cmp}
-use Rattle.std.proofs.lemmas.Bool.{cases_Bool, leb-true, leb-false, ltb-true, ltb-false, le-leb, lt-leb, lt-ltb, le-ltb, ne_eqb}
+use Rattle.std.proofs.Common.{◌≡◌, ℕ, ◌+◌, ◌<◌, ◌≤◌, Bool, true, false, cond, leb, ltb, List, [], ◌∷◌, length, Option, Some, None, refl, sym, ap, subst, ◌∙◌, inl, inr, arith}
+use Rattle.std.specs.Prelude.{filter}
+use Rattle.std.proofs.lemmas.Bool.{cases_Bool, leb-true, leb-false, lt-ltb, le-ltb, ne_eqb}
 use Rattle.std.proofs.lemmas.List.{length-map}
 use Rattle.std.proofs.lemmas.List.Sums.{sum_by-cons}
 use Rattle.mr_geom.specs.declared.point.Point.{Point}
 use Rattle.mr_record.specs.declared.record.Record.{Record}
-use Rattle.mr_query.specs.Nearest.{distance, distances, kth_least, is_within, nearer_than, not_farther_than, is_nearer, ranked, nearest}
+use Rattle.mr_query.specs.Nearest.{distance, distances, kth_least, is_within, nearer_than, not_farther_than, is_nearer, nearest}
 use Rattle.mr_query.specs.Radius.{below, IsRadius}
-use Rattle.mr_query.proofs.Counts.{one_below, one_below-lt, one_below-le, below-cons, below-length}
+use Rattle.mr_query.proofs.Counts.{one_below, one_below-lt, one_below-le, below-cons}
 use Rattle.mr_query.proofs.Kth.{kth_is_radius, radius_is_kth}
-use Rattle.mr_query.proofs.Ranks.{Splits, length-sorted, first_of_passing}
+use Rattle.mr_query.proofs.Ranks.{Splits, first_of_passing}
 
 -- ---- what is nearer than another comes before it
 

@@ -1,19 +1,15 @@
 -- A query's word is read as that query, and what is read is written so.
-use Rattle.std.proofs.Common.{◌≡◌, ℕ, suc, ◌^◌, ◌<◌, ◌≤◌, ℤ, Bool, true, false, T, cond, eqb, leb, ◌&&◌, List, [], ◌∷◌, ◌++◌, get_or, take, drop, Option, Some, None, Result, Ok, Err, refl, sym, ap, subst, ◌∙◌, ◌⊎◌, inl, inr, arith, lit≤}
-use Rattle.std.specs.Prelude.{pos, negsuc, All, IfOk, IfSome, int_le, nat_le, ok_or, option_and_then, FitsSigned, decimal, bytes_eq}
+use Rattle.std.proofs.Common.{◌≡◌, ℕ, ◌^◌, ◌<◌, ◌≤◌, ℤ, Bool, true, false, cond, eqb, leb, ◌&&◌, List, [], ◌∷◌, ◌++◌, get_or, take, drop, Option, Some, None, Result, Ok, Err, refl, sym, ap, subst, ◌∙◌, ◌⊎◌, inl, inr, arith}
+use Rattle.std.specs.Prelude.{IfOk, IfSome, ok_or, option_and_then, FitsSigned, decimal, bytes_eq}
 use Rattle.std.specs.List.{join_with_byte}
 use Rattle.std.specs.Int.{w32}
-use Rattle.std.specs.Char.{is_ascii_digit}
 use Rattle.std.specs.Fmt.{signed_decimal}
 use Rattle.std.proofs.lemmas.Bool.{and_parts, leb-true, le-leb, ne_eqb}
-use Rattle.std.proofs.lemmas.Float.{T_from_true}
 use Rattle.std.proofs.lemmas.List.{take-append-drop}
-use Rattle.std.proofs.lemmas.List.Elements.{All-cons}
 use Rattle.std.proofs.lemmas.List.Splits.{slice_split_at, slice_split_none, join_with_byte-slice_split}
-use Rattle.std.proofs.lemmas.List.Sums.{AllPass-from_list_all}
 use Rattle.std.proofs.lemmas.Slice.Eq.{bytes_eq-Decides}
 use Rattle.mr_geom.specs.declared.point.Point.{Point}
-use Rattle.mr_geom.specs.Rectangle.{Rectangle, IsOrdered, FitsMap, rectangle_of}
+use Rattle.mr_geom.specs.Rectangle.{Rectangle, FitsMap, rectangle_of}
 use Rattle.mr_geom.proofs.Rectangles.{rectangle_of_some, true_from_T}
 use Rattle.mr_record.specs.Decimal.{i32_of, u64_of}
 use Rattle.mr_record.specs.Lines.{Lacks}
@@ -24,7 +20,8 @@ use Rattle.mr_query.specs.declared.query.Query.TheVariants.{Window, Nearest}
 use Rattle.mr_query.specs.declared.query.QueryFault.{QueryFault}
 use Rattle.mr_query.specs.declared.query.QueryFault.TheVariants as faults
 use Rattle.mr_query.specs.Word.{parts_of, number_of, window_of, window_of_parts, neighbour_limit, if_askable, count_of, point_at, nearest_of, nearest_of_parts, window_word, nearest_word, nearest_query_of, query_of, FitsPoint, IsQuery, word_of}
-use Rattle.mr_record.proofs.Decimals.{is_canonical-decimal, are_digits-canonical, u64_of-written, u64_of-decimal, i32_of-written, i32_of-signed}
+use Rattle.mr_record.proofs.RecordLines.{IsInk, decimal_ink, signed_ink}
+use Rattle.mr_record.proofs.Decimals.{u64_of-written, u64_of-decimal, i32_of-written, i32_of-signed}
 
 abbrev Read : Type 0
 Read = Result Query QueryFault
@@ -212,22 +209,6 @@ result_written word (Ok q) e = query_written word q (sym e)
 result_written word (Err f) e = tt
 
 -- ---- what is written is read again
-
--- no comma
-abbrev IsInk : List ℕ → Type 0
-IsInk text = All (λ b. 45 ≤ b) text
-
-digit_ink : (b : ℕ) → is_ascii_digit b ≡ true → 45 ≤ b
-digit_ink b e = let low : 48 ≤ b = leb-true 48 b (and_parts (leb 48 b) (leb b 57) e).0 in omega arith
-
-decimal_ink : (n : ℕ) → n < 2 ^ 64 → IsInk (decimal n)
-decimal_ink n lt k d at =
-    digit_ink _ (AllPass-from_list_all is_ascii_digit (decimal n)
-    (are_digits-canonical (decimal n) (is_canonical-decimal n lt)) k d at)
-
-signed_ink : (z : ℤ) → FitsSigned w32 z → IsInk (signed_decimal z)
-signed_ink (pos n) fits = decimal_ink n (omega arith)
-signed_ink (negsuc n) fits = All-cons (λ b. 45 ≤ b) 45 (decimal (suc n)) (lit≤ tt) (decimal_ink (suc n) (omega arith))
 
 lacks_comma : (text : List ℕ) → IsInk text → Lacks 44 text
 lacks_comma text ink k d at = let low = ink k d at in ne_eqb (get_or text k d) 44 (λ e. omega arith)

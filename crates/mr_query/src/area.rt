@@ -1,3 +1,5 @@
+//! The part of the map that a query asks for.
+
 ghost use Rattle.std.specs.Prelude.{◌≡◌};
 ghost use Rattle.mr_query.specs.Region.{reaches};
 
@@ -7,7 +9,7 @@ use mr_geom::{Rect, Region};
 /// The part of the plane that a query asks for, once its squared radius is known, in squared map
 /// units. For a window the radius does not matter; for nearest records without one the area is
 /// everything.
-#[derive(Clone, Copy, Debug, PartialEq, Eq)]
+#[derive(Clone, Copy)]
 pub struct Area {
     pub query: Query,
     pub radius: Option<u128>,

@@ -1,3 +1,5 @@
+//! A circle round a point.
+
 ghost use Rattle.std.specs.Prelude.{◌≡◌, ◌≤◌, ◌↔◌, IsTrue, Some, None};
 ghost use Rattle.mr_geom.specs.Distance.{least_squared_distance};
 ghost use Rattle.mr_query.specs.Nearest.{is_within};
@@ -6,7 +8,7 @@ ghost use Rattle.mr_query.specs.Circles.{circle_widens};
 use mr_geom::{Point, Rect, Region};
 
 /// The points within a distance of one point, those at the distance included.
-#[derive(Clone, Copy, Debug, PartialEq, Eq)]
+#[derive(Clone, Copy)]
 pub struct Circle {
     pub center: Point,
     /// The squared radius, in squared map units.
@@ -29,7 +31,7 @@ impl Region for Circle {
 }
 
 /// All points of the plane.
-#[derive(Clone, Copy, Debug, PartialEq, Eq)]
+#[derive(Clone, Copy)]
 pub struct Everywhere;
 
 impl Region for Everywhere {

@@ -1,3 +1,5 @@
+//! Cutting a word at a comma.
+
 ghost use Rattle.std.specs.Prelude.{◌≡◌, ◌∷◌, [], MatchResult};
 ghost use Rattle.mr_query.specs.Word.{parts_of};
 ghost use Rattle.mr_query.specs.declared.query.QueryFault.TheVariants as faults;

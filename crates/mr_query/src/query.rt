@@ -1,3 +1,5 @@
+//! Queries, and why a word is none.
+
 ghost use Rattle.mr_query.specs.Word.{FitsPoint, IsAskable, IsQuery};
 ghost use Rattle.mr_query.specs.declared.query.Query.TheVariants as queries;
 

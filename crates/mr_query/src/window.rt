@@ -1,10 +1,12 @@
+//! Whether a rectangle meets a window.
+
 ghost use Rattle.std.specs.Prelude.{◌≡◌, ◌↔◌, IsTrue};
 ghost use Rattle.mr_geom.specs.Plane.{Meets, touches};
 
 use mr_geom::{Rect, Region};
 
 /// The points of a rectangle, sides included.
-#[derive(Clone, Copy, Debug, PartialEq, Eq)]
+#[derive(Clone, Copy)]
 pub struct Window {
     pub rect: Rect,
 }

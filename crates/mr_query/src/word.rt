@@ -1,3 +1,5 @@
+//! Queries read from their words.
+
 ghost use Rattle.std.specs.Prelude.{◌≡◌, IfOk, Ok};
 ghost use Rattle.mr_record.specs.Decimal.{i32_of};
 ghost use Rattle.mr_query.specs.Word.{number_of, window_of, window_of_parts, if_askable, count_of, nearest_of, nearest_of_parts, nearest_query_of, parts_of, query_of, IsQuery, word_of};

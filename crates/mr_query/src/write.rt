@@ -9,13 +9,16 @@ ghost use Rattle.mr_query.specs.declared.query.Query.TheVariants as queries;
 
 use crate::{Query, is_query};
 use mr_geom::{Point, Rect};
-use mr_outside::{Sink, SinkErr, write_all};
-use mr_record::{LineBuffer, put_coordinate, put_number};
+use mr_outside::{Buffer, Sink, SinkErr, write_all};
+use mr_record::{put_coordinate, put_number};
+
+// Room for any word.
+const WORD_LIMIT: usize = 94;
 
 // Puts a comma and a coordinate.
 #[tactic(auto, using(std::proofs::Common::append_assoc))]
-fn put_next(word: &mut LineBuffer, coordinate: i32)
-    requires { length word.old + 22 ≤ 512 }
+fn put_next<const N: usize>(word: &mut Buffer<N>, coordinate: i32)
+    requires { length word.old + 22 ≤ N }
     ensures put { word.new ≡ word.old ++ 44 ∷ signed_decimal coordinate }
     ensures within { length word.new ≤ length word.old + 22 }
 {
@@ -25,8 +28,8 @@ fn put_next(word: &mut LineBuffer, coordinate: i32)
 
 // Puts three coordinates, each behind a comma.
 #[tactic(auto, using(std::proofs::Common::append_assoc))]
-fn put_rest(word: &mut LineBuffer, y0: i32, x1: i32, y1: i32)
-    requires { length word.old + 66 ≤ 512 }
+fn put_rest<const N: usize>(word: &mut Buffer<N>, y0: i32, x1: i32, y1: i32)
+    requires { length word.old + 66 ≤ N }
     ensures put { word.new ≡ word.old ++ 44 ∷ (signed_decimal y0
         ++ 44 ∷ (signed_decimal x1 ++ 44 ∷ signed_decimal y1)) }
     ensures within { length word.new ≤ length word.old + 66 }
@@ -37,18 +40,18 @@ fn put_rest(word: &mut LineBuffer, y0: i32, x1: i32, y1: i32)
 }
 
 #[tactic(auto, unfolding(crate::specs::Word::word_of), using(std::proofs::Common::append_assoc))]
-fn sides_text(x0: i32, y0: i32, x1: i32, y1: i32) -> LineBuffer
+fn sides_text(x0: i32, y0: i32, x1: i32, y1: i32) -> Buffer<WORD_LIMIT>
     ensures { result ≡ word_of
         (queries.Window (record { x0 = x0; y0 = y0; x1 = x1; y1 = y1 })) }
 {
-    let mut word = LineBuffer::new();
+    let mut word = Buffer::new();
     word.put(b"window:");
     put_coordinate(&mut word, x0);
     put_rest(&mut word, y0, x1, y1);
     word
 }
 
-fn window_text(window: &Rect) -> LineBuffer
+fn window_text(window: &Rect) -> Buffer<WORD_LIMIT>
     ensures { result ≡ word_of (queries.Window window.now) }
 {
     let (x0, y0, x1, y1) = window.corners();
@@ -56,10 +59,10 @@ fn window_text(window: &Rect) -> LineBuffer
 }
 
 #[tactic(auto, unfolding(crate::specs::Word::word_of), using(std::proofs::Common::append_assoc))]
-fn nearest_text(center: &Point, k: u16) -> LineBuffer
+fn nearest_text(center: &Point, k: u16) -> Buffer<WORD_LIMIT>
     ensures { result ≡ word_of (queries.Nearest center.now k) }
 {
-    let mut word = LineBuffer::new();
+    let mut word = Buffer::new();
     word.put(b"nearest:");
     put_coordinate(&mut word, center.x);
     put_next(&mut word, center.y);
@@ -68,7 +71,7 @@ fn nearest_text(center: &Point, k: u16) -> LineBuffer
     word
 }
 
-fn text(q: &Query) -> LineBuffer
+fn text(q: &Query) -> Buffer<WORD_LIMIT>
     ensures { result ≡ word_of q.now }
 {
     match q {
@@ -88,5 +91,5 @@ pub fn write_query<W: Sink>(out: &mut W, q: &Query) -> Result<(), SinkErr>
 {
     is_query(q);
     let word = text(q);
-    write_all(out, word.bytes())
+    write_all(out, word.as_slice())
 }

@@ -136,7 +136,7 @@ result_written line (Err rule) e = tt
 
 -- ---- what is written is read again
 
--- no space and no line feed
+-- no space, no comma and no line feed
 abbrev pub IsInk : List ℕ → Type 0
 IsInk text = All (λ b. 45 ≤ b) text
 
@@ -148,7 +148,7 @@ decimal_ink n lt k d at =
     digit_ink _ (AllPass-from_list_all is_ascii_digit (decimal n)
     (are_digits-canonical (decimal n) (is_canonical-decimal n lt)) k d at)
 
-signed_ink : (z : ℤ) → FitsSigned w32 z → IsInk (signed_decimal z)
+pub signed_ink : (z : ℤ) → FitsSigned w32 z → IsInk (signed_decimal z)
 signed_ink (pos n) fits = decimal_ink n (omega arith)
 signed_ink (negsuc n) fits = All-cons (λ b. 45 ≤ b) 45 (decimal (suc n)) (lit≤ tt) (decimal_ink (suc n) (omega arith))
 
@@ -210,21 +210,33 @@ line_read r is = ap record_of_fields (spelled_fields r is) ∙ spelled_read r is
 
 -- ---- a line has no line feed
 
-pub line_dark : (r : Record) → IsRecord r → All (λ b. 32 ≤ b) (line_of r)
+-- no line feed, but spaces
+abbrev pub IsDark : List ℕ → Type 0
+IsDark text = All (λ b. 32 ≤ b) text
+
+pub dark_ink : (text : List ℕ) → IsInk text → IsDark text
+dark_ink text ink = All-weaker (λ b. 45 ≤ b) (λ b. 32 ≤ b) (λ b h. omega arith) text ink
+
+pub lacks_feed : (text : List ℕ) → IsDark text → Lacks 10 text
+lacks_feed text dark k d at = let low = dark k d at in ne_eqb (get_or text k d) 10 (λ e. omega arith)
+
+-- a space and what is behind it
+pub dark_space : (rest : List ℕ) → IsDark rest → IsDark (32 ∷ rest)
+dark_space rest dark = All-cons (λ b. 32 ≤ b) 32 rest (lit≤ tt) dark
+
+dark_field : (front rest : List ℕ) → IsInk front → IsDark rest → IsDark (front ++ 32 ∷ rest)
+dark_field front rest ink dark =
+    All-append (λ b. 32 ≤ b) front (32 ∷ rest) (dark_ink front ink) (dark_space rest dark)
+
+pub line_dark : (r : Record) → IsRecord r → IsDark (line_of r)
 unfolding line_of
 line_dark r is =
-    let P : ℕ → Type 0 = λ b. 32 ≤ b in
-    let dark : (text : List ℕ) → IsInk text →
-    All (λ b. 32 ≤ b) text = λ text ink. All-weaker (λ b. 45 ≤ b) (λ b. 32 ≤ b) (λ b h. omega arith) text ink in
-    let then : (front rest : List ℕ) → IsInk front → All (λ b. 32 ≤ b) rest →
-    All (λ b. 32 ≤ b) (front ++ 32 ∷ rest) = λ front rest ink h. All-append (λ b. 32 ≤ b) front (32 ∷ rest)
-    (dark front ink) (All-cons (λ b. 32 ≤ b) 32 rest (lit≤ tt) h) in
-    then (decimal r.number) _ (decimal_ink r.number is.number)
-    (then (signed_decimal r.rect.x0) _ (signed_ink r.rect.x0 is.coordinates.x0)
-    (then (signed_decimal r.rect.y0) _ (signed_ink r.rect.y0 is.coordinates.y0)
-    (then (signed_decimal r.rect.x1) _ (signed_ink r.rect.x1 is.coordinates.x1)
-    (then (signed_decimal r.rect.y1) _ (signed_ink r.rect.y1 is.coordinates.y1)
-    (dark (payload_text r.payload) (payload_ink r.payload is.bytes))))))
+    dark_field (decimal r.number) _ (decimal_ink r.number is.number)
+    (dark_field (signed_decimal r.rect.x0) _ (signed_ink r.rect.x0 is.coordinates.x0)
+    (dark_field (signed_decimal r.rect.y0) _ (signed_ink r.rect.y0 is.coordinates.y0)
+    (dark_field (signed_decimal r.rect.x1) _ (signed_ink r.rect.x1 is.coordinates.x1)
+    (dark_field (signed_decimal r.rect.y1) _ (signed_ink r.rect.y1 is.coordinates.y1)
+    (dark_ink (payload_text r.payload) (payload_ink r.payload is.bytes))))))
 
 pub line_lacks : (r : Record) → IsRecord r → Lacks 10 (line_of r)
-line_lacks r is k d at = let low = line_dark r is k d at in ne_eqb (get_or (line_of r) k d) 10 (λ e. omega arith)
+line_lacks r is = lacks_feed (line_of r) (line_dark r is)

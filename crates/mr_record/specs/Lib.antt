@@ -3,12 +3,15 @@ pub mod Bytes
 pub mod Decimal
 pub mod Lines
 pub mod Results
+pub mod Version
 pub mod Record
 pub mod RecordField
 pub mod Rules
+pub mod LineTexts
 pub mod RecordText
 pub mod Answer
 pub mod Sorting
 -- what only private functions and proofs use
 pub mod Padding
 pub mod Numbers
+pub mod Gathered

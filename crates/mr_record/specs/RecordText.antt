@@ -1,7 +1,5 @@
 -- The texts of records: `number x0 y0 x1 y1 payload` on a line, and lines with different numbers.
--- A fault has the least faulty line, and on it the first rule of the list of `TextRule` that the
--- line breaks.
-use Rattle.std.specs.Prelude.{◌≢◌, ℕ, ◌+◌, ◌^◌, ◌≤◌, ◌==◌, ◌&&◌, ◌||◌, not, nat_le, Bool, if◌then◌else◌, List, [], ◌∷◌, ◌++◌, length, All, AllPairs, Option, Some, None, Result, Ok, Err, ok_or, flat_map, bytes_eq, decimal}
+use Rattle.std.specs.Prelude.{◌≢◌, ℕ, ◌^◌, ◌≤◌, ◌==◌, ◌&&◌, ◌||◌, nat_le, Bool, if◌then◌else◌, List, [], ◌∷◌, ◌++◌, length, All, AllPairs, Option, Some, None, Result, Ok, Err, ok_or, flat_map, bytes_eq, decimal}
 use Rattle.std.specs.List.{list_any, list_all}
 use Rattle.std.specs.Fmt.{signed_decimal}
 use Rattle.hex.specs.Hex.{encode_lower, decode_of}
@@ -9,10 +7,11 @@ use Rattle.hex.specs.declared.error.FromHexError.{FromHexError}
 use Rattle.mr_geom.specs.Rectangle.{Rectangle, rectangle_of}
 use Rattle.mr_record.specs.declared.record.Record.{Record}
 use Rattle.mr_record.specs.declared.text_fault.TextRule.{TextRule}
-use Rattle.mr_record.specs.declared.text_fault.TextRule.TheVariants.{TooMany, NoEnd, Form, Number, Coordinate, Order, Payload, Repeat}
+use Rattle.mr_record.specs.declared.text_fault.TextRule.TheVariants.{Form, Number, Coordinate, Order, Payload, Repeat}
 use Rattle.mr_record.specs.declared.text_fault.TextFault.{TextFault}
 use Rattle.mr_record.specs.Decimal.{u64_of, i32_of}
-use Rattle.mr_record.specs.Lines.{Line, lines_of, fields_of}
+use Rattle.mr_record.specs.Lines.{lines_of, fields_of}
+use Rattle.mr_record.specs.LineTexts.{Reader, values_after}
 use Rattle.mr_record.specs.Record.{IsRecord}
 use Rattle.mr_record.specs.Results.{◌>>=◌}
 
@@ -97,26 +96,14 @@ has_number n records = list_any (λ r. r.number == n) records
 abbrev pub if_new : List Record → Record → Result Record TextRule
 if_new earlier r = if has_number r.number earlier then Err Repeat else Ok r
 
--- the record of a line behind the lines of the earlier records, else the first rule that it breaks
-unfoldable pub record_after : List Record → Line → Result Record TextRule
-record_after earlier line =
-    if nat_le line_limit (length earlier) then Err TooMany
-    else if not line.ended then Err NoEnd
-    else record_of_line line.bytes >>= if_new earlier
+-- the record of a line behind the earlier records, else the first rule that it breaks
+abbrev pub new_record : List Record → List ℕ → Result Record TextRule
+new_record earlier line = record_of_line line >>= if_new earlier
 
--- the rule broken on a line, as a fault
-abbrev pub on_line : {A : Type 0} → ℕ → Result A TextRule → Result A TextFault
-on_line n (Ok x) = Ok x
-on_line n (Err rule) = Err (record { line = n; rule = rule })
-
--- the records of the lines behind the earlier records, each of which had a line of its own, else
--- the first fault
-unfoldable pub records_after : List Record → List Line → Result (List Record) TextFault
-records_after earlier [] = Ok earlier
-records_after earlier (line ∷ lines) = do
-  one ← on_line (length earlier + 1) (record_after earlier line)
-  records_after (earlier ++ one ∷ []) lines
+-- how the lines of a text spell records
+abbrev pub record_lines : Reader Record
+record_lines = record { limit = line_limit; first = 1; read = new_record; spell = line_of }
 
 -- the records of a text in order, else its fault
 abbrev pub records_of_text : List ℕ → Result (List Record) TextFault
-records_of_text text = records_after [] (lines_of text)
+records_of_text text = values_after record_lines [] (lines_of text)

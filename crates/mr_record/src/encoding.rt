@@ -7,15 +7,17 @@ ghost use Rattle.mr_record.specs.Record.{IsRecord, record_bytes};
 ghost use Rattle.mr_record.specs.RecordField.{field_at, rectangle_at, payload_behind, payload_at, record_in};
 ghost use Rattle.mr_record.specs.declared.record.Record as types;
 
-use crate::buffer::LineBuffer;
 use crate::{
     PAYLOAD_LIMIT, Payload, Record, RecordFault, RecordRule, is_record, rect_bytes, rect_of_bytes,
     u64_of_bytes,
 };
 use mr_geom::Rect;
-use mr_outside::{Sink, SinkErr, write_all};
+use mr_outside::{Buffer, Sink, SinkErr, write_all};
 
-/// The bytes of a field.
+/// The most bytes of a record.
+pub const RECORD_LIMIT: usize = 225;
+
+// The bytes of a field.
 fn field(bytes: &[u8], at: usize, len: usize) -> Result<&[u8], RecordFault>
     requires { at + len ≤ 225 }
     ensures exact { MatchResult result (λ raw. field_at bytes.now at len ≡ Ok raw.now)
@@ -95,11 +97,14 @@ pub fn read_record(bytes: &[u8]) -> Result<(Record, usize), RecordFault>
     read_fields(bytes)
 }
 
-fn encoded(one: &Record) -> LineBuffer
-    ensures { result ≡ record_bytes one.now }
+/// The bytes of the record, as `read_record` reads them. Whatever takes records takes these.
+pub fn encoded(one: &Record) -> Buffer<RECORD_LIMIT>
+    ensures record { IsRecord one.now }
+    ensures bytes { result ≡ record_bytes one.now }
 {
+    is_record(one);
     let payload = one.payload.bytes();
-    let mut bytes = LineBuffer::new();
+    let mut bytes = Buffer::new();
     bytes.put(&one.number.to_be_bytes());
     bytes.put(&rect_bytes(&one.rect));
     bytes.put(&[payload.len() as u8]);
@@ -115,7 +120,6 @@ pub fn write_record<W: Sink>(out: &mut W, one: &Record) -> Result<(), SinkErr>
     ensures front { TakesFront (W.state out.old) (W.state out.new) (record_bytes one.now) }
     ensures causes { SinkCauses (W.state out.old) (W.state out.new) result }
 {
-    is_record(one);
     let bytes = encoded(one);
-    write_all(out, bytes.bytes())
+    write_all(out, bytes.as_slice())
 }

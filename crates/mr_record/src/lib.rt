@@ -1,7 +1,6 @@
 //! Records of a map: their values, their bytes and their lines.
 #![tactic(auto)]
 
-mod buffer;
 mod bytes;
 mod cutting;
 mod decimal;
@@ -9,22 +8,23 @@ mod encoding;
 mod line;
 mod payload;
 mod print;
+mod reader;
 mod record;
 mod record_fault;
 mod text;
 mod text_fault;
+mod version;
 
-pub use buffer::LineBuffer;
-pub use bytes::{
-    coordinate_of_bytes, rect_bytes, rect_of_bytes, u32_of_bytes, u64_of_bytes, u128_of_bytes,
-};
+pub use bytes::{rect_bytes, rect_of_bytes, u32_of_bytes, u64_of_bytes, u128_of_bytes};
 pub use cutting::cut;
 pub use decimal::{read_i32, read_u64};
-pub use encoding::{read_record, write_record};
+pub use encoding::{RECORD_LIMIT, encoded, read_record, write_record};
 pub use line::read_line;
 pub use payload::{PAYLOAD_LIMIT, Payload};
 pub use print::{put_coordinate, put_number, write_line, write_lines};
+pub use reader::{LineReader, first_line, read_values};
 pub use record::{Record, are_records, is_record};
 pub use record_fault::{RecordFault, RecordRule};
-pub use text::{first_line, read_lines};
+pub use text::read_lines;
 pub use text_fault::{TextErr, TextFault, TextRule};
+pub use version::Version;

@@ -20,7 +20,7 @@ fn are_lower_digits(field: &[u8]) -> bool
         .all(|b| matches!(*b, b'0'..=b'9' | b'a'..=b'f'))
 }
 
-/// Lower-case hexadecimal of 1 to 200 bytes.
+// Lower-case hexadecimal of 1 to 200 bytes.
 fn read_hex(field: &[u8]) -> Option<Payload>
     ensures { result ≡ hex_bytes field.now }
 {
@@ -35,7 +35,7 @@ fn read_hex(field: &[u8]) -> Option<Payload>
     }
 }
 
-/// `-` for no bytes, or lower-case hexadecimal.
+// `-` for no bytes, or lower-case hexadecimal.
 #[tactic(auto, unfolding(crate::specs::RecordText::payload_of))]
 fn read_payload(field: &[u8]) -> Option<Payload>
     ensures { result ≡ payload_of field.now }
@@ -79,7 +79,7 @@ fn read_fields(
     })
 }
 
-/// The first field of a line with more than one, and the line behind it.
+// The first field of a line with more than one, and the line behind it.
 #[tactic(auto, using(crate::proofs::Fields::fields_cut, crate::proofs::Fields::fields_one))]
 fn split_field(line: &[u8]) -> Result<(&[u8], &[u8]), TextRule>
     ensures { MatchResult result (λ parts. fields_of line.now ≡ parts.0.now ∷ fields_of parts.1.now)

@@ -1,6 +1,6 @@
 //! Records as lines of text, written to a sink.
 
-ghost use Rattle.std.specs.Prelude.{◌≡◌, ◌+◌, ◌*◌, ◌≤◌, ◌++◌, ◌∷◌, [], length, drop, decimal, OnOk, All};
+ghost use Rattle.std.specs.Prelude.{◌≡◌, ◌+◌, ◌*◌, ◌^◌, ◌≤◌, ◌++◌, ◌∷◌, [], length, drop, decimal, OnOk, All};
 ghost use Rattle.std.specs.Fmt.{signed_decimal};
 ghost use Rattle.hex.specs.Hex.{encode_lower};
 ghost use Rattle.mr_outside.specs.Told.{Takes, TakesFront};
@@ -9,13 +9,19 @@ ghost use Rattle.mr_geom.specs.Rectangle.{IsOrdered, FitsMap};
 ghost use Rattle.mr_record.specs.Bytes.{AreBytes};
 ghost use Rattle.mr_record.specs.Record.{IsRecord};
 ghost use Rattle.mr_record.specs.RecordText.{payload_text, line_of, text_of};
+ghost use Rattle.mr_record.specs.Gathered.{Sends};
 
-use crate::buffer::LineBuffer;
 use crate::{Payload, Record};
 use mr_geom::Rect;
-use mr_outside::{Sink, SinkErr, write_all};
+use mr_outside::{Buffer, Sink, SinkErr, write_all};
 
-/// Writes the digits of the number into the last places, and answers where they begin.
+// Room for the line of any record.
+const LINE_ROOM: usize = 512;
+
+// The most bytes that a sink is given at once where lines are gathered.
+const PIECE_LIMIT: usize = 1 << 16;
+
+// Writes the digits of the number into the last places, and answers where they begin.
 fn write_digits(places: &mut [u8; 20], number: u64) -> usize
     ensures within { result ≤ 20 }
     ensures digits { drop result places.new ≡ decimal number }
@@ -32,8 +38,8 @@ fn write_digits(places: &mut [u8; 20], number: u64) -> usize
 }
 
 /// Puts a number in decimal, at most 20 digits.
-pub fn put_number(line: &mut LineBuffer, number: u64)
-    requires { length line.old + 20 ≤ 512 }
+pub fn put_number<const N: usize>(line: &mut Buffer<N>, number: u64)
+    requires { length line.old + 20 ≤ N }
     ensures put { line.new ≡ line.old ++ decimal number }
     ensures within { length line.new ≤ length line.old + 20 }
 {
@@ -44,8 +50,8 @@ pub fn put_number(line: &mut LineBuffer, number: u64)
 }
 
 /// Puts a coordinate in decimal, with a `-` before one that is below 0: at most 11 bytes.
-pub fn put_coordinate(line: &mut LineBuffer, coordinate: i32)
-    requires { length line.old + 21 ≤ 512 }
+pub fn put_coordinate<const N: usize>(line: &mut Buffer<N>, coordinate: i32)
+    requires { length line.old + 21 ≤ N }
     ensures put { line.new ≡ line.old ++ signed_decimal coordinate }
     ensures within { length line.new ≤ length line.old + 21 }
 {
@@ -55,10 +61,10 @@ pub fn put_coordinate(line: &mut LineBuffer, coordinate: i32)
     put_number(line, u64::from(coordinate.unsigned_abs()));
 }
 
-/// Puts two lower-case hexadecimal digits for each byte.
-fn put_hex(line: &mut LineBuffer, bytes: &[u8])
+// Puts two lower-case hexadecimal digits for each byte.
+fn put_hex<const N: usize>(line: &mut Buffer<N>, bytes: &[u8])
     requires short { length bytes.now ≤ 200 }
-    requires room { length line.old + 400 ≤ 512 }
+    requires room { length line.old + 400 ≤ N }
     ensures put { line.new ≡ line.old ++ encode_lower bytes.now }
     ensures within { length line.new ≤ length line.old + 400 }
 {
@@ -70,9 +76,9 @@ fn put_hex(line: &mut LineBuffer, bytes: &[u8])
     }
 }
 
-/// Puts `-` for no bytes, or lower-case hexadecimal.
-fn put_payload(line: &mut LineBuffer, payload: &Payload)
-    requires { length line.old + 400 ≤ 512 }
+// Puts `-` for no bytes, or lower-case hexadecimal.
+fn put_payload<const N: usize>(line: &mut Buffer<N>, payload: &Payload)
+    requires { length line.old + 400 ≤ N }
     ensures put { line.new ≡ line.old ++ payload_text payload.now }
     ensures within { length line.new ≤ length line.old + 400 }
     ensures short { length payload.now ≤ 200 }
@@ -84,8 +90,8 @@ fn put_payload(line: &mut LineBuffer, payload: &Payload)
     }
 }
 
-fn put_coordinate_and_space(line: &mut LineBuffer, coordinate: i32)
-    requires { length line.old + 22 ≤ 512 }
+fn put_coordinate_and_space<const N: usize>(line: &mut Buffer<N>, coordinate: i32)
+    requires { length line.old + 22 ≤ N }
     ensures put { line.new ≡ line.old ++ signed_decimal coordinate ++ 32 ∷ [] }
     ensures within { length line.new ≤ length line.old + 22 }
 {
@@ -93,9 +99,9 @@ fn put_coordinate_and_space(line: &mut LineBuffer, coordinate: i32)
     line.put(b" ");
 }
 
-/// Puts the four coordinates, each with a space behind it.
-fn put_rect(line: &mut LineBuffer, rect: &Rect)
-    requires { length line.old + 88 ≤ 512 }
+// Puts the four coordinates, each with a space behind it.
+fn put_rect<const N: usize>(line: &mut Buffer<N>, rect: &Rect)
+    requires { length line.old + 88 ≤ N }
     ensures put { line.new ≡ line.old ++ signed_decimal rect.now.x0 ++ 32 ∷ []
         ++ signed_decimal rect.now.y0 ++ 32 ∷ [] ++ signed_decimal rect.now.x1 ++ 32 ∷ []
         ++ signed_decimal rect.now.y1 ++ 32 ∷ [] }
@@ -110,18 +116,17 @@ fn put_rect(line: &mut LineBuffer, rect: &Rect)
     put_coordinate_and_space(line, y1);
 }
 
-/// The line of the record, with its line feed.
-fn printed_line(one: &Record) -> LineBuffer
-    ensures line { result ≡ line_of one.now ++ 10 ∷ [] }
+// Puts the line of the record, with its line feed.
+fn put_line<const N: usize>(line: &mut Buffer<N>, one: &Record)
+    requires { length line.old + 512 ≤ N }
+    ensures put { line.new ≡ line.old ++ (line_of one.now ++ 10 ∷ []) }
     ensures record { IsRecord one.now }
 {
-    let mut line = LineBuffer::new();
-    put_number(&mut line, one.number);
+    put_number(line, one.number);
     line.put(b" ");
-    put_rect(&mut line, &one.rect);
-    put_payload(&mut line, &one.payload);
+    put_rect(line, &one.rect);
+    put_payload(line, &one.payload);
     line.put(b"\n");
-    line
 }
 
 /// Writes one line with its line feed: `number x0 y0 x1 y1 payload`, with single spaces between.
@@ -133,19 +138,38 @@ pub fn write_line<W: Sink>(out: &mut W, one: &Record) -> Result<(), SinkErr>
     ensures front { TakesFront (W.state out.old) (W.state out.new) (line_of one.now ++ 10 ∷ []) }
     ensures causes { SinkCauses (W.state out.old) (W.state out.new) result }
 {
-    let line = printed_line(one);
-    write_all(out, line.bytes())
+    let mut line: Buffer<LINE_ROOM> = Buffer::new();
+    put_line(&mut line, one);
+    write_all(out, line.as_slice())
 }
 
-/// Writes a line for each record, in their order. After a refusal some front of the text was taken.
+// Gives what was gathered to the sink, where there is no room for one more line behind it.
+fn make_room<W: Sink>(out: &mut W, piece: &mut Buffer<PIECE_LIMIT>) -> Result<(), SinkErr>
+    ensures room { OnOk result (length piece.new + 512 ≤ 2 ^ 16) }
+    ensures sent { OnOk result (Sends (W.state out.old) (W.state out.new) piece.old piece.new) }
+    ensures front { TakesFront (W.state out.old) (W.state out.new) piece.old }
+    ensures causes { SinkCauses (W.state out.old) (W.state out.new) result }
+{
+    if piece.as_slice().len() <= PIECE_LIMIT - LINE_ROOM {
+        return Ok(());
+    }
+    write_all(out, piece.as_slice())?;
+    *piece = Buffer::new();
+    Ok(())
+}
+
+/// Writes a line for each record, in their order. Lines are gathered, and the sink is given pieces
+/// of up to 65,536 bytes, each of whole lines. After a refusal some front of the text was taken.
 pub fn write_lines<W: Sink>(out: &mut W, records: &[Record]) -> Result<(), SinkErr>
     ensures records { OnOk result (All IsRecord records.now) }
     ensures whole { OnOk result (Takes (W.state out.old) (W.state out.new) (text_of records.now)) }
     ensures front { TakesFront (W.state out.old) (W.state out.new) (text_of records.now) }
     ensures causes { SinkCauses (W.state out.old) (W.state out.new) result }
 {
+    let mut piece: Buffer<PIECE_LIMIT> = Buffer::new();
     for one in records {
-        write_line(out, one)?;
+        make_room(out, &mut piece)?;
+        put_line(&mut piece, one);
     }
-    Ok(())
+    write_all(out, piece.as_slice())
 }

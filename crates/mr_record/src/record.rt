@@ -1,3 +1,5 @@
+//! One record of a map.
+
 ghost use Rattle.std.specs.Prelude.{◌^◌, ◌<◌, All};
 ghost use Rattle.mr_record.specs.Bytes.{AreBytes};
 ghost use Rattle.mr_record.specs.Record.{IsRecord};

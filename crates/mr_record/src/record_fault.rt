@@ -1,5 +1,7 @@
+//! Why a record's bytes were refused.
+
 /// What is wrong with the bytes of a record.
-#[derive(Clone, Copy, Debug, PartialEq, Eq)]
+#[derive(Clone, Copy)]
 pub enum RecordRule {
     /// The bytes end before the field does.
     Short,
@@ -10,7 +12,7 @@ pub enum RecordRule {
 }
 
 /// The first field of a record that breaks a rule.
-#[derive(Clone, Copy, Debug, PartialEq, Eq)]
+#[derive(Clone, Copy)]
 pub struct RecordFault {
     pub rule: RecordRule,
     /// The offset of the field's first byte.

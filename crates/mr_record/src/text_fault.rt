@@ -59,7 +59,7 @@ pub struct TextFault {
 }
 
 /// Why the values of a text could not be had.
-#[derive(Clone, Copy, Debug, PartialEq, Eq)]
+#[derive(Clone, Copy)]
 pub enum TextErr {
     Text(TextFault),
     NoMemory,

@@ -2,9 +2,9 @@ use Rattle.std.proofs.Common.{append_assoc}
 use Rattle.mr_record.specs.Record.{record_bytes}
 use Rattle.mr_record.proofs.encoding.encoded.Goals as goal
 
-pub returns : goal.returns
+pub returns-clause-bytes : goal.returns-clause-bytes
 unfolding record_bytes
-returns c =
+returns-clause-bytes c =
     rw (
       c.put-4.ensures,
       c.put-3.ensures,

@@ -5,11 +5,11 @@ use Rattle.mr_record.proofs.Texts.{answer_written, answer_refused, text_read}
 use Rattle.mr_record.proofs.text.read_lines.Goals as goal
 
 pub returns-clause-written : goal.returns-clause-written
-returns-clause-written c = answer_written c.args.text.now c.read_all.result c.read_all.ensures
+returns-clause-written c = answer_written c.args.text.now c.read_values.result c.read_values.ensures
 
 pub returns-clause-read : goal.returns-clause-read
 returns-clause-read c =
-    λ rs is e. subst (Answers c.read_all.result) (ap records_of_text e ∙ text_read rs is) c.read_all.ensures
+    λ rs is e. subst (Answers c.read_values.result) (ap records_of_text e ∙ text_read rs is) c.read_values.ensures
 
 pub returns-clause-refused : goal.returns-clause-refused
-returns-clause-refused c = answer_refused c.args.text.now c.read_all.result c.read_all.ensures
+returns-clause-refused c = answer_refused c.args.text.now c.read_values.result c.read_values.ensures
