@@ -7,7 +7,8 @@ use Rattle.mr_geom.specs.Rectangle.{Rectangle, union_of}
 use Rattle.mr_record.specs.declared.record.Record.{Record}
 use Rattle.mr_record.specs.Record.{record_bytes}
 use Rattle.mr_tree.specs.Tree.{level, level_step, rect, rect_step, records, records_step, first_level}
-use Rattle.mr_tree.specs.Digest.{Entry, entry, entry_step, entry_bytes, digest, node_preimage, preimage}
+use Rattle.mr_tree.specs.Digest.{Scheme, entry, entry_step, level_over, digest, preimage}
+use Rattle.mr_tree.specs.declared.entry.Entry.{Entry}
 use Rattle.mr_tree.specs.declared.tree.Tree.{Tree}
 use Rattle.mr_tree.specs.declared.tree.Tree.TheVariants as tree
 use Rattle.mr_tree.specs.declared.tree.Tree.TheOpen.{Tree-F, Empty, Leaf, Inner}
@@ -33,9 +34,9 @@ records-Leaf = fold-Leaf (List Record) records_step
 pub rect-Leaf : (rs : List Record) → rect (tree.Leaf rs) ≡ union_of (map (λ (r : Record). Some r.rect) rs)
 rect-Leaf = fold-Leaf (Option Rectangle) rect_step
 
-pub digest-Leaf : (hash : List ℕ → List ℕ) (rs : List Record) →
-    digest hash (tree.Leaf rs) ≡ hash (0x4c ∷ length rs ∷ flat_map record_bytes rs)
-digest-Leaf hash rs = ap (λ (e : Entry). e.digest) (fold-Leaf Entry (entry_step hash) rs)
+pub digest-Leaf : (s : Scheme) (rs : List Record) →
+    digest s (tree.Leaf rs) ≡ s.of (0x4c ∷ length rs ∷ flat_map record_bytes rs)
+digest-Leaf s rs = ap (λ (e : Entry). e.digest) (fold-Leaf Entry (entry_step s) rs)
 
 pub level-Empty : level tree.Empty ≡ 0
 level-Empty = fold-Empty ℕ level_step
@@ -48,58 +49,32 @@ rect-Empty = fold-Empty (Option Rectangle) rect_step
 
 -- An entry has its tree's level and rectangle.
 
-pub entry_level : (hash : List ℕ → List ℕ) (t : Tree) → (entry hash t).level ≡ level t
-entry_level hash = fold_fused Entry ℕ (entry_step hash) level_step (λ (e : Entry). e.level) fuses
-  where
-    fuses : Fuses Entry ℕ (entry_step hash) level_step (λ (e : Entry). e.level)
-    fuses Empty = refl
-    fuses (Leaf rs) = refl
-    fuses (Inner es) = refl
+pub entry_level : (s : Scheme) (t : Tree) → (entry s t).level ≡ level t
+entry_level s = fold_fused Entry ℕ (entry_step s) level_step (λ (e : Entry). e.level) (λ x. refl)
 
-pub entry_rect : (hash : List ℕ → List ℕ) (t : Tree) → (entry hash t).rect ≡ rect t
-entry_rect hash = fold_fused Entry (Option Rectangle) (entry_step hash) rect_step (λ (e : Entry). e.rect) fuses
-  where
-    fuses : Fuses Entry (Option Rectangle) (entry_step hash) rect_step (λ (e : Entry). e.rect)
-    fuses Empty = refl
-    fuses (Leaf rs) = refl
-    fuses (Inner es) = refl
+pub entry_rect : (s : Scheme) (t : Tree) → (entry s t).rect ≡ rect t
+entry_rect s = fold_fused Entry (Option Rectangle) (entry_step s) rect_step (λ (e : Entry). e.rect) (λ x. refl)
 
--- an entry by its parts
-pub entry_parts : (hash : List ℕ → List ℕ) (t : Tree) →
-    entry hash t ≡ record { level = level t; rect = rect t; digest = digest hash t }
-entry_parts hash t = λ i. record { level = entry_level hash t i; rect = entry_rect hash t i; digest = digest hash t }
+pub entry_parts : (s : Scheme) (t : Tree) →
+    entry s t ≡ record { level = level t; rect = rect t; digest = digest s t }
+entry_parts s t = λ i. record { level = entry_level s t i; rect = entry_rect s t i; digest = digest s t }
 
--- the bytes of a child in its parent's preimage
-abbrev pub child_bytes : (List ℕ → List ℕ) → Tree → List ℕ
-child_bytes hash t = entry_bytes (record { level = level t; rect = rect t; digest = digest hash t })
+levels_all : (s : Scheme) (ts : List Tree) →
+    map (λ (e : Entry). e.level) (map (entry s) ts) ≡ map level ts
+levels_all s [] = refl
+levels_all s (t ∷ ts) = λ i. entry_level s t i ∷ levels_all s ts i
 
-child_bytes_are : (hash : List ℕ → List ℕ) (ts : List Tree) →
-    flat_map entry_bytes (map (entry hash) ts) ≡ flat_map (child_bytes hash) ts
-child_bytes_are hash [] = refl
-child_bytes_are hash (t ∷ ts) =
-    λ i. entry_bytes (record { level = level t; rect = entry_rect hash t i; digest = digest hash t }) ++
-    child_bytes_are hash ts i
+-- the level over the entries of some children
+pub level_over-Inner : (s : Scheme) (ts : List Tree) → level_over (map (entry s) ts) ≡ level (tree.Inner ts)
+level_over-Inner s ts = ap (λ ns. first_level ns + 1) (levels_all s ts) ∙ sym (level-Inner ts)
 
-levels_all : (hash : List ℕ → List ℕ) (ts : List Tree) →
-    map (λ (e : Entry). e.level) (map (entry hash) ts) ≡ map level ts
-levels_all hash [] = refl
-levels_all hash (t ∷ ts) = λ i. entry_level hash t i ∷ levels_all hash ts i
+pub entry-Inner : (s : Scheme) (ts : List Tree) → entry s (tree.Inner ts) ≡ entry_step s (Inner (map (entry s) ts))
+entry-Inner s ts = fold-Inner Entry (entry_step s) ts
 
-pub digest-Inner : (hash : List ℕ → List ℕ) (ts : List Tree) →
-    digest hash (tree.Inner ts) ≡ hash (0x4e ∷ level (tree.Inner ts) ∷ length ts ∷ flat_map (child_bytes hash) ts)
-digest-Inner hash ts =
-    ap (λ (e : Entry). e.digest) (fold-Inner Entry (entry_step hash) ts)
-    ∙ (λ i. hash (0x4e ∷ (ap (λ ns. first_level ns + 1) (levels_all hash ts) ∙ sym (level-Inner ts)) i ∷ length-map ts
-    (entry hash) i ∷ child_bytes_are hash ts i))
+pub entry-Leaf : (s : Scheme) (rs : List Record) → entry s (tree.Leaf rs) ≡ entry_step s (Leaf rs)
+entry-Leaf s rs = fold-Leaf Entry (entry_step s) rs
 
 -- A digest is the hash of its preimage.
 
-step_digest : (hash : List ℕ → List ℕ) (x : Tree-F Entry) → (entry_step hash x).digest ≡ hash (node_preimage x)
-step_digest hash Empty = refl
-step_digest hash (Leaf rs) = refl
-step_digest hash (Inner es) = refl
-
-pub digest_of_preimage : (hash : List ℕ → List ℕ) (t : Tree) → digest hash t ≡ hash (preimage hash t)
-digest_of_preimage hash t =
-    ap (λ (e : Entry). e.digest) (fold_out-Tree Entry (entry_step hash) t)
-    ∙ step_digest hash (map-Tree Tree Entry (entry hash) (out-Tree t))
+pub digest_of_preimage : (s : Scheme) (t : Tree) → digest s t ≡ s.of (preimage s t)
+digest_of_preimage s t = ap (λ (e : Entry). e.digest) (fold_out-Tree Entry (entry_step s) t)

@@ -1,6 +1,7 @@
 pub mod Induction
 pub mod Folds
 pub mod Equations
+pub mod Gathered
 pub mod Filled
 pub mod Joins
 pub mod Slim

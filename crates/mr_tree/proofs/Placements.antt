@@ -12,8 +12,9 @@ use Rattle.std.proofs.lemmas.List.Elements.{recursion_from_All, All-from_recursi
 use Rattle.mr_record.specs.Record.{record_bytes}
 use Rattle.mr_record.specs.declared.record.Record.{Record}
 use Rattle.mr_tree.specs.Tree.{level, first_level, union_of}
-use Rattle.mr_tree.specs.Digest.{Entry, entry, entry_step, leaf_tag}
-use Rattle.mr_tree.specs.View.{children_in, level_of, entry_of, preimage_of}
+use Rattle.mr_tree.specs.Digest.{Scheme, entry, entry_step, level_over}
+use Rattle.mr_tree.specs.declared.entry.Entry.{Entry}
+use Rattle.mr_tree.specs.View.{children_in, level_of, entry_of}
 use Rattle.mr_tree.specs.Nodes.{subtrees}
 use Rattle.mr_tree.specs.Snapshot.{node_of, tree_at, tree_over, add_tree, trees, HasShape, IsLinked, IsNode, AreLinked, IsPlaced}
 use Rattle.mr_tree.specs.Sound.{IsSound, IsSoundNode}
@@ -44,7 +45,7 @@ length_from ts (n ∷ ns) =
 pub length_trees : (ns : List Stored) → length (trees ns) ≡ length ns
 length_trees ns = omega (arith, length_from [] ns)
 
-module _ (hash : List ℕ → List ℕ) (ts us : List Tree) where
+module _ (hash : Scheme) (ts us : List Tree) where
   tree_before : (c : Child) → IsLinked hash ts c → tree_at (ts ++ us) c.id ≡ tree_at ts c.id
   tree_before c link = get_or_append_left ts us tree.Empty (c.id - 1) (omega (arith, link.positive, link.within))
 
@@ -76,7 +77,7 @@ module _ (hash : List ℕ → List ℕ) (ts us : List Tree) where
   all_over [] all = refl
   all_over (n ∷ ns) all = λ i. over_before n all.0 i ∷ all_over ns all.1 i
 
-put_linked : (hash : List ℕ → List ℕ) (ns : List Stored) (n : Stored) → AreLinked hash ns →
+put_linked : (hash : Scheme) (ns : List Stored) (n : Stored) → AreLinked hash ns →
     IsNode hash (trees ns) n → AreLinked hash (ns ++ n ∷ [])
 put_linked hash ns n linked here =
     let ts = trees ns in
@@ -99,7 +100,7 @@ put_here ns n =
     ∙ ap (λ k. get_or (trees ns ++ tree_over (trees ns) n ∷ []) k tree.Empty) place
     ∙ get_or-append_seam (trees ns) (tree_over (trees ns) n) [] tree.Empty
 
-pub put_placed : (hash : List ℕ → List ℕ) (ns : List Stored) (n : Stored) (c : Child) (t : Tree) → AreLinked hash ns →
+pub put_placed : (hash : Scheme) (ns : List Stored) (n : Stored) (c : Child) (t : Tree) → AreLinked hash ns →
     IsNode hash (trees ns) n → tree_over (trees ns) n ≡ t → c.id ≡ length ns + 1 → entry_of c ≡ entry hash t →
     IsPlaced hash ns (ns ++ n ∷ []) c t (t ∷ [])
 put_placed hash ns n c t linked here is id same =
@@ -118,12 +119,10 @@ put_placed hash ns n c t linked here is id same =
 
 -- ---- a leaf
 
-pub leaf_placed : (hash : List ℕ → List ℕ) (ns : List Stored) (rs : List Record) (c : Child) → AreLinked hash ns →
-    IsSoundNode (Leaf rs) → c.id ≡ length ns + 1 → c.level ≡ 0 →
-    Some c.rect ≡ union_of (map (λ (r : Record). Some r.rect) rs) →
-    c.digest ≡ hash (leaf_tag ∷ length rs ∷ flat_map record_bytes rs) →
+pub leaf_placed : (hash : Scheme) (ns : List Stored) (rs : List Record) (c : Child) → AreLinked hash ns →
+    IsSoundNode (Leaf rs) → c.id ≡ length ns + 1 → entry_of c ≡ entry_step hash (Leaf rs) →
     IsPlaced hash ns (ns ++ Records rs ∷ []) c (tree.Leaf rs) (tree.Leaf rs ∷ [])
-leaf_placed hash ns rs c linked sound id low bounds sum =
+leaf_placed hash ns rs c linked sound id said =
     put_placed hash ns (Records rs) c (tree.Leaf rs) linked
     (record {
       shape = record {
@@ -135,61 +134,50 @@ leaf_placed hash ns rs c linked sound id low bounds sum =
       };
       links = λ k d within. absurd (omega arith);
     })
-    refl id ((λ i. record { level = low i; rect = bounds i; digest = sum i })
-    ∙ sym (fold-Leaf Entry (entry_step hash) rs))
+    refl id (said ∙ sym (fold-Leaf Entry (entry_step hash) rs))
 
 -- ---- an inner node
 
-pub over_children : (cs : List Child) (hash : List ℕ → List ℕ) → entry_step hash (Inner (map entry_of cs)) ≡ record {
-  level = level_of (Inner cs);
-  rect = union_of (map (λ (c : Child). Some c.rect) cs);
-  digest = hash (preimage_of (Inner cs));
-}
-over_children cs hash =
-    λ i. record {
-      level = first_level (map-map (λ (e : Entry). e.level) entry_of cs i) + 1;
-      rect = union_of (map-map (λ (e : Entry). e.rect) entry_of cs i);
-      digest = hash (preimage_of (Inner cs));
-    }
+pub level_over_children : (cs : List Child) → level_of (Inner cs) ≡ level_over (map entry_of cs)
+level_over_children cs = ap (λ ns. first_level ns + 1) (sym (map-map (λ (e : Entry). e.level) entry_of cs))
 
-pub entries_of : (hash : List ℕ → List ℕ) (ts : List Tree) (cs : List Child) → AllByRecursion (IsLinked hash ts) cs →
+pub entries_of : (hash : Scheme) (ts : List Tree) (cs : List Child) → AllByRecursion (IsLinked hash ts) cs →
     map entry_of cs ≡ map (entry hash) (map (λ (c : Child). tree_at ts c.id) cs)
 entries_of hash ts [] links = refl
 entries_of hash ts (c ∷ cs) links = λ i. links.0.entry i ∷ entries_of hash ts cs links.1 i
 
-pub inner_placed : (hash : List ℕ → List ℕ) (ns : List Stored) (cs : List Child) (c : Child) → AreLinked hash ns →
-    HasShape (Inner cs) → All (IsLinked hash (trees ns)) cs → c.id ≡ length ns + 1 → c.level ≡ level_of (Inner cs) →
-    Some c.rect ≡ union_of (map (λ (c : Child). Some c.rect) cs) → c.digest ≡ hash (preimage_of (Inner cs)) →
+pub inner_placed : (hash : Scheme) (ns : List Stored) (cs : List Child) (c : Child) → AreLinked hash ns →
+    HasShape (Inner cs) → All (IsLinked hash (trees ns)) cs → c.id ≡ length ns + 1 →
+    entry_of c ≡ entry_step hash (Inner (map entry_of cs)) →
     IsPlaced hash ns (ns ++ Children cs ∷ []) c (tree_over (trees ns) (Children cs))
     (tree_over (trees ns) (Children cs) ∷ [])
-inner_placed hash ns cs c linked shape links id low bounds sum =
+inner_placed hash ns cs c linked shape links id said =
     put_placed hash ns (Children cs) c (tree_over (trees ns) (Children cs)) linked
     (record { shape = shape; links = links })
-    refl id ((λ i. record { level = low i; rect = bounds i; digest = sum i })
-    ∙ sym (over_children cs hash)
+    refl id (said
     ∙ ap (λ es. entry_step hash (Inner es))
     (entries_of hash (trees ns) cs (recursion_from_All (IsLinked hash (trees ns)) cs links))
     ∙ sym (fold-Inner Entry (entry_step hash) (map (λ (c : Child). tree_at (trees ns) c.id) cs)))
 
 -- ---- the loop over the children of a node
 
-pub link_level : (hash : List ℕ → List ℕ) (ts : List Tree) (c : Child) → IsLinked hash ts c →
+pub link_level : (hash : Scheme) (ts : List Tree) (c : Child) → IsLinked hash ts c →
     c.level ≡ level (tree_at ts c.id)
 link_level hash ts c link = ap (λ (e : Entry). e.level) link.entry ∙ entry_level hash (tree_at ts c.id)
 
-levels_of : (hash : List ℕ → List ℕ) (ts : List Tree) (cs : List Child) → AllByRecursion (IsLinked hash ts) cs →
+levels_of : (hash : Scheme) (ts : List Tree) (cs : List Child) → AllByRecursion (IsLinked hash ts) cs →
     map (λ (c : Child). c.level) cs ≡ map level (map (λ (c : Child). tree_at ts c.id) cs)
 levels_of hash ts [] links = refl
 levels_of hash ts (c ∷ cs) links = λ i. link_level hash ts c links.0 i ∷ levels_of hash ts cs links.1 i
 
-alike_all : (hash : List ℕ → List ℕ) (ts : List Tree) (n : ℕ) (cs : List Child) → AllByRecursion (IsLinked hash ts) cs →
+alike_all : (hash : Scheme) (ts : List Tree) (n : ℕ) (cs : List Child) → AllByRecursion (IsLinked hash ts) cs →
     AllByRecursion (λ t. level t ≡ n) (map (λ (c : Child). tree_at ts c.id) cs) →
     AllByRecursion (λ (c : Child). c.level + 1 ≡ n + 1) cs
 alike_all hash ts n [] links same = tt
 alike_all hash ts n (c ∷ cs) links same =
     (ap (λ (k : ℕ). k + 1) (link_level hash ts c links.0 ∙ same.0), alike_all hash ts n cs links.1 same.1)
 
-pub shape_over : (hash : List ℕ → List ℕ) (ts us : List Tree) (cs : List Child) → All (IsLinked hash ts) cs →
+pub shape_over : (hash : Scheme) (ts us : List Tree) (cs : List Child) → All (IsLinked hash ts) cs →
     map (λ (c : Child). tree_at ts c.id) cs ≡ us → IsSound (tree.Inner us) → HasShape (Inner cs)
 shape_over hash ts us cs links same sound =
     let here = here-Inner IsSoundNode us sound in
@@ -211,7 +199,7 @@ shape_over hash ts us cs links same sound =
           (subst (AllByRecursion (λ t. level t ≡ first_level (map level us))) (sym same) all)));
     }
 
-pub links_more : (hash : List ℕ → List ℕ) (ns ms : List Stored) (cs ds : List Child) (c : Child) (t : Tree) →
+pub links_more : (hash : Scheme) (ns ms : List Stored) (cs ds : List Child) (c : Child) (t : Tree) →
     IsPlaced hash ns ms c t (subtrees t) → All (IsLinked hash (trees ns)) cs → ds ≡ cs ++ c ∷ [] →
     All (IsLinked hash (trees ms)) ds
 links_more hash ns ms cs ds c t placed links e =
@@ -220,7 +208,7 @@ links_more hash ns ms cs ds c t placed links e =
     (subst (λ ts. All (IsLinked hash ts) cs) (sym placed.grown)
     (λ k d within. link_before hash (trees ns) (subtrees t) (get_or cs k d) (links k d within))) placed.link)
 
-pub below_more : (hash : List ℕ → List ℕ) (ns ms : List Stored) (cs ds : List Child) (c : Child) (ts : List Tree)
+pub below_more : (hash : Scheme) (ns ms : List Stored) (cs ds : List Child) (c : Child) (ts : List Tree)
     (i : ℕ) (t : Tree) → IsPlaced hash ns ms c t (subtrees t) → All (IsLinked hash (trees ns)) cs → ds ≡ cs ++ c ∷ [] →
     t ≡ get_or ts i t → i < length ts → map (λ (c : Child). tree_at (trees ns) c.id) cs ≡ take i ts →
     map (λ (c : Child). tree_at (trees ms) c.id) ds ≡ take (i + 1) ts
@@ -232,7 +220,7 @@ below_more hash ns ms cs ds c ts i t placed links e is within so_far =
     ++ (placed.here ∙ is) j ∷ [])
     ∙ sym (take_more ts i t within)
 
-pub grown_more : (hash : List ℕ → List ℕ) (old ns ms : List Stored) (c : Child) (ts : List Tree) (i : ℕ) (t : Tree) →
+pub grown_more : (hash : Scheme) (old ns ms : List Stored) (c : Child) (ts : List Tree) (i : ℕ) (t : Tree) →
     IsPlaced hash ns ms c t (subtrees t) → t ≡ get_or ts i t → i < length ts →
     trees ns ≡ trees old ++ flat_map subtrees (take i ts) → trees ms ≡ trees old ++ flat_map subtrees (take (i + 1) ts)
 grown_more hash old ns ms c ts i t placed is within so_far =
@@ -241,7 +229,7 @@ grown_more hash old ns ms c ts i t placed is within so_far =
     ∙ ap (λ xs. trees old ++ flat_map subtrees xs)
     (ap (λ x. take i ts ++ x ∷ []) is ∙ sym (take_more ts i t within))
 
-pub placed_on : {E : Type 0} (hash : List ℕ → List ℕ) (old mid new : List Stored) (r : Result Child E) (u t : Tree)
+pub placed_on : {E : Type 0} (hash : Scheme) (old mid new : List Stored) (r : Result Child E) (u t : Tree)
     (ts : List Tree) → IfOk r (λ c. IsPlaced hash mid new c u (u ∷ [])) →
     trees mid ≡ trees old ++ flat_map subtrees ts → u ≡ tree.Inner ts → t ≡ tree.Inner ts →
     IfOk r (λ c. IsPlaced hash old new c t (subtrees t))
@@ -256,7 +244,7 @@ placed_on hash old mid new (Ok c) u t ts placed grown is at = record {
 placed_on hash old mid new (Err e) u t ts placed grown is at = tt
 
 -- the subtrees of a leaf are itself
-pub leaf_on : {E : Type 0} (hash : List ℕ → List ℕ) (old new : List Stored) (r : Result Child E) (t : Tree)
+pub leaf_on : {E : Type 0} (hash : Scheme) (old new : List Stored) (r : Result Child E) (t : Tree)
     (rs : List Record) → IfOk r (λ c. IsPlaced hash old new c (tree.Leaf rs) (tree.Leaf rs ∷ [])) → t ≡ tree.Leaf rs →
     IfOk r (λ c. IsPlaced hash old new c t (subtrees t))
 leaf_on hash old new (Ok c) t rs placed at = record {
@@ -269,28 +257,20 @@ leaf_on hash old new (Err e) t rs placed at = tt
 
 -- ---- there is a rectangle round each node
 
-none_round : (xs : List (Option Rectangle)) (o : Option Rectangle) → 1 ≤ length xs → AllByRecursion IsSome xs →
-    o ≡ union_of xs → o ≡ None → ⊥
-none_round xs o some all e none =
-    let here : IsSome {T = Rectangle} None =
-    subst IsSome (sym e ∙ none) (union_is_some xs (omega (arith, some)) all) in
-    cc
+pub leaf_there : (hash : Scheme) (rs : List Record) → 1 ≤ length rs → IsSome (entry_step hash (Leaf rs)).rect
+leaf_there hash rs some =
+    union_is_some (map (λ (r : Record). Some r.rect) rs)
+    (omega (arith, some, length-map rs (λ (r : Record). Some r.rect))) (of_records rs)
 
-rects_there : (cs : List Child) → AllByRecursion IsSome (map (λ (c : Child). Some c.rect) cs)
+rects_there : (cs : List Child) → AllByRecursion IsSome (map (λ (e : Entry). e.rect) (map entry_of cs))
 rects_there [] = tt
 rects_there (c ∷ cs) = (refl, rects_there cs)
 
-pub records_round : (rs : List Record) (o : Option Rectangle) → 1 ≤ length rs →
-    o ≡ union_of (map (λ (r : Record). Some r.rect) rs) → o ≡ None → ⊥
-records_round rs o some =
-    none_round (map (λ (r : Record). Some r.rect) rs) o
-    (omega (arith, some, length-map rs (λ (r : Record). Some r.rect))) (of_records rs)
-
-pub children_round : (cs : List Child) (o : Option Rectangle) → 1 ≤ length cs →
-    o ≡ union_of (map (λ (c : Child). Some c.rect) cs) → o ≡ None → ⊥
-children_round cs o some =
-    none_round (map (λ (c : Child). Some c.rect) cs) o
-    (omega (arith, some, length-map cs (λ (c : Child). Some c.rect))) (rects_there cs)
+pub inner_there : (hash : Scheme) (cs : List Child) → 1 ≤ length cs →
+    IsSome (entry_step hash (Inner (map entry_of cs))).rect
+inner_there hash cs some =
+    union_is_some (map (λ (e : Entry). e.rect) (map entry_of cs))
+    (omega (arith, some, length-map (map entry_of cs) (λ (e : Entry). e.rect), length-map cs entry_of)) (rects_there cs)
 
 pub grown_all : (old mid : List Stored) (us ts : List Tree) → trees mid ≡ trees old ++ flat_map subtrees us → us ≡ ts →
     trees mid ≡ trees old ++ flat_map subtrees ts

@@ -8,10 +8,13 @@ use Rattle.std.proofs.lemmas.List.Elements.{recursion_from_All, All-from_recursi
 use Rattle.mr_geom.specs.Rectangle.{union_of}
 use Rattle.mr_record.specs.declared.record.Record.{Record}
 use Rattle.mr_tree.specs.Tree.{level, records}
-use Rattle.mr_tree.specs.Digest.{Entry, entry, entry_step}
+use Rattle.mr_record.specs.declared.version.Version.{Version}
+use Rattle.mr_record.specs.declared.version.Version.TheVariants.{One}
+use Rattle.mr_tree.specs.Digest.{Scheme, by, entry, entry_step}
+use Rattle.mr_tree.specs.declared.entry.Entry.{Entry}
 use Rattle.mr_tree.specs.WellFormed.{WellFormed}
 use Rattle.mr_tree.specs.View.{Node, level_of, entry_of}
-use Rattle.mr_tree.specs.Nodes.{Standing, MayFetch, IsNodeOf, Shows, IsTop, subtrees}
+use Rattle.mr_tree.specs.Nodes.{Standing, MayFetch, IsNodeOf, Shows, IsTop, subtrees, top_version}
 use Rattle.mr_tree.specs.Snapshot.{with_id, standing_of, standing, node_of, tree_at, tree_over, trees, tree_of, HasShape, IsLinked, IsNode, AreLinked, IsSnapshot, IsRooted}
 use Rattle.mr_tree.specs.declared.child.Child.{Child}
 use Rattle.mr_tree.specs.declared.nodes.Top.{Top}
@@ -24,7 +27,7 @@ use Rattle.mr_tree.proofs.Equations.{entry_rect, records-Empty}
 use Rattle.mr_tree.proofs.Folds.{fold-Leaf, fold-Inner}
 use Rattle.mr_tree.proofs.Joins.{rects_of, rect_round}
 use Rattle.mr_tree.proofs.Subtrees.{subtrees-Empty}
-use Rattle.mr_tree.proofs.Placements.{length_trees, link_level, over_children, entries_of}
+use Rattle.mr_tree.proofs.Placements.{length_trees, link_level, level_over_children, entries_of}
 
 -- ---- ids
 
@@ -37,11 +40,11 @@ with_id_at ts (suc i) low high =
 -- ---- what may be fetched
 
 -- a snapshot's standing, by the trees under its nodes
-abbrev stood : ℕ → Tree → List Tree → Standing
-stood batch t ts = record { batch = batch; span = length ts + 1; tree = Some t; node = with_id ts }
+abbrev stood : Version → ℕ → Tree → List Tree → Standing
+stood v batch t ts = record { version = v; batch = batch; span = length ts + 1; tree = Some t; node = with_id ts }
 
-module _ (hash : List ℕ → List ℕ) (batch : ℕ) (whole : Tree) (ts : List Tree) where
-  pub may_fetch : (c : Child) → IsLinked hash ts c → c.level ≤ 7 → MayFetch hash (stood batch whole ts) c
+module _ (hash : Scheme) (batch : ℕ) (whole : Tree) (ts : List Tree) where
+  pub may_fetch : (c : Child) → IsLinked hash ts c → c.level ≤ 7 → MayFetch hash.of (stood hash.version batch whole ts) c
   may_fetch c link low = record {
     positive = link.positive;
     within = omega (arith, link.within);
@@ -51,7 +54,7 @@ module _ (hash : List ℕ → List ℕ) (batch : ℕ) (whole : Tree) (ts : List 
   }
 
   below : (n : ℕ) (cs : List Child) → n ≤ 7 → AllByRecursion (IsLinked hash ts) cs →
-      AllByRecursion (λ (c : Child). c.level + 1 ≡ n) cs → AllByRecursion (MayFetch hash (stood batch whole ts)) cs
+      AllByRecursion (λ (c : Child). c.level + 1 ≡ n) cs → AllByRecursion (MayFetch hash.of (stood hash.version batch whole ts)) cs
   below n [] low links alike = tt
   below n (c ∷ cs) low links alike =
       (may_fetch c links.0 (omega (arith, alike.0, low)), below n cs low links.1 alike.1)
@@ -63,7 +66,7 @@ module _ (hash : List ℕ → List ℕ) (batch : ℕ) (whole : Tree) (ts : List 
 
   shows_at : (c : Child) (s : Stored) → IsNode hash ts s → 1 ≤ c.id → c.id ≤ length ts →
       tree_at ts c.id ≡ tree_over ts s → entry_of c ≡ entry hash (tree_over ts s) →
-      Shows hash (stood batch whole ts) c (node_of s)
+      Shows hash.of (stood hash.version batch whole ts) c (node_of s)
   shows_at c (Records rs) here low high is known =
       let parts : entry_of c ≡ entry_step hash (Leaf rs) = known ∙ fold-Leaf Entry (entry_step hash) rs in
       record {
@@ -71,22 +74,22 @@ module _ (hash : List ℕ → List ℕ) (batch : ℕ) (whole : Tree) (ts : List 
         level = sym (ap (λ (e : Entry). e.level) parts);
         digest = sym (ap (λ (e : Entry). e.digest) parts);
         children = λ k d within. absurd (omega arith);
-        node = subst (λ o. IfSome o (λ t. IsNodeOf (stood batch whole ts) t (Leaf rs)))
+        node = subst (λ o. IfSome o (λ t. IsNodeOf (stood hash.version batch whole ts) t (Leaf rs)))
             (sym (with_id_at ts c.id low high)) is;
       }
   shows_at c (Children cs) here low high is known =
       let links = recursion_from_All (IsLinked hash ts) cs here.links in
       let us = map (λ (c : Child). tree_at ts c.id) cs in
-      let parts = known ∙ fold-Inner Entry (entry_step hash) us
-      ∙ ap (λ es. entry_step hash (Inner es)) (sym (entries_of hash ts cs links)) ∙ over_children cs hash in
+      let parts : entry_of c ≡ entry_step hash (Inner (map entry_of cs)) = known ∙ fold-Inner Entry (entry_step hash) us
+      ∙ ap (λ es. entry_step hash (Inner es)) (sym (entries_of hash ts cs links)) in
       record {
         some = here.shape.some;
-        level = sym (ap (λ (e : Entry). e.level) parts);
+        level = level_over_children cs ∙ sym (ap (λ (e : Entry). e.level) parts);
         digest = sym (ap (λ (e : Entry). e.digest) parts);
-        children = All-from_recursion (MayFetch hash (stood batch whole ts)) cs
+        children = All-from_recursion (MayFetch hash.of (stood hash.version batch whole ts)) cs
             (below (level_of (Inner cs)) cs here.shape.low links
             (recursion_from_All (λ (c : Child). c.level + 1 ≡ level_of (Inner cs)) cs here.shape.alike));
-        node = subst (λ o. IfSome o (λ t. IsNodeOf (stood batch whole ts) t (Inner cs)))
+        node = subst (λ o. IfSome o (λ t. IsNodeOf (stood hash.version batch whole ts) t (Inner cs)))
             (sym (with_id_at ts c.id low high)) (us, is, ids_of cs links);
       }
 
@@ -105,9 +108,9 @@ node_at (s ∷ ns) (suc k) d n h e = node_at ns k d n (omega arith) e
 from_some : (o : Option Tree) (t : Tree) (P : Tree → Type 0) → o ≡ Some t → IsSomeAnd o P → P t
 from_some o t P e p = subst (λ o. IsSomeAnd o P) e p
 
-reads_from : (hash : List ℕ → List ℕ) (batch : ℕ) (whole : Tree) (ns : List Stored) (c : Child) (n : Node) →
-    AreLinked hash ns → MayFetch hash (stood batch whole (trees ns)) c →
-    Some n ≡ slice_get (map node_of ns) (c.id - 1) → Shows hash (stood batch whole (trees ns)) c n
+reads_from : (hash : Scheme) (batch : ℕ) (whole : Tree) (ns : List Stored) (c : Child) (n : Node) →
+    AreLinked hash ns → MayFetch hash.of (stood hash.version batch whole (trees ns)) c →
+    Some n ≡ slice_get (map node_of ns) (c.id - 1) → Shows hash.of (stood hash.version batch whole (trees ns)) c n
 reads_from hash batch whole ns c n linked may e =
     let ts = trees ns in
     let s = get_or ns (c.id - 1) (Records []) in
@@ -118,7 +121,7 @@ reads_from hash batch whole ns c n linked may e =
     let known : entry_of c ≡ entry hash (tree_at ts c.id) =
     from_some (with_id ts c.id) (tree_at ts c.id) (λ t. entry_of c ≡ entry hash t)
     (with_id_at ts c.id may.positive high) (may.known refl) in
-    subst (Shows hash (stood batch whole ts) c) (node_at ns (c.id - 1) (Records []) n inside e)
+    subst (Shows hash.of (stood hash.version batch whole ts) c) (node_at ns (c.id - 1) (Records []) n inside e)
     (shows_at hash batch whole ts c s (linked.each (c.id - 1) (Records []) inside) may.positive high is
     (known ∙ ap (entry hash) is))
 
@@ -126,16 +129,16 @@ pub reads : (hash : List ℕ → List ℕ) (ns : List Stored) (top : Top) (c : C
     MayFetch hash (standing ns top) c → Some n ≡ slice_get (map node_of ns) (c.id - 1) →
     Shows hash (standing ns top) c n
 reads hash ns top c n snapshot may e =
-    subst (λ us. Shows hash (stood top.batch (tree_of ns top) us) c n) snapshot.whole
-    (reads_from hash top.batch (tree_of ns top) ns c n snapshot.linked
-    (subst (λ us. MayFetch hash (stood top.batch (tree_of ns top) us) c) (sym snapshot.whole) may) e)
+    subst (λ us. Shows hash (stood (top_version top) top.batch (tree_of ns top) us) c n) snapshot.whole
+    (reads_from (by (top_version top) hash) top.batch (tree_of ns top) ns c n snapshot.linked
+    (subst (λ us. MayFetch hash (stood (top_version top) top.batch (tree_of ns top) us) c) (sym snapshot.whole) may) e)
 
 pub place_of : (hash : List ℕ → List ℕ) (ns : List Stored) (top : Top) (c : Child) → IsSnapshot hash ns top →
     MayFetch hash (standing ns top) c → c.id - 1 < length ns
 place_of hash ns top c snapshot may =
     omega (arith, may.positive, may.within, length_trees ns, ap length snapshot.whole)
 
-pub shapes_of : (hash : List ℕ → List ℕ) (ts : List Tree) (ns : List Stored) → AllByRecursion (IsNode hash ts) ns →
+pub shapes_of : (hash : Scheme) (ts : List Tree) (ns : List Stored) → AllByRecursion (IsNode hash ts) ns →
     AllByRecursion HasShape (map node_of ns)
 shapes_of hash ts [] each = tt
 shapes_of hash ts (n ∷ ns) each = (each.0.shape, shapes_of hash ts ns each.1)
@@ -157,11 +160,12 @@ pub shapes_at : (hash : List ℕ → List ℕ) (ns : List Stored) (top : Top) �
     All HasShape (map node_of ns)
 shapes_at hash ns top snapshot =
     All-from_recursion HasShape (map node_of ns)
-    (shapes_of hash (trees ns) ns (recursion_from_All (IsNode hash (trees ns)) ns snapshot.linked.each))
+    (shapes_of (by (top_version top) hash) (trees ns) ns
+    (recursion_from_All (IsNode (by (top_version top) hash) (trees ns)) ns snapshot.linked.each))
 
 -- ---- the head
 
-pub rooted_empty : (hash : List ℕ → List ℕ) (ns : List Stored) (t : Tree) → ns ≡ [] → t ≡ tree.Empty →
+pub rooted_empty : (hash : Scheme) (ns : List Stored) (t : Tree) → ns ≡ [] → t ≡ tree.Empty →
     IsRooted hash ns None t
 rooted_empty hash ns t none empty =
     subst (λ ns. IsRooted hash ns None t) (sym none)
@@ -172,7 +176,7 @@ rooted_empty hash ns t none empty =
       root = tt;
     })
 
-filled : (hash : List ℕ → List ℕ) (t : Tree) (c : Child) → entry_of c ≡ entry hash t → length (records t) ≡ 0 → ⊥
+filled : (hash : Scheme) (t : Tree) (c : Child) → entry_of c ≡ entry hash t → length (records t) ≡ 0 → ⊥
 filled hash t c same none = at (records t) refl
   where
     at : (rs : List Record) → records t ≡ rs → ⊥
@@ -182,11 +186,12 @@ filled hash t c same none = at (records t) refl
         cc
     at (r ∷ rs) e = let some : length (records t) ≡ suc (length rs) = ap length e in absurd (omega (arith, none, some))
 
-module _ (hash : List ℕ → List ℕ) (batch count : ℕ) (t : Tree) (well : WellFormed t)
+module _ (of : List ℕ → List ℕ) (batch count : ℕ) (t : Tree) (well : WellFormed t)
     (counted : count ≡ length (records t)) where
-  head_of : (ns : List Stored) (o : Option Child) → IsRooted hash ns o t →
-      IsTop hash (stood batch t (trees ns)) (record { batch = batch; count = count; root = o })
+  head_of : (ns : List Stored) (o : Option Child) → IsRooted (by One of) ns o t →
+      IsTop of (stood One batch t (trees ns)) (record { batch = batch; count = count; root = o })
   head_of ns None rooted = record {
+    version = refl;
     batch = refl;
     few = omega (arith, well.few, counted);
     none = (λ _. refl, λ _. counted ∙ ap (λ u. length (records u)) (sym rooted.tree) ∙ ap length records-Empty);
@@ -196,25 +201,26 @@ module _ (hash : List ℕ → List ℕ) (batch count : ℕ) (t : Tree) (well : W
   }
   head_of ns (Some c) rooted =
       let link = rooted.root in
-      let same : entry_of c ≡ entry hash t = link.entry ∙ ap (entry hash) rooted.tree in
+      let same : entry_of c ≡ entry (by One of) t = link.entry ∙ ap (entry (by One of)) rooted.tree in
       let low : c.level ≤ 7 =
-      omega (arith, well.shallow, link_level hash (trees ns) c link, ap level rooted.tree) in
+      omega (arith, well.shallow, link_level (by One of) (trees ns) c link, ap level rooted.tree) in
       record {
+        version = refl;
         batch = refl;
         few = omega (arith, well.few, counted);
-        none = (λ z. absurd (filled hash t c same (sym counted ∙ z)), λ none. cc);
-        root = may_fetch hash batch t (trees ns) c link low;
+        none = (λ z. absurd (filled (by One of) t c same (sym counted ∙ z)), λ none. cc);
+        root = may_fetch (by One of) batch t (trees ns) c link low;
         count = counted;
         tree = with_id_at (trees ns) c.id link.positive link.within ∙ ap Some rooted.tree;
       }
 
-  pub snapshot_of : (ns : List Stored) (o : Option Child) → IsRooted hash ns o t →
-      IsSnapshot hash ns (record { batch = batch; count = count; root = o })
+  pub snapshot_of : (ns : List Stored) (o : Option Child) → IsRooted (by One of) ns o t →
+      IsSnapshot of ns (record { batch = batch; count = count; root = o })
   snapshot_of ns o rooted = record {
     linked = rooted.linked;
     whole = rooted.whole ∙ ap subtrees (sym rooted.tree);
-    head = subst (λ u. IsTop hash (standing_of batch u) (record { batch = batch; count = count; root = o }))
+    head = subst (λ u. IsTop of (standing_of One batch u) (record { batch = batch; count = count; root = o }))
         (sym rooted.tree)
-        (subst (λ us. IsTop hash (stood batch t us) (record { batch = batch; count = count; root = o }))
+        (subst (λ us. IsTop of (stood One batch t us) (record { batch = batch; count = count; root = o }))
         rooted.whole (head_of ns o rooted));
   }

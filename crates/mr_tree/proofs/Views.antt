@@ -1,14 +1,11 @@
 -- What stands in the first places of a view.
 use Rattle.std.proofs.Common.{◌≡◌, ℕ, zero, suc, ◌+◌, ◌<◌, ◌≤◌, Bool, cond, List, [], ◌∷◌, ◌++◌, length, take, refl, sym, ap, ◌∙◌, arith}
 use Rattle.std.specs.Prelude.{map, All}
-use Rattle.std.specs.List.{flat_map}
 use Rattle.std.proofs.Math.Dec.{eqb-suc-zero}
 use Rattle.std.proofs.lemmas.List.{length-take-le}
 use Rattle.mr_record.specs.Record.{IsRecord}
 use Rattle.mr_record.specs.declared.record.Record.{Record}
-use Rattle.mr_tree.specs.Tree.{first_level}
-use Rattle.mr_tree.specs.Digest.{Entry, inner_tag, entry_bytes}
-use Rattle.mr_tree.specs.View.{Node, IsView, IsChild, records_in, children_in, size, level_of, entry_of, child_bytes, preimage_of, shown, IsKept}
+use Rattle.mr_tree.specs.View.{Node, IsView, IsChild, records_in, children_in, size, level_of, shown, IsKept}
 use Rattle.mr_tree.specs.declared.child.Child.{Child}
 use Rattle.mr_tree.specs.declared.tree.Tree.TheOpen.{Empty, Leaf, Inner}
 
@@ -73,27 +70,6 @@ children_shown (suc l) len records children k =
       λ _. shown_inner l len records children ∙ ap Inner (sym same),
     )
 
--- ---- preimages
-
-pub fed_children : (cs : List Child) → flat_map entry_bytes (map entry_of cs) ≡ flat_map child_bytes cs
-fed_children [] = refl
-fed_children (c ∷ cs) = ap (λ (t : List ℕ). child_bytes c ++ t) (fed_children cs)
-
-first_of_entries : (cs : List Child) → first_level (map (λ (e : Entry). e.level) (map entry_of cs))
-    ≡ first_level (map (λ (c : Child). c.level) cs)
-first_of_entries [] = refl
-first_of_entries (c ∷ cs) = refl
-
-length_entries : (cs : List Child) → length (map entry_of cs) ≡ length cs
-length_entries [] = refl
-length_entries (c ∷ cs) = ap (λ n. suc n) (length_entries cs)
-
-pub preimage_at : (level : ℕ) (cs : List Child) → level ≡ level_of (Inner cs) →
-    inner_tag ∷ level ∷ length cs ∷ flat_map child_bytes cs ≡ preimage_of (Inner cs)
-preimage_at level cs e =
-    ap (λ (l : ℕ). inner_tag ∷ l ∷ length cs ∷ flat_map child_bytes cs) e
-    ∙ sym (λ i. inner_tag ∷ (first_of_entries cs i + 1) ∷ length_entries cs i ∷ fed_children cs i)
-
 -- ---- what the calls on a view tell of its node
 
 pub record Told (n : Node) : Type 0 where
@@ -115,6 +91,5 @@ view_told (Inner cs) t = record {
   few = t.few;
   low = t.low;
   each = t.children;
-  alike =
-      t.alike;
+  alike = t.alike;
 }

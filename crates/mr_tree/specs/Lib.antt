@@ -5,6 +5,7 @@ pub mod WellFormed
 pub mod Digest
 pub mod Hash
 pub mod View
+pub mod Gathers
 pub mod Nodes
 pub mod Snapshot
 -- what only private functions and proofs use

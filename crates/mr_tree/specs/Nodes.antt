@@ -3,7 +3,10 @@ use Rattle.std.specs.Prelude.{◌≡◌, ◌≢◌, ℕ, ◌<◌, ◌≤◌, ◌
 use Rattle.std.specs.List.{flat_map}
 use Rattle.mr_tree.specs.Limits.{count_limit, level_limit}
 use Rattle.mr_tree.specs.Tree.{records}
-use Rattle.mr_tree.specs.Digest.{entry}
+use Rattle.mr_record.specs.declared.version.Version.{Version}
+use Rattle.mr_record.specs.declared.version.Version.TheVariants.{One}
+use Rattle.mr_tree.specs.Digest.{by, entry, no_entry}
+use Rattle.mr_tree.specs.declared.entry.Entry.{Entry}
 use Rattle.mr_tree.specs.View.{Node, children_in, size, level_of, entry_of, preimage_of}
 use Rattle.mr_tree.specs.declared.child.Child.{Child}
 use Rattle.mr_tree.specs.declared.nodes.NodesErr.{NodesErr}
@@ -28,6 +31,7 @@ subtrees = para-Tree (List Tree) subtrees_step
 
 -- what no call changes
 pub record Standing : Type 0 where
+  pub version : Version
   pub batch : ℕ
   -- ids are from 1 and below it
   pub span : ℕ
@@ -47,7 +51,7 @@ pub record HasIds (s : Standing) (t : Tree) : Type 0 where
 
 -- the child is the entry of the node with its id
 abbrev pub IsEntry : (List ℕ → List ℕ) → Standing → Child → Type 0
-IsEntry hash s c = IsSomeAnd (s.node c.id) (λ t. entry_of c ≡ entry hash t)
+IsEntry hash s c = IsSomeAnd (s.node c.id) (λ t. entry_of c ≡ entry (by s.version hash) t)
 
 -- the child may be fetched
 pub record MayFetch (hash : List ℕ → List ℕ) (s : Standing) (c : Child) : Type 0 where
@@ -79,8 +83,18 @@ abbrev pub tree_under : Standing → Option Child → Option Tree
 tree_under s None = Some variants.Empty
 tree_under s (Some c) = s.node c.id
 
+-- what a map says of its root node, which a map without records has not
+abbrev pub root_entry : Option Child → Entry
+root_entry None = no_entry
+root_entry (Some c) = entry_of c
+
+-- the version that a map tells of itself; so far there is one
+abbrev pub top_version : Top → Version
+top_version top = One
+
 -- what is said of the map as a whole
 pub record IsTop (hash : List ℕ → List ℕ) (s : Standing) (top : Top) : Type 0 where
+  pub version : top_version top ≡ s.version
   pub batch : top.batch ≡ s.batch
   pub few : top.count ≤ count_limit
   pub none : (top.count ≡ 0) ↔ IsNone top.root

@@ -2,9 +2,10 @@
 -- at place i - 1.
 use Rattle.std.specs.Prelude.{◌≡◌, ℕ, zero, suc, ◌+◌, ◌-◌, ◌≤◌, List, [], ◌∷◌, ◌++◌, map, length, get_or, fold, All, Option, Some, None, IfSome, slice_get}
 use Rattle.mr_tree.specs.Limits.{level_limit, leaf_limit, inner_limit}
-use Rattle.mr_tree.specs.Digest.{entry}
+use Rattle.mr_record.specs.declared.version.Version.{Version}
+use Rattle.mr_tree.specs.Digest.{Scheme, by, entry}
 use Rattle.mr_tree.specs.View.{Node, records_in, children_in, size, level_of, entry_of}
-use Rattle.mr_tree.specs.Nodes.{Standing, IsTop, subtrees}
+use Rattle.mr_tree.specs.Nodes.{Standing, IsTop, subtrees, top_version}
 use Rattle.mr_tree.specs.declared.child.Child.{Child}
 use Rattle.mr_tree.specs.declared.nodes.Top.{Top}
 use Rattle.mr_tree.specs.declared.stored.Stored.{Stored}
@@ -18,9 +19,10 @@ abbrev pub with_id : List Tree → ℕ → Option Tree
 with_id ts zero = None
 with_id ts (suc i) = slice_get ts i
 
--- what the snapshot of a tree at a batch stands for
-abbrev pub standing_of : (batch : ℕ) → Tree → Standing
-standing_of batch t = record {
+-- what the snapshot of a tree at a batch stands for, in a version
+abbrev pub standing_of : Version → (batch : ℕ) → Tree → Standing
+standing_of v batch t = record {
+  version = v;
   batch = batch;
   span = length (subtrees t) + 1;
   tree = Some t;
@@ -57,7 +59,7 @@ abbrev pub tree_of : List Stored → Top → Tree
 tree_of ns top = root_tree (trees ns) top.root
 
 abbrev pub standing : List Stored → Top → Standing
-standing ns top = standing_of top.batch (tree_of ns top)
+standing ns top = standing_of (top_version top) top.batch (tree_of ns top)
 
 -- ---- which lists of nodes are a tree's
 
@@ -70,38 +72,38 @@ pub record HasShape (n : Node) : Type 0 where
   pub alike : All (λ (c : Child). c.level + 1 ≡ level_of n) (children_in n)
 
 -- the child is the entry of the tree with its id
-pub record IsLinked (hash : List ℕ → List ℕ) (ts : List Tree) (c : Child) : Type 0 where
+pub record IsLinked (s : Scheme) (ts : List Tree) (c : Child) : Type 0 where
   pub positive : 1 ≤ c.id
   pub within : c.id ≤ length ts
-  pub entry : entry_of c ≡ entry hash (tree_at ts c.id)
+  pub entry : entry_of c ≡ entry s (tree_at ts c.id)
 
-pub record IsNode (hash : List ℕ → List ℕ) (ts : List Tree) (n : Stored) : Type 0 where
+pub record IsNode (s : Scheme) (ts : List Tree) (n : Stored) : Type 0 where
   pub shape : HasShape (node_of n)
-  pub links : All (IsLinked hash ts) (children_in (node_of n))
+  pub links : All (IsLinked s ts) (children_in (node_of n))
 
 -- each node is linked to nodes that stand before it
-pub record AreLinked (hash : List ℕ → List ℕ) (ns : List Stored) : Type 0 where
-  pub each : All (IsNode hash (trees ns)) ns
+pub record AreLinked (s : Scheme) (ns : List Stored) : Type 0 where
+  pub each : All (IsNode s (trees ns)) ns
   pub over : map (tree_over (trees ns)) ns ≡ trees ns
 
 -- they are the nodes of the tree of the map, of which this is the head
 pub record IsSnapshot (hash : List ℕ → List ℕ) (ns : List Stored) (top : Top) : Type 0 where
-  pub linked : AreLinked hash ns
+  pub linked : AreLinked (by (top_version top) hash) ns
   pub whole : trees ns ≡ subtrees (tree_of ns top)
   pub head : IsTop hash (standing ns top) top
 
 -- nodes were put behind the others, which stand for `more` trees, and this is the entry of `t`
-pub record IsPlaced (hash : List ℕ → List ℕ) (old new : List Stored) (c : Child) (t : Tree)
+pub record IsPlaced (s : Scheme) (old new : List Stored) (c : Child) (t : Tree)
     (more : List Tree) : Type 0 where
-  pub linked : AreLinked hash new
+  pub linked : AreLinked s new
   pub grown : trees new ≡ trees old ++ more
-  pub link : IsLinked hash (trees new) c
+  pub link : IsLinked s (trees new) c
   pub here : tree_at (trees new) c.id ≡ t
 
 -- the nodes are those of the tree, of which this is the root entry
-pub record IsRooted (hash : List ℕ → List ℕ) (ns : List Stored) (entry : Option Child) (t : Tree) :
+pub record IsRooted (s : Scheme) (ns : List Stored) (entry : Option Child) (t : Tree) :
     Type 0 where
-  pub linked : AreLinked hash ns
+  pub linked : AreLinked s ns
   pub whole : trees ns ≡ subtrees t
   pub tree : root_tree (trees ns) entry ≡ t
-  pub root : IfSome entry (IsLinked hash (trees ns))
+  pub root : IfSome entry (IsLinked s (trees ns))

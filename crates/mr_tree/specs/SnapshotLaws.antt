@@ -1,7 +1,8 @@
 -- Proof that the ids of a snapshot are those of the nodes of its tree, each of which has one.
 use Rattle.std.specs.Prelude.{◌≡◌, ℕ, zero, suc, ◌<◌, List, [], ◌∷◌, length, None, IsSome, slice_get, refl}
 use Rattle.std.proofs.Common.{arith}
-use Rattle.mr_tree.specs.Nodes.{HasIds, subtrees}
+use Rattle.mr_tree.specs.Nodes.{HasIds, subtrees, top_version}
+use Rattle.mr_record.specs.declared.version.Version.{Version}
 use Rattle.mr_tree.specs.Snapshot.{with_id, standing_of, standing, tree_of}
 use Rattle.mr_tree.specs.declared.nodes.Top.{Top}
 use Rattle.mr_tree.specs.declared.stored.Stored.{Stored}
@@ -12,8 +13,8 @@ place_within [] i some = let none : IsSome {T = Tree} None = some in cc
 place_within (t ∷ ts) zero some = omega arith
 place_within (t ∷ ts) (suc i) some = let rest = place_within ts i some in omega (arith, rest)
 
-tree_has_ids : (batch : ℕ) (t : Tree) → HasIds (standing_of batch t) t
-tree_has_ids batch t = record {
+tree_has_ids : (v : Version) (batch : ℕ) (t : Tree) → HasIds (standing_of v batch t) t
+tree_has_ids v batch t = record {
   id = λ k. suc k;
   within = λ k h. (omega arith, omega (arith, h));
   shows = λ k h. refl;
@@ -27,4 +28,4 @@ tree_has_ids batch t = record {
     others (suc i) some = (i, place_within (subtrees t) i some, refl)
 
 pub has_ids : (ns : List Stored) (top : Top) → HasIds (standing ns top) (tree_of ns top)
-has_ids ns top = tree_has_ids top.batch (tree_of ns top)
+has_ids ns top = tree_has_ids (top_version top) top.batch (tree_of ns top)

@@ -5,7 +5,8 @@ use Rattle.mr_record.specs.Record.{IsRecord}
 use Rattle.mr_record.specs.declared.record.Record.{Record}
 use Rattle.mr_tree.specs.Limits.{level_limit, leaf_limit, inner_limit}
 use Rattle.mr_tree.specs.Tree.{level_step, rect_step}
-use Rattle.mr_tree.specs.Digest.{Entry, entry_bytes, node_preimage}
+use Rattle.mr_tree.specs.Digest.{Scheme, entry_step, node_preimage}
+use Rattle.mr_tree.specs.declared.entry.Entry.{Entry}
 use Rattle.mr_tree.specs.declared.child.Child.{Child}
 use Rattle.mr_tree.specs.declared.tree.Tree.TheOpen.{Tree-F, Empty, Leaf, Inner}
 use Rattle.mr_tree.specs.declared.tree.Tree.TheFolds.{map-Tree}
@@ -31,13 +32,9 @@ size (Inner children) = length children
 abbrev pub level_of : Node → ℕ
 level_of node = level_step (map-Tree Child ℕ (λ (c : Child). c.level) node)
 
--- what is said of a child in the preimage of its parent
+-- what is said of a child
 abbrev pub entry_of : Child → Entry
 entry_of c = record { level = c.level; rect = Some c.rect; digest = c.digest }
-
--- the bytes of that
-abbrev pub child_bytes : Child → List ℕ
-child_bytes c = entry_bytes (entry_of c)
 
 -- the node over the entries of its children
 abbrev pub over_entries : Node → Tree-F Entry
@@ -46,6 +43,10 @@ over_entries node = map-Tree Child Entry entry_of node
 -- the bytes that the node's digest is of
 abbrev pub preimage_of : Node → List ℕ
 preimage_of node = node_preimage (over_entries node)
+
+-- what is to be said of the node
+abbrev pub entry_over : Scheme → Node → Entry
+entry_over s node = entry_step s (over_entries node)
 
 -- the least rectangle round it, where it has a record or a child
 abbrev pub rect_of : Node → Option Rectangle

@@ -1,8 +1,14 @@
+//! What an inner node holds of a child.
+
+ghost use Rattle.std.specs.Prelude.{◌≡◌};
+ghost use Rattle.mr_tree.specs.View.{entry_of};
+
+use crate::Entry;
 use mr_geom::Rect;
 use mr_record::Record;
 
-/// What an inner node holds of a child: where it is found (a page, or a place in a list), its level,
-/// the least rectangle round its records, in map units, and its digest.
+/// What an inner node holds of a child: where it is found (a page, or a place in a list), its
+/// level, the least rectangle round its records, in map units, and its digest.
 #[derive(Clone, Copy, Debug)]
 pub struct Child {
     pub id: u32,
@@ -19,6 +25,17 @@ impl Child {
             level: 0,
             rect: Record::blank().rect,
             digest: [0; 32],
+        }
+    }
+
+    /// What is said of the child.
+    pub fn entry(&self) -> Entry
+        ensures { result ≡ entry_of self.now }
+    {
+        Entry {
+            level: self.level,
+            rect: Some(self.rect),
+            digest: self.digest,
         }
     }
 }

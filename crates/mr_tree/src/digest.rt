@@ -1,43 +1,61 @@
-ghost use Rattle.std.specs.Prelude.{◌≡◌, ◌≢◌, ◌≤◌, ◌^◌, ◌<◌, ◌∷◌, length};
-ghost use Rattle.std.specs.List.{flat_map};
-ghost use Rattle.mr_record.specs.Record.{record_bytes};
+//! What is said of trees: their entries, digests and roots.
+
+ghost use Rattle.std.specs.Prelude.{◌≡◌, ◌≢◌, ◌≤◌, ◌^◌, ◌<◌, length};
+ghost use Rattle.mr_record.specs.declared.version.Version.TheVariants.{One};
 ghost use Rattle.mr_tree.specs.declared.tree.Tree.TheVariants as variants;
+ghost use Rattle.mr_tree.specs.declared.tree.Tree.TheOpen.{Leaf, Empty};
 ghost use Rattle.mr_tree.specs.Limits.{leaf_limit};
 ghost use Rattle.mr_tree.specs.Tree.{records};
 ghost use Rattle.mr_tree.specs.WellFormed.{WellFormed};
-ghost use Rattle.mr_tree.specs.Digest.{leaf_tag, digest, preimage, root_bytes, root};
+ghost use Rattle.mr_tree.specs.Digest.{by, entry, entry_step, digest, preimage, root_bytes, root};
 ghost use Rattle.mr_tree.specs.Slim.{IsSlim};
 
-use crate::feeding::{feed_entry, feed_records, open_inner, open_leaf, root_digest};
-use crate::tree::{bounds, height};
-use crate::{Hash32, Hashes, Tree};
-use mr_record::Record;
+use crate::feeding::root_digest;
+use crate::gathering::Gathering;
+use crate::tree::height;
+use crate::{Entry, Hash32, Hashes, Tree};
+use mr_record::{Record, Version};
 
-/// The digest of a leaf with these records.
-pub fn leaf_digest<H: Hashes>(records: &[Record]) -> [u8; 32]
+/// What is said of a leaf with these records.
+pub fn leaf_entry<H: Hashes>(records: &[Record]) -> Entry
     requires { length records.now ≤ leaf_limit }
-    ensures { result ≡ H.of (leaf_tag ∷ length records.now ∷ flat_map record_bytes records.now) }
+    ensures { result ≡ entry_step (by One H.of) (Leaf records.now) }
 {
-    let mut hasher = open_leaf::<H>(records.len() as u8);
-    feed_records(&mut hasher, records);
-    hasher.finish()
+    let mut all = Gathering::<H>::leaf(records.len() as u8);
+    for one in records {
+        all.add_record(one);
+    }
+    all.close(0)
 }
 
-// The digest of a node.
-fn node_digest<H: Hashes>(tree: &Tree) -> [u8; 32]
+/// What is said of the empty tree.
+pub fn empty_entry<H: Hashes>() -> Entry
+    ensures { result ≡ entry_step (by One H.of) Empty }
+{
+    let digest = H::start().finish();
+    Entry {
+        level: 0,
+        rect: None,
+        digest,
+    }
+}
+
+// What is said of a tree.
+fn tree_entry<H: Hashes>(tree: &Tree) -> Entry
     requires { IsSlim tree.now }
-    ensures { result ≡ digest H.of tree.now }
+    ensures { result ≡ entry (by One H.of) tree.now }
 {
     match tree {
-        Tree::Empty => H::start().finish(),
-        Tree::Leaf(records) => leaf_digest::<H>(records.as_slice()),
+        Tree::Empty => empty_entry::<H>(),
+        Tree::Leaf(records) => leaf_entry::<H>(records.as_slice()),
         Tree::Inner(children) => {
-            let mut hasher = open_inner::<H>(height(tree), children.as_slice().len() as u8);
+            let level = height(tree);
+            let mut all = Gathering::<H>::inner(level, children.as_slice().len() as u8);
             for child in children.as_slice() {
-                let digest = node_digest::<H>(child);
-                feed_entry(&mut hasher, bounds(child), &digest);
+                let one = tree_entry::<H>(child);
+                all.add_entry(&one);
             }
-            hasher.finish()
+            all.close(level)
         }
     }
 }
@@ -65,18 +83,18 @@ pub fn count(tree: &Tree) -> u64
 pub fn digest_of<H: Hash32>(tree: &Tree) -> [u8; 32]
     requires well_formed { WellFormed tree.now }
     requires filled { tree.now ≢ variants.Empty }
-    ensures value { result ≡ digest H.of tree.now }
-    ensures hash { result ≡ H.of (preimage H.of tree.now) }
+    ensures value { result ≡ digest (by One H.of) tree.now }
+    ensures hash { result ≡ H.of (preimage (by One H.of) tree.now) }
 {
-    node_digest::<H>(tree)
+    tree_entry::<H>(tree).digest
 }
 
 /// The root digest of the map with this tree at this batch.
 pub fn root_of<H: Hash32>(tree: &Tree, batch: u64) -> [u8; 32]
     requires { WellFormed tree.now }
-    ensures value { result ≡ root H.of tree.now batch }
-    ensures hash { result ≡ H.of (root_bytes H.of tree.now batch) }
+    ensures value { result ≡ root (by One H.of) tree.now batch }
+    ensures hash { result ≡ H.of (root_bytes (by One H.of) tree.now batch) }
 {
-    let digest = node_digest::<H>(tree);
-    root_digest::<H>(batch, count(tree), height(tree), bounds(tree), &digest)
+    let entry = tree_entry::<H>(tree);
+    root_digest::<H>(Version::One, batch, count(tree), &entry)
 }

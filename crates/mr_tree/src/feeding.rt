@@ -1,54 +1,39 @@
-//! The hashing kit: how the preimages of nodes and maps are fed to a hasher, piece by piece.
-//! Whoever hashes a node or a root, be it of a tree, of a proof or of a page, does it with these.
+//! What is hashed of nodes, piece by piece, and of maps.
 
-ghost use Rattle.std.specs.Prelude.{◌≡◌, ◌++◌, ◌∷◌, [], ℕ, List};
-ghost use Rattle.std.specs.List.{flat_map};
+ghost use Rattle.std.specs.Prelude.{◌≡◌, ◌++◌, ◌∷◌, [], ℕ, List, length};
 ghost use Rattle.std.specs.Int.{w64, to_be_bytes};
 ghost use Rattle.mr_record.specs.Record.{record_bytes};
-ghost use Rattle.mr_tree.specs.Digest.{version, leaf_tag, inner_tag, root_tag, empty_tag, root_preimage, rect_bytes as bytes_of_rect};
+ghost use Rattle.mr_record.specs.Version.{version_byte};
+ghost use Rattle.mr_tree.specs.Digest.{leaf_tag, inner_tag, root_tag, root_preimage, root_entry_bytes, entry_bytes};
 
-use crate::Hashes;
-use mr_geom::Rect;
-use mr_record::{Record, rect_bytes};
+use crate::{ENTRY_LIMIT, Entry, Hashes};
+use mr_outside::Buffer;
+use mr_record::{Record, Version, encoded};
 
-/// The version of preimages.
-const VERSION: u8 = 1;
+/// The most bytes that a root digest is of: a tag, a version, a batch, a count, a level and an
+/// entry.
+pub const ROOT_LIMIT: usize = 19 + ENTRY_LIMIT;
 
-/// Feeds the bytes of a record.
-pub fn feed_record<H: Hashes>(hasher: &mut H, one: &Record)
+// Feeds the bytes of a record.
+pub(crate) fn feed_record<H: Hashes>(hasher: &mut H, one: &Record)
     ensures { (fed : List ℕ) → H.holds hasher.old fed
         → H.holds hasher.new (fed ++ record_bytes one.now) }
 {
-    hasher.update(&one.number.to_be_bytes());
-    hasher.update(&rect_bytes(&one.rect));
-    let payload = one.payload.bytes();
-    hasher.update(&[payload.len() as u8]);
-    hasher.update(payload);
+    let bytes = encoded(one);
+    hasher.update(bytes.as_slice());
 }
 
-/// Feeds the bytes of some records.
-pub fn feed_records<H: Hashes>(hasher: &mut H, records: &[Record])
+// Feeds an entry, which is what an inner node holds of a child.
+pub(crate) fn feed_entry<H: Hashes>(hasher: &mut H, entry: &Entry)
     ensures { (fed : List ℕ) → H.holds hasher.old fed
-        → H.holds hasher.new (fed ++ flat_map record_bytes records.now) }
+        → H.holds hasher.new (fed ++ entry_bytes entry.now) }
 {
-    for record in records {
-        feed_record(hasher, record);
-    }
+    let bytes = entry.encoded();
+    hasher.update(bytes.as_slice());
 }
 
-/// Feeds an entry, which is what a node holds of a child: the child's rectangle and its digest.
-pub fn feed_entry<H: Hashes>(hasher: &mut H, rect: Option<Rect>, digest: &[u8; 32])
-    ensures { (fed : List ℕ) → H.holds hasher.old fed
-        → H.holds hasher.new (fed ++ (bytes_of_rect rect ++ digest.now)) }
-{
-    if let Some(rect) = rect {
-        hasher.update(&rect_bytes(&rect));
-    }
-    hasher.update(digest);
-}
-
-/// A hasher for a leaf with `count` records, which are to be fed in their order.
-pub fn open_leaf<H: Hashes>(count: u8) -> H
+// A hasher for a leaf with `count` records, which are to be fed in their order.
+pub(crate) fn open_leaf<H: Hashes>(count: u8) -> H
     ensures { H.holds result (leaf_tag ∷ count ∷ []) }
 {
     let mut hasher = H::start();
@@ -56,9 +41,9 @@ pub fn open_leaf<H: Hashes>(count: u8) -> H
     hasher
 }
 
-/// A hasher for an inner node of this level with `count` entries, which are to be fed from left to
-/// right.
-pub fn open_inner<H: Hashes>(level: u8, count: u8) -> H
+// A hasher for an inner node of this level with `count` entries, which are to be fed from left to
+// right.
+pub(crate) fn open_inner<H: Hashes>(level: u8, count: u8) -> H
     ensures { H.holds result (inner_tag ∷ level ∷ count ∷ []) }
 {
     let mut hasher = H::start();
@@ -66,56 +51,56 @@ pub fn open_inner<H: Hashes>(level: u8, count: u8) -> H
     hasher
 }
 
-// A hasher for a root preimage with this tag.
-fn open_root<H: Hashes>(tag: u8, batch: u64) -> H
-    ensures { H.holds result (tag ∷ version ∷ to_be_bytes w64 batch) }
+// The front of the bytes that a root digest is of, with this tag.
+fn root_front(tag: u8, version: Version, batch: u64) -> Buffer<ROOT_LIMIT>
+    ensures bytes { result ≡ tag ∷ version_byte version ∷ to_be_bytes w64 batch }
+    ensures size { length result ≡ 10 }
+{
+    let mut bytes = Buffer::new();
+    bytes.put(&[tag, version.byte()]);
+    bytes.put(&batch.to_be_bytes());
+    bytes
+}
+
+// Those of a map with records.
+fn filled_root(version: Version, batch: u64, count: u64, root: &Entry) -> Buffer<ROOT_LIMIT>
+    ensures { result ≡ root_tag ∷ version_byte version
+        ∷ (to_be_bytes w64 batch ++ to_be_bytes w64 count
+        ++ root.now.level ∷ root_entry_bytes root.now) }
+{
+    let mut bytes = root_front(b'R', version, batch);
+    bytes.put(&count.to_be_bytes());
+    bytes.put(&[root.level]);
+    let entry = root.encoded();
+    bytes.put(entry.as_slice());
+    bytes
+}
+
+/// The bytes that the root digest of a map is of, in this version, from its batch, the count of its
+/// records and the entry of its root node, which does not matter where there are no records.
+pub fn root_encoded(version: Version, batch: u64, count: u64, root: &Entry) -> Buffer<ROOT_LIMIT>
+    ensures { result ≡ root_preimage version batch count root.now }
+{
+    if count == 0 {
+        root_front(b'E', version, batch)
+    } else {
+        filled_root(version, batch, count, root)
+    }
+}
+
+// The digest of some bytes.
+fn hash<H: Hashes>(bytes: &[u8]) -> [u8; 32]
+    ensures { result ≡ H.of bytes.now }
 {
     let mut hasher = H::start();
-    hasher.update(&[tag, VERSION]);
-    hasher.update(&batch.to_be_bytes());
-    hasher
-}
-
-// The root digest of the map without records.
-fn empty_root<H: Hashes>(batch: u64) -> [u8; 32]
-    ensures { result ≡ H.of (empty_tag ∷ version ∷ to_be_bytes w64 batch) }
-{
-    open_root::<H>(b'E', batch).finish()
-}
-
-// The root digest of a map with records.
-fn filled_root<H: Hashes>(
-    batch: u64,
-    count: u64,
-    level: u8,
-    rect: Option<Rect>,
-    digest: &[u8; 32],
-) -> [u8; 32]
-    ensures { result ≡ H.of (root_tag ∷ version ∷ (to_be_bytes w64 batch ++ to_be_bytes w64 count
-        ++ level ∷ (bytes_of_rect rect ++ digest.now))) }
-{
-    let mut hasher = open_root::<H>(b'R', batch);
-    hasher.update(&count.to_be_bytes());
-    hasher.update(&[level]);
-    feed_entry(&mut hasher, rect, digest);
+    hasher.update(bytes);
     hasher.finish()
 }
 
-/// The root digest of a map, from its batch, the count of its records and the entry of its root
-/// node: level, rectangle and digest, which do not matter where there are no records.
-pub fn root_digest<H: Hashes>(
-    batch: u64,
-    count: u64,
-    level: u8,
-    rect: Option<Rect>,
-    digest: &[u8; 32],
-) -> [u8; 32]
-    ensures { result ≡ H.of (root_preimage batch count
-        (record { level = level; rect = rect; digest = digest.now })) }
+/// The root digest of a map, from what its bytes are spelled of.
+pub fn root_digest<H: Hashes>(version: Version, batch: u64, count: u64, root: &Entry) -> [u8; 32]
+    ensures { result ≡ H.of (root_preimage version batch count root.now) }
 {
-    if count == 0 {
-        empty_root::<H>(batch)
-    } else {
-        filled_root::<H>(batch, count, level, rect, digest)
-    }
+    let bytes = root_encoded(version, batch, count, root);
+    hash::<H>(bytes.as_slice())
 }

@@ -3,7 +3,9 @@
 
 mod child;
 mod digest;
+mod entry;
 mod feeding;
+mod gathering;
 mod hash;
 mod limits;
 mod nodes;
@@ -15,8 +17,10 @@ mod tree;
 mod view;
 
 pub use child::Child;
-pub use digest::{count as count_of, digest_of, leaf_digest, root_of};
-pub use feeding::{feed_entry, feed_record, feed_records, open_inner, open_leaf, root_digest};
+pub use digest::{count as count_of, digest_of, empty_entry, leaf_entry, root_of};
+pub use entry::{ENTRY_LIMIT, Entry};
+pub use feeding::{ROOT_LIMIT, root_digest, root_encoded};
+pub use gathering::Gathering;
 pub use hash::{Hash32, Hashes, Sha, XorHash};
 pub use limits::{
     COUNT_LIMIT, INNER_FILL, INNER_LIMIT, LEAF_FILL, LEAF_LIMIT, LEVEL_LIMIT, ROOT_FILL,

@@ -1,11 +1,13 @@
 //! Maps whose nodes are fetched one by one.
 
-ghost use Rattle.std.specs.Prelude.{◌≡◌, ℕ, ◌≤◌, IfSome, IfErr, OnOk};
+ghost use Rattle.std.specs.Prelude.{◌≡◌, ℕ, ◌≤◌, Option, Some, IfSome, IfErr, OnOk};
 ghost use Rattle.mr_outside.specs.Faults.{Rose, next_count};
+ghost use Rattle.mr_tree.specs.declared.nodes.NodesErr as error;
 ghost use Rattle.mr_tree.specs.WellFormed.{WellFormed};
-ghost use Rattle.mr_tree.specs.Nodes.{Standing, HasIds, IsTop, MayFetch, Shows, HasCause};
+ghost use Rattle.mr_tree.specs.Nodes.{Standing, HasIds, IsTop, MayFetch, Shows, HasCause, top_version, root_entry};
 
-use crate::{Child, Hash32, NodeView};
+use crate::{Child, Entry, Hash32, NodeView};
+use mr_record::Version;
 
 /// What a map says of itself: the batch that it stands at, the number of its records, and the entry
 /// of its root node, which a map without records has not.
@@ -14,6 +16,25 @@ pub struct Top {
     pub batch: u64,
     pub count: u64,
     pub root: Option<Child>,
+}
+
+impl Top {
+    /// The version of the map, so far the only one.
+    pub fn version(&self) -> Version
+        ensures { result ≡ top_version self.now }
+    {
+        Version::One
+    }
+
+    /// What is said of the root node, and of no node where there is none.
+    pub fn root_entry(&self) -> Entry
+        ensures { result ≡ root_entry self.now.root }
+    {
+        match &self.root {
+            None => Entry::none(),
+            Some(root) => root.entry(),
+        }
+    }
 }
 
 /// Why a node was not fetched.
@@ -45,7 +66,8 @@ pub enum NodesErr {
 pub trait Nodes {
     type Hash: Hash32;
 
-    // what no call changes: the batch, how far ids go, the tree and the tree under each id
+    // what no call changes: the version, the batch, how far ids go, the tree and the tree under
+    // each id
     ghost stands: { Self → Standing };
 
     // how many fetches there were
@@ -53,6 +75,9 @@ pub trait Nodes {
 
     // how many faults there were
     ghost faults: { Self → ℕ };
+
+    // the last refusal of a fetch, where one was refused
+    ghost refusal: { Self → Option error.NodesErr };
 
     // what a call leaves of the object, from what it was before it
     ghost kept: { Self → Self → Type 0 };
@@ -69,7 +94,8 @@ pub trait Nodes {
         ensures shows { OnOk result (Shows Self.Hash.of (stands self.old) child.now into.new) }
         ensures cause { IfErr result
             (HasCause (stands self.old) child.now (Rose (faults self.old) (faults self.new))) }
-        ensures quiet { OnOk result (faults self.new ≡ faults self.old) };
+        ensures quiet { OnOk result (faults self.new ≡ faults self.old) }
+        ensures refused { IfErr result (λ e. refusal self.new ≡ Some e) };
 
     ghost kept_self: { (s : Self) → kept s s };
 

@@ -1,7 +1,9 @@
 //! How the nodes of a tree are put into a list.
 
-ghost use Rattle.std.specs.Prelude.{◌≡◌, ◌≢◌, ◌+◌, ◌^◌, ◌<◌, ◌≤◌, ◌∷◌, ◌++◌, [], length, All, OnOk, IfOk};
-ghost use Rattle.mr_tree.specs.View.{level_of};
+ghost use Rattle.std.specs.Prelude.{◌≡◌, ◌≢◌, ◌+◌, ◌^◌, ◌<◌, ◌≤◌, ◌∷◌, ◌++◌, [], length, All, OnOk, IfOk, IsSome};
+ghost use Rattle.mr_record.specs.declared.version.Version.TheVariants.{One};
+ghost use Rattle.mr_tree.specs.Digest.{by};
+ghost use Rattle.mr_tree.specs.View.{level_of, entry_of};
 ghost use Rattle.mr_tree.specs.Nodes.{subtrees};
 ghost use Rattle.mr_tree.specs.Snapshot.{trees, tree_over, HasShape, IsLinked, AreLinked, IsPlaced, IsRooted};
 ghost use Rattle.mr_tree.specs.Sound.{IsSound, IsSoundNode};
@@ -9,11 +11,10 @@ ghost use Rattle.mr_tree.specs.declared.stored.Stored.TheVariants.{Children};
 ghost use Rattle.mr_tree.specs.declared.tree.Tree.TheVariants as variants;
 ghost use Rattle.mr_tree.specs.declared.tree.Tree.TheOpen.{Leaf, Inner};
 
-use crate::digest::leaf_digest;
+use crate::digest::leaf_entry;
 use crate::stored::Stored;
-use crate::tree::bounds_of;
-use crate::view::{bounds_of_children, inner_digest};
-use crate::{Child, Hashes, Tree};
+use crate::view::inner_entry;
+use crate::{Child, Entry, Hashes, Tree};
 use mr_outside::Items;
 use mr_record::Record;
 use std::alloc::{AllocError, Global};
@@ -28,6 +29,23 @@ fn put(nodes: &mut Vec<Stored>, node: Stored) -> Result<u32, AllocError>
     Ok(nodes.len() as u32)
 }
 
+// The child with this id of which this is said.
+fn child_with(id: u32, entry: &Entry) -> Child
+    requires { IsSome entry.now.rect }
+    ensures id { result.id ≡ id }
+    ensures entry { entry_of result ≡ entry.now }
+{
+    let Some(rect) = entry.rect else {
+        unreachable!()
+    };
+    Child {
+        id,
+        level: entry.level,
+        rect,
+        digest: entry.digest,
+    }
+}
+
 fn place_leaf<H: Hashes>(
     alloc: Global,
     records: &[Record],
@@ -35,22 +53,14 @@ fn place_leaf<H: Hashes>(
 ) -> Result<Child, AllocError>
     requires sound { IsSoundNode (Leaf records.now) }
     requires room { length nodes.old.items + 1 < 2 ^ 32 }
-    requires linked { AreLinked H.of nodes.old.items }
-    ensures { IfOk result (λ c. IsPlaced H.of nodes.old.items nodes.new.items c
+    requires linked { AreLinked (by One H.of) nodes.old.items }
+    ensures { IfOk result (λ c. IsPlaced (by One H.of) nodes.old.items nodes.new.items c
         (variants.Leaf records.now) (variants.Leaf records.now ∷ [])) }
 {
-    let Some(rect) = bounds_of(records) else {
-        unreachable!()
-    };
-    let digest = leaf_digest::<H>(records);
+    let entry = leaf_entry::<H>(records);
     let list = Vec::from_slice(alloc, records)?;
     let id = put(nodes, Stored::Records(Items::of(list)))?;
-    Ok(Child {
-        id,
-        level: 0,
-        rect,
-        digest,
-    })
+    Ok(child_with(id, &entry))
 }
 
 // The level of an inner node.
@@ -71,24 +81,16 @@ fn place_inner<H: Hashes>(
 ) -> Result<Child, AllocError>
     requires shape { HasShape (Inner children.items) }
     requires room { length nodes.old.items + 1 < 2 ^ 32 }
-    requires links { All (IsLinked H.of (trees nodes.old.items)) children.items }
-    requires linked { AreLinked H.of nodes.old.items }
-    ensures { IfOk result (λ c. IsPlaced H.of nodes.old.items nodes.new.items c
+    requires links { All (IsLinked (by One H.of) (trees nodes.old.items)) children.items }
+    requires linked { AreLinked (by One H.of) nodes.old.items }
+    ensures { IfOk result (λ c. IsPlaced (by One H.of) nodes.old.items nodes.new.items c
         (tree_over (trees nodes.old.items) (Children children.items))
         (tree_over (trees nodes.old.items) (Children children.items) ∷ [])) }
 {
-    let Some(rect) = bounds_of_children(children.as_slice()) else {
-        unreachable!()
-    };
     let level = level_over(children.as_slice());
-    let digest = inner_digest::<H>(level, children.as_slice());
+    let entry = inner_entry::<H>(level, children.as_slice());
     let id = put(nodes, Stored::Children(Items::of(children)))?;
-    Ok(Child {
-        id,
-        level,
-        rect,
-        digest,
-    })
+    Ok(child_with(id, &entry))
 }
 
 // Puts the nodes of a tree behind the others, children before their parent, and answers the entry
@@ -101,8 +103,8 @@ fn place<H: Hashes>(
     requires sound { IsSound tree.now }
     requires filled { tree.now ≢ variants.Empty }
     requires room { length nodes.old.items + length (subtrees tree.now) < 2 ^ 32 }
-    requires linked { AreLinked H.of nodes.old.items }
-    ensures { IfOk result (λ c. IsPlaced H.of nodes.old.items nodes.new.items c tree.now
+    requires linked { AreLinked (by One H.of) nodes.old.items }
+    ensures { IfOk result (λ c. IsPlaced (by One H.of) nodes.old.items nodes.new.items c tree.now
         (subtrees tree.now)) }
 {
     match tree {
@@ -127,7 +129,7 @@ pub(crate) fn rooted<H: Hashes>(
     requires sound { IsSound tree.now }
     requires room { length (subtrees tree.now) < 2 ^ 32 }
     requires empty { nodes.old.items ≡ [] }
-    ensures { IfOk result (λ o. IsRooted H.of nodes.new.items o tree.now) }
+    ensures { IfOk result (λ o. IsRooted (by One H.of) nodes.new.items o tree.now) }
 {
     if let Tree::Empty = tree {
         return Ok(None);

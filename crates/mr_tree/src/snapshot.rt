@@ -1,11 +1,12 @@
 //! A whole tree that is kept in memory, and readers of it.
 
-ghost use Rattle.std.specs.Prelude.{ℕ, ◌≡◌, ◌+◌, ◌<◌, ◌≤◌, length, map, slice_get, All, IsOk, IfOk, IfErr, OnOk, Some};
+ghost use Rattle.std.specs.Prelude.{ℕ, ◌≡◌, ◌+◌, ◌<◌, ◌≤◌, length, map, slice_get, All, IsOk, IfOk, IfErr, OnOk, Some, None};
 ghost use Rattle.std.proofs.Props.{props};
 ghost use Rattle.std.specs.Coded.{Coded-set as set};
 ghost use Rattle.mr_outside.specs.Faults.{Rose, next_count};
 ghost use Rattle.mr_tree.specs.Tree.{nodes};
 ghost use Rattle.mr_tree.specs.WellFormed.{WellFormed};
+ghost use Rattle.mr_record.specs.declared.version.Version.TheVariants.{One};
 ghost use Rattle.mr_tree.specs.Nodes.{MayFetch, Shows, HasCause};
 ghost use Rattle.mr_tree.specs.Snapshot.{standing, standing_of, tree_of, node_of, HasShape, IsSnapshot};
 ghost use Rattle.mr_tree.specs.contracts.tree.Tree.{the_row as row};
@@ -41,7 +42,7 @@ impl<H: Hash32> Snapshot<H> {
     pub fn of(alloc: Global, tree: &Tree, batch: u64) -> Result<Snapshot<H>, AllocError>
         requires { WellFormed tree.now }
         ensures stands { IfOk result
-            (λ s. standing s.nodes.items s.top ≡ standing_of batch tree.now) }
+            (λ s. standing s.nodes.items s.top ≡ standing_of One batch tree.now) }
         ensures span { IfOk result
             (λ s. (standing s.nodes.items s.top).span ≡ nodes tree.now + 1) }
     {
@@ -99,6 +100,8 @@ impl<'a, H: Hash32> Nodes for Reader<'a, H> {
 
     ghost faults = { λ r. 0 };
 
+    ghost refusal = { λ r. None };
+
     ghost kept = { λ s t. (t.snapshot ≡ s.snapshot) × (s.fetches ≤ t.fetches) };
 
     fn top(&self) -> Top {
@@ -118,6 +121,7 @@ impl<'a, H: Hash32> Nodes for Reader<'a, H> {
             (standing self.old.snapshot.now.nodes.items self.old.snapshot.now.top) child.now
             (Rose 0 0)) }
         ensures quiet { let none : ℕ = 0 in OnOk result (none ≡ none) }
+        ensures refused { IfErr result (λ e. None ≡ Some e) }
         ensures always { IsOk result }
     {
         self.fetches = self.fetches.saturating_add(1);

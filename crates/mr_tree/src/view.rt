@@ -1,15 +1,17 @@
 //! One node, kept inline.
 
-ghost use Rattle.std.specs.Prelude.{◌≡◌, ℕ, ◌+◌, ◌<◌, ◌^◌, ◌≤◌, ◌++◌, List, [], map, length, take, slice_get, Some, All};
-ghost use Rattle.std.specs.List.{flat_map};
+ghost use Rattle.std.specs.Prelude.{◌≡◌, ℕ, ◌+◌, ◌<◌, ◌^◌, ◌≤◌, [], map, length, take, slice_get, Some, All};
+ghost use Rattle.mr_record.specs.declared.version.Version.TheVariants.{One};
 ghost use Rattle.mr_geom.specs.Rectangle.{union_of};
-ghost use Rattle.mr_tree.specs.View.{records_in, children_in, IsChild, IsView, size, level_of, child_bytes, preimage_of, rect_of};
+ghost use Rattle.mr_tree.specs.View.{records_in, children_in, IsChild, IsView, size, level_of, entry_over, rect_of};
+ghost use Rattle.mr_tree.specs.Digest.{by};
 ghost use Rattle.mr_tree.specs.declared.child.Child as types;
 ghost use Rattle.mr_tree.specs.declared.tree.Tree.TheOpen.{Leaf, Inner};
 
-use crate::digest::leaf_digest;
+use crate::digest::leaf_entry;
+use crate::gathering::Gathering;
 use crate::tree::bounds_of;
-use crate::{Child, Hashes, feed_entry, open_inner};
+use crate::{Child, Entry, Hashes};
 use mr_geom::{Rect, joined};
 use mr_record::{Record, are_records};
 use std::marker::Model;
@@ -63,25 +65,17 @@ fn child_at(list: &[Child], i: usize) -> &Child
     &list[i]
 }
 
-// Feeds what a node holds of its children.
-fn feed_children<H: Hashes>(hasher: &mut H, children: &[Child])
-    ensures { (fed : List ℕ) → H.holds hasher.old fed →
-        H.holds hasher.new (fed ++ flat_map child_bytes children.now) }
-{
-    for child in children {
-        feed_entry(hasher, Some(child.rect), &child.digest);
-    }
-}
-
-// The digest of an inner node.
-pub(crate) fn inner_digest<H: Hashes>(level: u8, children: &[Child]) -> [u8; 32]
+// What is to be said of an inner node.
+pub(crate) fn inner_entry<H: Hashes>(level: u8, children: &[Child]) -> Entry
     requires level { level ≡ level_of (Inner children.now) }
     requires few { length children.now ≤ 64 }
-    ensures { result ≡ H.of (preimage_of (Inner children.now)) }
+    ensures { result ≡ entry_over (by One H.of) (Inner children.now) }
 {
-    let mut hasher = open_inner::<H>(level, children.len() as u8);
-    feed_children(&mut hasher, children);
-    hasher.finish()
+    let mut all = Gathering::<H>::inner(level, children.len() as u8);
+    for child in children {
+        all.add_entry(&child.entry());
+    }
+    all.close(level)
 }
 
 // The least rectangle round some children.
@@ -169,14 +163,14 @@ impl NodeView {
         }
     }
 
-    /// The digest of the node: the hash of its preimage.
-    pub fn digest<H: Hashes>(&self) -> [u8; 32]
-        ensures { result ≡ H.of (preimage_of self.now) }
+    /// What is to be said of the node: level, rectangle and digest.
+    pub fn entry<H: Hashes>(&self) -> Entry
+        ensures { result ≡ entry_over (by One H.of) self.now }
     {
         if self.level() == 0 {
-            leaf_digest::<H>(self.records())
+            leaf_entry::<H>(self.records())
         } else {
-            inner_digest::<H>(self.level(), self.children())
+            inner_entry::<H>(self.level(), self.children())
         }
     }
 

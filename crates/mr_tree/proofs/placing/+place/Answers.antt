@@ -1,6 +1,8 @@
 use Rattle.std.proofs.Common.{rules, ◌≡◌, ◌<◌, subst, sym, ap, ◌∙◌, arith}
 use Rattle.std.proofs.lemmas.List.{take_all}
+use Rattle.mr_record.specs.declared.version.Version.TheVariants.{One}
 use Rattle.mr_tree.specs.Tree.{level}
+use Rattle.mr_tree.specs.Digest.{by}
 use Rattle.mr_tree.specs.Snapshot.{trees, tree_over}
 use Rattle.mr_tree.specs.Sound.{IsSound, IsSoundNode}
 use Rattle.mr_tree.specs.declared.stored.Stored.TheVariants.{Children}
@@ -40,7 +42,7 @@ place_inner-requires-clause-room g t c =
 
 pub loop-child-preserved : goal.loop-child-preserved
 loop-child-preserved g t c =
-    let hash = g.H.Hashes.of in
+    let hash = by One g.H.Hashes.of in
     let placed = c.in_ok-place-in-Inner.ensures in
     let ns = c.loop-child.nodes.items in
     let ms = c.place.new.nodes.items in
@@ -61,7 +63,7 @@ loop-child-preserved g t c =
 
 pub place_inner-requires-clause-shape : goal.place_inner-requires-clause-shape
 place_inner-requires-clause-shape g t c =
-    shape_over g.H.Hashes.of (trees c.loop-child.nodes.items) c.in-Inner.children c.loop-child.entries.items
+    shape_over (by One g.H.Hashes.of) (trees c.loop-child.nodes.items) c.in-Inner.children c.loop-child.entries.items
     c.loop-child.invariant.links
     (c.loop-child.invariant.below
     ∙ take_all c.loop-child.child-index c.as_slice-child-items.result.now c.loop-child-test.false
@@ -70,14 +72,14 @@ place_inner-requires-clause-shape g t c =
 
 pub returns-in-Leaf : goal.returns-in-Leaf
 returns-in-Leaf g t c =
-    leaf_on g.H.Hashes.of c.args.nodes.now.items c.place_leaf.new.nodes.items c.place_leaf.result c.args.tree.now
+    leaf_on (by One g.H.Hashes.of) c.args.nodes.now.items c.place_leaf.new.nodes.items c.place_leaf.result c.args.tree.now
     c.as_slice.result.now c.place_leaf.ensures (c.in-Leaf.is ∙ ap variants.Leaf (sym c.as_slice.ensures))
 
 pub returns-after-loop-child : goal.returns-after-loop-child
 returns-after-loop-child g t c =
     let all = take_all c.loop-child.child-index c.as_slice-child-items.result.now c.loop-child-test.false
     ∙ c.as_slice-child-items.ensures in
-    placed_on g.H.Hashes.of c.args.nodes.now.items c.loop-child.nodes.items c.place_inner.new.nodes.items
+    placed_on (by One g.H.Hashes.of) c.args.nodes.now.items c.loop-child.nodes.items c.place_inner.new.nodes.items
     c.place_inner.result (tree_over (trees c.loop-child.nodes.items) (Children c.loop-child.entries.items))
     c.args.tree.now c.in-Inner.children c.place_inner.ensures
     (grown_all c.args.nodes.now.items c.loop-child.nodes.items _ c.in-Inner.children c.loop-child.invariant.grown all)
