@@ -129,8 +129,3 @@ all_second P [] xs all = tt
 all_second P (b ∷ bs) [] all = tt
 all_second P (true ∷ bs) (x ∷ xs) all = (all.0, all_second P bs xs all.1)
 all_second P (false ∷ bs) (x ∷ xs) all = all_second P bs xs all.1
-
-pub all_both : {X : Type 0} (P : X → Type 0) (xs ys : List X) → AllByRecursion P xs → AllByRecursion P ys →
-    AllByRecursion P (xs ++ ys)
-all_both P [] ys all more = more
-all_both P (x ∷ xs) ys all more = (all.0, all_both P xs ys all.1 more)

@@ -25,7 +25,7 @@ use Rattle.mr_grow.specs.Found.{has, is_numbered, place_of}
 use Rattle.mr_grow.specs.Grow.{ins}
 use Rattle.mr_grow.specs.Shrink.{Rest, is_low, is_low_step, stays, shrunk, shortened, all_in, del, WithoutOne}
 use Rattle.mr_grow.specs.Views.{IsRooted}
-use Rattle.mr_grow.proofs.Cutting.{all_both}
+use Rattle.mr_split.proofs.Counts.{all_both}
 use Rattle.mr_grow.proofs.Distinct.{Apart, apart_mixed}
 use Rattle.mr_grow.proofs.Found.{place_within, place_passes}
 use Rattle.mr_grow.proofs.Kept.{ins_mixes}

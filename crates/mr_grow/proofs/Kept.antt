@@ -5,6 +5,7 @@ use Rattle.std.specs.List.{flat_map, AllByRecursion}
 use Rattle.std.specs.List.Sorted.{IsPermutation}
 use Rattle.std.proofs.lemmas.List.{append-nil, map-id, length-map}
 use Rattle.std.proofs.lemmas.List.Concat.{flat_map-append, flat_map_single}
+use Rattle.std.proofs.lemmas.List.Folds.{flat_map-map}
 use Rattle.std.proofs.lemmas.List.Sorted.{IsPermutation-refl, IsPermutation-trans, IsPermutation-sym, IsPermutation-append_left, IsPermutation-append_right, IsPermutation-middle, IsPermutation-to_front}
 use Rattle.mr_record.specs.declared.record.Record.{Record}
 use Rattle.mr_tree.specs.Tree.{records}
@@ -22,13 +23,8 @@ use Rattle.mr_split.proofs.Counts.{choose_within}
 use Rattle.mr_grow.proofs.Grown.{beside, firsts, grown-Empty, grown-Leaf, grown-Inner}
 use Rattle.mr_grow.proofs.Cutting.{parts_mix}
 
-pub of_images : {A B C : Type 0} (f : B → List C) (g : A → B) (xs : List A) → flat_map f (map g xs) ≡ flat_map
-    (λ x. f (g x)) xs
-of_images f g [] = refl
-of_images f g (x ∷ xs) = ap (λ ys. f (g x) ++ ys) (of_images f g xs)
-
 pub records_below : (ts : List Tree) → records (tree.Inner ts) ≡ flat_map records ts
-records_below ts = records-Inner ts ∙ of_images (λ list. list) records ts
+records_below ts = records-Inner ts ∙ flat_map-map (λ list. list) records ts
 
 -- a list that is split or not has the same items
 split_mix : {X A : Type 0} (f : X → List A) (b : Bool) (bs : List Bool) (xs : List X) →

@@ -12,17 +12,19 @@ use Rattle.mr_tree.specs.Tree.{level, first_level}
 use Rattle.mr_tree.specs.WellFormed.{HasOneLevel, IsFilled, IsFilledRoot}
 use Rattle.mr_tree.specs.declared.tree.Tree.{Tree}
 use Rattle.mr_tree.specs.declared.tree.Tree.TheVariants as tree
-use Rattle.mr_tree.specs.declared.tree.Tree.TheOpen.{Tree-F, Empty, Leaf, Inner}
+use Rattle.mr_tree.specs.declared.tree.Tree.TheOpen.{Tree-F, Empty, Leaf}
 use Rattle.mr_tree.specs.declared.tree.Tree.TheViews.{out-Tree}
 use Rattle.mr_tree.specs.declared.tree.Tree.TheFolds.{every-Tree}
+use Rattle.mr_tree.proofs.Filled.{inner_not_empty}
 use Rattle.mr_tree.proofs.Equations.{level-Inner, level-Leaf}
 use Rattle.mr_tree.proofs.Induction.{tree_induction, here-Leaf, here-Inner, every_child, every-Leaf, every-Inner}
 use Rattle.mr_split.specs.Choice.{choose}
 use Rattle.mr_split.specs.Split.{sides}
+use Rattle.mr_split.proofs.Counts.{all_both}
 use Rattle.mr_grow.specs.Grow.{outline, grown, ins, root_over, in_place, parted, leaves_over, nodes_over}
 use Rattle.mr_grow.specs.Parts.{first_part, second_part}
 use Rattle.mr_grow.specs.Views.{IsRooted}
-use Rattle.mr_grow.proofs.Cutting.{splits, all_first, all_second, all_both}
+use Rattle.mr_grow.proofs.Cutting.{splits, all_first, all_second}
 use Rattle.mr_grow.proofs.Grown.{beside, firsts, grown-Empty, grown-Leaf, grown-Inner, leaves_one, leaves_two, nodes_one, nodes_two}
 
 -- a node of level n below the root
@@ -34,10 +36,6 @@ pub record Stands (n : ℕ) (t : Tree) : Type 0 where
 
 leaf_there : (rs : List Record) → tree.Leaf rs ≢ tree.Empty
 leaf_there rs e = let opened : ◌≡◌ {A = Tree-F Tree} (Leaf rs) Empty = sym (tree.outs-Leaf rs) ∙ ap out-Tree e
-    ∙ tree.outs-Empty in cc
-
-inner_there : (ts : List Tree) → tree.Inner ts ≢ tree.Empty
-inner_there ts e = let opened : ◌≡◌ {A = Tree-F Tree} (Inner ts) Empty = sym (tree.outs-Inner ts) ∙ ap out-Tree e
     ∙ tree.outs-Empty in cc
 
 pub leaf_stands : (rs : List Record) → 6 ≤ length rs → length rs ≤ 16 → Stands 0 (tree.Leaf rs)
@@ -72,7 +70,7 @@ pub inner_stands : (k : ℕ) (ts : List Tree) → 24 ≤ length ts → length ts
     (k + 1) (tree.Inner ts)
 inner_stands k ts low high all = record {
   here = level-Inner ts ∙ ap (λ m. m + 1) (first_is k ts (omega (arith, low)) all);
-  there = inner_there ts;
+  there = inner_not_empty ts;
   one_level = one_level_over k ts (omega (arith, low)) all;
   filled = every-Inner IsFilled ts (each_filled k ts all) (low, high);
 }

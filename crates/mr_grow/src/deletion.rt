@@ -1,3 +1,5 @@
+//! Deletion, and how it sets aside what too small nodes hold.
+
 ghost use Rattle.std.specs.Prelude.{◌≡◌, ◌≤◌, ℕ, true, length, IfOk, IfErr, OnOk};
 ghost use Rattle.mr_record.specs.Sorting.{sorted_by_key};
 ghost use Rattle.mr_record.specs.declared.record.Record as types;

@@ -1,3 +1,5 @@
+//! Where the record with a number is.
+
 ghost use Rattle.std.specs.Prelude.{◌≡◌};
 ghost use Rattle.mr_tree.specs.Tree.{records as records_in};
 ghost use Rattle.mr_grow.specs.Found.{has as has_number, is_numbered, place_of};

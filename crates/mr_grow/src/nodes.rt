@@ -1,3 +1,5 @@
+//! Nodes that have taken one entry more, and are split where that is too much.
+
 ghost use Rattle.std.specs.Prelude.{◌≡◌, ◌≤◌, ◌<◌, length, map, IfOk};
 ghost use Rattle.mr_record.specs.declared.record.Record as types;
 ghost use Rattle.mr_geom.specs.Rectangle.{Rectangle};

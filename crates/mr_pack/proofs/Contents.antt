@@ -1,14 +1,12 @@
 -- The tree that bulk load makes has the records that it was made of, and is well formed where their numbers differ.
-use Rattle.std.proofs.Common.{◌≡◌, ◌≢◌, ℕ, suc, zero, ◌^◌, ◌<◌, ◌≤◌, Bool, true, false, List, [], ◌∷◌, ◌++◌, length, map, refl, sym, ap, subst, ◌∙◌, arith}
-use Rattle.std.specs.Prelude.{All, AllPairs, None, ◌==◌}
+use Rattle.std.proofs.Common.{◌≡◌, ℕ, suc, zero, ◌^◌, ◌<◌, ◌≤◌, List, [], ◌∷◌, ◌++◌, length, map, refl, sym, ap, subst, ◌∙◌, arith}
+use Rattle.std.specs.Prelude.{All, AllPairs, None}
 use Rattle.std.specs.List.{flat_map}
 use Rattle.std.specs.List.Sorted.{IsPermutation}
 use Rattle.std.proofs.lemmas.List.{append-nil}
 use Rattle.std.proofs.lemmas.List.Concat.{flat_map-append}
-use Rattle.std.proofs.lemmas.List.Elements.{All-nil, All-cons}
-use Rattle.std.proofs.lemmas.List.Kept.{AllPairs-cons}
+use Rattle.std.proofs.lemmas.List.Folds.{flat_map-map}
 use Rattle.std.proofs.lemmas.List.Sorted.{IsPermutation-refl, IsPermutation-trans, IsPermutation-sym, IsPermutation-map, All-permutation, length_permutation}
-use borrow.Author.Tests.{eqb-false, eq-eqb}
 use Rattle.mr_record.specs.declared.record.Record.{Record}
 use Rattle.mr_record.specs.Record.{IsRecord}
 use Rattle.mr_tree.specs.Tree.{records}
@@ -19,19 +17,14 @@ use Rattle.mr_tree.proofs.Equations.{records-Inner, records-Leaf, records-Empty}
 use Rattle.mr_pack.specs.Cuts.{group_count}
 use Rattle.mr_pack.specs.Entries.{in_groups, arranged}
 use Rattle.mr_pack.specs.Pack.{placed_record, placed_nodes, leaves_of, level_above, root_above, pack}
-use Rattle.mr_pack.specs.Repeats.{occurrences}
 use Rattle.mr_pack.specs.Twice.{numbers_of}
 use Rattle.mr_pack.specs.declared.placed.Placed.{Placed}
+use Rattle.mr_pack.proofs.Apart.{Apart, each_once, numbers_differ}
 use Rattle.mr_pack.proofs.Groups.{arranged_mixes, items, items_mixed, groups_together}
 use Rattle.mr_pack.proofs.Numbers.{some_groups}
-use Rattle.mr_pack.proofs.Repeats.{tells_of_mixed, same_more, other_more}
+use Rattle.mr_pack.proofs.Repeats.{tells_of_mixed}
 use Rattle.mr_pack.proofs.Roots.{root_of_none, root_of_one, root_of_more, fewer_above}
 use Rattle.mr_pack.proofs.Standing.{items_of_nodes, tree_stands}
-
-of_images : {A B C : Type 0} (f : B → List C) (g : A → B) (xs : List A) →
-    flat_map f (map g xs) ≡ flat_map (λ x. f (g x)) xs
-of_images f g [] = refl
-of_images f g (x ∷ xs) = ap (λ ys. f (g x) ++ ys) (of_images f g xs)
 
 records_of_leaves : (gs : List (List Record)) → flat_map records (map (λ rs. tree.Leaf rs) gs) ≡ flat_map (λ g. g) gs
 records_of_leaves [] = refl
@@ -41,7 +34,7 @@ records_of_inner : (gs : List (List Tree)) →
     flat_map records (map (λ ts. tree.Inner ts) gs) ≡ flat_map records (flat_map (λ g. g) gs)
 records_of_inner [] = refl
 records_of_inner (g ∷ gs) =
-    (λ i. (records-Inner g ∙ of_images (λ list. list) records g) i ++ records_of_inner gs i)
+    (λ i. (records-Inner g ∙ flat_map-map (λ list. list) records g) i ++ records_of_inner gs i)
     ∙ sym (flat_map-append records g (flat_map (λ h. h) gs))
 
 items_of_records : (rs : List Record) → items (map placed_record rs) ≡ rs
@@ -64,11 +57,12 @@ above_mix ts =
     let p = group_count (length es) 64 in
     let some : 0 < length es → 0 < p = some_groups (length es) 64 (omega arith) in
     let of_entry : Placed Tree → List Record = λ e. records e.item in
-    let before : flat_map of_entry es ≡ flat_map records ts = sym (of_images records (λ (e : Placed Tree). e.item) es)
+    let before : flat_map of_entry es ≡ flat_map records ts =
+    sym (flat_map-map records (λ (e : Placed Tree). e.item) es)
     ∙ ap (flat_map records) (items_of_nodes 0 ts) in
     let after : flat_map records (map (λ us. tree.Inner us) (in_groups p es)) ≡ flat_map of_entry (arranged p es) =
     records_of_inner (in_groups p es) ∙ ap (flat_map records) (groups_together p es some)
-    ∙ of_images records (λ (e : Placed Tree). e.item) (arranged p es) in
+    ∙ flat_map-map records (λ (e : Placed Tree). e.item) (arranged p es) in
     subst (IsPermutation (flat_map records ts)) (sym after)
     (subst (λ us. IsPermutation us (flat_map of_entry (arranged p es))) before (arranged_mixes of_entry p es some))
 
@@ -93,42 +87,9 @@ tree_mixes rs =
     (records (root_above (length (leaves_of rs)) (leaves_of rs))) (leaves_mix rs)
     (root_mix (length (leaves_of rs)) (leaves_of rs) (omega arith))
 
--- ---- numbers that stand once differ
-
-none_has : (n : ℕ) (rs : List Record) → occurrences n (numbers_of rs) ≡ 0 → All (λ (r : Record). n ≢ r.number) rs
-none_has n [] none = All-nil (λ (r : Record). n ≢ r.number)
-none_has n (r ∷ rs) none =
-    All-cons (λ (s : Record). n ≢ s.number) r rs (here (r.number == n) refl)
-    (none_has n rs (rest (r.number == n) refl))
-  where
-    here : (b : Bool) → (r.number == n) ≡ b → n ≢ r.number
-    here true e = λ same. omega (arith, none, same_more n r.number (numbers_of rs) e)
-    here false e = λ same. eqb-false r.number n e (sym same)
-
-    rest : (b : Bool) → (r.number == n) ≡ b → occurrences n (numbers_of rs) ≡ 0
-    rest true e = absurd (omega (arith, none, same_more n r.number (numbers_of rs) e))
-    rest false e = omega (arith, none, other_more n r.number (numbers_of rs) e)
-
-fewer_in_rest : (r : Record) (rs : List Record) → ((n : ℕ) → occurrences n (numbers_of (r ∷ rs)) ≤ 1) → (n : ℕ) →
-    occurrences n (numbers_of rs) ≤ 1
-fewer_in_rest r rs few n = at (r.number == n) refl
-  where
-    at : (b : Bool) → (r.number == n) ≡ b → occurrences n (numbers_of rs) ≤ 1
-    at true e = omega (arith, few n, same_more n r.number (numbers_of rs) e)
-    at false e = omega (arith, few n, other_more n r.number (numbers_of rs) e)
-
-pub numbers_differ : (rs : List Record) → ((n : ℕ) → occurrences n (numbers_of rs) ≤ 1) →
-    AllPairs (λ (a b : Record). a.number ≢ b.number) rs
-numbers_differ [] few = λ i j d low high. absurd (omega (arith, low, high))
-numbers_differ (r ∷ rs) few =
-    let none : occurrences r.number (numbers_of rs) ≡ 0 =
-    omega (arith, few r.number, same_more r.number r.number (numbers_of rs) (eq-eqb r.number r.number refl)) in
-    AllPairs-cons (λ (a b : Record). a.number ≢ b.number) r rs (none_has r.number rs none)
-    (numbers_differ rs (fewer_in_rest r rs few))
-
 pub tree_well_formed : (rs : List Record) → length rs ≤ 2 ^ 20 → All IsRecord rs →
-    ((n : ℕ) → occurrences n (numbers_of rs) ≤ 1) → WellFormed (pack rs)
-tree_well_formed rs small each few =
+    AllPairs Apart rs → WellFormed (pack rs)
+tree_well_formed rs small each apart =
     let root = tree_stands rs small in
     let mixed = tree_mixes rs in
     let numbers = IsPermutation-map (λ (r : Record). r.number) rs (records (pack rs)) mixed in
@@ -138,7 +99,7 @@ tree_well_formed rs small each few =
       filled = root.filled;
       distinct = numbers_differ (records (pack rs))
           (tells_of_mixed None (numbers_of (records (pack rs))) (numbers_of rs)
-          (IsPermutation-sym (numbers_of rs) (numbers_of (records (pack rs))) numbers) few);
+          (IsPermutation-sym (numbers_of rs) (numbers_of (records (pack rs))) numbers) (each_once rs apart));
       each = All-permutation IsRecord rs (records (pack rs)) mixed each;
       few = omega (arith, length_permutation rs (records (pack rs)) mixed, small);
     }

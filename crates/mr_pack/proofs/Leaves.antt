@@ -1,15 +1,18 @@
--- The leaves of a tree and their digests at each kind of node.
+-- The leaves of a tree and their entries at each kind of node.
 use Rattle.std.proofs.Common.{arith, ◌≡◌, ◌≤◌, ◌<◌, ℕ, ◌+◌, ◌++◌, List, [], ◌∷◌, map, take, drop, length, get_or, refl, sym, ap, subst, ◌∙◌}
 use Rattle.std.specs.List.{flat_map, AllByRecursion}
-use Rattle.std.proofs.lemmas.List.{map-append, length-map, length-append, drop_more}
+use Rattle.std.proofs.lemmas.List.{map-append, length-map, length-append, drop_more, flat_map_more, take_more, take_all}
 use Rattle.std.proofs.Math.Seq.{take-append_seam, drop-append_seam}
+use Rattle.std.proofs.lemmas.List.Folds.{flat_map-map}
 use Rattle.mr_record.specs.declared.record.Record.{Record}
+use Rattle.mr_tree.specs.Digest.{Scheme}
+use Rattle.mr_tree.specs.declared.entry.Entry.{Entry}
 use Rattle.mr_tree.specs.Slim.{IsSlim, IsSlimNode}
 use Rattle.mr_tree.specs.declared.tree.Tree.{Tree}
 use Rattle.mr_tree.specs.declared.tree.Tree.TheVariants as tree
 use Rattle.mr_tree.proofs.Folds.{fold-Empty, fold-Leaf, fold-Inner}
 use Rattle.mr_tree.proofs.Induction.{tree_induction, here-Leaf, every_child}
-use Rattle.mr_pack.specs.Leaves.{leaves_step, leaves, leaf_digest, leaf_digests}
+use Rattle.mr_pack.specs.Leaves.{leaves_step, leaves, leaf_entry, leaf_entries}
 
 pub leaves-Empty : leaves tree.Empty ≡ []
 leaves-Empty = fold-Empty (List (List Record)) leaves_step
@@ -20,55 +23,91 @@ leaves-Leaf = fold-Leaf (List (List Record)) leaves_step
 pub leaves-Inner : (ts : List Tree) → leaves (tree.Inner ts) ≡ flat_map (λ list. list) (map leaves ts)
 leaves-Inner = fold-Inner (List (List Record)) leaves_step
 
-each_of : (hash : List ℕ → List ℕ) (ts : List Tree) →
-    map (leaf_digest hash) (flat_map (λ list. list) (map leaves ts)) ≡ flat_map (leaf_digests hash) ts
-each_of hash [] = refl
-each_of hash (t ∷ ts) =
-    map-append (leaf_digest hash) (leaves t) (flat_map (λ list. list) (map leaves ts))
-    ∙ ap (λ xs. leaf_digests hash t ++ xs) (each_of hash ts)
+pub leaves_below : (ts : List Tree) → leaves (tree.Inner ts) ≡ flat_map leaves ts
+leaves_below ts = leaves-Inner ts ∙ flat_map-map (λ list. list) leaves ts
 
-pub leaf_digests-Inner : (hash : List ℕ → List ℕ) (ts : List Tree) →
-    leaf_digests hash (tree.Inner ts) ≡ flat_map (leaf_digests hash) ts
-leaf_digests-Inner hash ts = ap (map (leaf_digest hash)) (leaves-Inner ts) ∙ each_of hash ts
+each_of : (s : Scheme) (ts : List Tree) → map (leaf_entry s) (flat_map leaves ts) ≡ flat_map (leaf_entries s) ts
+each_of s [] = refl
+each_of s (t ∷ ts) =
+    map-append (leaf_entry s) (leaves t) (flat_map leaves ts) ∙ ap (λ xs. leaf_entries s t ++ xs) (each_of s ts)
 
--- The digests that are left begin with those of the next child.
+pub leaf_entries-Inner : (s : Scheme) (ts : List Tree) →
+    leaf_entries s (tree.Inner ts) ≡ flat_map (leaf_entries s) ts
+leaf_entries-Inner s ts = ap (map (leaf_entry s)) (leaves_below ts) ∙ each_of s ts
 
-next_child : (hash : List ℕ → List ℕ) (ts : List Tree) (i : ℕ) (one : Tree) (rest : List (List ℕ)) →
-    one ≡ get_or ts i one → i < length ts → rest ≡ flat_map (leaf_digests hash) (drop i ts) →
-    rest ≡ leaf_digests hash one ++ flat_map (leaf_digests hash) (drop (i + 1) ts)
-next_child hash ts i one rest is within left =
-    left ∙ ap (flat_map (leaf_digests hash)) (drop_more ts i one within)
-    ∙ ap (λ x. leaf_digests hash x ++ flat_map (leaf_digests hash) (drop (i + 1) ts)) (sym is)
+-- The leaves of the children so far, and those of one more.
 
-pub child_fits : (hash : List ℕ → List ℕ) (ts : List Tree) (i : ℕ) (one : Tree) (rest : List (List ℕ)) →
-    one ≡ get_or ts i one → i < length ts → rest ≡ flat_map (leaf_digests hash) (drop i ts) →
-    length (leaves one) ≤ length rest
-child_fits hash ts i one rest is within left =
+pub gathered_more : (before so_far after : List (List Record)) (ts : List Tree) (i : ℕ) (one : Tree) →
+    so_far ≡ before ++ flat_map leaves (take i ts) → after ≡ so_far ++ leaves one →
+    one ≡ get_or ts i one → i < length ts → after ≡ before ++ flat_map leaves (take (i + 1) ts)
+gathered_more before so_far after ts i one all more is within =
+    more ∙ ap (λ xs. xs ++ leaves one) all ∙ flat_map_more leaves before (take i ts) one
+    ∙ ap (λ xs. before ++ flat_map leaves xs) (ap (λ x. take i ts ++ x ∷ []) is ∙ sym (take_more ts i one within))
+
+pub gathered_all : (before all : List (List Record)) (t : Tree) (ts items : List Tree) (n : ℕ) →
+    all ≡ before ++ flat_map leaves (take n items) → length items ≤ n → items ≡ ts → t ≡ tree.Inner ts →
+    all ≡ before ++ leaves t
+gathered_all before all t ts items n so_far end same is =
+    so_far ∙ (λ j. before ++ flat_map leaves ((take_all n items end ∙ same) j))
+    ∙ ap (λ xs. before ++ xs) (sym (leaves_below ts) ∙ ap leaves (sym is))
+
+pub counted_none : (t : Tree) (ts items : List Tree) → items ≡ ts → t ≡ tree.Inner ts →
+    0 + length (flat_map leaves (drop 0 items)) ≡ length (leaves t)
+counted_none t ts items same is =
+    let none : 0 + length (flat_map leaves (drop 0 items)) ≡ length (flat_map leaves (drop 0 items)) = omega arith in
+    none ∙ ap (λ xs. length (flat_map leaves xs)) same ∙ ap length (sym (leaves_below ts) ∙ ap leaves (sym is))
+
+pub counted_more : (sum n all : ℕ) (ts : List Tree) (i : ℕ) (one : Tree) →
+    sum + length (flat_map leaves (drop i ts)) ≡ all → n ≡ length (leaves one) → one ≡ get_or ts i one →
+    i < length ts → (sum + n) + length (flat_map leaves (drop (i + 1) ts)) ≡ all
+counted_more sum n all ts i one so_far count is within =
+    let rest = flat_map leaves (drop (i + 1) ts) in
     omega (
       arith,
-      length-map (leaves one) (leaf_digest hash),
-      length-append (leaf_digests hash one) (flat_map (leaf_digests hash) (drop (i + 1) ts)),
-      ap length (next_child hash ts i one rest is within left),
+      so_far,
+      count,
+      ap (λ xs. length (flat_map leaves xs)) (drop_more ts i one within) ∙ ap (λ x. length (leaves x ++ rest)) (sym is),
+      length-append (leaves one) rest,
     )
 
-pub child_front : (hash : List ℕ → List ℕ) (ts : List Tree) (i : ℕ) (one : Tree) (rest : List (List ℕ)) →
-    one ≡ get_or ts i one → i < length ts → rest ≡ flat_map (leaf_digests hash) (drop i ts) →
-    (n : ℕ) (front : List (List ℕ)) → n ≡ length (leaves one) → front ≡ take n rest → front ≡ leaf_digests hash one
-child_front hash ts i one rest is within left n front count taken =
-    taken
-    ∙ (λ j. take ((count ∙ sym (length-map (leaves one) (leaf_digest hash))) j)
-    (next_child hash ts i one rest is within left j))
-    ∙ take-append_seam (leaf_digests hash one) (flat_map (leaf_digests hash) (drop (i + 1) ts))
+-- The entries that are left begin with those of the next child.
 
-pub child_back : (hash : List ℕ → List ℕ) (ts : List Tree) (i : ℕ) (one : Tree) (rest : List (List ℕ)) →
-    one ≡ get_or ts i one → i < length ts → rest ≡ flat_map (leaf_digests hash) (drop i ts) →
-    (n : ℕ) (back : List (List ℕ)) → n ≡ length (leaves one) → back ≡ drop n rest →
-    back ≡ flat_map (leaf_digests hash) (drop (i + 1) ts)
-child_back hash ts i one rest is within left n back count dropped =
+next_child : (s : Scheme) (ts : List Tree) (i : ℕ) (one : Tree) (rest : List Entry) →
+    one ≡ get_or ts i one → i < length ts → rest ≡ flat_map (leaf_entries s) (drop i ts) →
+    rest ≡ leaf_entries s one ++ flat_map (leaf_entries s) (drop (i + 1) ts)
+next_child s ts i one rest is within left =
+    left ∙ ap (flat_map (leaf_entries s)) (drop_more ts i one within)
+    ∙ ap (λ x. leaf_entries s x ++ flat_map (leaf_entries s) (drop (i + 1) ts)) (sym is)
+
+pub child_fits : (s : Scheme) (ts : List Tree) (i : ℕ) (one : Tree) (rest : List Entry) →
+    one ≡ get_or ts i one → i < length ts → rest ≡ flat_map (leaf_entries s) (drop i ts) →
+    length (leaves one) ≤ length rest
+child_fits s ts i one rest is within left =
+    omega (
+      arith,
+      length-map (leaves one) (leaf_entry s),
+      length-append (leaf_entries s one) (flat_map (leaf_entries s) (drop (i + 1) ts)),
+      ap length (next_child s ts i one rest is within left),
+    )
+
+pub child_front : (s : Scheme) (ts : List Tree) (i : ℕ) (one : Tree) (rest : List Entry) →
+    one ≡ get_or ts i one → i < length ts → rest ≡ flat_map (leaf_entries s) (drop i ts) →
+    (n : ℕ) (front : List Entry) → n ≡ length (leaves one) → front ≡ take n rest → front ≡ leaf_entries s one
+child_front s ts i one rest is within left n front count taken =
+    taken
+    ∙ (λ j. take ((count ∙ sym (length-map (leaves one) (leaf_entry s))) j)
+    (next_child s ts i one rest is within left j))
+    ∙ take-append_seam (leaf_entries s one) (flat_map (leaf_entries s) (drop (i + 1) ts))
+
+pub child_back : (s : Scheme) (ts : List Tree) (i : ℕ) (one : Tree) (rest : List Entry) →
+    one ≡ get_or ts i one → i < length ts → rest ≡ flat_map (leaf_entries s) (drop i ts) →
+    (n : ℕ) (back : List Entry) → n ≡ length (leaves one) → back ≡ drop n rest →
+    back ≡ flat_map (leaf_entries s) (drop (i + 1) ts)
+child_back s ts i one rest is within left n back count dropped =
     dropped
-    ∙ (λ j. drop ((count ∙ sym (length-map (leaves one) (leaf_digest hash))) j)
-    (next_child hash ts i one rest is within left j))
-    ∙ drop-append_seam (leaf_digests hash one) (flat_map (leaf_digests hash) (drop (i + 1) ts))
+    ∙ (λ j. drop ((count ∙ sym (length-map (leaves one) (leaf_entry s))) j)
+    (next_child s ts i one rest is within left j))
+    ∙ drop-append_seam (leaf_entries s one) (flat_map (leaf_entries s) (drop (i + 1) ts))
 
 -- Each leaf of a slim tree has few records.
 
@@ -84,16 +123,16 @@ abbrev HasSmallLeaves : Tree → Type 0
 HasSmallLeaves t = IsSlim t → AllByRecursion IsSmall (leaves t)
 
 all_small : (ts : List Tree) → AllByRecursion HasSmallLeaves ts → AllByRecursion IsSlim ts →
-    AllByRecursion IsSmall (flat_map (λ list. list) (map leaves ts))
+    AllByRecursion IsSmall (flat_map leaves ts)
 all_small [] below slim = tt
 all_small (t ∷ ts) below slim =
-    both_small (leaves t) (flat_map (λ list. list) (map leaves ts)) (below.0 slim.0) (all_small ts below.1 slim.1)
+    both_small (leaves t) (flat_map leaves ts) (below.0 slim.0) (all_small ts below.1 slim.1)
 
 pub leaves_small : (t : Tree) → IsSlim t → AllByRecursion IsSmall (leaves t)
 leaves_small = tree_induction HasSmallLeaves
     (λ slim. subst (AllByRecursion IsSmall) (sym leaves-Empty) tt)
     (λ rs slim. subst (AllByRecursion IsSmall) (sym (leaves-Leaf rs)) (here-Leaf IsSlimNode rs slim, tt))
-    (λ ts below slim. subst (AllByRecursion IsSmall) (sym (leaves-Inner ts))
+    (λ ts below slim. subst (AllByRecursion IsSmall) (sym (leaves_below ts))
     (all_small ts below (every_child IsSlimNode ts slim)))
 
 -- what holds of each image holds of each element, for the image

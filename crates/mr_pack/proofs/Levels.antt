@@ -2,6 +2,7 @@
 use Rattle.std.proofs.Common.{◌≡◌, ℕ, suc, ◌+◌, List, [], ◌∷◌, ◌++◌, length, map, refl, sym, ap, ◌∙◌, arith}
 use Rattle.std.specs.Prelude.{Option, Some, None}
 use Rattle.std.proofs.lemmas.List.{map_push, length-map}
+use Rattle.std.proofs.lemmas.Simd.{map-map}
 use Rattle.mr_geom.specs.Rectangle.{Rectangle}
 use Rattle.mr_tree.specs.Tree.{rect}
 use Rattle.mr_tree.specs.declared.tree.Tree.{Tree}
@@ -37,3 +38,17 @@ one_more_entry f entries now nodes node one bounds position is here round at so_
     ∙ (λ i. placed_nodes 0 (map f nodes) ++ placed (sym round i) (e i) (f node) ∷ [])
     ∙ sym (node_entries_more 0 (map f nodes) (f node))
     ∙ ap (placed_nodes 0) (sym (map_push f nodes node))
+
+-- what nodes of the groups so far stand for, and that of one more
+pub one_more_node : {S X : Type 0} (f : S → Tree) (g : X → Tree) (nodes now : List S) (one : S) (groups : List X)
+    (group : X) →
+    map f nodes ≡ map g groups → now ≡ nodes ++ one ∷ [] → f one ≡ g group →
+    map f now ≡ map g (groups ++ group ∷ [])
+one_more_node f g nodes now one groups group so_far is here =
+    ap (map f) is ∙ map_push f nodes one ∙ (λ i. so_far i ++ here i ∷ []) ∙ sym (map_push g groups group)
+
+-- a node over each group, as what the groups hold
+pub over_groups : {X Y B : Type 0} (over : List Y → Tree) (f : X → Y) (items : B → List X) (groups : List B) →
+    map (λ g. over (map f (items g))) groups ≡ map over (map (map f) (map items groups))
+over_groups over f items groups =
+    sym (map-map over (λ g. map f (items g)) groups) ∙ ap (map over) (sym (map-map (map f) items groups))

@@ -59,7 +59,7 @@ once_more m n rest below few = at (n == m) refl
     )
     at false e = omega (arith, other_more m n rest e)
 
-more : (k n : ℕ) (rest : List ℕ) → occurrences k rest ≤ occurrences k (n ∷ rest)
+pub more : (k n : ℕ) (rest : List ℕ) → occurrences k rest ≤ occurrences k (n ∷ rest)
 more k n rest = omega (arith, occurrences-cons k n rest)
 
 -- what a search for a repeat tells of a list

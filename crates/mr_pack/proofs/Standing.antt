@@ -9,9 +9,10 @@ use Rattle.mr_tree.specs.Tree.{level, first_level, rect}
 use Rattle.mr_tree.specs.WellFormed.{HasOneLevel, IsFilled, IsFilledRoot}
 use Rattle.mr_tree.specs.declared.tree.Tree.{Tree}
 use Rattle.mr_tree.specs.declared.tree.Tree.TheVariants as tree
-use Rattle.mr_tree.specs.declared.tree.Tree.TheOpen.{Tree-F, Empty, Leaf, Inner}
+use Rattle.mr_tree.specs.declared.tree.Tree.TheOpen.{Tree-F, Empty, Leaf}
 use Rattle.mr_tree.specs.declared.tree.Tree.TheViews.{out-Tree}
 use Rattle.mr_tree.specs.declared.tree.Tree.TheFolds.{every-Tree}
+use Rattle.mr_tree.proofs.Filled.{inner_not_empty}
 use Rattle.mr_tree.proofs.Equations.{level-Inner, level-Leaf, level-Empty}
 use Rattle.mr_tree.proofs.Induction.{every-Empty, every-Leaf, every-Inner}
 use Rattle.mr_pack.specs.Cuts.{group_count}
@@ -37,11 +38,6 @@ leaf_there : (rs : List Record) → tree.Leaf rs ≢ tree.Empty
 leaf_there rs e =
     let opened : ◌≡◌ {A = Tree-F Tree} (Leaf rs) Empty = sym (tree.outs-Leaf rs) ∙ ap out-Tree e ∙ tree.outs-Empty in cc
 
-inner_there : (ts : List Tree) → tree.Inner ts ≢ tree.Empty
-inner_there ts e =
-    let opened : ◌≡◌ {A = Tree-F Tree} (Inner ts) Empty = sym (tree.outs-Inner ts) ∙ ap out-Tree e ∙ tree.outs-Empty in
-    cc
-
 leaf_stands : (p : ℕ) (rs : List Record) → IsGroup (λ r. Unit {0}) p 1 8 16 rs → Stands 0 p (tree.Leaf rs)
 leaf_stands p rs g = record {
   here = level-Leaf rs;
@@ -63,7 +59,7 @@ inner_stands n p q ts many g =
     let first = level_of_first n q ts (omega (arith, g.at_least)) g.each in
     record {
       here = level-Inner ts ∙ ap (λ m. m + 1) first;
-      there = inner_there ts;
+      there = inner_not_empty ts;
       one_level = every-Inner HasOneLevel ts
           (recursion_from_All (every-Tree HasOneLevel) ts (λ k d within. (g.each k d within).one_level))
           (λ k d within. ((g.each k d within).there, (g.each k d within).here ∙ sym first));

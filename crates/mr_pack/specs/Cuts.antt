@@ -2,8 +2,8 @@
 use Rattle.std.specs.Prelude.{ℕ, zero, suc, ◌+◌, ◌*◌, ◌/◌, nat_le, List, [], ◌∷◌, ◌++◌, slice_range}
 use Rattle.mr_pack.specs.Least.{least}
 
--- the list cut at some places: part i has the positions from `start i` up to, and without, `start
--- (i + 1)`
+-- the list cut at some places: part i has the positions from `start i` up to, and without,
+-- `start (i + 1)`
 abbrev pub parts : {A : Type 0} → (start : ℕ → ℕ) → (count : ℕ) → List A → List (List A)
 parts start zero xs = []
 parts start (suc i) xs = parts start i xs ++ slice_range xs (start i) (start (i + 1)) ∷ []

@@ -1,8 +1,9 @@
--- The leaves of a tree and their digests, left to right.
-use Rattle.std.specs.Prelude.{ℕ, List, [], ◌∷◌, map}
+-- The leaves of a tree and what is said of them, left to right.
+use Rattle.std.specs.Prelude.{List, [], ◌∷◌, map}
 use Rattle.std.specs.List.{flat_map}
 use Rattle.mr_record.specs.declared.record.Record.{Record}
-use Rattle.mr_tree.specs.Digest.{node_preimage}
+use Rattle.mr_tree.specs.Digest.{Scheme, entry_step}
+use Rattle.mr_tree.specs.declared.entry.Entry.{Entry}
 use Rattle.mr_tree.specs.declared.tree.Tree.{Tree}
 use Rattle.mr_tree.specs.declared.tree.Tree.TheOpen.{Tree-F, Empty, Leaf, Inner}
 use Rattle.mr_tree.specs.declared.tree.Tree.TheFolds.{fold-Tree}
@@ -16,10 +17,10 @@ leaves_step (Inner lists) = flat_map (λ list. list) lists
 abbrev pub leaves : Tree → List (List Record)
 leaves = fold-Tree (List (List Record)) leaves_step
 
--- the digest of a leaf with these records
-abbrev pub leaf_digest : (List ℕ → List ℕ) → List Record → List ℕ
-leaf_digest hash records = hash (node_preimage (Leaf records))
+-- what is said of a leaf with these records
+abbrev pub leaf_entry : Scheme → List Record → Entry
+leaf_entry s records = entry_step s (Leaf records)
 
--- the digest of each leaf
-abbrev pub leaf_digests : (List ℕ → List ℕ) → Tree → List (List ℕ)
-leaf_digests hash t = map (leaf_digest hash) (leaves t)
+-- what is said of each leaf
+abbrev pub leaf_entries : Scheme → Tree → List Entry
+leaf_entries s t = map (leaf_entry s) (leaves t)

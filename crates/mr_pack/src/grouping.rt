@@ -1,3 +1,5 @@
+//! How the entries of a level are put into slices and even groups.
+
 ghost use Rattle.std.specs.Prelude.{◌≡◌, ◌≤◌, ◌<◌, ◌^◌, length, map, OnOk, IfOk};
 ghost use Rattle.std.specs.Global.{Vec as list};
 ghost use Rattle.mr_pack.specs.Cuts.{group_count as count_of_groups, slice_count as count_of_slices, group_start as start_of_group, slice_start as start_of_slice, parts};

@@ -1,22 +1,23 @@
-//! The root of a packed map, where the digests of the leaves are computed in joined halves.
+//! The root of a packed map, where what is said of the leaves is computed in joined halves.
 
 ghost use Rattle.std.specs.Prelude.{◌≡◌, List, ◌++◌, ◌<◌, ◌≤◌, ◌^◌, length, map, drop, All, OnOk, IfOk};
 ghost use Rattle.std.specs.Int.{w64, from_be_bytes};
 ghost use Rattle.std.specs.Borrow.{Bor};
 ghost use Rattle.mr_record.specs.declared.record.Record as types;
+ghost use Rattle.mr_record.specs.declared.version.Version.TheVariants.{One};
 ghost use Rattle.mr_tree.specs.Limits.{leaf_limit};
 ghost use Rattle.mr_tree.specs.Tree.{level as level_in};
-ghost use Rattle.mr_tree.specs.Digest.{digest as digest_in, root};
+ghost use Rattle.mr_tree.specs.Digest.{by, entry, root};
 ghost use Rattle.mr_tree.specs.Slim.{IsSlim};
 ghost use Rattle.mr_tree.specs.WellFormed.{WellFormed, HasOneLevel};
 ghost use Rattle.mr_tree.specs.declared.tree.Tree.TheFolds.{every-Tree};
-ghost use Rattle.mr_pack.specs.Leaves.{leaves as leaves_in, leaf_digest as digest_of_leaf, leaf_digests};
+ghost use Rattle.mr_pack.specs.Leaves.{leaves as leaves_in, leaf_entry as entry_of_leaf, leaf_entries};
 
 use mr_halves::{Work, in_halves};
 use mr_outside::Gate;
-use mr_record::{Record, u64_of_bytes};
+use mr_record::{Record, Version, u64_of_bytes};
 use mr_tree::{
-    Hash32, Hashes, Tree, bounds, count_of, feed_entry, leaf_digest, level_of, open_inner,
+    Entry, Gathering, Hash32, Hashes, Tree, count_of, empty_entry, leaf_entry, level_of,
     root_digest,
 };
 use std::alloc::{AllocError, Global};
@@ -58,7 +59,7 @@ fn leaf_count(tree: &Tree) -> usize
     }
 }
 
-// What is done to each leaf: its digest is computed.
+// What is done to each leaf: it is hashed, and what is to be said of it is found.
 #[derive(Drop)]
 struct LeafHashing<'a, H: Hash32> {
     hash: PhantomData<H>,
@@ -76,35 +77,35 @@ fn last_number(digest: &[u8; 32]) -> u64
 impl<'a, H: Hash32> Work for LeafHashing<'a, H> {
     type Piece = &'a [Record];
 
-    type Found = [u8; 32];
+    type Found = Entry;
 
     ghost may = { λ w rs. length rs.now ≤ leaf_limit };
 
-    ghost gives = { λ w rs. digest_of_leaf H.of rs.now };
+    ghost gives = { λ w rs. entry_of_leaf (by One H.of) rs.now };
 
-    ghost number_of = { λ digest. from_be_bytes w64 (drop 24 digest) };
+    ghost number_of = { λ found. from_be_bytes w64 (drop 24 found.digest) };
 
-    fn carry_out(&self, piece: &&'a [Record]) -> Result<[u8; 32], AllocError> {
-        Ok(leaf_digest::<H>(piece))
+    fn carry_out(&self, piece: &&'a [Record]) -> Result<Entry, AllocError> {
+        Ok(leaf_entry::<H>(piece))
     }
 
-    fn number(found: &[u8; 32]) -> u64
-        ensures { result ≡ from_be_bytes w64 (drop 24 found.now) }
+    fn number(found: &Entry) -> u64
+        ensures { result ≡ from_be_bytes w64 (drop 24 found.now.digest) }
     {
-        last_number(found)
+        last_number(&found.digest)
     }
 }
 
-// The digests of some leaves.
+// The entries of some leaves.
 fn hashed<H: Hash32, G: Gate, R: Threads + Sync>(
     rt: &R,
     alloc: Global,
     list: &[&[Record]],
     gate: &G,
-) -> Result<Vec<[u8; 32]>, AllocError>
+) -> Result<Vec<Entry>, AllocError>
     requires { All (λ (rs : Bor (List types.Record)). length rs.now ≤ leaf_limit) list.now }
     ensures { IfOk result (λ v. v.items
-        ≡ map (λ (rs : Bor (List types.Record)). digest_of_leaf H.of rs.now) list.now) }
+        ≡ map (λ (rs : Bor (List types.Record)). entry_of_leaf (by One H.of) rs.now) list.now) }
 {
     let work = LeafHashing::<H> {
         hash: PhantomData,
@@ -113,27 +114,27 @@ fn hashed<H: Hash32, G: Gate, R: Threads + Sync>(
     in_halves(rt, alloc, &work, list, gate)
 }
 
-// The digest of a node over the digests of its leaves.
-fn digest_over<H: Hashes>(tree: &Tree, level: u8, digests: &[[u8; 32]]) -> [u8; 32]
+// What is said of a node, over the entries of its leaves.
+fn entry_over<H: Hashes>(tree: &Tree, level: u8, entries: &[Entry]) -> Entry
     requires slim { IsSlim tree.now }
     requires alike { every-Tree HasOneLevel tree.now }
     requires level { level ≡ level_in tree.now }
-    requires digests { digests.now ≡ leaf_digests H.of tree.now }
-    ensures { result ≡ digest_in H.of tree.now }
+    requires entries { entries.now ≡ leaf_entries (by One H.of) tree.now }
+    ensures { result ≡ entry (by One H.of) tree.now }
 {
     match tree {
-        Tree::Empty => H::start().finish(),
-        Tree::Leaf(_) => digests[0],
+        Tree::Empty => empty_entry::<H>(),
+        Tree::Leaf(_) => entries[0],
         Tree::Inner(children) => {
-            let mut hasher = open_inner::<H>(level, children.as_slice().len() as u8);
-            let mut rest = digests;
+            let mut all = Gathering::<H>::inner(level, children.as_slice().len() as u8);
+            let mut rest = entries;
             for child in children.as_slice() {
                 let (front, back) = rest.split_at(leaf_count(child));
-                let digest = digest_over::<H>(child, level - 1, front);
-                feed_entry(&mut hasher, bounds(child), &digest);
+                let one = entry_over::<H>(child, level - 1, front);
+                all.add_entry(&one);
                 rest = back;
             }
-            hasher.finish()
+            all.close(level)
         }
     }
 }
@@ -146,12 +147,11 @@ pub(crate) fn first_root<H: Hash32, G: Gate, R: Threads + Sync>(
     gate: &G,
 ) -> Result<[u8; 32], AllocError>
     requires { WellFormed tree.now }
-    ensures { IfOk result (λ digest. digest ≡ root H.of tree.now 0) }
+    ensures { IfOk result (λ digest. digest ≡ root (by One H.of) tree.now 0) }
 {
     let mut list = Vec::new(alloc);
     gather_leaves(tree, &mut list)?;
-    let digests = hashed::<H, G, R>(rt, alloc, &list, gate)?;
-    let level = level_of(tree);
-    let digest = digest_over::<H>(tree, level, &digests);
-    Ok(root_digest::<H>(0, count_of(tree), level, bounds(tree), &digest))
+    let entries = hashed::<H, G, R>(rt, alloc, &list, gate)?;
+    let entry = entry_over::<H>(tree, level_of(tree), &entries);
+    Ok(root_digest::<H>(Version::One, 0, count_of(tree), &entry))
 }

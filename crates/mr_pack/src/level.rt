@@ -1,3 +1,5 @@
+//! The nodes of a level: leaves over records, and inner nodes over the level below.
+
 ghost use Rattle.std.specs.Prelude.{◌≡◌, ◌≤◌, ◌<◌, ◌^◌, length, map, OnOk, IfOk, Some};
 ghost use Rattle.std.specs.Global.{Vec as list};
 ghost use Rattle.std.specs.Borrow.{Bor};
@@ -82,8 +84,8 @@ fn record_entries(alloc: Global, records: &[Record]) -> Result<Vec<Placed<&Recor
 // A leaf of each group.
 fn leaves_of_groups(alloc: Global, groups: &[Vec<&Record>]) -> Result<Vec<Node>, AllocError>
     ensures { IfOk result (λ v. map (λ (n : node). n.tree) v.items
-        ≡ map (λ rs. variants.Leaf rs) (map (map (λ (r : Bor types.Record). r.now))
-        (map (λ (g : list (Bor types.Record)). g.items) groups.now))) }
+        ≡ map (λ (g : list (Bor types.Record)). variants.Leaf
+        (map (λ (r : Bor types.Record). r.now) g.items)) groups.now) }
 {
     let mut leaves = Vec::with_capacity(alloc, groups.len())?;
     for group in groups {
@@ -119,8 +121,8 @@ fn entries_of_nodes(alloc: Global, nodes: Vec<Node>) -> Result<Vec<Placed<Node>>
 // An inner node over each group.
 fn inner_nodes(alloc: Global, groups: Vec<Vec<Node>>) -> Result<Vec<Node>, AllocError>
     ensures { IfOk result (λ v. map (λ (n : node). n.tree) v.items
-        ≡ map (λ ts. variants.Inner ts) (map (map (λ (n : node). n.tree))
-        (map (λ (g : list node). g.items) groups.items))) }
+        ≡ map (λ (g : list node). variants.Inner (map (λ (n : node). n.tree) g.items))
+        groups.items) }
 {
     let mut level = Vec::with_capacity(alloc, groups.len())?;
     for group in groups {

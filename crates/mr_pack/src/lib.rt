@@ -10,4 +10,4 @@ mod node;
 mod placed;
 mod twice;
 
-pub use load::{PackErr, pack, pack_joined};
+pub use load::{PackErr, pack, pack_distinct, pack_joined, pack_joined_distinct};

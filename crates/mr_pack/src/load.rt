@@ -1,7 +1,10 @@
+//! A whole tree, from its leaves up to its root.
+
 ghost use Rattle.std.specs.Prelude.{◌≡◌, ◌≢◌, ◌≤◌, ◌^◌, ◌<◌, length, map, IfOk, IfErr, OnOk, AllPairs};
 ghost use Rattle.std.specs.List.Sorted.{IsPermutation};
 ghost use Rattle.mr_record.specs.declared.record.Record as types;
-ghost use Rattle.mr_tree.specs.Digest.{root as root_in};
+ghost use Rattle.mr_record.specs.declared.version.Version.TheVariants.{One};
+ghost use Rattle.mr_tree.specs.Digest.{by, root as root_in};
 ghost use Rattle.mr_tree.specs.Tree.{records};
 ghost use Rattle.mr_tree.specs.WellFormed.{WellFormed};
 ghost use Rattle.mr_pack.specs.HalfFull.{IsHalfFullBelow};
@@ -70,6 +73,53 @@ fn packed(alloc: Global, list: &[Record]) -> Result<Tree, AllocError>
     root(alloc, level)
 }
 
+// Refuses records of which two have one number.
+fn check_numbers(alloc: Global, list: &[Record]) -> Result<(), PackErr>
+    ensures apart { OnOk result
+        (AllPairs (λ (a b : types.Record). a.number ≢ b.number) list.now) }
+    ensures refused { IfErr result (λ e. IsCause e list.now) }
+    ensures only_memory { AllPairs (λ (a b : types.Record). a.number ≢ b.number) list.now
+        → IfErr result (λ e. e ≡ errors.NoMemory) }
+{
+    match least_twice(alloc, list)? {
+        Some(number) => Err(PackErr::NumberTwice { number }),
+        None => Ok(()),
+    }
+}
+
+/// As `pack`, where it is known that the numbers differ; it does not look.
+pub fn pack_distinct(alloc: Global, list: Vec<Record>) -> Result<Tree, AllocError>
+    requires few { length list.items ≤ 2 ^ 20 }
+    requires apart { AllPairs (λ (a b : types.Record). a.number ≢ b.number) list.items }
+    ensures exact { IfOk result (λ t. t ≡ pack list.items) }
+    ensures well_formed { IfOk result WellFormed }
+    ensures half_full { IfOk result IsHalfFullBelow }
+    ensures same_records { IfOk result (λ t. IsPermutation list.items (records t)) }
+{
+    are_records(&list);
+    packed(alloc, &list)
+}
+
+/// As `pack_joined`, where it is known that the numbers differ; it does not look.
+pub fn pack_joined_distinct<H: Hash32, G: Gate, R: Threads + Sync>(
+    rt: &R,
+    alloc: Global,
+    list: Vec<Record>,
+    gate: &G,
+) -> Result<(Tree, [u8; 32]), AllocError>
+    requires few { length list.items ≤ 2 ^ 20 }
+    requires apart { AllPairs (λ (a b : types.Record). a.number ≢ b.number) list.items }
+    ensures exact { IfOk result (λ p. p.0 ≡ pack list.items) }
+    ensures root { IfOk result (λ p. p.1 ≡ root_in (by One H.of) (pack list.items) 0) }
+    ensures well_formed { IfOk result (λ p. WellFormed p.0) }
+    ensures half_full { IfOk result (λ p. IsHalfFullBelow p.0) }
+    ensures same_records { IfOk result (λ p. IsPermutation list.items (records p.0)) }
+{
+    let tree = pack_distinct(alloc, list)?;
+    let digest = first_root::<H, G, R>(rt, alloc, &tree, gate)?;
+    Ok((tree, digest))
+}
+
 /// Packs at most 2^20 records into a tree with as few nodes on each level as there can be, where a
 /// leaf holds up to 16 records and an inner node up to 64 nodes. The entries of a level are put
 /// into vertical slices by the middles of their rectangles, each slice is sorted from below to
@@ -88,17 +138,14 @@ pub fn pack(alloc: Global, list: Vec<Record>) -> Result<Tree, PackErr>
     ensures only_memory { AllPairs (λ (a b : types.Record). a.number ≢ b.number) list.items
         → IfErr result (λ e. e ≡ errors.NoMemory) }
 {
-    are_records(&list);
-    match least_twice(alloc, &list)? {
-        Some(number) => Err(PackErr::NumberTwice { number }),
-        None => Ok(packed(alloc, &list)?),
-    }
+    check_numbers(alloc, &list)?;
+    Ok(pack_distinct(alloc, list)?)
 }
 
 /// Packs at most 2^20 records as `pack` does, and gives the root digest of the map beside the tree,
-/// at batch 0. The digests of the leaves are computed in joined halves (`mr_halves`): piece `i` is
-/// the leaf at place `i` from the left, counted from 0, and the gate is told the last 8 bytes of its
-/// digest as a big-endian number. No answer depends on the gate.
+/// at batch 0. The leaves are hashed in joined halves (`mr_halves`): piece `i` is the leaf at place
+/// `i` from the left, counted from 0, and the gate is told the last 8 bytes of its digest as a
+/// big-endian number. No answer depends on the gate.
 pub fn pack_joined<H: Hash32, G: Gate, R: Threads + Sync>(
     rt: &R,
     alloc: Global,
@@ -107,7 +154,7 @@ pub fn pack_joined<H: Hash32, G: Gate, R: Threads + Sync>(
 ) -> Result<(Tree, [u8; 32]), PackErr>
     requires { length list.items ≤ 2 ^ 20 }
     ensures exact { IfOk result (λ p. p.0 ≡ pack list.items) }
-    ensures root { IfOk result (λ p. p.1 ≡ root_in H.of (pack list.items) 0) }
+    ensures root { IfOk result (λ p. p.1 ≡ root_in (by One H.of) (pack list.items) 0) }
     ensures apart { OnOk result
         (AllPairs (λ (a b : types.Record). a.number ≢ b.number) list.items) }
     ensures well_formed { IfOk result (λ p. WellFormed p.0) }
@@ -117,7 +164,6 @@ pub fn pack_joined<H: Hash32, G: Gate, R: Threads + Sync>(
     ensures only_memory { AllPairs (λ (a b : types.Record). a.number ≢ b.number) list.items
         → IfErr result (λ e. e ≡ errors.NoMemory) }
 {
-    let tree = pack(alloc, list)?;
-    let digest = first_root::<H, G, R>(rt, alloc, &tree, gate)?;
-    Ok((tree, digest))
+    check_numbers(alloc, &list)?;
+    Ok(pack_joined_distinct::<H, G, R>(rt, alloc, list, gate)?)
 }

@@ -1,3 +1,5 @@
+//! A node of a level, while the tree is made.
+
 ghost use Rattle.std.specs.Prelude.{◌≡◌};
 ghost use Rattle.mr_tree.specs.Tree.{rect};
 

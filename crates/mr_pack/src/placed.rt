@@ -1,3 +1,5 @@
+//! An entry with what decides where it goes.
+
 ghost use Rattle.std.specs.Prelude.{◌≡◌, ◌+ℤ◌};
 ghost use Rattle.mr_pack.specs.Entries.{placed};
 

@@ -1,3 +1,5 @@
+//! The least number that two records have.
+
 ghost use Rattle.std.specs.Prelude.{◌≡◌, ◌≤◌, ℕ, IfOk, MatchOption};
 ghost use Rattle.std.specs.List.Sorted.{IsPermutation, IsNonDecreasing};
 ghost use Rattle.mr_pack.specs.Repeats.{occurrences, repeat_after, IsLeastTwice};

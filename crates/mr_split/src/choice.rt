@@ -1,3 +1,5 @@
+//! Which of some rectangles takes a new one.
+
 ghost use Rattle.std.specs.Prelude.{◌≡◌, ℕ, ◌<◌, ◌≤ℤ◌, length};
 ghost use Rattle.mr_split.specs.Choice.{rect_at, growth, is_fitter as fitter, choose as chosen};
 

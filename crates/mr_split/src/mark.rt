@@ -1,3 +1,5 @@
+//! Where an entry is, while its node is split.
+
 ghost use Rattle.std.specs.Prelude.{◌≡◌};
 ghost use Rattle.mr_split.specs.Split.{is as is_same, count as count_of};
 

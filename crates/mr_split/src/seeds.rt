@@ -1,3 +1,5 @@
+//! The two entries that the groups begin with.
+
 ghost use Rattle.std.specs.Prelude.{◌≡◌, ◌+◌, ◌-◌, ◌<◌, ◌≤◌, length};
 ghost use Rattle.std.specs.List.{fold, range_with_len};
 ghost use Rattle.mr_split.specs.Seeds.{waste as waste_of, seeds as seeds_of, wastes_more, pairs_of};

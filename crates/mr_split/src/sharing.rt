@@ -1,3 +1,5 @@
+//! How the other entries are put into the two groups, one by one.
+
 ghost use Rattle.std.specs.Prelude.{◌≡◌, ◌-◌, ◌*◌, ◌^◌, ◌<◌, ◌≤◌, pos, length};
 ghost use Rattle.mr_split.specs.Split.{member as member_of, bounds as bounds_of, area_of as area_in, growth_of, urgency as urgency_of, most_urgent as most_urgent_of, is_second_fitter as second_fitter, placed, needs_all as needs, filled, shared};
 
@@ -29,6 +31,7 @@ fn bounds(list: &[Rect], marks: &[Mark], group: Mark) -> Option<Rect>
     all
 }
 
+// The area of a union, 0 where there is none.
 fn area_of(group: &Option<Rect>) -> u64
     ensures { pos result ≡ area_in group.now }
 {

@@ -4,7 +4,7 @@ use Rattle.std.specs.List.{flat_map}
 use Rattle.mr_tree.specs.Tree.{records}
 use Rattle.mr_tree.proofs.Equations.{records-Leaf}
 use Rattle.mr_grow.specs.Found.{has, is_numbered, place_of}
-use Rattle.mr_grow.proofs.Found.{place_any}
+use Rattle.mr_grow.proofs.Found.{place_any, not_in_first}
 use Rattle.mr_grow.proofs.Kept.{records_below}
 use Rattle.mr_grow.proofs.finding.+has.Goals as goal
 
@@ -12,6 +12,12 @@ pub loop-child-init : goal.loop-child-init
 loop-child-init t c =
     ap (has c.args.number) (ap (flat_map records) c.as_slice-child-items.ensures ∙ sym
     (records_below c.in-Inner.children) ∙ sym (ap records c.in-Inner.is))
+
+pub loop-child-preserved : goal.loop-child-preserved
+loop-child-preserved t c =
+    not_in_first c.args.number (has c.args.number (records c.args.tree.now)) c.as_slice-child-items.result.now
+    c.loop-child.child-index c.child-item.result c.loop-child.invariant c.child-item.is c.loop-child-test.true
+    (sym c.has.ensures ∙ c.if-has.false)
 
 pub returns-in-Leaf : goal.returns-in-Leaf
 returns-in-Leaf t c =

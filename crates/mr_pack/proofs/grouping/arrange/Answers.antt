@@ -1,4 +1,4 @@
-use Rattle.std.proofs.Common.{◌≡◌, ◌≤◌, ◌<◌, ◌+◌, ◌-◌, ◌++◌, [], length, drop, sym, ap, ◌∙◌, arith}
+use Rattle.std.proofs.Common.{ℕ, ◌≡◌, ◌≤◌, ◌<◌, ◌+◌, ◌-◌, ◌++◌, [], length, drop, sym, ap, ◌∙◌, arith}
 use Rattle.std.specs.List.{flat_map}
 use Rattle.std.proofs.lemmas.List.{append-nil, drop_all}
 use borrow.Rule.Slice.PartMut.{mid_of, put_mid}
@@ -17,24 +17,25 @@ loop-slice-init g c = record {
       (sym (slice_first (length c.sort_by_x.new.entries) c.args.groups c.slice_count-slices.result));
 }
 
+-- a slice ends behind its start
+ends_later : (from to n p s j : ℕ) → from ≡ slice_start n p s j → to ≡ slice_start n p s (j + 1) → 0 < p → 0 < s →
+    from ≤ to
+ends_later from to n p s j starts ends some slices = omega (arith, starts, ends, slice_rises n p s j some slices)
+
 pub slice_bounds-sort_by_y-start : goal.slice_bounds-sort_by_y-start
 slice_bounds-sort_by_y-start g c =
     omega (
       arith,
-      c.slice_start-from.ensures.value,
-      c.slice_start-to.ensures.value,
-      slice_rises (length c.sort_by_x.new.entries) c.args.groups c.slice_count-slices.result c.loop-slice.slice
-          (omega arith) (omega arith),
+      ends_later _ _ (length c.sort_by_x.new.entries) c.args.groups c.slice_count-slices.result c.loop-slice.slice
+          c.slice_start-from.ensures.value c.slice_start-to.ensures.value (omega arith) (omega arith),
     )
 
 pub slice_bounds-sort_by_y-count : goal.slice_bounds-sort_by_y-count
 slice_bounds-sort_by_y-count g c =
     omega (
       arith,
-      c.slice_start-from.ensures.value,
-      c.slice_start-to.ensures.value,
-      slice_rises (length c.sort_by_x.new.entries) c.args.groups c.slice_count-slices.result c.loop-slice.slice
-          (omega arith) (omega arith),
+      ends_later _ _ (length c.sort_by_x.new.entries) c.args.groups c.slice_count-slices.result c.loop-slice.slice
+          c.slice_start-from.ensures.value c.slice_start-to.ensures.value (omega arith) (omega arith),
     )
 
 pub loop-slice-preserved : goal.loop-slice-preserved

@@ -9,4 +9,4 @@ use Rattle.mr_pack.proofs.joined.+gather_leaves.Given as goal
 abbrev pub invariant-loop-child : goal.invariant-loop-child
 invariant-loop-child l =
     map (λ (rs : Bor (List Record)). rs.now) l.list.items ≡ map (λ (rs : Bor (List Record)). rs.now) l.fn.list.items
-    ++ flat_map (λ list. list) (map leaves (take l.child-index l.child-items))
+    ++ flat_map leaves (take l.child-index l.child-items)

@@ -8,4 +8,4 @@ use Rattle.mr_pack.proofs.level.inner_nodes.Given as goal
 abbrev pub invariant-loop-group : goal.invariant-loop-group
 invariant-loop-group l =
     map (λ (n : Node). n.tree) l.level.items
-    ≡ map (λ ts. tree.Inner ts) (map (map (λ (n : Node). n.tree)) (map (λ (v : Vec Node). v.items) l.yielded))
+    ≡ map (λ (v : Vec Node). tree.Inner (map (λ (n : Node). n.tree) v.items)) l.yielded

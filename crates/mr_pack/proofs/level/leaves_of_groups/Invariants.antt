@@ -9,5 +9,4 @@ use Rattle.mr_pack.proofs.level.leaves_of_groups.Given as goal
 abbrev pub invariant-loop-group : goal.invariant-loop-group
 invariant-loop-group l =
     map (λ (n : Node). n.tree) l.leaves.items
-    ≡ map (λ rs. tree.Leaf rs)
-    (map (map (λ (r : Bor Record). r.now)) (map (λ (v : Vec (Bor Record)). v.items) (take l.group-index l.groups)))
+    ≡ map (λ (v : Vec (Bor Record)). tree.Leaf (map (λ (r : Bor Record). r.now) v.items)) (take l.group-index l.groups)
