@@ -1,5 +1,6 @@
 -- What a file's bytes spell is what they are read as; so a file has no fault just where it stands for a map.
 use Rattle.std.proofs.Common.{◌≡◌, ◌≢◌, ℕ, zero, suc, ◌*◌, ◌/◌, ◌%◌, ◌<◌, ◌≤◌, ◌^◌, Bool, true, false, List, [], ◌∷◌, ◌++◌, length, drop, refl, sym, ap, subst, ◌∙◌, arith}
+use Rattle.mr_tree.specs.Digest.{Scheme, by}
 use Rattle.std.specs.Prelude.{◌==◌, ◌||◌, not, nat_lt, All, Option, Some, None, option_map, IfSome, Result, Ok, Err, if◌then◌else◌}
 use Rattle.std.specs.List.{AllByRecursion}
 use Rattle.std.specs.Result.{result_ok}
@@ -106,13 +107,13 @@ module _ (form : Form) (is : IsForm form) (bytes : List ℕ) where
 -- ---- from what is read to what is spelled, and back
 
 mutual
-  written_as : (hash : List ℕ → List ℕ) (on as' : ℕ → Node → Type 0) → ((p : ℕ) (n : Node) → on p n → as' p n) →
+  written_as : (hash : Scheme) (on as' : ℕ → Node → Type 0) → ((p : ℕ) (n : Node) → on p n → as' p n) →
       (P : Placed) →
       IsWritten hash on P → IsWritten hash as' P
   written_as hash on as' f (Leaf p rs) w = f p _ w
   written_as hash on as' f (Inner p Ps) w = (f p _ w.0, row_as hash on as' f Ps w.1)
 
-  row_as : (hash : List ℕ → List ℕ) (on as' : ℕ → Node → Type 0) → ((p : ℕ) (n : Node) → on p n → as' p n) →
+  row_as : (hash : Scheme) (on as' : ℕ → Node → Type 0) → ((p : ℕ) (n : Node) → on p n → as' p n) →
       (Ps : Row) →
       AreWritten hash on Ps → AreWritten hash as' Ps
   row_as hash on as' f no_more w = tt
@@ -168,27 +169,28 @@ module _ (form : Form) (is : IsForm form) (hash : List ℕ → List ℕ) (bytes 
         };
       }
     where
-      written : (po : Option Placed) → IfSome po (IsRead hash (file_of form bytes).node) →
-          IfSome po (IsWritten hash (HasNode form bytes))
+      written : (po : Option Placed) → IfSome po (IsRead (by form.version hash) (file_of form bytes).node) →
+          IfSome po (IsWritten (by form.version hash) (HasNode form bytes))
       written None w = tt
       written (Some P) w =
-          written_as hash (λ p n. form.node_in (page_at form bytes p) ≡ Some n) (HasNode form bytes)
+          written_as (by form.version hash) (λ p n. form.node_in (page_at form bytes p) ≡ Some n) (HasNode form bytes)
           (λ p n e. sym (is.nodes.spelled (page_at form bytes p) n (page_bytes form is bytes all p) e).1) P w
 
   record WholeFits (count : ℕ) (po : Option Placed) : Type 0 where
-    read : IfSome po (IsRead hash (file_of form bytes).node)
-    root : IsRoot count (option_map (link_of hash) po)
+    read : IfSome po (IsRead (by form.version hash) (file_of form bytes).node)
+    root : IsRoot count (option_map (link_of (by form.version hash)) po)
 
   read_as : ((xs : List ℕ) → length (hash xs) ≡ 32) → (count pages : ℕ) (t : Tree) → WellFormed t →
       count ≡ length (records t) → (po : Option Placed) → whole_tree po ≡ t →
-      IfSome po (IsWritten hash (HasNode form bytes)) → AllByRecursion (λ p. (0 < p) × (p < pages)) (whole_pages po) →
+      IfSome po (IsWritten (by form.version hash) (HasNode form bytes)) →
+      AllByRecursion (λ p. (0 < p) × (p < pages)) (whole_pages po) →
       pages ≤ page_limit → WholeFits count po
   read_as sized count pages t well many None same written inside few = record {
     read = tt;
     root = many ∙ ap length (ap records (sym same) ∙ records-Empty);
   }
   read_as sized count pages t well many (Some P) same written inside few =
-      let f = fits hash sized (HasNode form bytes) P _ true written
+      let f = fits (by form.version hash) sized (HasNode form bytes) P _ true written
       (subst (every-Tree HasOneLevel) (sym same) well.one_level) refl
       (subst (λ u. level u ≤ 7) (sym same) well.shallow)
       (subst (λ u. IsFilledRoot (out-Tree u)) (sym same) well.filled)
@@ -196,7 +198,7 @@ module _ (form : Form) (is : IsForm form) (hash : List ℕ → List ℕ) (bytes 
       (subst (λ u. All IsRecord (records u)) (sym same) well.each))
       (all_weaker (λ p. (0 < p) × (p < pages)) IsLow (λ p h. omega (arith, h.1, few)) (pages_of P) inside) in
       record {
-        read = written_as hash (λ p n. HasNode form bytes p n × IsNode n)
+        read = written_as (by form.version hash) (λ p n. HasNode form bytes p n × IsNode n)
             (λ p n. form.node_in (page_at form bytes p) ≡ Some n)
             (λ p n both. ap form.node_in both.0 ∙ is.nodes.read_again n both.1) P f.both;
         root = (omega (arith, many, f.some, ap (λ u. length (records u)) same), not_first P inside, f.said);

@@ -1,6 +1,7 @@
 -- A file that is read page by page has no fault just where it stands for a well-formed tree at a batch, and these
 -- are then the only ones.
 use Rattle.std.proofs.Common.{◌≡◌, ◌≢◌, ℕ, suc, ◌<◌, ◌≤◌, true, List, [], ◌∷◌, ◌++◌, length, refl, sym, ap, subst, ◌∙◌, arith}
+use Rattle.mr_tree.specs.declared.entry.Entry.{Entry}
 use Rattle.std.specs.Prelude.{◌==◌, not, Option, Some, None, option_map, IfSome, Result, Ok, Err, All, AllPairs}
 use Rattle.std.specs.List.{AllByRecursion}
 use Rattle.std.proofs.lemmas.Bool.{eqb-true, eq-eqb, not-false, not_from_true}
@@ -9,7 +10,7 @@ use Rattle.std.proofs.lemmas.List.Kept.{AllPairs-cons}
 use Rattle.mr_record.specs.declared.record.Record.{Record}
 use Rattle.mr_record.specs.Record.{IsRecord}
 use Rattle.mr_tree.specs.Tree.{level, records}
-use Rattle.mr_tree.specs.Digest.{Entry, entry}
+use Rattle.mr_tree.specs.Digest.{entry, Scheme, by}
 use Rattle.mr_tree.specs.WellFormed.{HasOneLevel, IsFilledRoot, WellFormed}
 use Rattle.mr_tree.specs.declared.tree.Tree.{Tree}
 use Rattle.mr_tree.specs.declared.tree.Tree.TheVariants as tree
@@ -32,7 +33,7 @@ use Rattle.mr_pages.proofs.Building.{IsRead, built, place_page, unfolds}
 
 -- the pages but page 0, as they are read
 pub record LiesRead (hash : List ℕ → List ℕ) (file : File) (placed : Option Placed) (first_free : ℕ) : Type 0 where
-  pub written : IfSome placed (IsRead hash file.node)
+  pub written : IfSome placed (IsRead (by file.version hash) file.node)
   pub chain : List ℕ
   pub linked : ReadsChain file.free first_free chain
   pub all : AreAllPages file.pages (whole_pages placed ++ chain)
@@ -45,7 +46,7 @@ pub record StandsRead (hash : List ℕ → List ℕ) (file : File) (t : Tree) (b
   pub count : head.count ≡ length (records t)
   pub placed : Option Placed
   pub tree : whole_tree placed ≡ t
-  pub root : head.root ≡ option_map (link_of hash) placed
+  pub root : head.root ≡ option_map (link_of (by file.version hash)) placed
   pub lies : LiesRead hash file placed head.free
 
 -- ---- numbers of records
@@ -85,8 +86,8 @@ numbers_apart (r ∷ rs) far =
 
 record WholeBuilt (hash : List ℕ → List ℕ) (file : File) (h : Head) (po : Option Placed)
     (vs : List Visit) : Type 0 where
-  root : h.root ≡ option_map (link_of hash) po
-  written : IfSome po (IsRead hash file.node)
+  root : h.root ≡ option_map (link_of (by file.version hash)) po
+  written : IfSome po (IsRead (by file.version hash) file.node)
   on : whole_pages po ≡ reached vs
   lists : records (whole_tree po) ≡ all_records vs
   one_level : every-Tree HasOneLevel (whole_tree po)
@@ -95,7 +96,8 @@ record WholeBuilt (hash : List ℕ → List ℕ) (file : File) (h : Head) (po : 
   each : All IsRecord (records (whole_tree po))
 
 whole_built : (hash : List ℕ → List ℕ) (file : File) → IsFile file → (h : Head) → IsHead h →
-    (root : Option Link) → h.root ≡ root → AllByRecursion (IsSound hash file.pages) (walk file.node root) →
+    (root : Option Link) → h.root ≡ root →
+    AllByRecursion (IsSound (by file.version hash) file.pages) (walk file.node root) →
     WholeBuilt hash file h (placed_at file.node root) (walk file.node root)
 whole_built hash file is h ok None e sound = record {
   root = e;
@@ -108,10 +110,11 @@ whole_built hash file is h ok None e sound = record {
   each = subst (All IsRecord) (sym records-Empty) (All-nil IsRecord);
 }
 whole_built hash file is h ok (Some link) e sound =
-    let b = built hash file.node file.pages is.nodes_fit link.entry.level true link refl sound in
+    let b = built (by file.version hash) file.node file.pages is.nodes_fit link.entry.level true link refl sound in
     let low : link.entry.level ≤ 7 = (subst (IsRoot h.count) e ok.root).2.level in
     let same : level (tree_of (place file.node link.entry.level link)) ≡ link.entry.level =
-    sym (entry_level hash (tree_of (place file.node link.entry.level link))) ∙ ap (λ (k : Entry). k.level) b.known in
+    sym (entry_level (by file.version hash) (tree_of (place file.node link.entry.level link)))
+    ∙ ap (λ (k : Entry). k.level) b.known in
     record {
       root = e ∙ (λ i. Some (record {
         page = sym (place_page file.node link.entry.level link) i;
@@ -135,7 +138,7 @@ pub record ReadsWell (hash : List ℕ → List ℕ) (file : File) : Type 0 where
   pub well : WellFormed t
   pub stands : StandsRead hash file t b
 
-within_pages : (hash : List ℕ → List ℕ) (pages : ℕ) (vs : List Visit) → AllByRecursion (IsSound hash pages) vs →
+within_pages : (hash : Scheme) (pages : ℕ) (vs : List Visit) → AllByRecursion (IsSound hash pages) vs →
     AllByRecursion (λ p. (0 < p) × (p < pages)) (reached vs)
 within_pages hash pages [] all = tt
 within_pages hash pages (v ∷ vs) all = ((all.0.low, all.0.inside), within_pages hash pages vs all.1)
@@ -153,13 +156,14 @@ stands_at hash file is h sealed e =
     let ps = chain file.free file.pages h.free in
     let ok = is.head_fits h sealed in
     let more = fault_if (not (h.count == length (all_records vs))) 0 (rule.Count h.count (length (all_records vs))) in
-    let w = walk_sound hash file.pages [] vs (nil_left _ _ e) in
-    let e1 = nil_right (walk_faults hash file.pages [] vs) (more ++ free_faults file (reached vs) ps) e in
+    let w = walk_sound (by file.version hash) file.pages [] vs (nil_left _ _ e) in
+    let e1 = nil_right (walk_faults (by file.version hash) file.pages [] vs)
+    (more ++ free_faults file (reached vs) ps) e in
     let count : h.count ≡ length (all_records vs) = eqb-true _ _
     (not-false _ (not_broken _ _ _ (nil_left more (free_faults file (reached vs) ps) e1))) in
     let e2 = nil_right more (free_faults file (reached vs) ps) e1 in
     let f = free_sound file.free file.pages h.free (reached vs) (is.some h sealed)
-    (within_pages hash file.pages vs w.each) w.apart
+    (within_pages (by file.version hash) file.pages vs w.each) w.apart
     (nil_left (chain_faults file.free file.pages (reached vs) ps) (lost_faults file.pages (reached vs ++ ps)) e2)
     (nil_right (chain_faults file.free file.pages (reached vs) ps) (lost_faults file.pages (reached vs ++ ps)) e2) in
     let b = whole_built hash file is h ok h.root refl w.each in
@@ -222,21 +226,23 @@ stands_without_fault hash file is e = at file.head refl (none_left (faults hash 
 
 record WholeUnfolds (hash : List ℕ → List ℕ) (file : File) (po : Option Placed) (root : Option Link) : Type 0 where
   same : placed_at file.node root ≡ po
-  sound : AllByRecursion (IsSound hash file.pages) (walk file.node root)
+  sound : AllByRecursion (IsSound (by file.version hash) file.pages) (walk file.node root)
   on : whole_pages po ≡ reached (walk file.node root)
   lists : records (whole_tree po) ≡ all_records (walk file.node root)
 
 whole_unfolds : (hash : List ℕ → List ℕ) (file : File) → IsFile file →
-    (po : Option Placed) → IfSome po (IsRead hash file.node) → every-Tree HasOneLevel (whole_tree po) →
+    (po : Option Placed) → IfSome po (IsRead (by file.version hash) file.node) →
+    every-Tree HasOneLevel (whole_tree po) →
     IsFilledRoot (out-Tree (whole_tree po)) → AllByRecursion (λ p. (0 < p) × (p < file.pages)) (whole_pages po) →
-    WholeUnfolds hash file po (option_map (link_of hash) po)
+    WholeUnfolds hash file po (option_map (link_of (by file.version hash)) po)
 whole_unfolds hash file is None written levels filled inside =
     record { same = refl; sound = tt; on = refl; lists = records-Empty }
 whole_unfolds hash file is (Some P) written levels filled inside =
-    let n = (entry hash (tree_of P)).level in
-    let u = unfolds hash file.node file.pages P n true written levels
-    (sym (entry_level hash (tree_of P))) filled inside in
-    let b = built hash file.node file.pages is.nodes_fit n true (link_of hash P) refl u.sound in
+    let n = (entry (by file.version hash) (tree_of P)).level in
+    let u = unfolds (by file.version hash) file.node file.pages P n true written levels
+    (sym (entry_level (by file.version hash) (tree_of P))) filled inside in
+    let b = built (by file.version hash) file.node file.pages is.nodes_fit n true
+    (link_of (by file.version hash) P) refl u.sound in
     record {
       same = ap Some u.same;
       sound = u.sound;
@@ -266,7 +272,7 @@ no_fault_where_it_stands hash file is t batch well s =
     left_none (faults hash file)
     (subst (λ o. file_faults hash file o ≡ []) (sym s.sealed)
     (nil_both _ _
-    (sound_walk hash file.pages [] vs (record {
+    (sound_walk (by file.version hash) file.pages [] vs (record {
       each = u.sound;
       apart = fresh_left [] (reached vs) s.lies.chain (apart_fresh (reached vs ++ s.lies.chain) all.once);
       numbers = apart_fresh (numbers_of (all_records vs))

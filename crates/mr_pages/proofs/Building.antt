@@ -1,5 +1,6 @@
 -- The tree that sound visits build, and that a tree on its pages has sound visits and is what they build.
 use Rattle.std.proofs.Common.{◌≡◌, ◌≢◌, ℕ, zero, suc, ◌+◌, ◌<◌, ◌≤◌, Bool, true, false, List, [], ◌∷◌, ◌++◌, length, map, refl, sym, ap, subst, ◌∙◌, arith}
+use Rattle.mr_tree.specs.declared.entry.Entry.{Entry}
 use Rattle.std.specs.Prelude.{◌==◌, Option, Some, None, All, if◌then◌else◌}
 use Rattle.std.specs.List.{flat_map, AllByRecursion}
 use Rattle.std.proofs.lemmas.Bool.{eqb-true, eq-eqb}
@@ -9,15 +10,14 @@ use Rattle.std.proofs.lemmas.List.Elements.{All-from_recursion, recursion_from_A
 use Rattle.mr_record.specs.declared.record.Record.{Record}
 use Rattle.mr_record.specs.Record.{IsRecord}
 use Rattle.mr_tree.specs.Tree.{level, records, first_level}
-use Rattle.mr_tree.specs.Digest.{Entry, entry, entry_step}
+use Rattle.mr_tree.specs.Digest.{entry, entry_step, Scheme}
 use Rattle.mr_tree.specs.WellFormed.{HasOneLevel, IsFilled, IsFilledRoot}
 use Rattle.mr_tree.specs.declared.tree.Tree.{Tree}
 use Rattle.mr_tree.specs.declared.tree.Tree.TheVariants as tree
 use Rattle.mr_tree.specs.declared.tree.Tree.TheOpen.{Tree-F, Empty, Leaf, Inner}
 use Rattle.mr_tree.specs.declared.tree.Tree.TheViews.{out-Tree}
 use Rattle.mr_tree.specs.declared.tree.Tree.TheFolds.{every-Tree}
-use Rattle.mr_tree.proofs.Folds.{fold-Leaf, fold-Inner}
-use Rattle.mr_tree.proofs.Equations.{level-Inner, level-Leaf, records-Inner, records-Leaf, entry_level}
+use Rattle.mr_tree.proofs.Equations.{level-Inner, level-Leaf, records-Inner, records-Leaf, entry_level, entry-Inner, entry-Leaf}
 use Rattle.mr_tree.proofs.Induction.{every-Leaf, every-Inner, here-Leaf, here-Inner, every_child}
 use Rattle.mr_pages.specs.Page.{Link, Node, level_of, entry_of, IsNode}
 use Rattle.mr_pages.specs.Stands as placed
@@ -28,32 +28,25 @@ use Rattle.mr_pages.proofs.Lists.{all_append, all_left, all_right, all_weaker}
 use Rattle.mr_pages.proofs.Rules.{IsSound}
 
 -- a tree with its pages, as a file's pages are read
-abbrev pub IsRead : (List ℕ → List ℕ) → (ℕ → Option Node) → Placed → Type 0
+abbrev pub IsRead : Scheme → (ℕ → Option Node) → Placed → Type 0
 IsRead hash at = IsWritten hash (λ p n. at p ≡ Some n)
 
-abbrev pub AreRead : (List ℕ → List ℕ) → (ℕ → Option Node) → Row → Type 0
+abbrev pub AreRead : Scheme → (ℕ → Option Node) → Row → Type 0
 AreRead hash at = AreWritten hash (λ p n. at p ≡ Some n)
 
 -- ---- what a parent knows of a tree
 
-entry-Inner : (hash : List ℕ → List ℕ) (ts : List Tree) →
-    entry hash (tree.Inner ts) ≡ entry_step hash (Inner (map (entry hash) ts))
-entry-Inner hash = fold-Inner Entry (entry_step hash)
-
-entry-Leaf : (hash : List ℕ → List ℕ) (rs : List Record) → entry hash (tree.Leaf rs) ≡ entry_step hash (Leaf rs)
-entry-Leaf hash = fold-Leaf Entry (entry_step hash)
-
-entries_of : (hash : List ℕ → List ℕ) (Ps : Row) → map (λ (l : Link). l.entry) (links_of hash Ps)
+entries_of : (hash : Scheme) (Ps : Row) → map (λ (l : Link). l.entry) (links_of hash Ps)
     ≡ map (entry hash) (trees_of Ps)
 entries_of hash no_more = refl
 entries_of hash (first P Ps) = ap (λ es. entry hash (tree_of P) ∷ es) (entries_of hash Ps)
 
 -- an inner node's entry is that of its tree
-pub entry_inner : (hash : List ℕ → List ℕ) (Ps : Row) → entry_of hash (Inner (links_of hash Ps))
+pub entry_inner : (hash : Scheme) (Ps : Row) → entry_of hash (Inner (links_of hash Ps))
     ≡ entry hash (tree.Inner (trees_of Ps))
 entry_inner hash Ps = ap (λ es. entry_step hash (Inner es)) (entries_of hash Ps) ∙ sym (entry-Inner hash (trees_of Ps))
 
-pub entry_leaf : (hash : List ℕ → List ℕ) (rs : List Record) → entry_of hash (Leaf rs) ≡ entry hash (tree.Leaf rs)
+pub entry_leaf : (hash : Scheme) (rs : List Record) → entry_of hash (Leaf rs) ≡ entry hash (tree.Leaf rs)
 entry_leaf hash rs = sym (entry-Leaf hash rs)
 
 pub leaf_there : (rs : List Record) → tree.Leaf rs ≢ tree.Empty
@@ -110,13 +103,13 @@ levels_all : (ls : List Link) → map (λ (e : Entry). e.level) (map (λ (l : Li
 levels_all [] = refl
 levels_all (l ∷ ls) = ap (λ ns. l.entry.level ∷ ns) (levels_all ls)
 
-level_is : (hash : List ℕ → List ℕ) (node : Node) → (entry_of hash node).level ≡ level_of node
+level_is : (hash : Scheme) (node : Node) → (entry_of hash node).level ≡ level_of node
 level_is hash Empty = refl
 level_is hash (Leaf rs) = refl
 level_is hash (Inner ls) = ap (λ ns. first_level ns + 1) (levels_all ls)
 
 -- a sound node's entry is what is said of it
-said : (hash : List ℕ → List ℕ) (at : ℕ → Option Node) (link : Link) (node : Node) → Found at link node →
+said : (hash : Scheme) (at : ℕ → Option Node) (link : Link) (node : Node) → Found at link node →
     (entry_of hash node).digest ≡ link.entry.digest → (entry_of hash node).rect ≡ link.entry.rect →
     entry_of hash node ≡ link.entry
 said hash at link node f d r = λ i. record { level = (level_is hash node ∙ f.level) i; rect = r i; digest = d i }
@@ -176,7 +169,7 @@ abbrev vis : Bool → Link → Option Node → Visit
 vis root link o = record { root = root; link = link; node = o }
 
 -- the tree is what the link says, stands on its pages, and is well formed so far
-pub record Built (hash : List ℕ → List ℕ) (at : ℕ → Option Node) (root : Bool) (link : Link) (P : Placed)
+pub record Built (hash : Scheme) (at : ℕ → Option Node) (root : Bool) (link : Link) (P : Placed)
     (vs : List Visit) : Type 0 where
   pub written : IsRead hash at P
   pub known : entry hash (tree_of P) ≡ link.entry
@@ -187,7 +180,7 @@ pub record Built (hash : List ℕ → List ℕ) (at : ℕ → Option Node) (root
   pub filled : FilledAs root (tree_of P)
   pub each : All IsRecord (records (tree_of P))
 
-record RowBuilt (hash : List ℕ → List ℕ) (at : ℕ → Option Node) (n : ℕ) (ls : List Link) (Ps : Row)
+record RowBuilt (hash : Scheme) (at : ℕ → Option Node) (n : ℕ) (ls : List Link) (Ps : Row)
     (vs : List Visit) : Type 0 where
   written : AreRead hash at Ps
   named : links_of hash Ps ≡ ls
@@ -199,12 +192,12 @@ record RowBuilt (hash : List ℕ → List ℕ) (at : ℕ → Option Node) (n : �
   filled : AllByRecursion (every-Tree IsFilled) (trees_of Ps)
   each : All IsRecord (flat_map records (trees_of Ps))
 
-record SaidOf (hash : List ℕ → List ℕ) (root : Bool) (link : Link) (node : Node) : Type 0 where
+record SaidOf (hash : Scheme) (root : Bool) (link : Link) (node : Node) : Type 0 where
   known : entry_of hash node ≡ link.entry
   full : least root node ≤ size node
   good : IsNode node
 
-built_leaf : (hash : List ℕ → List ℕ) (at : ℕ → Option Node) (root : Bool) (link : Link) (rs : List Record) →
+built_leaf : (hash : Scheme) (at : ℕ → Option Node) (root : Bool) (link : Link) (rs : List Record) →
     at link.page ≡ Some (Leaf rs) → SaidOf hash root link (Leaf rs) →
     Built hash at root link (placed.Leaf link.page rs) (vis root link (Some (Leaf rs)) ∷ [])
 built_leaf hash at root link rs is s = record {
@@ -218,7 +211,7 @@ built_leaf hash at root link rs is s = record {
   each = subst (All IsRecord) (sym (records-Leaf rs)) s.good.2;
 }
 
-pub length_row : (hash : List ℕ → List ℕ) (Ps : Row) → length (trees_of Ps) ≡ length (links_of hash Ps)
+pub length_row : (hash : Scheme) (Ps : Row) → length (trees_of Ps) ≡ length (links_of hash Ps)
 length_row hash no_more = refl
 length_row hash (first P Ps) = ap suc (length_row hash Ps)
 
@@ -236,7 +229,7 @@ pub of_images : (ts : List Tree) → flat_map (λ list. list) (map records ts) �
 of_images [] = refl
 of_images (t ∷ ts) = ap (λ rs. records t ++ rs) (of_images ts)
 
-built_inner : (hash : List ℕ → List ℕ) (at : ℕ → Option Node) (root : Bool) (n : ℕ) (link : Link) (ls : List Link)
+built_inner : (hash : Scheme) (at : ℕ → Option Node) (root : Bool) (n : ℕ) (link : Link) (ls : List Link)
     (Ps : Row) (vs : List Visit) → at link.page ≡ Some (Inner ls) → SaidOf hash root link (Inner ls) →
     RowBuilt hash at n ls Ps vs → Built hash at root link (placed.Inner link.page Ps)
     (vis root link (Some (Inner ls)) ∷ vs)
@@ -257,7 +250,7 @@ built_inner hash at root n link ls Ps vs is s r =
       each = subst (All IsRecord) (sym (records-Inner ts ∙ of_images ts)) r.each;
     }
 
-built_row : (hash : List ℕ → List ℕ) (at : ℕ → Option Node) (pages n : ℕ) →
+built_row : (hash : Scheme) (at : ℕ → Option Node) (pages n : ℕ) →
     ((l : Link) → l.entry.level ≡ n → AllByRecursion (IsSound hash pages) (visits at n false l) →
     Built hash at false l (place at n l) (visits at n false l)) →
     (ls : List Link) → AllByRecursion (λ (l : Link). l.entry.level ≡ n) ls →
@@ -297,7 +290,7 @@ built_row hash at pages n one (l ∷ ls) levels sound =
       each = All-append IsRecord _ _ b.each r.each;
     }
 
-built_zero : (hash : List ℕ → List ℕ) (at : ℕ → Option Node) (root : Bool) (link : Link) → link.entry.level ≡ 0 →
+built_zero : (hash : Scheme) (at : ℕ → Option Node) (root : Bool) (link : Link) → link.entry.level ≡ 0 →
     (node : Node) → found at link ≡ Some node → Found at link node → SaidOf hash root link node →
     Built hash at root link (place at zero link) (visits at zero root link)
 built_zero hash at root link low Empty e f s = absurd s.good
@@ -306,7 +299,7 @@ built_zero hash at root link low (Leaf rs) e f s =
     (built_leaf hash at root link rs f.there s)
 built_zero hash at root link low (Inner ls) e f s = absurd (omega (arith, low, f.level))
 
-built_suc : (hash : List ℕ → List ℕ) (at : ℕ → Option Node) (pages n : ℕ) →
+built_suc : (hash : Scheme) (at : ℕ → Option Node) (pages n : ℕ) →
     ((l : Link) → l.entry.level ≡ n → AllByRecursion (IsSound hash pages) (visits at n false l) →
     Built hash at false l (place at n l) (visits at n false l)) →
     (root : Bool) (link : Link) → link.entry.level ≡ suc n →
@@ -325,14 +318,14 @@ built_suc hash at pages n one root link high below (Inner ls) e f s =
     (λ (l : Link). l.entry.level ≡ n) (λ l q. q ∙ next) ls s.good.3)
     (subst (λ o. AllByRecursion (IsSound hash pages) (flat_map (visits at n false) (children o))) e below)))
 
-said_of : (hash : List ℕ → List ℕ) (at : ℕ → Option Node) (pages : ℕ) →
+said_of : (hash : Scheme) (at : ℕ → Option Node) (pages : ℕ) →
     ((p : ℕ) (node : Node) → at p ≡ Some node → IsNode node) →
     (root : Bool) (link : Link) (s : IsSound hash pages (visit at root link)) → SaidOf hash root link s.node
 said_of hash at pages good root link s =
     let f = what_is_found at link s.node s.is in
     record { known = said hash at link s.node f s.digest s.rect; full = s.full; good = good link.page s.node f.there }
 
-pub built : (hash : List ℕ → List ℕ) (at : ℕ → Option Node) (pages : ℕ) →
+pub built : (hash : Scheme) (at : ℕ → Option Node) (pages : ℕ) →
     ((p : ℕ) (node : Node) → at p ≡ Some node → IsNode node) →
     (n : ℕ) (root : Bool) (link : Link) → link.entry.level ≡ n →
     AllByRecursion (IsSound hash pages) (visits at n root link) →
@@ -349,16 +342,16 @@ built hash at pages good (suc n) root link high sound =
 abbrev Inside : ℕ → ℕ → Type 0
 Inside pages p = (0 < p) × (p < pages)
 
-pub record Unfolds (hash : List ℕ → List ℕ) (at : ℕ → Option Node) (pages n : ℕ) (root : Bool)
+pub record Unfolds (hash : Scheme) (at : ℕ → Option Node) (pages n : ℕ) (root : Bool)
     (P : Placed) : Type 0 where
   pub same : place at n (link_of hash P) ≡ P
   pub sound : AllByRecursion (IsSound hash pages) (visits at n root (link_of hash P))
 
-record RowUnfolds (hash : List ℕ → List ℕ) (at : ℕ → Option Node) (pages n : ℕ) (Ps : Row) : Type 0 where
+record RowUnfolds (hash : Scheme) (at : ℕ → Option Node) (pages n : ℕ) (Ps : Row) : Type 0 where
   same : row (place at n) (links_of hash Ps) ≡ Ps
   sound : AllByRecursion (IsSound hash pages) (flat_map (visits at n false) (links_of hash Ps))
 
-unfolds_leaf : (hash : List ℕ → List ℕ) (at : ℕ → Option Node) (pages n : ℕ) (root : Bool) (p : ℕ) (rs : List Record) →
+unfolds_leaf : (hash : Scheme) (at : ℕ → Option Node) (pages n : ℕ) (root : Bool) (p : ℕ) (rs : List Record) →
     at p ≡ Some (Leaf rs) → level (tree.Leaf rs) ≡ n → FilledAs root (tree.Leaf rs) →
     Inside pages p → Unfolds hash at pages n root (placed.Leaf p rs)
 unfolds_leaf hash at pages zero root p rs is low filled inside =
@@ -382,7 +375,7 @@ unfolds_leaf hash at pages zero root p rs is low filled inside =
     }
 unfolds_leaf hash at pages (suc n) root p rs is low filled inside = absurd (omega (arith, low, level-Leaf rs))
 
-unfolds_inner : (hash : List ℕ → List ℕ) (at : ℕ → Option Node) (pages n : ℕ) (root : Bool) (p : ℕ) (Ps : Row) →
+unfolds_inner : (hash : Scheme) (at : ℕ → Option Node) (pages n : ℕ) (root : Bool) (p : ℕ) (Ps : Row) →
     at p ≡ Some (Inner (links_of hash Ps)) → level (tree.Inner (trees_of Ps)) ≡ suc n →
     FilledAs root (tree.Inner (trees_of Ps)) → Inside pages p → RowUnfolds hash at pages n Ps →
     Unfolds hash at pages (suc n) root (placed.Inner p Ps)
@@ -417,7 +410,7 @@ pub no_level_zero : (ts : List Tree) → level (tree.Inner ts) ≡ 0 → ⊥
 no_level_zero ts e = omega (arith, e, level-Inner ts)
 
 mutual
-  pub unfolds : (hash : List ℕ → List ℕ) (at : ℕ → Option Node) (pages : ℕ) (P : Placed) (n : ℕ) (root : Bool) →
+  pub unfolds : (hash : Scheme) (at : ℕ → Option Node) (pages : ℕ) (P : Placed) (n : ℕ) (root : Bool) →
       IsRead hash at P → every-Tree HasOneLevel (tree_of P) → level (tree_of P) ≡ n →
       FilledAs root (tree_of P) → AllByRecursion (Inside pages) (pages_of P) → Unfolds hash at pages n root P
   unfolds hash at pages (placed.Leaf p rs) n root written levels is filled inside =
@@ -429,7 +422,7 @@ mutual
       (rows_unfold hash at pages Ps n written.1 (every_child HasOneLevel (trees_of Ps) levels)
       (below_levels n (trees_of Ps) levels is) (filled_below root (trees_of Ps) filled) inside.1)
 
-  rows_unfold : (hash : List ℕ → List ℕ) (at : ℕ → Option Node) (pages : ℕ) (Ps : Row) (n : ℕ) → AreRead hash at Ps →
+  rows_unfold : (hash : Scheme) (at : ℕ → Option Node) (pages : ℕ) (Ps : Row) (n : ℕ) → AreRead hash at Ps →
       AllByRecursion (every-Tree HasOneLevel) (trees_of Ps) →
       AllByRecursion (λ t. level t ≡ n) (trees_of Ps) → AllByRecursion (every-Tree IsFilled) (trees_of Ps) →
       AllByRecursion (Inside pages) (all_pages Ps) → RowUnfolds hash at pages n Ps

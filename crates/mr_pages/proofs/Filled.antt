@@ -1,76 +1,129 @@
--- A file that is read whole, piece by piece, into the place for it.
-use Rattle.std.proofs.Common.{◌≡◌, ℕ, ◌+◌, ◌-◌, ◌<◌, ◌≤◌, min, List, [], ◌++◌, length, take, drop, Option, refl, sym, ap, ◌∙◌, arith, length-take-le, length-drop, take_all}
+-- A file that is read whole, piece by piece.
+use Rattle.std.proofs.Common.{◌≡◌, ℕ, ◌+◌, ◌-◌, ◌≤◌, List, [], ◌++◌, length, take, drop, replicate, Option, refl, sym, ap, subst, ◌∙◌, arith, length-take-le, length-drop, take_all}
 use Rattle.std.proofs.Math.Seq.{take-add}
-use Rattle.std.proofs.lemmas.List.{append-nil, drop_all}
+use Rattle.std.proofs.lemmas.List.{append-nil, drop_all, drop_at, drop-drop, drop-replicate}
 use borrow.Rule.Slice.PartMut.{put_mid}
 use Rattle.mr_outside.specs.Files.{Files}
-use Rattle.std.specs.Prelude.{Err}
+use Rattle.std.specs.Prelude.{Result, Ok, Err, IfOk}
 use Rattle.mr_outside.specs.Told.{OfFile}
 use Rattle.mr_outside.specs.State.{Shelved}
 use Rattle.mr_outside.specs.Causes.{ShelfCauses}
 use Rattle.mr_outside.specs.declared.shelf.ShelfErr.{ShelfErr}
 use Rattle.mr_outside.specs.declared.shelf.ShelfErr.TheVariants as shelf
-use Rattle.mr_outside.specs.Reading.{GivesFrom}
+use Rattle.mr_outside.specs.Reading.{FillsFront, GivesFrom}
 use Rattle.mr_outside.proofs.Pieces.{OfFile-map, OfFile-both, ShelfCauses-later}
-use Rattle.mr_outside.proofs.InPlace.{take-put_mid_within}
+use Rattle.mr_outside.proofs.InPlace.{take-put_mid_within, drop-put_mid_within}
 
--- what stands in front once the next piece was read
-pub FrontFills : (at m k n : ℕ) (old new bytes : List ℕ) → k ≡ m → m ≡ min 65536 (length old - at) → at < length old →
-    GivesFrom at (take k (drop at old)) new n bytes → length bytes ≡ length old → take at old ≡ take at bytes →
-    take (at + m) (put_mid at k old new) ≡ take (at + m) bytes
-FrontFills at m k n old new bytes k_is m_is inside gives long front =
-    let room : length (take k (drop at old)) ≡ m =
-    length-take-le k (drop at old) (omega (arith, k_is, m_is, length-drop at old)) ∙ k_is in
-    let whole : n ≡ m = omega (arith, gives.count_is, room, long, m_is) in
-    let piece : take n (drop at bytes) ≡ take m (drop at bytes) = ap (λ j. take j (drop at bytes)) whole in
-    let none : drop n (take k (drop at old)) ≡ [] = drop_all n (take k (drop at old)) (omega (arith, room, whole)) in
+-- what stands there once the piece from a place on was read
+piece_fills : (at k n : ℕ) (old new bytes : List ℕ) → k ≡ length old - at → at ≤ length old →
+    GivesFrom at (take k (drop at old)) new n bytes → length old ≤ length bytes → take at old ≡ take at bytes →
+    length (put_mid at k old new) ≡ length old → put_mid at k old new ≡ take (length old) bytes
+piece_fills at k n old new bytes k_is inside gives room front whole =
+    let m : ℕ = length old - at in
+    let sized : length (take k (drop at old)) ≡ m =
+    length-take-le k (drop at old) (omega (arith, k_is, length-drop at old)) ∙ k_is in
+    let all : n ≡ m = omega (arith, gives.count_is, sized, room) in
+    let piece : take n (drop at bytes) ≡ take m (drop at bytes) = ap (λ j. take j (drop at bytes)) all in
+    let none : drop n (take k (drop at old)) ≡ [] = drop_all n (take k (drop at old)) (omega (arith, sized, all)) in
     let new_is : new ≡ take m (drop at bytes) =
     gives.bytes_are ∙ (λ i. piece i ++ none i) ∙ append-nil (take m (drop at bytes)) in
     let size : length (take m (drop at bytes)) ≡ m =
-    length-take-le m (drop at bytes) (omega (arith, m_is, long, length-drop at bytes)) in
+    length-take-le m (drop at bytes) (omega (arith, room, length-drop at bytes)) in
     let fits : m ≤ length new = omega (arith, ap length new_is, size) in
     let same : take m new ≡ take m (drop at bytes) =
     ap (take m) new_is ∙ take_all m (take m (drop at bytes)) (omega (arith, size)) in
-    take-put_mid_within at k m old new (omega (arith, inside)) fits
+    let end : at + m ≡ length old = omega (arith, inside) in
+    sym (take_all (at + m) (put_mid at k old new) (omega (arith, whole, end)))
+    ∙ take-put_mid_within at k m old new inside fits
     ∙ (λ i. front i ++ same i)
     ∙ sym (take-add at m bytes)
+    ∙ ap (λ j. take j bytes) end
 
-pub OfFile-fills : (told : Option Files) (name : List ℕ) (at m k n : ℕ) (old new : List ℕ) → k ≡ m →
-    m ≡ min 65536 (length old - at) → at < length old → OfFile told name ⊥ (GivesFrom at (take k (drop at old)) new n) →
-    OfFile told name ⊥ (λ bytes. length bytes ≡ length old → take at old ≡ take at bytes →
-    take (at + m) (put_mid at k old new) ≡ take (at + m) bytes)
-OfFile-fills told name at m k n old new k_is m_is inside =
-    OfFile-map told name _ _ (λ bytes gives. FrontFills at m k n old new bytes k_is m_is inside gives)
+pub OfFile-fills : (told : Option Files) (name : List ℕ) (at k n : ℕ) (old new : List ℕ) → k ≡ length old - at →
+    at ≤ length old → length (put_mid at k old new) ≡ length old →
+    OfFile told name ⊥ (GivesFrom at (take k (drop at old)) new n) →
+    OfFile told name ⊥ (λ bytes. length old ≤ length bytes → take at old ≡ take at bytes →
+    put_mid at k old new ≡ take (length old) bytes)
+OfFile-fills told name at k n old new k_is inside whole =
+    OfFile-map told name _ _
+    (λ bytes gives room front. piece_fills at k n old new bytes k_is inside gives room front whole)
 
 -- the file has this length, and what was read so far is its front
-pub record IsFront (size at : ℕ) (so_far bytes : List ℕ) : Type 0 where
+pub record IsFront (size : ℕ) (so_far bytes : List ℕ) : Type 0 where
   pub size_is : size ≡ length bytes
-  pub front_is : take at so_far ≡ take at bytes
+  pub front_is : so_far ≡ take (length so_far) bytes
 
-pub OfFile-further : (told : Option Files) (name : List ℕ) (size at end : ℕ) (old new : List ℕ) → length old ≡ size →
-    OfFile told name ⊥ (IsFront size at old) →
-    OfFile told name ⊥ (λ bytes. length bytes ≡ length old → take at old ≡ take at bytes →
-    take end new ≡ take end bytes) →
-    OfFile told name ⊥ (IsFront size end new)
-OfFile-further told name size at end old new long front more =
+pub OfFile-further : (told : Option Files) (name : List ℕ) (size end : ℕ) (old new : List ℕ) → end ≤ size →
+    length new ≡ end → OfFile told name ⊥ (IsFront size old) →
+    OfFile told name ⊥ (λ bytes. end ≤ length bytes → old ≡ take (length old) bytes → new ≡ take end bytes) →
+    OfFile told name ⊥ (IsFront size new)
+OfFile-further told name size end old new within long front more =
     OfFile-map told name _ _
     (λ bytes both. record {
       size_is = both.0.size_is;
-      front_is = both.1 (sym both.0.size_is ∙ sym long) both.0.front_is;
+      front_is = both.1 (omega (arith, within, both.0.size_is)) both.0.front_is
+          ∙ ap (λ n. take n bytes) (sym long);
     })
     (OfFile-both told name _ _ front more)
 
-pub OfFile-whole : (told : Option Files) (name : List ℕ) (size at : ℕ) (so_far : List ℕ) → length so_far ≡ size →
-    size ≤ at →
-    OfFile told name ⊥ (IsFront size at so_far) → OfFile told name ⊥ (λ bytes. so_far ≡ bytes)
-OfFile-whole told name size at so_far long far =
+pub OfFile-whole : (told : Option Files) (name : List ℕ) (size : ℕ) (so_far : List ℕ) → size ≤ length so_far →
+    OfFile told name ⊥ (IsFront size so_far) → OfFile told name ⊥ (λ bytes. so_far ≡ bytes)
+OfFile-whole told name size so_far far =
     OfFile-map told name _ _
-    (λ bytes f. sym (take_all at so_far (omega (arith, long, far))) ∙ f.front_is
-    ∙ take_all at bytes (omega (arith, f.size_is, far)))
+    (λ bytes f. f.front_is ∙ take_all (length so_far) bytes (omega (arith, far, f.size_is)))
 
-pub OfFile-none : (told : Option Files) (name : List ℕ) (size : ℕ) (so_far : List ℕ) →
-    OfFile told name ⊥ (λ bytes. size ≡ length bytes) → OfFile told name ⊥ (IsFront size 0 so_far)
-OfFile-none told name size so_far = OfFile-map told name _ _ (λ bytes e. record { size_is = e; front_is = refl })
+pub OfFile-none : (told : Option Files) (name : List ℕ) (size : ℕ) → OfFile told name ⊥ (λ bytes. size ≡ length bytes) →
+    OfFile told name ⊥ (IsFront size [])
+OfFile-none told name size = OfFile-map told name _ _ (λ bytes e. record { size_is = e; front_is = refl })
+
+-- what stands behind the bytes that came, where zeros were put for them
+pub zeros_behind : (end place n : ℕ) (old padded new : List ℕ) → length old ≡ place →
+    padded ≡ old ++ replicate (end - place) 0 → drop (place + n) new ≡ drop (place + n) padded →
+    drop (place + n) new ≡ replicate (end - (place + n)) 0
+zeros_behind end place n old padded new long is same =
+    same ∙ ap (drop (place + n)) is ∙ sym (drop-drop n place (old ++ replicate (end - place) 0))
+    ∙ ap (drop n) (drop_at old (replicate (end - place) 0) place long)
+    ∙ drop-replicate {X = ℕ} n (end - place) 0
+    ∙ ap (λ k. replicate k 0) (let less : end - place - n ≡ end - (place + n) = omega arith in less)
+
+-- ---- a call's answer, handed on
+
+pub ok_fills : {E : Type 0} (r : Result ℕ E) (told : Option Files) (name : List ℕ) (at k : ℕ) (old new : List ℕ) →
+    k ≡ length old - at → at ≤ length old → length (put_mid at k old new) ≡ length old →
+    IfOk r (λ n. OfFile told name ⊥ (GivesFrom at (take k (drop at old)) new n)) →
+    IfOk r (λ n. OfFile told name ⊥ (λ bytes. length old ≤ length bytes → take at old ≡ take at bytes →
+    put_mid at k old new ≡ take (length old) bytes))
+ok_fills (Ok n) told name at k old new k_is inside whole gives =
+    OfFile-fills told name at k n old new k_is inside whole gives
+ok_fills (Err e) told name at k old new k_is inside whole gives = tt
+
+pub ok_rest : {E : Type 0} (r : Result ℕ E) (at k : ℕ) (old new : List ℕ) → at ≤ length old →
+    length new ≡ length (take k (drop at old)) → IfOk r (λ n. FillsFront (take k (drop at old)) new n) →
+    IfOk r (λ n. drop (at + n) (put_mid at k old new) ≡ drop (at + n) old)
+ok_rest (Ok n) at k old new inside long fills =
+    drop-put_mid_within at k n old new inside (omega (arith, fills.within, long)) long fills.rest
+ok_rest (Err e) at k old new inside long fills = tt
+
+pub ok_read : {E : Type 0} (r : Result ℕ E) (told : Option Files) (name : List ℕ) (at place end : ℕ)
+    (old padded new items : List ℕ) → at ≡ place → length padded ≡ end → take at padded ≡ old → items ≡ new →
+    IfOk r (λ n. OfFile told name ⊥ (λ bytes. length padded ≤ length bytes → take at padded ≡ take at bytes →
+    new ≡ take (length padded) bytes)) →
+    IfOk r (λ n. OfFile told name ⊥ (λ bytes. end ≤ length bytes → old ≡ take place bytes → items ≡ take end bytes))
+ok_read (Ok n) told name at place end old padded new items here long front same reads =
+    OfFile-map told name _ _
+    (λ bytes read room is. same
+    ∙ read (omega (arith, room, long)) (front ∙ is ∙ ap (λ k. take k bytes) (sym here))
+    ∙ ap (λ j. take j bytes) long) reads
+ok_read (Err e) told name at place end old padded new items here long front same reads = tt
+
+pub ok_zeros : {E : Type 0} (r : Result ℕ E) (end at place : ℕ) (old padded new items : List ℕ) → at ≡ place →
+    length old ≡ place → padded ≡ old ++ replicate (end - place) 0 → items ≡ new →
+    IfOk r (λ n. drop (at + n) new ≡ drop (at + n) padded) →
+    IfOk r (λ n. drop (place + n) items ≡ replicate (end - (place + n)) 0)
+ok_zeros (Ok n) end at place old padded new items here long is same rest =
+    ap (drop (place + n)) same ∙ zeros_behind end place n old padded new long is
+    (subst (λ k. drop (k + n) new ≡ drop (k + n) padded) here rest)
+ok_zeros (Err e) end at place old padded new items here long is same rest = tt
 
 -- ---- the causes of a refusal
 

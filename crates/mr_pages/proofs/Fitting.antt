@@ -8,7 +8,7 @@ use Rattle.mr_geom.proofs.Rectangles.{IsOrdered-union, FitsMap-union}
 use Rattle.mr_record.specs.declared.record.Record.{Record}
 use Rattle.mr_record.specs.Record.{IsRecord}
 use Rattle.mr_tree.specs.Tree.{level, records, rect, first_level}
-use Rattle.mr_tree.specs.Digest.{preimage}
+use Rattle.mr_tree.specs.Digest.{preimage, Scheme}
 use Rattle.mr_tree.specs.WellFormed.{HasOneLevel, IsFilled}
 use Rattle.mr_tree.specs.declared.tree.Tree.{Tree}
 use Rattle.mr_tree.specs.declared.tree.Tree.TheVariants as tree
@@ -64,19 +64,19 @@ rects_of_records (r ∷ rs) all = (
 -- ---- a node and what is said of it
 
 -- each node fits its page, beside what is known of it there; what is said of the tree fits too, and it has a record
-pub record Fits (hash : List ℕ → List ℕ) (on : ℕ → Node → Type 0) (P : Placed) : Type 0 where
+pub record Fits (hash : Scheme) (on : ℕ → Node → Type 0) (P : Placed) : Type 0 where
   pub both : IsWritten hash (λ p n. on p n × IsNode n) P
   pub said : IsLink (link_of hash P)
   pub some : 0 < length (records (tree_of P))
 
-record RowFits (hash : List ℕ → List ℕ) (on : ℕ → Node → Type 0) (n : ℕ) (Ps : Row) : Type 0 where
+record RowFits (hash : Scheme) (on : ℕ → Node → Type 0) (n : ℕ) (Ps : Row) : Type 0 where
   both : AreWritten hash (λ p n. on p n × IsNode n) Ps
   said : AllByRecursion IsLink (links_of hash Ps)
   levels : AllByRecursion (λ (l : Link). l.entry.level ≡ n) (links_of hash Ps)
   rects : AllByRecursion HasRect (map rect (trees_of Ps))
   some : AllByRecursion (λ t. 0 < length (records t)) (trees_of Ps)
 
-said_of : (hash : List ℕ → List ℕ) → ((xs : List ℕ) → length (hash xs) ≡ 32) → (P : Placed) → page_of P < 2 ^ 32 →
+said_of : (hash : Scheme) → ((xs : List ℕ) → length (hash.of xs) ≡ 32) → (P : Placed) → page_of P < 2 ^ 32 →
     level (tree_of P) ≤ 7 → HasRect (rect (tree_of P)) → IsLink (link_of hash P)
 said_of hash sized P low shallow there = record {
   page = low;
@@ -99,7 +99,7 @@ images_length : {A B : Type 0} (f : A → B) (xs : List A) → length (map f xs)
 images_length f [] = refl
 images_length f (x ∷ xs) = ap suc (images_length f xs)
 
-module _ (hash : List ℕ → List ℕ) (sized : (xs : List ℕ) → length (hash xs) ≡ 32) (on : ℕ → Node → Type 0) where
+module _ (hash : Scheme) (sized : (xs : List ℕ) → length (hash.of xs) ≡ 32) (on : ℕ → Node → Type 0) where
   abbrev IsLow : ℕ → Type 0
   IsLow p = p < 2 ^ 32
 

@@ -13,7 +13,9 @@ use Rattle.mr_tree.specs.Limits.{count_limit, level_limit}
 use Rattle.mr_pages.specs.declared.rule.MapRule.{MapRule}
 use Rattle.mr_pages.specs.declared.rule.MapRule.TheVariants.{Unsealed, Header}
 use Rattle.mr_pages.specs.Page.{Link, Head, IsRoot, IsHead, FitsHead, IsForm, page_limit}
-use Rattle.mr_pages.specs.PageBytes.{Layout, filled, link_bytes, link_in, free_tag, free_page, free_in, seal, root_level, root_bytes, head_bytes, head_page, root_in, fields_in, is_root, is_head, is_sealed, head_in, first_layout, first_form}
+use Rattle.mr_record.specs.declared.version.Version.{Version}
+use Rattle.mr_pages.specs.declared.layout.Layout.{Layout}
+use Rattle.mr_pages.specs.PageBytes.{filled, link_bytes, link_size, link_in, node_bytes, node_limit, IsLayout, free_tag, free_page, free_in, root_place, free_place, head_size, seal, seal_place, root_level, root_bytes, head_bytes, head_page, root_in, fields_in, is_root, is_head, is_sealed, head_in, form_of, first_layout, first_form}
 use Rattle.mr_pages.proofs.PageLaws.{from_bytes, quarter_below, chosen, link_again, link_is, level_read, length-link_bytes, length-filled, both_true, node_again, node_is, node_room}
 
 same_bytes : (xs ys : List ℕ) → bytes_eq xs ys ≡ true → xs ≡ ys
@@ -44,7 +46,7 @@ free_is size page g fits e =
 
 -- ---- the root node on page 0
 
-pub length-root_bytes : (count : ℕ) (root : Option Link) → IsRoot count root → length (root_bytes root) ≡ 52
+pub length-root_bytes : (count : ℕ) (root : Option Link) → IsRoot count root → length (root_bytes root) ≡ link_size
 unfolding root_bytes
 length-root_bytes count None is = refl
 length-root_bytes count (Some l) is = length-link_bytes l is.2
@@ -52,7 +54,7 @@ length-root_bytes count (Some l) is = length-link_bytes l is.2
 root_again : (count : ℕ) (root : Option Link) → IsRoot count root →
     root_in count (root_level root) (root_bytes root) ≡ root
 unfolding root_in root_bytes
-root_again count None is = ap (λ (b : Bool). cond b None (link_in 0 (replicate 52 0))) (eq-eqb count 0 is)
+root_again count None is = ap (λ (b : Bool). cond b None (link_in 0 (replicate link_size 0))) (eq-eqb count 0 is)
 root_again count (Some l) is =
     ap (λ (b : Bool). cond b None (link_in l.entry.level (link_bytes l))) (ne_eqb count 0 (omega arith))
     ∙ link_again l.entry.level l (record { link = is.2; at = refl })
@@ -68,30 +70,31 @@ root_test count (Some l) is =
 -- ---- what page 0 says
 
 -- the parts of page 0 behind its first 26 bytes
-tail_root : (R F Z S : List ℕ) → length R ≡ 52 → take 52 (((R ++ F) ++ Z) ++ S) ≡ R
-tail_root R F Z S long = ap (take 52) (append_assoc (R ++ F) Z S ∙ append_assoc R F (Z ++ S))
-    ∙ take_at R (F ++ (Z ++ S)) 52 long
+tail_root : (R F Z S : List ℕ) → length R ≡ link_size → take link_size (((R ++ F) ++ Z) ++ S) ≡ R
+tail_root R F Z S long = ap (take link_size) (append_assoc (R ++ F) Z S ∙ append_assoc R F (Z ++ S))
+    ∙ take_at R (F ++ (Z ++ S)) link_size long
 
-tail_free : (R F Z S : List ℕ) → length R ≡ 52 → length F ≡ 4 → take 4 (drop 52 (((R ++ F) ++ Z) ++ S)) ≡ F
+tail_free : (R F Z S : List ℕ) → length R ≡ link_size → length F ≡ 4 →
+    take 4 (drop link_size (((R ++ F) ++ Z) ++ S)) ≡ F
 tail_free R F Z S long four =
-    ap (λ (t : List ℕ). take 4 (drop 52 t)) (append_assoc (R ++ F) Z S ∙ append_assoc R F (Z ++ S))
-    ∙ ap (take 4) (drop_at R (F ++ (Z ++ S)) 52 long) ∙ take_at F (Z ++ S) 4 four
+    ap (λ (t : List ℕ). take 4 (drop link_size t)) (append_assoc (R ++ F) Z S ∙ append_assoc R F (Z ++ S))
+    ∙ ap (take 4) (drop_at R (F ++ (Z ++ S)) link_size long) ∙ take_at F (Z ++ S) 4 four
 
 pub fields_again : (form : Layout) (h : Head) → IsHead h → fields_in (head_page form h) ≡ h
 unfolding fields_in head_bytes
 fields_again form h is =
     let R : List ℕ = root_bytes h.root in
     let F : List ℕ = to_be_bytes w32 h.free in
-    let Z : List ℕ = replicate (form.size - 4 - length (head_bytes form.version h)) 0 in
-    let long : length R ≡ 52 = length-root_bytes h.count h.root is.root in
+    let Z : List ℕ = replicate (seal_place form.size - length (head_bytes form.version h)) 0 in
+    let long : length R ≡ link_size = length-root_bytes h.count h.root is.root in
     let batch : from_be_bytes w64 (slice_range (head_page form h) 6 14) ≡ h.batch =
     from_be_bytes-to_be_bytes_8 h.batch is.batch in
     let count : from_be_bytes w64 (slice_range (head_page form h) 14 22) ≡ h.count =
     from_be_bytes-to_be_bytes_8 h.count (omega (arith, is.count)) in
-    let pages : from_be_bytes w32 (slice_range (head_page form h) 22 26) ≡ h.pages =
+    let pages : from_be_bytes w32 (slice_range (head_page form h) 22 root_place) ≡ h.pages =
     from_be_bytes-to_be_bytes_4 h.pages (omega (arith, is.pages.1)) in
-    let raw : slice_range (head_page form h) 26 78 ≡ R = tail_root R F Z seal long in
-    let free : from_be_bytes w32 (slice_range (head_page form h) 78 82) ≡ h.free =
+    let raw : slice_range (head_page form h) root_place free_place ≡ R = tail_root R F Z seal long in
+    let free : from_be_bytes w32 (slice_range (head_page form h) free_place head_size) ≡ h.free =
     ap (from_be_bytes w32) (tail_free R F Z seal long refl) ∙ from_be_bytes-to_be_bytes_4 h.free is.free in
     (λ i. record {
       batch = batch i;
@@ -105,27 +108,29 @@ fields_again form h is =
     { batch = h.batch; count = h.count; pages = h.pages; root = root; free = h.free } in x)
     (root_again h.count h.root is.root)
 
-length-head_bytes : (version : ℕ) (h : Head) → IsHead h → length (head_bytes version h) ≡ 82
+length-head_bytes : (version : Version) (h : Head) → IsHead h → length (head_bytes version h) ≡ head_size
 unfolding head_bytes
 length-head_bytes version h is =
     let R : List ℕ = root_bytes h.root in
-    let long : length R ≡ 52 = length-root_bytes h.count h.root is.root in
+    let long : length R ≡ link_size = length-root_bytes h.count h.root is.root in
     omega (arith, length-append R (to_be_bytes w32 h.free))
 
-pub length-head_page : (form : Layout) (h : Head) → 4096 ≤ form.size → IsHead h → length (head_page form h) ≡ form.size
+pub length-head_page : (form : Layout) (h : Head) → node_limit ≤ form.size → IsHead h →
+    length (head_page form h) ≡ form.size
 length-head_page form h big is =
     omega (
       arith,
-      length-append (filled (form.size - 4) (head_bytes form.version h)) seal,
-      length-filled (form.size - 4)
+      length-append (filled (seal_place form.size) (head_bytes form.version h)) seal,
+      length-filled (seal_place form.size)
           (head_bytes form.version h) (omega (arith, length-head_bytes form.version h is)),
     )
 
-sealed_again : (form : Layout) (h : Head) → 4096 ≤ form.size → IsHead h → is_sealed form.size (head_page form h) ≡ true
+sealed_again : (form : Layout) (h : Head) → node_limit ≤ form.size → IsHead h →
+    is_sealed form.size (head_page form h) ≡ true
 sealed_again form h big is =
-    bytes_same (drop (form.size - 4) (head_page form h)) seal
-    (drop_at (filled (form.size - 4) (head_bytes form.version h)) seal (form.size - 4)
-    (length-filled (form.size - 4) (head_bytes form.version h)
+    bytes_same (drop (seal_place form.size) (head_page form h)) seal
+    (drop_at (filled (seal_place form.size) (head_bytes form.version h)) seal (seal_place form.size)
+    (length-filled (seal_place form.size) (head_bytes form.version h)
     (omega (arith, length-head_bytes form.version h is))))
 
 head_test : (pages : ℕ) (h : Head) → IsHead h → h.pages ≡ pages → is_head pages h ≡ true
@@ -139,7 +144,7 @@ head_test pages h is same =
 abbrev judged : Bool → Bool → Head → Result Head MapRule
 judged sealed fits h = cond (not sealed) (Err Unsealed) (cond fits (Ok h) (Err Header))
 
-pub head_again : (form : Layout) (pages : ℕ) (h : Head) → 4096 ≤ form.size → IsHead h → h.pages ≡ pages →
+pub head_again : (form : Layout) (pages : ℕ) (h : Head) → node_limit ≤ form.size → IsHead h → h.pages ≡ pages →
     head_in form pages (head_page form h) ≡ Ok h
 head_again form pages h big is same =
     let page : List ℕ = head_page form h in
@@ -162,7 +167,7 @@ not_zero : (n : ℕ) → not (eqb n 0) ≡ true → n ≢ 0
 not_zero zero e = absurd cc
 not_zero (suc n) e = omega arith
 
-linked : (count level : ℕ) (raw : List ℕ) (o : Option Link) → length raw ≡ 52 → IsBytes raw → 0 < count →
+linked : (count level : ℕ) (raw : List ℕ) (o : Option Link) → length raw ≡ link_size → IsBytes raw → 0 < count →
     link_in level raw ≡ o → is_root count o ≡ true → IsRoot count o
 unfolding link_in
 linked count level raw None long fits some e t = eqb-true count 0 t
@@ -173,7 +178,7 @@ linked count level raw (Some l) long fits some e t =
     let low : level ≤ level_limit = subst (λ (n : ℕ). n ≤ level_limit) at (leb-true l.entry.level level_limit v.1) in
     (some, not_zero l.page v.0, (link_is level raw l low long fits e).0.link)
 
-root_is : (count level : ℕ) (raw : List ℕ) → length raw ≡ 52 → IsBytes raw →
+root_is : (count level : ℕ) (raw : List ℕ) → length raw ≡ link_size → IsBytes raw →
     is_root count (root_in count level raw) ≡ true → IsRoot count (root_in count level raw)
 unfolding root_in
 root_is count level raw long fits t = elim (cases_Bool (eqb count 0)) [
@@ -185,7 +190,7 @@ root_is count level raw long fits t = elim (cases_Bool (eqb count 0)) [
       (subst (λ (b : Bool). is_root count (cond b None (link_in level raw)) ≡ true) some t))
 ]
 
-pub head_is : (form : Layout) (pages : ℕ) (page : List ℕ) (h : Head) → 4096 ≤ form.size → 1 ≤ pages →
+pub head_is : (form : Layout) (pages : ℕ) (page : List ℕ) (h : Head) → node_limit ≤ form.size → 1 ≤ pages →
     pages ≤ page_limit → IsBytes page
     → result_ok (head_in form pages page) ≡ Some h → FitsHead pages h × (head_page form h ≡ page)
 unfolding fields_in
@@ -197,15 +202,15 @@ head_is form pages page h big some few fits e =
     let u = and_parts (nat_le found.count count_limit) (eqb found.pages pages && is_root found.count found.root) t.0 in
     let v = and_parts (eqb found.pages pages) (is_root found.count found.root) u.1 in
     let spelled : head_page form found ≡ page = same_bytes (head_page form found) page t.1 in
-    let wide : 82 ≤ length page = omega (
+    let wide : head_size ≤ length page = omega (
       arith,
       ap length spelled,
       length-append
-          (filled (form.size - 4) (head_bytes form.version found)) seal,
+          (filled (seal_place form.size) (head_bytes form.version found)) seal,
       length-append (head_bytes form.version found)
-          (replicate (form.size - 4 - length (head_bytes form.version found)) 0),
+          (replicate (seal_place form.size - length (head_bytes form.version found)) 0),
       length-replicate {A = ℕ}
-          (form.size - 4 - length (head_bytes form.version found)) 0,
+          (seal_place form.size - length (head_bytes form.version found)) 0,
     ) in
     let part = λ (at n : ℕ). IsBytes-take n (drop at page) (IsBytes-drop at page fits) in
     let same : found.pages ≡ pages = eqb-true found.pages pages v.0 in
@@ -213,30 +218,42 @@ head_is form pages page h big some few fits e =
       batch = word_below (slice_range page 6 14) (part 6 8);
       count = leb-true found.count count_limit u.0;
       pages = (omega arith, omega arith);
-      root = root_is found.count (get_or page 5 0) (slice_range page 26 78)
-          (length-take-le 52 (drop 26 page) (omega (arith, length-drop 26 page))) (part 26 52) v.1;
-      free = quarter_below (slice_range page 78 82) (part 78 4);
+      root = root_is found.count (get_or page 5 0) (slice_range page root_place free_place)
+          (length-take-le link_size (drop root_place page) (omega (arith, length-drop root_place page)))
+          (part root_place link_size) v.1;
+      free = quarter_below (slice_range page free_place head_size) (part free_place 4);
     } in
     subst (λ (x : Head). FitsHead pages x × (head_page form x ≡ page)) p.1 ((is, same), spelled)
 
+-- ---- whole pages
+
+pub form_is : (layout : Layout) → IsLayout layout → IsForm (form_of layout)
+form_is layout is =
+    let size : ℕ = layout.size in
+    let room : node_limit ≤ size = is.room in
+    record {
+      some = omega (arith, room);
+      heads = λ pages some few. record {
+        sized = λ h fit. length-head_page layout h room fit.0;
+        read_again = λ h fit. ap result_ok (head_again layout pages h room fit.0 fit.1);
+        spelled = λ bytes h all e. head_is layout pages bytes h room some few (from_bytes bytes all) e;
+      };
+      nodes = record {
+        sized = λ n fit. length-filled size (node_bytes n) (omega (arith, node_room n fit, room));
+        read_again = λ n fit. node_again layout n room fit;
+        spelled = λ bytes n all e. node_is layout bytes n (from_bytes bytes all) e;
+      };
+      frees = record {
+        sized = λ g below. length-filled size (free_tag ∷ to_be_bytes w32 g) (omega (arith, room));
+        read_again = λ g below. free_again size g below;
+        spelled = λ bytes g all e. free_is size bytes g (from_bytes bytes all) e;
+      };
+    }
+
 -- ---- the first version
 
+pub first_layout_is : IsLayout first_layout
+first_layout_is = record { room = omega arith; small = omega arith }
+
 pub first_form_is : IsForm first_form
-first_form_is = record {
-  some = omega arith;
-  heads = λ pages some few. record {
-    sized = λ h is. length-head_page first_layout h (omega arith) is.0;
-    read_again = λ h is. ap result_ok (head_again first_layout pages h (omega arith) is.0 is.1);
-    spelled = λ bytes h all e. head_is first_layout pages bytes h (omega arith) some few (from_bytes bytes all) e;
-  };
-  nodes = record {
-    sized = λ n is. length-filled 4096 _ (node_room n is);
-    read_again = λ n is. node_again 4096 n (omega arith) is;
-    spelled = λ bytes n all e. node_is 4096 bytes n (from_bytes bytes all) e;
-  };
-  frees = record {
-    sized = λ g below. length-filled 4096 (free_tag ∷ to_be_bytes w32 g) (omega arith);
-    read_again = λ g below. free_again 4096 g below;
-    spelled = λ bytes g all e. free_is 4096 bytes g (from_bytes bytes all) e;
-  };
-}
+first_form_is = form_is first_layout first_layout_is

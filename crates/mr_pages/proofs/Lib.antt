@@ -16,7 +16,7 @@ mod Walks
 mod Links
 mod Placing
 mod Meeting
-mod Opened
+mod Stops
 mod Judged
 mod Short
 mod Filled

@@ -15,7 +15,7 @@ use Rattle.mr_tree.specs.Digest.{leaf_tag, inner_tag}
 use Rattle.mr_tree.specs.declared.child.Child.{Child}
 use Rattle.mr_tree.specs.declared.tree.Tree.TheOpen.{Empty, Leaf, Inner}
 use Rattle.mr_pages.specs.Page.{Link, Node, level_of, IsNode}
-use Rattle.mr_pages.specs.PageBytes.{Reader, many, record_field, link_in, link_field, are_zeros, from_one_to, before_zeros, leaf_in, inner_in, node_bytes}
+use Rattle.mr_pages.specs.PageBytes.{Reader, many, record_field, link_in, link_field, are_zeros, from_one_to, before_zeros, leaf_in, inner_in, node_bytes, link_size}
 use Rattle.mr_pages.specs.Faults.{of_level}
 use Rattle.mr_pages.specs.Walking.{child_link}
 use Rattle.mr_pages.proofs.PageLaws.{bound_some, mapped_some, chosen, ended, inner_is, level_read}
@@ -86,19 +86,21 @@ mapped_more {A = A} f read i bytes places rest x behind within e g =
 
 -- ---- children
 
-pub link_short : (level : ℕ) (rest : List ℕ) → length rest < 52 → link_field level rest ≡ None
-link_short level rest short = elim (leb_tells 52 (length rest)) [
+pub link_short : (level : ℕ) (rest : List ℕ) → length rest < link_size → link_field level rest ≡ None
+link_short level rest short = elim (leb_tells link_size (length rest)) [
   | inl long ↦ absurd (omega (arith, long.1))
-  | inr is ↦ ap (λ (b : Bool). cond b (option_map (λ (l : Link). (l, drop 52 rest)) (link_in level (take 52 rest)))
+  | inr is ↦ ap (λ (b : Bool). cond b (option_map (λ (l : Link). (l, drop link_size rest)) (link_in level (take link_size rest)))
       None) is.0
 ]
 
-pub link_there : (level : ℕ) (rest raw behind : List ℕ) (o : Option Link) → 52 ≤ length rest → raw ≡ take 52 rest →
-    behind ≡ drop 52 rest
+pub link_there : (level : ℕ) (rest raw behind : List ℕ) (o : Option Link) → link_size ≤ length rest →
+    raw ≡ take link_size rest →
+    behind ≡ drop link_size rest
     → o ≡ link_in level raw → link_field level rest ≡ option_map (λ (l : Link). (l, behind)) o
 link_there level rest raw behind o long front back e =
-    ap (λ (b : Bool). cond b (option_map (λ (l : Link). (l, drop 52 rest)) (link_in level (take 52 rest))) None)
-    (le-leb 52 (length rest) long)
+    ap (λ (b : Bool). cond b
+    (option_map (λ (l : Link). (l, drop link_size rest)) (link_in level (take link_size rest))) None)
+    (le-leb link_size (length rest) long)
     ∙ (λ i. option_map (λ (l : Link). (l, sym back i)) (link_in level (sym front i)))
     ∙ ap (option_map (λ (l : Link). (l, behind))) (sym e)
 
@@ -120,11 +122,11 @@ levels_read k (suc n) bytes (c ∷ cs) rest e =
     let all : p.0.0 ∷ q.0.0 ≡ child_link c ∷ map child_link cs = ap (λ (y : List Link × List ℕ). y.0) q.2 in
     let first : p.0.0 ≡ child_link c = cc in
     let others : q.0.0 ≡ map child_link cs = cc in
-    let t = chosen (nat_le 52 (length bytes)) (option_map (λ (l : Link). (l, drop 52 bytes))
-    (link_in k (take 52 bytes))) p.0 p.1 in
-    let l = mapped_some (λ (l : Link). (l, drop 52 bytes)) (link_in k (take 52 bytes)) p.0 t.1 in
+    let t = chosen (nat_le link_size (length bytes)) (option_map (λ (l : Link). (l, drop link_size bytes))
+    (link_in k (take link_size bytes))) p.0 p.1 in
+    let l = mapped_some (λ (l : Link). (l, drop link_size bytes)) (link_in k (take link_size bytes)) p.0 t.1 in
     let same : l.0 ≡ p.0.0 = ap (λ (y : Link × List ℕ). y.0) l.2 in
-    let level : l.0.entry.level ≡ k = level_read k (take 52 bytes) l.0 l.1 in
+    let level : l.0.entry.level ≡ k = level_read k (take link_size bytes) l.0 l.1 in
     let at : c.level ≡ k = ap (λ (x : Link). x.entry.level) (sym first ∙ sym same) ∙ level in
     (ap (λ m. m + 1) at, levels_read k n p.0.1 cs rest (q.1 ∙ (λ i. Some (others i, left i))))
 

@@ -22,7 +22,8 @@ use Rattle.mr_tree.specs.Limits.{level_limit, leaf_limit, inner_limit}
 use Rattle.mr_tree.specs.Digest.{leaf_tag, inner_tag, rect_bytes}
 use Rattle.mr_tree.specs.declared.tree.Tree.TheOpen.{Empty, Leaf, Inner}
 use Rattle.mr_pages.specs.Page.{Link, Node, level_below, IsLink, IsNode}
-use Rattle.mr_pages.specs.PageBytes.{filled, link_bytes, node_bytes, node_page, Reader, many, found_record, record_field, link_in, link_field, are_zeros, from_one_to, before_zeros, leaf_in, inner_in, tagged_in, node_in}
+use Rattle.mr_pages.specs.declared.layout.Layout.{Layout}
+use Rattle.mr_pages.specs.PageBytes.{filled, link_bytes, link_size, node_bytes, node_limit, node_page, Reader, many, found_record, record_field, link_in, link_field, are_zeros, from_one_to, before_zeros, leaf_in, inner_in, tagged_in, node_in}
 
 -- ---- bytes
 
@@ -151,8 +152,8 @@ link_read level page r digest below ordered fits long =
     let sides : slice_range (N ++ (R ++ digest)) 4 20 ≡ R = slice_at N R digest 4 20 refl (omega arith) in
     let rect : rectangle_of_bytes (slice_range (N ++ (R ++ digest)) 4 20) ≡ Some r =
     rectangle_read (slice_range (N ++ (R ++ digest)) 4 20) r ordered fits sides in
-    let last : slice_range (N ++ (R ++ digest)) 20 52 ≡ digest =
-    slice_last N R digest 4 20 52 refl (omega arith) (omega arith) in
+    let last : slice_range (N ++ (R ++ digest)) 20 link_size ≡ digest =
+    slice_last N R digest 4 20 link_size refl (omega arith) (omega arith) in
     λ i. option_map (λ (q : Rectangle). record {
       page = number i;
       entry =
@@ -171,7 +172,7 @@ link_again level l is =
           { level = sym is.at i; rect = sym h.is i; digest = l.entry.digest };
     }))
 
-pub length-link_bytes : (l : Link) → IsLink l → length (link_bytes l) ≡ 52
+pub length-link_bytes : (l : Link) → IsLink l → length (link_bytes l) ≡ link_size
 unfolding link_bytes
 length-link_bytes l is =
     let R : List ℕ = rectangle_bytes is.rect.r in
@@ -185,9 +186,10 @@ length-link_bytes l is =
           (to_be_bytes w32 l.page) (R ++ l.entry.digest),
     )
 
-in_parts : (raw : List ℕ) → length raw ≡ 52 → raw ≡ take 4 raw ++ (slice_range raw 4 20 ++ slice_range raw 20 52)
+in_parts : (raw : List ℕ) → length raw ≡ link_size →
+    raw ≡ take 4 raw ++ (slice_range raw 4 20 ++ slice_range raw 20 link_size)
 in_parts raw long =
-    let last : drop 20 raw ≡ slice_range raw 20 52 = sym
+    let last : drop 20 raw ≡ slice_range raw 20 link_size = sym
     (take_length (drop 20 raw) 32 (omega (arith, length-drop 20 raw))) in
     drop_split raw 0 4 (omega arith) ∙ ap (λ (t : List ℕ). take 4 raw ++ t)
     (drop_split raw 4 20 (omega arith) ∙ ap (λ (t : List ℕ). slice_range raw 4 20 ++ t) last)
@@ -195,7 +197,7 @@ in_parts raw long =
     take_length : (xs : List ℕ) (n : ℕ) → length xs ≡ n → take n xs ≡ xs
     take_length xs n e = ap (take n) (sym (append-nil xs)) ∙ take_at xs [] n e
 
-pub link_is : (level : ℕ) (raw : List ℕ) (l : Link) → level ≤ level_limit → length raw ≡ 52 → IsBytes raw →
+pub link_is : (level : ℕ) (raw : List ℕ) (l : Link) → level ≤ level_limit → length raw ≡ link_size → IsBytes raw →
     link_in level raw ≡ Some l → IsLinkAt level l × (raw ≡ link_bytes l)
 unfolding link_in link_bytes
 link_is level raw l low long fits e =
@@ -203,13 +205,13 @@ link_is level raw l low long fits e =
     record {
       page = from_be_bytes w32 (take 4 raw);
       entry =
-          record { level = level; rect = Some r; digest = slice_range raw 20 52 };
+          record { level = level; rect = Some r; digest = slice_range raw 20 link_size };
     } in x)
     (rectangle_of_bytes (slice_range raw 4 20)) l e in
     let page : take 4 raw ≡ to_be_bytes w32 (from_be_bytes w32 (take 4 raw)) =
     quarter_is (take 4 raw) (length-take-le 4 raw (omega arith)) (IsBytes-take 4 raw fits) in
     let mid : length (slice_range raw 4 20) ≡ 16 = length-take-le 16 (drop 4 raw) (omega (arith, length-drop 4 raw)) in
-    let last : length (slice_range raw 20 52) ≡ 32 = length-take-le 32 (drop 20 raw)
+    let last : length (slice_range raw 20 link_size) ≡ 32 = length-take-le 32 (drop 20 raw)
     (omega (arith, length-drop 20 raw)) in
     let rect = rectangle_is (slice_range raw 4 20) p.0 mid (IsBytes-take 16 (drop 4 raw) (IsBytes-drop 4 raw fits))
     (ap (λ (o : Option Rectangle). ok_or o (broken BadRect 8)) p.1) in
@@ -223,7 +225,7 @@ link_is level raw l low long fits e =
         };
         at = refl;
       },
-      in_parts raw long ∙ (λ i. page i ++ (rect.spelled i ++ slice_range raw 20 52)),
+      in_parts raw long ∙ (λ i. page i ++ (rect.spelled i ++ slice_range raw 20 link_size)),
     )
 
 pub level_read : (level : ℕ) (raw : List ℕ) (l : Link) → link_in level raw ≡ Some l → l.entry.level ≡ level
@@ -234,24 +236,25 @@ level_read level raw l e = let p = mapped_some _ (rectangle_of_bytes (slice_rang
 pub link_reader : (level : ℕ) → level ≤ level_limit → IsReader (IsLinkAt level) link_bytes (link_field level)
 link_reader level low = record {
   again = λ l rest is.
-      let long : length (link_bytes l) ≡ 52 = length-link_bytes l is.link in
-      let test : nat_le 52 (length (link_bytes l ++ rest)) ≡ true =
-      le-leb 52 (length (link_bytes l ++ rest)) (omega (arith, length-append (link_bytes l) rest)) in
-      let got : link_in level (take 52 (link_bytes l ++ rest)) ≡ Some l =
-      ap (link_in level) (take_at (link_bytes l) rest 52 long) ∙ link_again level l is in
-      ap (λ (b : Bool). cond b (option_map (λ (x : Link). (x, drop 52 (link_bytes l ++ rest)))
-      (link_in level (take 52 (link_bytes l ++ rest)))) None) test
-      ∙ ap (option_map (λ (x : Link). (x, drop 52 (link_bytes l ++ rest)))) got
-      ∙ ap (λ (t : List ℕ). Some (l, t)) (drop_at (link_bytes l) rest 52 long);
+      let long : length (link_bytes l) ≡ link_size = length-link_bytes l is.link in
+      let test : nat_le link_size (length (link_bytes l ++ rest)) ≡ true =
+      le-leb link_size (length (link_bytes l ++ rest)) (omega (arith, length-append (link_bytes l) rest)) in
+      let got : link_in level (take link_size (link_bytes l ++ rest)) ≡ Some l =
+      ap (link_in level) (take_at (link_bytes l) rest link_size long) ∙ link_again level l is in
+      ap (λ (b : Bool). cond b (option_map (λ (x : Link). (x, drop link_size (link_bytes l ++ rest)))
+      (link_in level (take link_size (link_bytes l ++ rest)))) None) test
+      ∙ ap (option_map (λ (x : Link). (x, drop link_size (link_bytes l ++ rest)))) got
+      ∙ ap (λ (t : List ℕ). Some (l, t)) (drop_at (link_bytes l) rest link_size long);
   spelled = λ bytes l rest fits e.
-      let p = chosen (nat_le 52 (length bytes)) (option_map (λ (x : Link). (x, drop 52 bytes))
-      (link_in level (take 52 bytes))) (l, rest) e in
-      let within : 52 ≤ length bytes = leb-true 52 (length bytes) p.0 in
-      let q = mapped_some (λ (x : Link). (x, drop 52 bytes)) (link_in level (take 52 bytes)) (l, rest) p.1 in
-      let is = link_is level (take 52 bytes) q.0 low (length-take-le 52 bytes within)
-      (IsBytes-take 52 bytes fits) q.1 in
+      let p = chosen (nat_le link_size (length bytes)) (option_map (λ (x : Link). (x, drop link_size bytes))
+      (link_in level (take link_size bytes))) (l, rest) e in
+      let within : link_size ≤ length bytes = leb-true link_size (length bytes) p.0 in
+      let q = mapped_some (λ (x : Link). (x, drop link_size bytes)) (link_in level (take link_size bytes))
+      (l, rest) p.1 in
+      let is = link_is level (take link_size bytes) q.0 low (length-take-le link_size bytes within)
+      (IsBytes-take link_size bytes fits) q.1 in
       subst (λ (y : Link × List ℕ). IsLinkAt level y.0 × (bytes ≡ link_bytes y.0 ++ y.1)) q.2
-      (is.0, sym (take-append-drop 52 bytes) ∙ ap (λ (t : List ℕ). t ++ drop 52 bytes) is.1);
+      (is.0, sym (take-append-drop link_size bytes) ∙ ap (λ (t : List ℕ). t ++ drop link_size bytes) is.1);
 }
 
 -- ---- zeros
@@ -410,13 +413,14 @@ record_room (r ∷ rs) all =
     let more = record_room rs all.1 in
     omega (arith, length-append (record_bytes r) (flat_map record_bytes rs), length-record_bytes r, all.0.payload, more)
 
-link_room : (links : List Link) → AllByRecursion IsLink links → length (flat_map link_bytes links) ≡ 52 * length links
+link_room : (links : List Link) → AllByRecursion IsLink links →
+    length (flat_map link_bytes links) ≡ link_size * length links
 link_room [] all = omega arith
 link_room (l ∷ links) all =
     let more = link_room links all.1 in
     omega (arith, length-append (link_bytes l) (flat_map link_bytes links), length-link_bytes l all.0, more)
 
-pub node_room : (n : Node) → IsNode n → length (node_bytes n) ≤ 4096
+pub node_room : (n : Node) → IsNode n → length (node_bytes n) ≤ node_limit
 node_room Empty is = absurd is
 node_room (Leaf rs) is = omega (arith, record_room rs (recursion_from_All IsRecord rs is.2), is.1)
 node_room (Inner links) is = omega (arith, link_room links is.2, is.1)
@@ -427,10 +431,13 @@ tagged_again Empty zeros is h = absurd is
 tagged_again (Leaf rs) zeros is h = leaf_again rs zeros is h
 tagged_again (Inner links) zeros is h = inner_again links zeros is h
 
-pub node_again : (size : ℕ) (n : Node) → 4096 ≤ size → IsNode n → node_in size (node_page size n) ≡ Some n
-node_again size n big is =
-    let long : length (node_page size n) ≡ size = length-filled size (node_bytes n) (omega (arith, node_room n is)) in
-    ap (λ (b : Bool). cond b (tagged_in (node_page size n)) None) (eq-eqb (length (node_page size n)) size long)
+pub node_again : (layout : Layout) (n : Node) → node_limit ≤ layout.size → IsNode n →
+    node_in layout (node_page layout n) ≡ Some n
+node_again layout n big is =
+    let size : ℕ = layout.size in
+    let page : List ℕ = node_page layout n in
+    let long : length page ≡ size = length-filled size (node_bytes n) (omega (arith, node_room n is)) in
+    ap (λ (b : Bool). cond b (tagged_in page) None) (eq-eqb (length page) size long)
     ∙ tagged_again n (replicate (size - length (node_bytes n)) 0) is
     (are_zeros-replicate (size - length (node_bytes n)))
 
@@ -448,10 +455,11 @@ tagged_is (tag ∷ rest) n fits e = elim (cases_Bool (eqb tag leaf_tag)) [
       (inner_is rest n (λ i. fits (suc i)) p.1)
 ]
 
-pub node_is : (size : ℕ) (page : List ℕ) (n : Node) → IsBytes page → node_in size page ≡ Some n →
-    IsNode n × (node_page size n ≡ page)
-node_is size page n fits e =
-    let p = chosen (eqb (length page) size) (tagged_in page) n e in
+pub node_is : (layout : Layout) (page : List ℕ) (n : Node) → IsBytes page → node_in layout page ≡ Some n →
+    IsNode n × (node_page layout n ≡ page)
+node_is layout page n fits e =
+    let p = chosen (eqb (length page) layout.size) (tagged_in page) n e in
     let s = tagged_is page n fits p.1 in
-    let long : length (node_bytes n ++ s.left) ≡ size = ap length (sym s.is) ∙ eqb-true (length page) size p.0 in
-    (s.fits, sym (s.is ∙ filled_is size (node_bytes n) s.left long s.zeros))
+    let long : length (node_bytes n ++ s.left) ≡ layout.size =
+    ap length (sym s.is) ∙ eqb-true (length page) layout.size p.0 in
+    (s.fits, sym (s.is ∙ filled_is layout.size (node_bytes n) s.left long s.zeros))

@@ -1,5 +1,6 @@
 -- The pages of a tree's nodes, put one behind the other.
 use Rattle.std.proofs.Common.{◌≡◌, ◌≢◌, ℕ, suc, ◌+◌, ◌*◌, ◌<◌, ◌≤◌, List, [], ◌∷◌, ◌++◌, length, map, take, drop, get_or, replicate, ◌/◌, refl, sym, ap, subst, ◌∙◌, arith, append_assoc, length-append}
+use Rattle.mr_tree.specs.Digest.{Scheme, by}
 use Rattle.std.specs.Prelude.{All}
 use Rattle.std.specs.List.{flat_map, AllByRecursion}
 use Rattle.std.proofs.lemmas.List.{append-nil, map-append, map_more, length-replicate, take_at, drop_at, take-append-drop, length-map}
@@ -19,8 +20,7 @@ use Rattle.mr_tree.specs.declared.tree.Tree.TheViews.{out-Tree}
 use Rattle.mr_tree.specs.declared.tree.Tree.TheFolds.{every-Tree}
 use Rattle.mr_tree.proofs.Equations.{level-Inner, entry_level}
 use Rattle.mr_tree.proofs.Induction.{here-Leaf, here-Inner, every_child}
-use Rattle.mr_pages.specs.Page.{Link, page_limit, entry_of}
-use Rattle.mr_pages.specs.PageBytes.{first_form}
+use Rattle.mr_pages.specs.Page.{Link, Form, page_limit, entry_of}
 use Rattle.mr_pages.specs.Stands as placed
 use Rattle.mr_pages.specs.Stands.{Placed, Row, no_more, first, pages_of, all_pages, links_of, trees_of}
 use Rattle.std.proofs.Math.Seq.{take-length}
@@ -42,14 +42,14 @@ pages_beside no_more Qs = refl
 pages_beside (first P Ps) Qs =
     ap (λ ps. pages_of P ++ ps) (pages_beside Ps Qs) ∙ sym (append_assoc (pages_of P) (all_pages Ps) (all_pages Qs))
 
-pub nodes_beside : (hash : List ℕ → List ℕ) (Ps Qs : Row) →
+pub nodes_beside : (hash : Scheme) (Ps Qs : Row) →
     all_nodes hash (beside Ps Qs) ≡ all_nodes hash Ps ++ all_nodes hash Qs
 nodes_beside hash no_more Qs = refl
 nodes_beside hash (first P Ps) Qs =
     ap (λ ns. nodes_of hash P ++ ns) (nodes_beside hash Ps Qs)
     ∙ sym (append_assoc (nodes_of hash P) (all_nodes hash Ps) (all_nodes hash Qs))
 
-pub links_beside : (hash : List ℕ → List ℕ) (Ps Qs : Row) →
+pub links_beside : (hash : Scheme) (Ps Qs : Row) →
     links_of hash (beside Ps Qs) ≡ links_of hash Ps ++ links_of hash Qs
 links_beside hash no_more Qs = refl
 links_beside hash (first P Ps) Qs = ap (λ ls. placed.link_of hash P ∷ ls) (links_beside hash Ps Qs)
@@ -64,24 +64,56 @@ row_beside n (f ∷ fs) gs =
     omega (arith, length-append (pages_of (f n)) (all_pages rest)) in
     ap (first (f n)) (row_beside (n + m) fs gs ∙ ap (λ k. beside rest (number_row k gs)) same)
 
+-- ---- pages in bytes
+
+sum_times : (a b size : ℕ) → (a + b) * size ≡ a * size + b * size
+sum_times a b size = grind arith
+
 -- ---- a leaf
 
 pub leaf_entries : (t : Tree) (rs : List Record) → CanBePut t → t ≡ tree.Leaf rs →
     (1 ≤ length rs) × (length rs ≤ leaf_limit)
 leaf_entries t rs can is = here-Leaf HasEntries rs (subst (every-Tree HasEntries) is can.entries)
 
-pub leaf_put : (hash : List ℕ → List ℕ) (t : Tree) (rs : List Record) (page : ℕ) (old new : List ℕ) (child : Child) →
-    t ≡ tree.Leaf rs → new ≡ old ++ first_form.node_page (node.Leaf rs) → length new ≡ length old + 4096 →
-    child_link child ≡ record { page = page; entry = entry_of hash (node.Leaf rs) } → IsPut hash t page old new child
-leaf_put hash t rs page old new child is put long said =
+pub leaf_put : (form : Form) (hash : List ℕ → List ℕ) (t : Tree) (rs : List Record) (page : ℕ) (old new : List ℕ)
+    (child : Child) →
+    t ≡ tree.Leaf rs → new ≡ old ++ form.node_page (node.Leaf rs) → length new ≡ length old + form.size →
+    child_link child ≡ record { page = page; entry = entry_of (by form.version hash) (node.Leaf rs) } →
+    IsPut form hash t page old new child
+leaf_put form hash t rs page old new child is put long said =
     let made : numbered t page ≡ placed.Leaf page rs = ap (λ u. numbered u page) is
     ∙ ap (λ f. f page) (numbered-Leaf rs) in
     record {
-      pages = put ∙ ap (λ bs. old ++ bs) (sym (append-nil (first_form.node_page (node.Leaf rs)))
-          ∙ ap (λ P. flat_map first_form.node_page (nodes_of hash P)) (sym made));
-      size = omega (arith, long, ap (λ P. length (pages_of P)) made);
-      link = said ∙ (λ i. record { page = page; entry = entry_leaf hash rs i }) ∙ ap (placed.link_of hash) (sym made);
+      pages = put ∙ ap (λ bs. old ++ bs) (sym (append-nil (form.node_page (node.Leaf rs)))
+          ∙ ap (λ P. flat_map form.node_page (nodes_of (by form.version hash) P)) (sym made));
+      size = omega (arith, long, ap (λ P. length (pages_of P) * form.size) made);
+      link = said ∙ (λ i. record { page = page; entry = entry_leaf (by form.version hash) rs i })
+          ∙ ap (placed.link_of (by form.version hash)) (sym made);
     }
+
+-- put in the place of the zeros that stood there
+pub leaf_put_at : {shows : view.Node} {slice : List ℕ} (form : Form) (hash : List ℕ → List ℕ) (t : Tree)
+    (rs : List Record) (page : ℕ) (old now new : List ℕ) (place : ℕ) (child : Child) → t ≡ tree.Leaf rs →
+    length old ≡ place → now ≡ old ++ replicate form.size 0 → shows ≡ node.Leaf rs → slice ≡ now →
+    new ≡ (take place slice ++ form.node_page (page_node shows)) ++ drop (place + form.size) slice →
+    length new ≡ length slice →
+    child_link child ≡ record { page = page; entry = entry_of (by form.version hash) (page_node shows) } →
+    IsPut form hash t page old new child
+leaf_put_at {slice = slice} form hash t rs page old now new place child is here zeros shows_is slice_is put long said =
+    let zero : List ℕ = replicate form.size 0 in
+    let mine : List ℕ = form.node_page (node.Leaf rs) in
+    let all : slice ≡ old ++ zero = slice_is ∙ zeros in
+    let none : old ++ zero ≡ (old ++ zero) ++ [] = sym (append-nil (old ++ zero)) in
+    let front : take place slice ≡ old = ap (take place) all ∙ take_at old zero place here in
+    let back : drop (place + form.size) slice ≡ [] =
+    ap (drop (place + form.size)) (all ∙ none)
+    ∙ drop_at (old ++ zero) [] (place + form.size)
+    (omega (arith, length-append old zero, length-replicate {A = ℕ} form.size 0, here)) in
+    let whole : new ≡ old ++ mine =
+    put ∙ (λ i. (front i ++ form.node_page (page_node (shows_is i))) ++ back i) ∙ append-nil (old ++ mine) in
+    leaf_put form hash t rs page old new child is whole
+    (omega (arith, long, ap length all, length-append old zero, length-replicate {A = ℕ} form.size 0))
+    (said ∙ (λ i. record { page = page; entry = entry_of (by form.version hash) (page_node (shows_is i)) }))
 
 -- ---- an inner node, child by child
 
@@ -89,27 +121,52 @@ leaf_put hash t rs page old new child is put long said =
 abbrev pub some_row : (n : ℕ) → List Tree → ℕ → Row
 some_row n ts i = number_row n (map numbered (take i ts))
 
-pub record PutSoFar (hash : List ℕ → List ℕ) (ts : List Tree) (i page : ℕ) (old now : List ℕ)
+pub record PutSoFar (form : Form) (hash : List ℕ → List ℕ) (ts : List Tree) (i page : ℕ) (old now : List ℕ)
     (links : List Child) : Type 0 where
-  pub pages : now ≡ (old ++ replicate 4096 0) ++ flat_map first_form.node_page
-      (all_nodes hash (some_row (suc page) ts i))
-  pub links_are : map child_link links ≡ links_of hash (some_row (suc page) ts i)
-  pub size : length now ≡ (suc page + length (all_pages (some_row (suc page) ts i))) * 4096
+  pub pages : now ≡ (old ++ replicate form.size 0) ++ flat_map form.node_page
+      (all_nodes (by form.version hash) (some_row (suc page) ts i))
+  pub links_are : map child_link links ≡ links_of (by form.version hash) (some_row (suc page) ts i)
+  pub size : length now ≡ (suc page + length (all_pages (some_row (suc page) ts i))) * form.size
 
-pub put_none : (hash : List ℕ → List ℕ) (ts : List Tree) (page : ℕ) (old now : List ℕ) (links : List Child) →
-    length old ≡ page * 4096 → now ≡ old ++ replicate 4096 0 → links ≡ [] → PutSoFar hash ts 0 page old now links
-put_none hash ts page old now links at put none = record {
-  pages = put ∙ sym (append-nil (old ++ replicate 4096 0));
+pub put_none : (form : Form) (hash : List ℕ → List ℕ) (ts : List Tree) (page : ℕ) (old now : List ℕ)
+    (links : List Child) →
+    length old ≡ page * form.size → now ≡ old ++ replicate form.size 0 → links ≡ [] →
+    PutSoFar form hash ts 0 page old now links
+put_none form hash ts page old now links at put none = record {
+  pages = put ∙ sym (append-nil (old ++ replicate form.size 0));
   links_are = ap (map child_link) none;
-  size = omega (arith, ap length put, length-append old (replicate 4096 0), length-replicate {A = ℕ} 4096 0, at);
+  size = omega (
+    arith,
+    ap length put,
+    length-append old (replicate form.size 0),
+    length-replicate {A = ℕ} form.size 0,
+    at,
+    sum_times page 1 form.size,
+    ap (λ n. n * form.size) (let one : suc page + 0 ≡ page + 1 = omega arith in one),
+  );
 }
 
 -- where the next child begins
-pub next_page : (hash : List ℕ → List ℕ) (ts : List Tree) (i page : ℕ) (old now : List ℕ) (links : List Child) →
-    PutSoFar hash ts i page old now links → length now / 4096 ≡ suc page + length (all_pages (some_row (suc page) ts i))
-next_page hash ts i page old now links so_far =
-    ap (λ n. n / 4096) so_far.size ∙ mul-div_cancel (suc page + length (all_pages (some_row (suc page) ts i)))
-    (omega arith)
+pub next_page : (form : Form) (hash : List ℕ → List ℕ) (ts : List Tree) (i page : ℕ) (old now : List ℕ)
+    (links : List Child) → 0 < form.size → PutSoFar form hash ts i page old now links →
+    length now / form.size ≡ suc page + length (all_pages (some_row (suc page) ts i))
+next_page form hash ts i page old now links some so_far =
+    ap (λ n. n / form.size) so_far.size
+    ∙ mul-div_cancel (suc page + length (all_pages (some_row (suc page) ts i))) some
+
+-- the zeros that stand for the node's page are there
+pub room_for : (form : Form) (hash : List ℕ → List ℕ) (ts : List Tree) (i page : ℕ) (old now : List ℕ)
+    (links : List Child) → PutSoFar form hash ts i page old now links → length old + form.size ≤ length now
+room_for form hash ts i page old now links so_far =
+    let zeros : List ℕ = replicate form.size 0 in
+    omega (
+      arith,
+      ap length so_far.pages,
+      length-append (old ++ zeros) (flat_map form.node_page
+          (all_nodes (by form.version hash) (some_row (suc page) ts i))),
+      length-append old zeros,
+      length-replicate {A = ℕ} form.size 0,
+    )
 
 split_row : (n : ℕ) (ts : List Tree) (i : ℕ) (t : Tree) → i < length ts → t ≡ get_or ts i t →
     some_row n ts (i + 1) ≡ beside (some_row n ts i) (first
@@ -183,12 +240,13 @@ child_lower t ts i one is can within at =
     (here-Inner HasOneLevel ts levels i one within).1 in
     omega (arith, same, level-Inner ts, ap level at, ap level is)
 
-pub put_one : (hash : List ℕ → List ℕ) (ts : List Tree) (i page next : ℕ) (old now more : List ℕ)
+pub put_one : (form : Form) (hash : List ℕ → List ℕ) (ts : List Tree) (i page next : ℕ) (old now more : List ℕ)
     (links links' : List Child) (one : Tree) (child : Child) →
     i < length ts → one ≡ get_or ts i one → next ≡ suc page + length (all_pages (some_row (suc page) ts i)) →
-    PutSoFar hash ts i page old now links → IsPut hash one next now more child → links' ≡ links ++ child ∷ [] →
-    PutSoFar hash ts (i + 1) page old more links'
-put_one hash ts i page next old now more links links' one child within at same so_far put push =
+    PutSoFar form hash ts i page old now links → IsPut form hash one next now more child →
+    links' ≡ links ++ child ∷ [] →
+    PutSoFar form hash ts (i + 1) page old more links'
+put_one form hash ts i page next old now more links links' one child within at same so_far put push =
     let n = suc page in
     let R = some_row n ts i in
     let P = numbered one (n + length (all_pages R)) in
@@ -196,23 +254,31 @@ put_one hash ts i page next old now more links links' one child within at same s
     let split = split_row n ts i one within at in
     record {
       pages = put.pages
-          ∙ (λ k. so_far.pages k ++ flat_map first_form.node_page (nodes_of hash (there k)))
-          ∙ append_assoc (old ++ replicate 4096 0) (flat_map first_form.node_page (all_nodes hash R))
-          (flat_map first_form.node_page (nodes_of hash P))
-          ∙ ap (λ bs. (old ++ replicate 4096 0) ++ bs)
-          (sym (flat_map-append first_form.node_page (all_nodes hash R) (nodes_of hash P))
-          ∙ ap (λ ns. flat_map first_form.node_page (all_nodes hash R ++ ns)) (sym (append-nil (nodes_of hash P)))
-          ∙ ap (flat_map first_form.node_page) (sym (nodes_beside hash R (first P no_more))
-          ∙ ap (all_nodes hash) (sym split)));
+          ∙ (λ k. so_far.pages k ++ flat_map form.node_page (nodes_of (by form.version hash) (there k)))
+          ∙ append_assoc (old ++ replicate form.size 0) (flat_map form.node_page (all_nodes (by form.version hash) R))
+          (flat_map form.node_page (nodes_of (by form.version hash) P))
+          ∙ ap (λ bs. (old ++ replicate form.size 0) ++ bs)
+          (sym (flat_map-append form.node_page (all_nodes (by form.version hash) R) (nodes_of (by form.version hash) P))
+          ∙ ap (λ ns. flat_map form.node_page (all_nodes (by form.version hash) R ++ ns))
+          (sym (append-nil (nodes_of (by form.version hash) P)))
+          ∙ ap (flat_map form.node_page) (sym (nodes_beside (by form.version hash) R (first P no_more))
+          ∙ ap (all_nodes (by form.version hash)) (sym split)));
       links_are = ap (map child_link) push ∙ map-append child_link links (child ∷ [])
-          ∙ (λ k. so_far.links_are k ++ (put.link ∙ ap (placed.link_of hash) there) k ∷ [])
-          ∙ sym (links_beside hash R (first P no_more)) ∙ ap (links_of hash) (sym split);
-      size = omega (arith, put.size, so_far.size, one_longer n ts i one within at, ap (λ Q. length (pages_of Q)) there);
+          ∙ (λ k. so_far.links_are k ++ (put.link ∙ ap (placed.link_of (by form.version hash)) there) k ∷ [])
+          ∙ sym (links_beside (by form.version hash) R (first P no_more))
+          ∙ ap (links_of (by form.version hash)) (sym split);
+      size =
+          let before = suc page + length (all_pages R) in
+          let more_pages = length (pages_of P) in
+          let all : before + more_pages ≡ suc page + length (all_pages (some_row n ts (i + 1))) =
+          omega (arith, one_longer n ts i one within at) in
+          put.size ∙ (λ k. so_far.size k + length (pages_of (there k)) * form.size)
+          ∙ sym (sum_times before more_pages form.size) ∙ ap (λ m. m * form.size) all;
     }
 
 -- ---- an inner node, whole
 
-levels_of : (hash : List ℕ → List ℕ) (n : ℕ) (Ps : Row) (cs : List Child) → map child_link cs ≡ links_of hash Ps →
+levels_of : (hash : Scheme) (n : ℕ) (Ps : Row) (cs : List Child) → map child_link cs ≡ links_of hash Ps →
     AllByRecursion (λ t. level t ≡ n) (trees_of Ps) → AllByRecursion (λ (c : Child). c.level ≡ n) cs
 levels_of hash n no_more [] e all = tt
 levels_of hash n no_more (c ∷ cs) e all = cc
@@ -232,15 +298,16 @@ inner_same xs ys e =
     cc
 
 -- the children of an inner node, once all were put
-pub record AllPut (hash : List ℕ → List ℕ) (ts : List Tree) (page : ℕ) (links : List Child) : Type 0 where
+pub record AllPut (ts : List Tree) (links : List Child) : Type 0 where
   pub count : length links ≡ length ts
   pub levels : AllByRecursion (λ (c : Child). c.level + 1 ≡ level (tree.Inner ts)) links
   pub few : (1 ≤ length ts) × (length ts ≤ inner_limit)
   pub high : (1 ≤ level (tree.Inner ts)) × (level (tree.Inner ts) ≤ level_limit)
 
-all_put : (hash : List ℕ → List ℕ) (t : Tree) (ts : List Tree) (page : ℕ) (old now : List ℕ) (links : List Child) →
-    t ≡ tree.Inner ts → CanBePut t → PutSoFar hash ts (length ts) page old now links → AllPut hash ts page links
-all_put hash t ts page old now links is can so_far =
+all_put : (form : Form) (hash : List ℕ → List ℕ) (t : Tree) (ts : List Tree) (page : ℕ) (old now : List ℕ)
+    (links : List Child) →
+    t ≡ tree.Inner ts → CanBePut t → PutSoFar form hash ts (length ts) page old now links → AllPut ts links
+all_put form hash t ts page old now links is can so_far =
     let levels = subst (every-Tree HasOneLevel) is can.one_level in
     let high : level (tree.Inner ts) ≤ level_limit = subst (λ u. level u ≤ level_limit) is can.shallow in
     let entries = here-Inner HasEntries ts (subst (every-Tree HasEntries) is can.entries) in
@@ -248,17 +315,19 @@ all_put hash t ts page old now links is can so_far =
     let R = number_row (suc page) (map numbered ts) in
     let all : some_row (suc page) ts (length ts) ≡ R = ap (λ us. number_row (suc page) (map numbered us))
     (take-length ts) in
-    let links_are : map child_link links ≡ links_of hash R = so_far.links_are ∙ ap (links_of hash) all in
+    let links_are : map child_link links ≡ links_of (by form.version hash) R = so_far.links_are
+    ∙ ap (links_of (by form.version hash)) all in
     let trees : trees_of R ≡ ts = row_trees ts page numbers.trees in
     let each : AllByRecursion (λ t. level t ≡ first_level (map level ts)) ts =
     recursion_from_All (λ t. level t ≡ first_level (map level ts)) ts
     (λ k d within. (here-Inner HasOneLevel ts levels k d within).1) in
     record {
-      count = sym (length-map links child_link) ∙ ap length links_are ∙ sym (length_row hash R) ∙ ap length trees;
+      count = sym (length-map links child_link) ∙ ap length links_are ∙ sym (length_row (by form.version hash) R)
+          ∙ ap length trees;
       levels = all_weaker (λ (c : Child). c.level ≡ first_level (map level ts))
           (λ (c : Child). c.level + 1 ≡ level (tree.Inner ts))
           (λ c e. omega (arith, e, level-Inner ts)) links
-          (levels_of hash (first_level (map level ts)) R links links_are
+          (levels_of (by form.version hash) (first_level (map level ts)) R links links_are
           (subst (AllByRecursion (λ t. level t ≡ first_level (map level ts))) (sym trees) each));
       few = entries;
       high = (omega (arith, level-Inner ts), high);
@@ -268,70 +337,72 @@ all_put hash t ts page old now links is can so_far =
         trees_of (number_row (suc page) (map numbered ts)) ≡ ts
     row_trees ts page e = inner_same _ ts (sym (ap (λ f. placed.tree_of (f page)) (numbered-Inner ts)) ∙ e)
 
-inner_put_at : (hash : List ℕ → List ℕ) (t : Tree) (ts : List Tree) (page : ℕ) (old now new : List ℕ)
-    (links : List Child) (child : Child) →
-    t ≡ tree.Inner ts → CanBePut t → PutSoFar hash ts (length ts) page old now links → length old ≡ page * 4096 →
-    new ≡ (take (page * 4096) now ++ first_form.node_page (node.Inner (map child_link links))) ++ drop
-    (page * 4096 + 4096) now →
+inner_put_at : (form : Form) (hash : List ℕ → List ℕ) (t : Tree) (ts : List Tree) (page : ℕ) (old now new : List ℕ)
+    (place : ℕ) (links : List Child) (child : Child) →
+    t ≡ tree.Inner ts → CanBePut t → PutSoFar form hash ts (length ts) page old now links →
+    length old ≡ page * form.size →
+    length old ≡ place →
+    new ≡ (take place now ++ form.node_page (node.Inner (map child_link links))) ++ drop
+    (place + form.size) now →
     length new ≡ length now →
-    child_link child ≡ record { page = page; entry = entry_of hash (node.Inner (map child_link links)) } →
-    IsPut hash t page old new child
-inner_put_at hash t ts page old now new links child is can so_far at put long said =
+    child_link child ≡ record
+    { page = page; entry = entry_of (by form.version hash) (node.Inner (map child_link links)) } →
+    IsPut form hash t page old new child
+inner_put_at form hash t ts page old now new place links child is can so_far at here put long said =
     let R = number_row (suc page) (map numbered ts) in
     let all : some_row (suc page) ts (length ts) ≡ R = ap (λ us. number_row (suc page) (map numbered us))
     (take-length ts) in
-    let links_are : map child_link links ≡ links_of hash R = so_far.links_are ∙ ap (links_of hash) all in
+    let links_are : map child_link links ≡ links_of (by form.version hash) R = so_far.links_are
+    ∙ ap (links_of (by form.version hash)) all in
     let made : numbered t page ≡ placed.Inner page R = ap (λ u. numbered u page) is
     ∙ ap (λ f. f page) (numbered-Inner ts) in
-    let zeros : List ℕ = replicate 4096 0 in
-    let below = flat_map first_form.node_page (all_nodes hash R) in
+    let zeros : List ℕ = replicate form.size 0 in
+    let below = flat_map form.node_page (all_nodes (by form.version hash) R) in
     let whole : now ≡ (old ++ zeros) ++ below =
-    so_far.pages ∙ ap (λ Q. (old ++ zeros) ++ flat_map first_form.node_page (all_nodes hash Q)) all in
-    let front : take (page * 4096) now ≡ old =
-    ap (take (page * 4096)) (whole ∙ append_assoc old zeros below) ∙ take_at old (zeros ++ below) (page * 4096) at in
-    let back : drop (page * 4096 + 4096) now ≡ below =
-    ap (drop (page * 4096 + 4096)) whole
-    ∙ drop_at (old ++ zeros) below (page * 4096 + 4096)
-    (omega (arith, length-append old zeros, length-replicate {A = ℕ} 4096 0, at)) in
-    let mine = first_form.node_page (node.Inner (links_of hash R)) in
+    so_far.pages ∙ ap (λ Q. (old ++ zeros) ++ flat_map form.node_page (all_nodes (by form.version hash) Q)) all in
+    let front : take place now ≡ old =
+    ap (take place) (whole ∙ append_assoc old zeros below) ∙ take_at old (zeros ++ below) place here in
+    let back : drop (place + form.size) now ≡ below =
+    ap (drop (place + form.size)) whole
+    ∙ drop_at (old ++ zeros) below (place + form.size)
+    (omega (arith, length-append old zeros, length-replicate {A = ℕ} form.size 0, here)) in
+    let mine = form.node_page (node.Inner (links_of (by form.version hash) R)) in
     record {
       pages = put
-          ∙ (λ i. (front i ++ first_form.node_page (node.Inner (links_are i))) ++ back i)
+          ∙ (λ i. (front i ++ form.node_page (node.Inner (links_are i))) ++ back i)
           ∙ append_assoc old mine below
-          ∙ ap (λ P. old ++ flat_map first_form.node_page (nodes_of hash P)) (sym made);
-      size = omega (
-        arith,
-        long,
-        so_far.size,
-        at,
-        ap (λ Q. length (all_pages Q)) all,
-        ap
-            (λ P. length (pages_of P)) made,
-      );
+          ∙ ap (λ P. old ++ flat_map form.node_page (nodes_of (by form.version hash) P)) (sym made);
+      size =
+          let below_pages = length (all_pages R) in
+          let count : suc page + length (all_pages (some_row (suc page) ts (length ts))) ≡ page + suc below_pages =
+          omega (arith, ap (λ Q. length (all_pages Q)) all) in
+          long ∙ so_far.size ∙ ap (λ n. n * form.size) count ∙ sum_times page (suc below_pages) form.size
+          ∙ (λ i. sym at i + length (pages_of (sym made i)) * form.size);
       link = said
           ∙ (λ i. record {
             page = page;
-            entry = (ap (λ ls. entry_of hash (node.Inner ls)) links_are
-                ∙ entry_inner hash R) i;
+            entry = (ap (λ ls. entry_of (by form.version hash) (node.Inner ls)) links_are
+                ∙ entry_inner (by form.version hash) R) i;
           })
-          ∙ ap (placed.link_of hash) (sym made);
+          ∙ ap (placed.link_of (by form.version hash)) (sym made);
     }
 
-pub put_whole : (hash : List ℕ → List ℕ) (t : Tree) (ts : List Tree) (i page : ℕ) (old now : List ℕ)
+pub put_whole : (form : Form) (hash : List ℕ → List ℕ) (t : Tree) (ts : List Tree) (i page : ℕ) (old now : List ℕ)
     (links : List Child) →
-    t ≡ tree.Inner ts → CanBePut t → PutSoFar hash ts i page old now links → i ≡ length ts → AllPut hash ts page links
-put_whole hash t ts i page old now links is can so_far end =
-    all_put hash t ts page old now links is can (subst (λ j. PutSoFar hash ts j page old now links) end so_far)
+    t ≡ tree.Inner ts → CanBePut t → PutSoFar form hash ts i page old now links → i ≡ length ts → AllPut ts links
+put_whole form hash t ts i page old now links is can so_far end =
+    all_put form hash t ts page old now links is can
+    (subst (λ j. PutSoFar form hash ts j page old now links) end so_far)
 
 -- each child is of the level below
-pub one_of : {hash : List ℕ → List ℕ} {page : ℕ} (links : List Child) (ts : List Tree) → AllPut hash ts page links →
+pub one_of : (links : List Child) (ts : List Tree) → AllPut ts links →
     (k : ℕ) (d : Child) → k < length links → d ≡ get_or links k d → d.level + 1 ≡ level (tree.Inner ts)
 one_of links ts all k d within is =
     subst (λ (c : Child). c.level + 1 ≡ level (tree.Inner ts)) (sym is)
     (All-from_recursion (λ (c : Child). c.level + 1 ≡ level (tree.Inner ts)) links all.levels k d within)
 
-pub below_first : {hash : List ℕ → List ℕ} {page : ℕ} (links shown : List Child) (ts : List Tree) →
-    AllPut hash ts page links →
+pub below_first : (links shown : List Child) (ts : List Tree) →
+    AllPut ts links →
     (d : Child) → shown ≡ links → d.level + 1 ≡ level (tree.Inner ts) →
     All (λ (c : Child). c.level + 1 ≡ d.level + 1) shown
 below_first links shown ts all d same first' =
@@ -340,22 +411,28 @@ below_first links shown ts all d same first' =
     (all_weaker (λ (c : Child). c.level + 1 ≡ level (tree.Inner ts)) (λ (c : Child). c.level + 1 ≡ d.level + 1)
     (λ c e. e ∙ sym first') links all.levels))
 
-pub inner_put : {shows : view.Node} {slice : List ℕ} (hash : List ℕ → List ℕ) (t : Tree) (ts : List Tree) (i page : ℕ)
-    (old now new : List ℕ) (links shown : List Child) (child : Child) →
-    t ≡ tree.Inner ts → CanBePut t → PutSoFar hash ts i page old now links → i ≡ length ts → length old ≡ page * 4096 →
+pub inner_put : {shows : view.Node} {slice : List ℕ} (form : Form) (hash : List ℕ → List ℕ) (t : Tree) (ts : List Tree)
+    (i page : ℕ)
+    (old now new : List ℕ) (place : ℕ) (links shown : List Child) (child : Child) →
+    t ≡ tree.Inner ts → CanBePut t → PutSoFar form hash ts i page old now links → i ≡ length ts →
+    length old ≡ page * form.size →
+    length old ≡ place →
     shown ≡ links → shows ≡ node.Inner shown → slice ≡ now →
-    new ≡ (take (page * 4096) slice ++ first_form.node_page (page_node shows)) ++ drop (page * 4096 + 4096) slice →
-    length new ≡ length slice → child_link child ≡ record { page = page; entry = entry_of hash (page_node shows) } →
-    IsPut hash t page old new child
-inner_put {shows = shows} {slice = slice} hash t ts i page old now new links shown child is can so_far end at same
+    new ≡ (take place slice ++ form.node_page (page_node shows)) ++ drop (place + form.size) slice →
+    length new ≡ length slice →
+    child_link child ≡ record { page = page; entry = entry_of (by form.version hash) (page_node shows) } →
+    IsPut form hash t page old new child
+inner_put {shows = shows} {slice = slice} form hash t ts i page old now new place links shown child is can so_far end
+    at here same
     shows_is slice_is put long said =
     let node_is : page_node shows ≡ node.Inner (map child_link links) =
     ap page_node shows_is ∙ ap (λ cs. node.Inner (map child_link cs)) same in
-    inner_put_at hash t ts page old now new links child is can
-    (subst (λ j. PutSoFar hash ts j page old now links) end so_far) at
-    (put ∙ (λ k. (take (page * 4096) (slice_is k) ++ first_form.node_page (node_is k)) ++ drop (page * 4096 + 4096)
+    inner_put_at form hash t ts page old now new place links child is can
+    (subst (λ j. PutSoFar form hash ts j page old now links) end so_far) at here
+    (put ∙ (λ k. (take place (slice_is k) ++ form.node_page (node_is k)) ++ drop (place + form.size)
     (slice_is k)))
-    (long ∙ ap length slice_is) (said ∙ (λ k. record { page = page; entry = entry_of hash (node_is k) }))
+    (long ∙ ap length slice_is)
+    (said ∙ (λ k. record { page = page; entry = entry_of (by form.version hash) (node_is k) }))
 
 -- a list whose first cells were written through a slice of all of them
 pub written_whole : (len : ℕ) (new items : List ℕ) → length new ≡ len → take len (new ++ drop (length new) items) ≡ new

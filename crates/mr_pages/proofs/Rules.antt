@@ -1,5 +1,6 @@
 -- A walk meets no fault just where each node is sound by itself, and no page and no number comes twice.
 use Rattle.std.proofs.Common.{◌≡◌, ◌≢◌, ℕ, ◌<◌, ◌≤◌, Bool, true, false, List, [], ◌∷◌, ◌++◌, refl, sym, ap, subst, ◌∙◌, arith}
+use Rattle.mr_tree.specs.Digest.{Scheme}
 use Rattle.std.specs.Prelude.{◌==◌, ◌||◌, not, Option, Some, None, bytes_eq, nat_le}
 use Rattle.std.specs.List.{AllByRecursion}
 use Rattle.std.specs.Ordering.{int_eq}
@@ -47,7 +48,7 @@ same_rect_self (Some a) = same_rectangle_self a
 -- ---- a visit by itself
 
 -- a visit breaks no rule that it can break by itself
-pub record IsSound (hash : List ℕ → List ℕ) (pages : ℕ) (v : Visit) : Type 0 where
+pub record IsSound (hash : Scheme) (pages : ℕ) (v : Visit) : Type 0 where
   pub node : Node
   pub is : v.node ≡ Some node
   pub low : 0 < v.link.page
@@ -56,12 +57,12 @@ pub record IsSound (hash : List ℕ → List ℕ) (pages : ℕ) (v : Visit) : Ty
   pub rect : (entry_of hash node).rect ≡ v.link.entry.rect
   pub full : least v.root node ≤ size node
 
-record NodeIsSound (hash : List ℕ → List ℕ) (root : Bool) (link : Link) (node : Node) : Type 0 where
+record NodeIsSound (hash : Scheme) (root : Bool) (link : Link) (node : Node) : Type 0 where
   digest : (entry_of hash node).digest ≡ link.entry.digest
   rect : (entry_of hash node).rect ≡ link.entry.rect
   full : least root node ≤ size node
 
-node_sound : (hash : List ℕ → List ℕ) (root : Bool) (link : Link) (node : Node) →
+node_sound : (hash : Scheme) (root : Bool) (link : Link) (node : Node) →
     node_faults hash root link (Some node) ≡ [] → NodeIsSound hash root link node
 node_sound hash root link node e =
     let e1 = nil_right (fault_if (not (bytes_eq (entry_of hash node).digest link.entry.digest)) link.page
@@ -73,7 +74,7 @@ node_sound hash root link node e =
           (fault_if (not (same_rect (entry_of hash node).rect link.entry.rect)) link.page rule.Rect) _ e1));
     }
 
-sound_node : (hash : List ℕ → List ℕ) (root : Bool) (link : Link) (node : Node) → NodeIsSound hash root link node →
+sound_node : (hash : Scheme) (root : Bool) (link : Link) (node : Node) → NodeIsSound hash root link node →
     node_faults hash root link (Some node) ≡ []
 sound_node hash root link node s =
     nil_both _ _ (no_fault _ _ _ (not_from_true _ ((bytes_eq-Decides _ _).1 s.digest)))
@@ -81,13 +82,13 @@ sound_node hash root link node s =
     (same_rect_self (entry_of hash node).rect))))
     (no_fault _ _ _ (le-ltb _ _ s.full)))
 
-pub record VisitIsSound (hash : List ℕ → List ℕ) (pages : ℕ) (before : List Visit) (v : Visit) : Type 0 where
+pub record VisitIsSound (hash : Scheme) (pages : ℕ) (before : List Visit) (v : Visit) : Type 0 where
   pub sound : IsSound hash pages v
   pub page : has v.link.page (reached before) ≡ false
   pub numbers : Fresh (numbers_of (all_records before)) (numbers_of (records_in v.node))
 
 -- what the node of the visit is, by cases
-sound_alone : (hash : List ℕ → List ℕ) (pages : ℕ) (v : Visit) (o : Option Node) → v.node ≡ o →
+sound_alone : (hash : Scheme) (pages : ℕ) (v : Visit) (o : Option Node) → v.node ≡ o →
     (v.link.page == 0 || nat_le pages v.link.page) ≡ false → node_faults hash v.root v.link o ≡ [] →
     IsSound hash pages v
 sound_alone hash pages v None is out e = absurd (no_page e)
@@ -108,7 +109,7 @@ sound_alone hash pages v (Some node) is out e =
       full = s.full;
     }
 
-pub visit_sound : (hash : List ℕ → List ℕ) (pages : ℕ) (before : List Visit) (v : Visit) →
+pub visit_sound : (hash : Scheme) (pages : ℕ) (before : List Visit) (v : Visit) →
     visit_faults hash pages before v ≡ [] → VisitIsSound hash pages before v
 visit_sound hash pages before v e =
     let e1 = nil_right (fault_if (v.link.page == 0 || nat_le pages v.link.page) v.link.page rule.Outside) _ e in
@@ -119,7 +120,7 @@ visit_sound hash pages before v e =
       numbers = repeats_fresh _ _ (not_broken _ _ _ (nil_right (node_faults hash v.root v.link v.node) _ e2));
     }
 
-pub sound_visit : (hash : List ℕ → List ℕ) (pages : ℕ) (before : List Visit) (v : Visit) →
+pub sound_visit : (hash : Scheme) (pages : ℕ) (before : List Visit) (v : Visit) →
     VisitIsSound hash pages before v → visit_faults hash pages before v ≡ []
 sound_visit hash pages before v s =
     let some : 0 < v.link.page = s.sound.low in
@@ -148,12 +149,12 @@ numbers_more before v =
     ∙ numbers_both (all_records before) (records_in v.node ++ [])
     ∙ ap (λ rs. numbers_of (all_records before) ++ numbers_of rs) (append-nil (records_in v.node))
 
-pub record WalkIsSound (hash : List ℕ → List ℕ) (pages : ℕ) (before vs : List Visit) : Type 0 where
+pub record WalkIsSound (hash : Scheme) (pages : ℕ) (before vs : List Visit) : Type 0 where
   pub each : AllByRecursion (IsSound hash pages) vs
   pub apart : Fresh (reached before) (reached vs)
   pub numbers : Fresh (numbers_of (all_records before)) (numbers_of (all_records vs))
 
-pub walk_sound : (hash : List ℕ → List ℕ) (pages : ℕ) (before vs : List Visit) → walk_faults hash pages before vs ≡ [] →
+pub walk_sound : (hash : Scheme) (pages : ℕ) (before vs : List Visit) → walk_faults hash pages before vs ≡ [] →
     WalkIsSound hash pages before vs
 walk_sound hash pages before [] e = record { each = tt; apart = tt; numbers = tt }
 walk_sound hash pages before (v ∷ vs) e =
@@ -170,7 +171,7 @@ walk_sound hash pages before (v ∷ vs) e =
           (numbers_more before v) rest.numbers));
     }
 
-pub sound_walk : (hash : List ℕ → List ℕ) (pages : ℕ) (before vs : List Visit) → WalkIsSound hash pages before vs →
+pub sound_walk : (hash : Scheme) (pages : ℕ) (before vs : List Visit) → WalkIsSound hash pages before vs →
     walk_faults hash pages before vs ≡ []
 sound_walk hash pages before [] s = refl
 sound_walk hash pages before (v ∷ vs) s =

@@ -1,5 +1,6 @@
 -- The file that a map is saved as stands for it.
 use Rattle.std.proofs.Common.{◌≡◌, ◌≢◌, ℕ, suc, ◌+◌, ◌*◌, ◌<◌, ◌≤◌, ◌^◌, true, List, [], ◌++◌, length, take, refl, sym, ap, subst, ◌∙◌, arith, append_assoc, length-append}
+use Rattle.mr_tree.specs.Digest.{Scheme, by}
 use Rattle.std.specs.Prelude.{⊤, All, Option, Some, None, option_map, IfSome}
 use Rattle.std.specs.List.{flat_map, AllByRecursion}
 use Rattle.std.proofs.lemmas.List.{append-nil, drop_at, take_at}
@@ -74,11 +75,11 @@ whole_few (Some P) t well same =
 
 -- nothing is asked of what stands on a page
 mutual
-  anywhere : (hash : List ℕ → List ℕ) (P : Placed) → IsWritten hash (λ p n. ⊤) P
+  anywhere : (hash : Scheme) (P : Placed) → IsWritten hash (λ p n. ⊤) P
   anywhere hash (placed.Leaf p rs) = tt
   anywhere hash (placed.Inner p Ps) = (tt, anywhere_all hash Ps)
 
-  anywhere_all : (hash : List ℕ → List ℕ) (Ps : Row) → AreWritten hash (λ p n. ⊤) Ps
+  anywhere_all : (hash : Scheme) (Ps : Row) → AreWritten hash (λ p n. ⊤) Ps
   anywhere_all hash no_more = tt
   anywhere_all hash (first P Ps) = (anywhere hash P, anywhere_all hash Ps)
 
@@ -92,12 +93,12 @@ module _ (form : Form) (is : IsForm form) (hash : List ℕ → List ℕ) where
       ap (take form.size) (drop_at front (page ++ back) (p * form.size) before) ∙ take_at page back form.size long
 
   record PutAt (bytes : List ℕ) (P : Placed) : Type 0 where
-    written : IsWritten hash (HasNode form bytes) P
-    long : length (spelled (nodes_of hash P)) ≡ length (pages_of P) * form.size
+    written : IsWritten (by form.version hash) (HasNode form bytes) P
+    long : length (spelled (nodes_of (by form.version hash) P)) ≡ length (pages_of P) * form.size
 
   record RowPutAt (bytes : List ℕ) (Ps : Row) : Type 0 where
-    written : AreWritten hash (HasNode form bytes) Ps
-    long : length (spelled (all_nodes hash Ps)) ≡ length (all_pages Ps) * form.size
+    written : AreWritten (by form.version hash) (HasNode form bytes) Ps
+    long : length (spelled (all_nodes (by form.version hash) Ps)) ≡ length (all_pages Ps) * form.size
 
   one_more : (m : ℕ) → suc m * form.size ≡ m * form.size + form.size
   one_more m = grind arith
@@ -107,8 +108,9 @@ module _ (form : Form) (is : IsForm form) (hash : List ℕ → List ℕ) where
 
   mutual
     put_at : (P : Placed) (n : ℕ) (front back bytes : List ℕ) → IsNumbered n P →
-        IsWritten hash (λ p nd. ⊤ × IsNode nd) P →
-        length front ≡ n * form.size → bytes ≡ front ++ (spelled (nodes_of hash P) ++ back) → PutAt bytes P
+        IsWritten (by form.version hash) (λ p nd. ⊤ × IsNode nd) P →
+        length front ≡ n * form.size → bytes ≡ front ++ (spelled (nodes_of (by form.version hash) P) ++ back) →
+        PutAt bytes P
     put_at (placed.Leaf p rs) n front back bytes at fit before whole =
         let page = form.node_page (node.Leaf rs) in
         let size = is.nodes.sized (node.Leaf rs) fit.1 in
@@ -117,10 +119,10 @@ module _ (form : Form) (is : IsForm form) (hash : List ℕ → List ℕ) where
         ∙ page_between front page back n before size in
         record { written = here; long = ap length (append-nil page) ∙ size ∙ omega arith }
     put_at (placed.Inner p Ps) n front back bytes at fit before whole =
-        let nd = node.Inner (links_of hash Ps) in
+        let nd = node.Inner (links_of (by form.version hash) Ps) in
         let page = form.node_page nd in
         let size = is.nodes.sized nd fit.0.1 in
-        let below = spelled (all_nodes hash Ps) in
+        let below = spelled (all_nodes (by form.version hash) Ps) in
         let split : bytes ≡ front ++ (page ++ (below ++ back)) =
         whole ∙ ap (λ bs. front ++ bs) (append_assoc page below back) in
         let r = row_put_at Ps (suc n) (front ++ page) back bytes at.1 fit.1
@@ -136,14 +138,15 @@ module _ (form : Form) (is : IsForm form) (hash : List ℕ → List ℕ) where
         }
 
     row_put_at : (Ps : Row) (n : ℕ) (front back bytes : List ℕ) → AreNumbered n Ps →
-        AreWritten hash (λ p nd. ⊤ × IsNode nd) Ps →
-        length front ≡ n * form.size → bytes ≡ front ++ (spelled (all_nodes hash Ps) ++ back) → RowPutAt bytes Ps
+        AreWritten (by form.version hash) (λ p nd. ⊤ × IsNode nd) Ps →
+        length front ≡ n * form.size → bytes ≡ front ++ (spelled (all_nodes (by form.version hash) Ps) ++ back) →
+        RowPutAt bytes Ps
     row_put_at no_more n front back bytes at fit before whole = record { written = tt; long = omega arith }
     row_put_at (first P Ps) n front back bytes at fit before whole =
-        let one = spelled (nodes_of hash P) in
-        let rest = spelled (all_nodes hash Ps) in
-        let both : spelled (nodes_of hash P ++ all_nodes hash Ps) ≡ one ++ rest =
-        flat_map-append form.node_page (nodes_of hash P) (all_nodes hash Ps) in
+        let one = spelled (nodes_of (by form.version hash) P) in
+        let rest = spelled (all_nodes (by form.version hash) Ps) in
+        let both : spelled (nodes_of (by form.version hash) P ++ all_nodes (by form.version hash) Ps) ≡ one ++ rest =
+        flat_map-append form.node_page (nodes_of (by form.version hash) P) (all_nodes (by form.version hash) Ps) in
         let split : bytes ≡ front ++ (one ++ (rest ++ back)) =
         whole ∙ ap (λ bs. front ++ (bs ++ back)) both ∙ ap (λ bs. front ++ bs) (append_assoc one rest back) in
         let p = put_at P n front (rest ++ back) bytes at.0 fit.0 before split in
@@ -161,13 +164,13 @@ module _ (form : Form) (is : IsForm form) (hash : List ℕ → List ℕ) where
   -- ---- the whole file
 
   record WholePut (bytes : List ℕ) (po : Option Placed) : Type 0 where
-    written : IfSome po (IsWritten hash (HasNode form bytes))
-    long : length (spelled (whole_nodes hash po)) ≡ length (whole_pages po) * form.size
+    written : IfSome po (IsWritten (by form.version hash) (HasNode form bytes))
+    long : length (spelled (whole_nodes (by form.version hash) po)) ≡ length (whole_pages po) * form.size
 
   whole_fits : ((xs : List ℕ) → length (hash xs) ≡ 32) → (t : Tree) → WellFormed t → (P : Placed) → tree_of P ≡ t →
-      AreAllPages (suc (length (pages_of P))) (pages_of P ++ []) → Fits hash (λ p n. ⊤) P
+      AreAllPages (suc (length (pages_of P))) (pages_of P ++ []) → Fits (by form.version hash) (λ p n. ⊤) P
   whole_fits sized t well P same all =
-      fits hash sized (λ p n. ⊤) P _ true (anywhere hash P)
+      fits (by form.version hash) sized (λ p n. ⊤) P _ true (anywhere (by form.version hash) P)
       (subst (every-Tree HasOneLevel) (sym same) well.one_level) refl
       (subst (λ u. level u ≤ 7) (sym same) well.shallow) (subst (λ u. IsFilledRoot (out-Tree u)) (sym same) well.filled)
       (recursion_from_All IsRecord (records (tree_of P)) (subst (λ u. All IsRecord (records u)) (sym same) well.each))
@@ -180,7 +183,7 @@ module _ (form : Form) (is : IsForm form) (hash : List ℕ → List ℕ) where
   whole_root : ((xs : List ℕ) → length (hash xs) ≡ 32) → (t : Tree) → WellFormed t →
       (po : Option Placed) → whole_tree po ≡ t →
       AreAllPages (suc (length (whole_pages po))) (whole_pages po ++ []) →
-      IsRoot (length (records t)) (option_map (link_of hash) po)
+      IsRoot (length (records t)) (option_map (link_of (by form.version hash)) po)
   whole_root sized t well None same all = ap (λ u. length (records u)) (sym same) ∙ ap length records-Empty
   whole_root sized t well (Some P) same all =
       let f = whole_fits sized t well P same all in
@@ -196,18 +199,18 @@ module _ (form : Form) (is : IsForm form) (hash : List ℕ → List ℕ) where
       (head bytes : List ℕ) → length head ≡ form.size →
       (po : Option Placed) → whole_tree po ≡ t → IfSome po (IsNumbered 1) →
       AreAllPages (suc (length (whole_pages po))) (whole_pages po ++ []) →
-      bytes ≡ head ++ spelled (whole_nodes hash po) →
+      bytes ≡ head ++ spelled (whole_nodes (by form.version hash) po) →
       WholePut bytes po
   whole_put sized t well head bytes long None same at all whole = record { written = tt; long = omega arith }
   whole_put sized t well head bytes long (Some P) same at all whole =
       let f = whole_fits sized t well P same all in
       let p = put_at P 1 head [] bytes at f.both (long ∙ omega arith)
-      (whole ∙ ap (λ bs. head ++ bs) (sym (append-nil (spelled (nodes_of hash P))))) in
+      (whole ∙ ap (λ bs. head ++ bs) (sym (append-nil (spelled (nodes_of (by form.version hash) P))))) in
       record { written = p.written; long = p.long }
 
   pub saved_head_fits : ((xs : List ℕ) → length (hash xs) ≡ 32) →
       (t : Tree) (batch : ℕ) → WellFormed t → batch < 2 ^ 64 →
-      IsHead (saved_head hash t batch)
+      IsHead (saved_head form hash t batch)
   saved_head_fits sized t batch well low =
       let w = whole_numbered t well.one_level in
       let po = numbered_whole t in
@@ -224,7 +227,7 @@ module _ (form : Form) (is : IsForm form) (hash : List ℕ → List ℕ) where
   saved_stands sized t batch well low =
       let w = whole_numbered t well.one_level in
       let po = numbered_whole t in
-      let head = saved_head hash t batch in
+      let head = saved_head form hash t batch in
       let few = whole_few po t well w.trees in
       let good = saved_head_fits sized t batch well low in
       let law = is.heads head.pages (omega arith) few in

@@ -1,17 +1,19 @@
--- The pages of a file whose bytes are in memory.
-use Rattle.std.proofs.Common.{◌≡◌, ◌≢◌, ℕ, ◌-◌, ◌<◌, Bool, true, false, List, ◌∷◌, length, take, drop, refl, ap, ◌∙◌, arith, length-drop, take_all}
-use Rattle.std.specs.Prelude.{◌==◌, Option, Some, None, MatchOption, Result, Err, not, bytes_eq, slice_range, if◌then◌else◌}
-use Rattle.std.specs.Array.{IsFirstChunk}
+-- Bytes that are no whole page, and pages that have a piece in front and zeros behind it.
+use Rattle.std.proofs.Common.{◌≡◌, ◌≢◌, ℕ, ◌-◌, ◌*◌, ◌<◌, ◌≤◌, ◌^◌, min, Bool, true, false, List, [], ◌∷◌, ◌++◌, length, take, drop, replicate, refl, sym, ap, ◌∙◌, inl, inr, arith, length-drop, length-take-le, take_all}
+use Rattle.std.specs.Prelude.{◌&&◌, Option, Some, None, Result, Err, not, bytes_eq, slice_range, if◌then◌else◌}
 use Rattle.std.specs.Int.{w32, to_be_bytes, from_be_bytes}
-use Rattle.std.proofs.lemmas.Bool.{ne_eqb}
+use Rattle.std.proofs.lemmas.Bool.{and_parts, cases_lt}
+use Rattle.std.proofs.lemmas.List.{take_at, drop_at, drop_all, take-append-drop}
+use Rattle.std.proofs.lemmas.Nat.{mul-le}
 use Rattle.std.proofs.lemmas.Slice.Eq.{bytes_eq-Decides}
+use Rattle.mr_pages.specs.declared.layout.Layout.{Layout}
 use Rattle.mr_pages.specs.declared.rule.MapRule.{MapRule}
 use Rattle.mr_pages.specs.declared.rule.MapRule.TheVariants as rule
 use Rattle.mr_pages.specs.Page.{Head}
-use Rattle.mr_pages.specs.PageBytes.{first_layout, head_in, node_in, free_in, free_page, free_tag, seal}
-use Rattle.mr_pages.proofs.PageLaws.{length-filled}
+use Rattle.mr_pages.specs.PageBytes.{node_limit, filled, are_zeros, head_bytes, head_page, is_sealed, head_size, free_in, free_page, free_tag, seal, seal_place}
+use Rattle.mr_pages.proofs.PageLaws.{both_true, length-filled, filled_is, are_zeros-replicate}
 
--- ---- what is shorter than a page is read as nothing
+-- ---- what is no whole page is read as nothing
 
 pub different : (xs ys : List ℕ) → length xs ≢ length ys → bytes_eq xs ys ≡ false
 different xs ys apart = at (bytes_eq xs ys) refl
@@ -23,44 +25,105 @@ different xs ys apart = at (bytes_eq xs ys) refl
 none_if : {A : Type 0} (b : Bool) (o : Option A) → b ≡ false → (if b then o else None) ≡ None
 none_if b o e = ap (λ c. if c then o else None) e
 
-pub short_free : (page : List ℕ) → length page < 4096 → free_in 4096 page ≡ None
-short_free page short =
+pub odd_free : (size : ℕ) (page : List ℕ) → 5 ≤ size → length page ≢ size → free_in size page ≡ None
+odd_free size page room odd =
     let next = from_be_bytes w32 (slice_range page 1 5) in
-    let long : length (free_page 4096 next) ≡ 4096 = length-filled 4096 (free_tag ∷ to_be_bytes w32 next)
-    (omega arith) in
-    none_if (bytes_eq (free_page 4096 next) page) (Some next)
-    (different (free_page 4096 next) page (λ e. omega (arith, e, long, short)))
-
-pub short_node : (page : List ℕ) → length page < 4096 → node_in 4096 page ≡ None
-short_node page short = none_if (length page == 4096) _ (ne_eqb (length page) 4096 (λ e. omega (arith, e, short)))
+    let long : length (free_page size next) ≡ size = length-filled size (free_tag ∷ to_be_bytes w32 next)
+    (omega (arith, room)) in
+    none_if (bytes_eq (free_page size next) page) (Some next)
+    (different (free_page size next) page (λ e. odd (sym e ∙ long)))
 
 pub unsealed_if : (b : Bool) (r : Result Head MapRule) → b ≡ false →
     (if not b then Err rule.Unsealed else r) ≡ Err rule.Unsealed
 unsealed_if b r e = ap (λ c. if not c then Err rule.Unsealed else r) e
 
-pub short_unsealed : (pages : ℕ) (bytes : List ℕ) → length bytes < 4096 →
-    head_in first_layout pages bytes ≡ Err rule.Unsealed
-short_unsealed pages bytes short =
-    unsealed_if (bytes_eq (drop 4092 bytes) seal) _ (different (drop 4092 bytes) seal
-    (λ e. omega (arith, e, short, length-drop 4092 bytes)))
+pub odd_unsealed : (size : ℕ) (page : List ℕ) → node_limit ≤ size → length page ≢ size → is_sealed size page ≡ false
+odd_unsealed size page room odd =
+    different (drop (seal_place size) page) seal
+    (λ e. odd (omega (arith, e, room, length-drop (seal_place size) page)))
 
--- the first 4,096 bytes from a place on, where there are as many
-pub first_page : {X : Type 0} (now : X → List ℕ) (xs : List ℕ) (at : ℕ) (o : Option X) →
-    MatchOption o (length (take (length xs - at) (drop at xs)) < 4096)
-    (λ y. IsFirstChunk (take (length xs - at) (drop at xs)) (now y) 4096) →
-    MatchOption o (length (take 4096 (drop at xs)) < 4096) (λ y. now y ≡ take 4096 (drop at xs))
-first_page now xs at None h =
-    let all : take (length xs - at) (drop at xs) ≡ drop at xs =
-    take_all (length xs - at) (drop at xs) (omega (arith, length-drop at xs)) in
-    let low : length (drop at xs) < 4096 = omega (arith, h, ap length all) in
-    omega (arith, low, ap length (take_all 4096 (drop at xs) (omega (arith, low))))
-first_page now xs at (Some y) h =
-    h.same ∙ ap (take 4096) (take_all (length xs - at) (drop at xs) (omega (arith, length-drop at xs)))
+-- ---- a piece in front, and zeros behind it
 
--- what is spelled from the number that a page has, and compared with it
-pub free_is : (page spelled : List ℕ) (next : ℕ) (same : Bool) → next ≡ from_be_bytes w32 (slice_range page 1 5) →
-    spelled ≡ free_page 4096 next → same ≡ bytes_eq spelled page →
-    (if same then Some next else None) ≡ free_in 4096 page
-free_is page spelled next same number spells is =
-    ap (λ b. if b then Some next else None) (is ∙ ap (λ xs. bytes_eq xs page) spells)
-    ∙ ap (λ n. if bytes_eq (free_page 4096 n) page then Some n else None) number
+same_truth : (a b : Bool) → (a ≡ true → b ≡ true) → (b ≡ true → a ≡ true) → a ≡ b
+same_truth true b to from = sym (to refl)
+same_truth false true to from = from refl
+same_truth false false to from = refl
+
+pub filled_same : (page piece : List ℕ) → length piece ≤ length page →
+    (bytes_eq piece (take (length piece) page) && are_zeros (drop (length piece) page))
+    ≡ bytes_eq (filled (length page) piece) page
+filled_same page piece room =
+    let k : ℕ = length piece in
+    let size : ℕ = length page in
+    let zeros : List ℕ = replicate (size - k) 0 in
+    let whole : take k page ++ drop k page ≡ page = take-append-drop k page in
+    same_truth (bytes_eq piece (take k page) && are_zeros (drop k page)) (bytes_eq (filled size piece) page)
+    (λ h.
+    let p = and_parts (bytes_eq piece (take k page)) (are_zeros (drop k page)) h in
+    let front : piece ≡ take k page = (bytes_eq-Decides piece (take k page)).0 p.0 in
+    let all : piece ++ drop k page ≡ page = ap (λ (xs : List ℕ). xs ++ drop k page) front ∙ whole in
+    (bytes_eq-Decides (filled size piece) page).1
+    (sym (filled_is size piece (drop k page) (ap length all) p.1) ∙ all))
+    (λ h.
+    let same : filled size piece ≡ page = (bytes_eq-Decides (filled size piece) page).0 h in
+    let front : piece ≡ take k page = sym (take_at piece zeros k refl) ∙ ap (take k) same in
+    let behind : zeros ≡ drop k page = sym (drop_at piece zeros k refl) ∙ ap (drop k) same in
+    both_true (bytes_eq piece (take k page)) (are_zeros (drop k page))
+    ((bytes_eq-Decides piece (take k page)).1 front)
+    (ap are_zeros (sym behind) ∙ are_zeros-replicate (size - k)))
+
+-- page 0 with its seal is spelled as what stands before the seal
+pub before_seal : (layout : Layout) (h : Head) (page : List ℕ) → node_limit ≤ layout.size →
+    length (head_bytes layout.version h) ≤ seal_place layout.size → length page ≡ layout.size →
+    is_sealed layout.size page ≡ true →
+    bytes_eq (filled (seal_place layout.size) (head_bytes layout.version h)) (take (seal_place layout.size) page)
+    ≡ bytes_eq (head_page layout h) page
+before_seal layout h page room fits long sealed =
+    let n : ℕ = seal_place layout.size in
+    let body : List ℕ = filled n (head_bytes layout.version h) in
+    let end : drop n page ≡ seal = (bytes_eq-Decides (drop n page) seal).0 sealed in
+    let sized : length body ≡ n = length-filled n (head_bytes layout.version h) fits in
+    same_truth (bytes_eq body (take n page)) (bytes_eq (body ++ seal) page)
+    (λ t. (bytes_eq-Decides (body ++ seal) page).1
+    ((λ i. (bytes_eq-Decides body (take n page)).0 t i ++ sym end i) ∙ take-append-drop n page))
+    (λ t. (bytes_eq-Decides body (take n page)).1
+    (sym (take_at body seal n sized) ∙ ap (take n) ((bytes_eq-Decides (body ++ seal) page).0 t)))
+
+-- whether it stands there, as it is found out
+pub is_filled_by : (page piece front behind : List ℕ) (same zeros : Bool) → length piece ≤ length page →
+    front ≡ take (length piece) page → behind ≡ drop (length piece) page → same ≡ bytes_eq piece front →
+    zeros ≡ are_zeros behind → (same && zeros) ≡ bytes_eq (filled (length page) piece) page
+is_filled_by page piece front behind same zeros room front_is behind_is test rest =
+    (λ i. (test ∙ ap (bytes_eq piece) front_is) i && (rest ∙ ap are_zeros behind_is) i) ∙ filled_same page piece room
+
+pub spelled_by : (layout : Layout) (h : Head) (page body piece : List ℕ) (result : Bool) → node_limit ≤ layout.size →
+    length piece ≤ head_size → length page ≡ layout.size → is_sealed layout.size page ≡ true →
+    body ≡ take (seal_place layout.size) page → piece ≡ head_bytes layout.version h →
+    result ≡ bytes_eq (filled (length body) piece) body → result ≡ bytes_eq (head_page layout h) page
+spelled_by layout h page body piece result room few long sealed front is e =
+    let n : ℕ = seal_place layout.size in
+    let sized : length body ≡ n = ap length front ∙ length-take-le n page (omega (arith, long)) in
+    e ∙ (λ i. bytes_eq (filled (sized i) (is i)) (front i))
+    ∙ before_seal layout h page room (omega (arith, few, room, ap length is)) long sealed
+
+-- ---- the page from a place on
+
+pub past_end : (size at : ℕ) (bytes : List ℕ) → length bytes ≤ at → [] ≡ take size (drop at bytes)
+past_end size at bytes far = sym (ap (take size) (drop_all at bytes far) ∙ take_all size [] (omega arith))
+
+pub near_end : (size at least : ℕ) (bytes behind piece : List ℕ) → behind ≡ drop at bytes →
+    least ≡ min (length behind) size → piece ≡ take least behind → piece ≡ take size (drop at bytes)
+near_end size at least bytes behind piece is least_is front = front ∙ cut ∙ ap (take size) is
+  where
+    cut : take least behind ≡ take size behind
+    cut = elim (cases_lt (length behind) size) [
+      | inl short ↦ take_all least behind (omega (arith, least_is, short))
+          ∙ sym (take_all size behind (omega (arith, short)))
+      | inr long ↦ ap (λ k. take k behind) (let same : least ≡ size = omega (arith, least_is, long) in same)
+    ]
+
+-- where a page begins is a number of 64 bits
+pub start_low : (page size : ℕ) → page < 2 ^ 32 → size ≤ 2 ^ 16 → page * size < 2 ^ 64
+start_low page size low small =
+    let at_most : page * size ≤ 2 ^ 32 * 2 ^ 16 = mul-le page size (2 ^ 32) (2 ^ 16) (omega (arith, low)) small in
+    omega (arith, at_most)

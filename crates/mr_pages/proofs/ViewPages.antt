@@ -1,9 +1,12 @@
 -- What a view shows, as a page spells it.
-use Rattle.std.proofs.Common.{◌≡◌, ℕ, suc, ◌+◌, ◌-◌, ◌≤◌, Bool, true, cond, List, [], ◌∷◌, length, get_or, take, drop, refl, sym, ap, subst, ◌∙◌, arith}
+use Rattle.std.proofs.Common.{◌≡◌, ℕ, suc, ◌+◌, ◌-◌, ◌<◌, ◌≤◌, Bool, true, cond, List, [], ◌∷◌, ◌++◌, length, get_or, take, drop, refl, sym, ap, subst, ◌∙◌, arith, length-append}
+use Rattle.std.specs.Int.{w32, to_be_bytes}
+use Rattle.mr_record.proofs.RecordFields.{length-rectangle_bytes}
+use Rattle.mr_record.specs.Record.{rectangle_bytes}
 use Rattle.std.specs.Prelude.{map, option_map, None}
 use Rattle.std.specs.List.{flat_map, AllByRecursion}
 use Rattle.std.specs.Option.{option_and_then}
-use Rattle.std.proofs.lemmas.List.{take_rest}
+use Rattle.std.proofs.lemmas.List.{take_rest, flat_map_more, map_more}
 use Rattle.std.proofs.lemmas.List.Elements.{recursion_from_All}
 use Rattle.mr_tree.specs.Limits.{level_limit, inner_limit}
 use Rattle.mr_tree.specs.Digest.{inner_tag}
@@ -11,7 +14,7 @@ use Rattle.mr_tree.specs.declared.child.Child.{Child}
 use Rattle.mr_tree.specs.declared.tree.Tree.TheOpen.{Empty, Leaf, Inner}
 use Rattle.mr_tree.specs.View as view
 use Rattle.mr_pages.specs.Page.{Link, level_below, IsLink, IsNode}
-use Rattle.mr_pages.specs.PageBytes.{link_bytes, node_bytes, many, link_field, from_one_to, before_zeros, inner_in}
+use Rattle.mr_pages.specs.PageBytes.{link_bytes, node_bytes, many, link_field, from_one_to, before_zeros, inner_in, link_size}
 use Rattle.mr_pages.specs.Walking.{child_link, page_node}
 use Rattle.mr_pages.proofs.PageLaws.{both_true}
 
@@ -91,3 +94,24 @@ inner_in_range bytes long a b =
     two_more bytes long a b
     ∙ ap (λ (rest : List ℕ). option_map Inner (option_and_then before_zeros
     (many (link_field (get_or bytes 0 0 - 1)) (get_or bytes 1 0) rest))) (sym (take_rest bytes 2))
+
+-- one child more on a page
+pub links_more : (cs : List Child) (i : ℕ) (c : Child) (front : List ℕ) → i < length cs → c ≡ get_or cs i c →
+    (front ++ flat_map link_bytes (map child_link (take i cs))) ++ link_bytes (child_link c)
+    ≡ front ++ flat_map link_bytes (map child_link (take (i + 1) cs))
+links_more cs i c front within is =
+    flat_map_more link_bytes front (map child_link (take i cs)) (child_link c)
+    ∙ ap (λ (ls : List Link). front ++ flat_map link_bytes ls)
+    (sym (map_more child_link cs i c within ∙ ap (λ d. map child_link (take i cs) ++ child_link d ∷ []) (sym is)))
+
+-- a child takes this much room on a page
+pub length_child : (c : Child) → length c.digest ≡ 32 → length (link_bytes (child_link c)) ≡ link_size
+unfolding link_bytes
+length_child c long =
+    omega (
+      arith,
+      long,
+      length-rectangle_bytes c.rect,
+      length-append (rectangle_bytes c.rect) c.digest,
+      length-append (to_be_bytes w32 c.id) (rectangle_bytes c.rect ++ c.digest),
+    )

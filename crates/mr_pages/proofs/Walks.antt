@@ -1,5 +1,6 @@
 -- The fault of a walk, piece by piece.
 use Rattle.std.proofs.Common.{◌≡◌, ℕ, zero, suc, ◌+◌, ◌-◌, ◌<◌, length, get_or, take, drop, Bool, true, false, List, [], ◌∷◌, ◌++◌, map, refl, sym, ap, subst, ◌∙◌, append_assoc, arith}
+use Rattle.mr_tree.specs.Digest.{Scheme}
 use Rattle.std.specs.Prelude.{◌==◌, ◌||◌, nat_le, Option, Some, Result, Ok, Err}
 use Rattle.std.specs.List.{flat_map, AllByRecursion}
 use Rattle.std.proofs.lemmas.List.{append-nil, flat_map_more, take_more, map_more}
@@ -21,7 +22,7 @@ use Rattle.mr_pages.specs.Stands.{Placed, Row, tree_of, trees_of}
 use Rattle.mr_pages.specs.Spelled.{row, place}
 use Rattle.mr_pages.specs.Page.{IsNode}
 use Rattle.mr_pages.specs.Faults.{fault_if, has, repeats, found, children, Visit, records_in, visit, visits, reached, all_records, numbers_of, node_faults, visit_faults, walk_faults, first_of}
-use Rattle.mr_pages.specs.Walking.{child_link, enter_faults, Saw, Counts, Looks, Passed, Walks, Roots}
+use Rattle.mr_pages.specs.Walking.{child_link, enter_faults, Saw, Counts, Looks, Passed, Walks, Roots, Refuses}
 use Rattle.mr_pages.proofs.Lists.{nil_both, no_fault, all_weaker}
 use Rattle.mr_pages.proofs.Rules.{reached_more, numbers_more}
 use Rattle.mr_pages.proofs.Building.{what_is_found}
@@ -34,7 +35,7 @@ pub first_behind : (xs ys : List MapFault) (f : MapFault) → xs ≡ [] → firs
     first_of (xs ++ ys) ≡ Some f
 first_behind xs ys f none e = ap (λ zs. first_of (zs ++ ys)) none ∙ e
 
-pub walk_append : (hash : List ℕ → List ℕ) (pages : ℕ) (before xs ys : List Visit) →
+pub walk_append : (hash : Scheme) (pages : ℕ) (before xs ys : List Visit) →
     walk_faults hash pages before (xs ++ ys) ≡ walk_faults hash pages before xs ++ walk_faults hash pages
     (before ++ xs) ys
 walk_append hash pages before [] ys = ap (λ b. walk_faults hash pages b ys) (sym (append-nil before))
@@ -47,7 +48,7 @@ walk_append hash pages before (x ∷ xs) ys =
     (walk_faults hash pages (before ++ x ∷ xs) ys))
 
 -- a visit's rules as the code tries them
-pub visit_steps : (hash : List ℕ → List ℕ) (pages : ℕ) (before : List Visit) (v : Visit) →
+pub visit_steps : (hash : Scheme) (pages : ℕ) (before : List Visit) (v : Visit) →
     visit_faults hash pages before v ≡ enter_faults pages (reached before) v.link.page
     ++ (node_faults hash v.root v.link v.node ++ fault_if
     (repeats (numbers_of (all_records before)) (numbers_of (records_in v.node))) v.link.page rule.Number)
@@ -110,7 +111,7 @@ at_inner at good root link ls is =
 
 -- ---- the first fault, step by step
 
-module _ (hash : List ℕ → List ℕ) (pages : ℕ) (at : ℕ → Option Node) (before : List Visit) (root : Bool)
+module _ (hash : Scheme) (pages : ℕ) (at : ℕ → Option Node) (before : List Visit) (root : Bool)
     (link : Link) where
   abbrev numbers_met : List ℕ
   numbers_met = numbers_of (all_records before)
@@ -176,7 +177,7 @@ saw_visit pages s before v saw =
     subst (λ ps. Saw pages s ps (numbers_of (all_records (before ++ v ∷ [])))) (sym (reached_more before v))
     (subst (Saw pages s (reached before ++ v.link.page ∷ [])) (sym (numbers_more before v)) saw)
 
-pub passed_more : (hash : List ℕ → List ℕ) (pages : ℕ) (before vs us : List Visit) (s r : Seen) →
+pub passed_more : (hash : Scheme) (pages : ℕ) (before vs us : List Visit) (s r : Seen) →
     Passed hash pages before vs s → Passed hash pages (before ++ vs) us r → Passed hash pages before (vs ++ us) r
 passed_more hash pages before vs us s r p q = record {
   none = walk_append hash pages before vs us ∙ nil_both (walk_faults hash pages before vs)
@@ -185,7 +186,7 @@ passed_more hash pages before vs us s r p q = record {
 }
 
 -- a fault below a later child
-pub refused_below : (hash : List ℕ → List ℕ) (pages : ℕ) (before vs us ws all : List Visit) (f : MapFault) →
+pub refused_below : (hash : Scheme) (pages : ℕ) (before vs us ws all : List Visit) (f : MapFault) →
     all ≡ vs ++ (us ++ ws) → walk_faults hash pages before vs ≡ [] →
     first_of (walk_faults hash pages (before ++ vs) us) ≡ Some f →
     first_of (walk_faults hash pages before all) ≡ Some f
@@ -213,16 +214,21 @@ repeats_append b (x ∷ xs) ys =
 
 -- ---- what the code finds at each step, as it answers
 
-pub look_refuses : (hash : List ℕ → List ℕ) (pages : ℕ) (at : ℕ → Option Node) (before : List Visit) (root : Bool)
+pub refuses_as : (P Q : MapFault → Type 0) → ((f : MapFault) → P f → Q f) → (e : MapErr) → Refuses P e → Refuses Q e
+refuses_as P Q as' (errors.Map f) r = as' f r
+refuses_as P Q as' errors.NoMemory r = tt
+refuses_as P Q as' errors.Missing r = r
+refuses_as P Q as' errors.Fault r = r
+
+pub look_refuses : (hash : Scheme) (pages : ℕ) (at : ℕ → Option Node) (before : List Visit) (root : Bool)
     (link : Link) (e : MapErr) (s : Seen) → enter_faults pages (reached before) link.page ≡ [] →
     Looks hash at root link (Err e) → Walks hash pages at before root link (Err e) s
-look_refuses hash pages at before root link (errors.Map f) s none e =
-    refused_by_look hash pages at before root link f none e
-look_refuses hash pages at before root link errors.NoMemory s none e = tt
-look_refuses hash pages at before root link errors.Missing s none e = e
-look_refuses hash pages at before root link errors.Fault s none e = e
+look_refuses hash pages at before root link e s none =
+    refuses_as (λ f. first_of (node_faults hash root link (found at link)) ≡ Some f)
+    (λ f. first_of (walk_faults hash pages before (visits at link.entry.level root link)) ≡ Some f)
+    (λ f. refused_by_look hash pages at before root link f none) e
 
-pub number_refused : (hash : List ℕ → List ℕ) (pages : ℕ) (at : ℕ → Option Node) (before : List Visit) (root : Bool)
+pub number_refused : (hash : Scheme) (pages : ℕ) (at : ℕ → Option Node) (before : List Visit) (root : Bool)
     (link : Link) (rs news : List Record) (twice : Bool) →
     enter_faults pages (reached before) link.page ≡ [] → node_faults hash root link (found at link) ≡ [] →
     found at link ≡ Some (Leaf rs) → news ≡ rs →
@@ -234,7 +240,7 @@ number_refused hash pages at before root link rs news twice none sound is same t
     (ap (λ o. repeats (numbers_of (all_records before)) (numbers_of (records_in o))) is
     ∙ ap (λ xs. repeats (numbers_of (all_records before)) (numbers_of xs)) (sym same) ∙ sym test ∙ yes')
 
-pub leaf_passes : (hash : List ℕ → List ℕ) (pages : ℕ) (at : ℕ → Option Node) (before : List Visit) (root : Bool)
+pub leaf_passes : (hash : Scheme) (pages : ℕ) (at : ℕ → Option Node) (before : List Visit) (root : Bool)
     (link : Link) (rs news items : List Record) (twice : Bool) (s : Seen) →
     enter_faults pages (reached before) link.page ≡ [] → node_faults hash root link (found at link) ≡ [] →
     found at link ≡ Some (Leaf rs) → news ≡ rs → items ≡ rs →
@@ -258,7 +264,7 @@ leaf_passes hash pages at before root link rs news items twice s none sound is s
       }),
     )
 
-pub inner_starts : (hash : List ℕ → List ℕ) (pages : ℕ) (at : ℕ → Option Node) (before : List Visit) (root : Bool)
+pub inner_starts : (hash : Scheme) (pages : ℕ) (at : ℕ → Option Node) (before : List Visit) (root : Bool)
     (link : Link) (ls : List Link) (s : Seen) →
     enter_faults pages (reached before) link.page ≡ [] →
     Saw pages s (reached before ++ link.page ∷ []) (numbers_of (all_records before)) →
@@ -275,7 +281,7 @@ inner_starts hash pages at before root link ls s none saw sound is = record {
 }
 
 -- the walk is below this many children, and has built their trees
-pub record PassedBelow (hash : List ℕ → List ℕ) (pages : ℕ) (at : ℕ → Option Node) (before : List Visit) (root : Bool)
+pub record PassedBelow (hash : Scheme) (pages : ℕ) (at : ℕ → Option Node) (before : List Visit) (root : Bool)
     (link : Link) (items : List Child) (trees : List Tree) (s : Seen) : Type 0 where
   pub passed : Passed hash pages before (visit at root link ∷ flat_map
       (λ (c : Child). visits at (link.entry.level - 1) false (child_link c)) items) s
@@ -300,7 +306,7 @@ of_links : {B : Type 0} (f : Link → List B) (cs : List Child) →
 of_links f [] = refl
 of_links f (c ∷ cs) = ap (λ xs. f (child_link c) ++ xs) (of_links f cs)
 
-pub child_refuses : (hash : List ℕ → List ℕ) (pages : ℕ) (at : ℕ → Option Node) (before : List Visit) (root : Bool)
+pub child_refuses : (hash : Scheme) (pages : ℕ) (at : ℕ → Option Node) (before : List Visit) (root : Bool)
     (link : Link) (cs items : List Child) (trees : List Tree) (s r : Seen) (i : ℕ) (one : Child) (e : MapErr) →
     AtInner at root link (map child_link cs) → items ≡ cs → i < length items → one ≡ get_or items i one →
     PassedBelow hash pages at before root link (take i items) trees s →
@@ -308,10 +314,7 @@ pub child_refuses : (hash : List ℕ → List ℕ) (pages : ℕ) (at : ℕ → O
     (λ (c : Child). visits at (link.entry.level - 1) false (child_link c)) (take i items))) false (child_link one)
     (Err e) r →
     Walks hash pages at before root link (Err e) r
-child_refuses hash pages at before root link cs items trees s r i one errors.NoMemory inner same within is p w = tt
-child_refuses hash pages at before root link cs items trees s r i one errors.Missing inner same within is p w = w
-child_refuses hash pages at before root link cs items trees s r i one errors.Fault inner same within is p w = w
-child_refuses hash pages at before root link cs items trees s r i one (errors.Map f) inner same within is p w =
+child_refuses hash pages at before root link cs items trees s r i one e inner same within is p =
     let m = link.entry.level - 1 in
     let g : Child → List Visit = λ c. visits at m false (child_link c) in
     let high : one.level ≡ m = child_level m items (subst
@@ -321,10 +324,12 @@ child_refuses hash pages at before root link cs items trees s r i one (errors.Ma
     ++ (g one ++ flat_map g (drop (suc i) items)) =
     inner.met ∙ ap (λ xs. visit at root link ∷ xs) (of_links (visits at m false) cs ∙ ap (flat_map g) (sym same)
     ∙ split_at g items i one within is) in
-    refused_below hash pages before (visit at root link ∷ flat_map g (take i items)) (g one)
+    let behind : List Visit = before ++ (visit at root link ∷ flat_map g (take i items)) in
+    refuses_as (λ f. first_of (walk_faults hash pages behind (visits at one.level false (child_link one))) ≡ Some f)
+    (λ f. first_of (walk_faults hash pages before (visits at link.entry.level root link)) ≡ Some f)
+    (λ f w. refused_below hash pages before (visit at root link ∷ flat_map g (take i items)) (g one)
     (flat_map g (drop (suc i) items)) (visits at link.entry.level root link) f all p.passed.none
-    (subst (λ n. first_of (walk_faults hash pages (before ++ (visit at root link ∷ flat_map g (take i items)))
-    (visits at n false (child_link one))) ≡ Some f) high w)
+    (subst (λ n. first_of (walk_faults hash pages behind (visits at n false (child_link one))) ≡ Some f) high w)) e
 
 one_more : {A B : Type 0} (f : A → List B) (xs : List A) (i : ℕ) (x : A) → i < length xs → x ≡ get_or xs i x →
     flat_map f (take i xs) ++ f x ≡ flat_map f (take (i + 1) xs)
@@ -335,7 +340,7 @@ map_one_more : {A B : Type 0} (f : A → B) (xs : List A) (i : ℕ) (x : A) → 
     map f (take i xs) ++ f x ∷ [] ≡ map f (take (i + 1) xs)
 map_one_more f xs i x within is = ap (λ y. map f (take i xs) ++ f y ∷ []) is ∙ sym (map_more f xs i x within)
 
-pub child_passes : (hash : List ℕ → List ℕ) (pages : ℕ) (at : ℕ → Option Node) (before : List Visit) (root : Bool)
+pub child_passes : (hash : Scheme) (pages : ℕ) (at : ℕ → Option Node) (before : List Visit) (root : Bool)
     (link : Link) (cs items : List Child) (trees more : List Tree) (t : Tree) (s r : Seen) (i : ℕ) (one : Child) →
     AtInner at root link (map child_link cs) → items ≡ cs → i < length items → one ≡ get_or items i one →
     PassedBelow hash pages at before root link (take i items) trees s →
@@ -361,7 +366,7 @@ child_passes hash pages at before root link cs items trees more t s r i one inne
           ∙ map_one_more (λ (c : Child). tree_of (place at m (child_link c))) items i one within is;
     }
 
-pub inner_passes : (hash : List ℕ → List ℕ) (pages : ℕ) (at : ℕ → Option Node) (before : List Visit) (root : Bool)
+pub inner_passes : (hash : Scheme) (pages : ℕ) (at : ℕ → Option Node) (before : List Visit) (root : Bool)
     (link : Link) (cs items : List Child) (trees made : List Tree) (s : Seen) (n : ℕ) →
     AtInner at root link (map child_link cs) → items ≡ cs → take n items ≡ items →
     PassedBelow hash pages at before root link (take n items) trees s → made ≡ trees →
@@ -381,10 +386,7 @@ inner_passes hash pages at before root link cs items trees made s n inner same a
     images [] = refl
     images (x ∷ xs) = ap (λ ts. tree_of (place at (link.entry.level - 1) (child_link x)) ∷ ts) (images xs)
 
-pub root_walks : (hash : List ℕ → List ℕ) (pages : ℕ) (at : ℕ → Option Node) (link : Link) (r : Result Tree MapErr)
+pub root_walks : (hash : Scheme) (pages : ℕ) (at : ℕ → Option Node) (link : Link) (r : Result Tree MapErr)
     (s : Seen) → Walks hash pages at [] true link r s → Roots hash pages at (Some link) r s
 root_walks hash pages at link (Ok t) s w = (w.0, w.1)
-root_walks hash pages at link (Err (errors.Map f)) s w = w
-root_walks hash pages at link (Err errors.NoMemory) s w = tt
-root_walks hash pages at link (Err errors.Missing) s w = w
-root_walks hash pages at link (Err errors.Fault) s w = w
+root_walks hash pages at link (Err e) s w = w

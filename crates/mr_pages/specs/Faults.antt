@@ -6,6 +6,7 @@ use Rattle.std.specs.Ordering.{int_eq}
 use Rattle.mr_geom.specs.Rectangle.{Rectangle}
 use Rattle.mr_record.specs.declared.record.Record.{Record}
 use Rattle.mr_tree.specs.Limits.{leaf_fill, inner_fill, root_leaf_fill, root_inner_fill}
+use Rattle.mr_tree.specs.Digest.{Scheme, by}
 use Rattle.mr_tree.specs.declared.tree.Tree.TheOpen.{Empty, Leaf, Inner}
 use Rattle.mr_pages.specs.declared.rule.MapRule.{MapRule}
 use Rattle.mr_pages.specs.declared.rule.MapFault.{MapFault}
@@ -100,27 +101,27 @@ least false (Inner links) = inner_fill
 least false _ = leaf_fill
 
 -- the rules that a node breaks against what is said of it
-abbrev pub node_faults : (List ℕ → List ℕ) → (root : Bool) → Link → Option Node → List MapFault
-node_faults hash root link None = fault_if true link.page rule.Page
-node_faults hash root link (Some node) =
-    fault_if (not (bytes_eq (entry_of hash node).digest link.entry.digest)) link.page
-    (rule.Digest link.entry.digest (entry_of hash node).digest)
-    ++ (fault_if (not (same_rect (entry_of hash node).rect link.entry.rect)) link.page rule.Rect
+abbrev pub node_faults : Scheme → (root : Bool) → Link → Option Node → List MapFault
+node_faults s root link None = fault_if true link.page rule.Page
+node_faults s root link (Some node) =
+    fault_if (not (bytes_eq (entry_of s node).digest link.entry.digest)) link.page
+    (rule.Digest link.entry.digest (entry_of s node).digest)
+    ++ (fault_if (not (same_rect (entry_of s node).rect link.entry.rect)) link.page rule.Rect
     ++ fault_if (nat_lt (size node) (least root node)) link.page rule.Fill)
 
 -- the rules that a visit breaks, in their order, behind these visits in a file of so many pages
-abbrev pub visit_faults : (List ℕ → List ℕ) → ℕ → List Visit → Visit → List MapFault
-visit_faults hash pages before v =
+abbrev pub visit_faults : Scheme → ℕ → List Visit → Visit → List MapFault
+visit_faults s pages before v =
     fault_if (v.link.page == 0 || nat_le pages v.link.page) v.link.page rule.Outside
     ++ (fault_if (has v.link.page (reached before)) v.link.page rule.Twice
-    ++ (node_faults hash v.root v.link v.node
+    ++ (node_faults s v.root v.link v.node
     ++ fault_if (repeats (numbers_of (all_records before)) (numbers_of (records_in v.node)))
     v.link.page rule.Number))
 
-abbrev pub walk_faults : (List ℕ → List ℕ) → ℕ → (before : List Visit) → List Visit → List MapFault
-walk_faults hash pages before [] = []
-walk_faults hash pages before (v ∷ vs) =
-    visit_faults hash pages before v ++ walk_faults hash pages (before ++ v ∷ []) vs
+abbrev pub walk_faults : Scheme → ℕ → (before : List Visit) → List Visit → List MapFault
+walk_faults s pages before [] = []
+walk_faults s pages before (v ∷ vs) =
+    visit_faults s pages before v ++ walk_faults s pages (before ++ v ∷ []) vs
 
 -- ---- the chain of free pages
 
@@ -158,7 +159,7 @@ free_faults file walked chained =
 -- behind page 0, whose walk meets this
 abbrev pub head_faults : (List ℕ → List ℕ) → File → Head → List Visit → List MapFault
 head_faults hash file head vs =
-    walk_faults hash file.pages [] vs
+    walk_faults (by file.version hash) file.pages [] vs
     ++ (count_faults head.count (length (all_records vs))
     ++ free_faults file (reached vs) (chain file.free file.pages head.free))
 

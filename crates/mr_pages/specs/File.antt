@@ -1,12 +1,14 @@
 -- A map file page by page.
 use Rattle.std.specs.Prelude.{◌≡◌, ℕ, ◌<◌, ◌*◌, ◌/◌, ◌%◌, ◌==◌, ◌||◌, not, nat_lt, Bool, List, length, take, drop, Option, Some, Result, Ok, Err, if◌then◌else◌}
+use Rattle.mr_record.specs.declared.version.Version.{Version}
 use Rattle.mr_pages.specs.declared.rule.MapRule.{MapRule}
 use Rattle.mr_pages.specs.declared.rule.MapRule.TheVariants as rule
 use Rattle.mr_pages.specs.Page.{Node, Head, IsNode, IsHead, Form, page_limit}
 
--- its number of pages, page 0 or the first rule that it breaks, and each other page read as a node
--- and as a free page, which names the next one
+-- its version, its number of pages, page 0 or the first rule that it breaks, and each other page
+-- read as a node and as a free page, which names the next one
 pub record File : Type 0 where
+  pub version : Version
   pub pages : ℕ
   pub head : Result Head MapRule
   pub node : ℕ → Option Node
@@ -29,6 +31,7 @@ is_odd_size size n = n == 0 || (not (n % size == 0) || nat_lt (page_limit * size
 -- so many pages, each read by itself
 abbrev pub pages_of : Form → ℕ → List ℕ → File
 pages_of form pages bytes = record {
+  version = form.version;
   pages = pages;
   head = form.head_in pages (page_at form bytes 0);
   node = λ page. form.node_in (page_at form bytes page);

@@ -1,5 +1,4 @@
--- What binds the two: a file has no fault just where it stands for a map, which is then the only
--- one.
+-- What binds the two: a file has no fault just where it stands for a map, and then for that alone.
 use Rattle.std.specs.Prelude.{◌≡◌, ℕ, List, None}
 use Rattle.mr_tree.specs.WellFormed.{WellFormed}
 use Rattle.mr_tree.specs.declared.tree.Tree.{Tree}

@@ -8,6 +8,7 @@ use Rattle.mr_outside.specs.Told.{MayMiss}
 use Rattle.mr_outside.specs.declared.shelf.ShelfErr.{ShelfErr}
 use Rattle.mr_outside.specs.declared.shelf.ShelfErr.TheVariants as shelf
 use Rattle.mr_pages.specs.declared.rule.MapFault.{MapFault}
+use Rattle.mr_pages.specs.declared.opening.Opened.{Opened}
 use Rattle.mr_pages.specs.declared.error.MapErr.{MapErr}
 use Rattle.mr_pages.specs.declared.error.MapErr.TheVariants as errors
 use Rattle.mr_pages.specs.Page.{Form}
@@ -21,44 +22,56 @@ of_shelf shelf.Missing = errors.Missing
 of_shelf shelf.Fault = errors.Fault
 of_shelf shelf.NoMemory = errors.NoMemory
 
+-- what a call that hands on a tree and a batch answers, as a map that was opened
+abbrev pub opened : Result (Tree × ℕ) MapErr → Result Opened MapErr
+opened (Ok (tree, batch)) = Ok (record { tree = tree; batch = batch })
+opened (Err e) = Err e
+
+-- ---- whether something was found out
+
 -- the call failed, and says nothing of the file
-abbrev pub Fails : Result (Tree × ℕ) MapErr → Type 0
-Fails (Ok r) = ⊥
+abbrev pub Fails : Result Opened MapErr → Type 0
+Fails (Ok map) = ⊥
 Fails (Err (errors.Map f)) = ⊥
 Fails (Err _) = ⊤
 
 -- no failure of a shelf
-abbrev pub FindsOut : Result (Tree × ℕ) MapErr → Type 0
+abbrev pub FindsOut : Result Opened MapErr → Type 0
 FindsOut (Err errors.Missing) = ⊥
 FindsOut (Err errors.Fault) = ⊥
 FindsOut _ = ⊤
 
 -- this is the answer, unless the call failed
-abbrev pub OrFails : (result wanted : Result (Tree × ℕ) MapErr) → Type 0
+abbrev pub OrFails : (result wanted : Result Opened MapErr) → Type 0
 OrFails result wanted = (result ≡ wanted) ⊎ Fails result
 
+-- ---- what was found out
+
 -- what is answered of these bytes: the map that they stand for, or their fault
-abbrev pub Answers : Form → (List ℕ → List ℕ) → List ℕ → Result (Tree × ℕ) MapErr → Type 0
-Answers form hash bytes (Ok r) = IsMap form hash bytes r.0 r.1
+abbrev pub Answers : Form → (List ℕ → List ℕ) → List ℕ → Result Opened MapErr → Type 0
+Answers form hash bytes (Ok map) = IsMap form hash bytes map.tree map.batch
 Answers form hash bytes (Err (errors.Map f)) = mapfault hash (file_of form bytes) ≡ Some f
 Answers form hash bytes (Err _) = ⊤
 
 -- the answer is that of some bytes
-abbrev pub SomeBytes : Form → (List ℕ → List ℕ) → Result (Tree × ℕ) MapErr → Type 0
+abbrev pub SomeBytes : Form → (List ℕ → List ℕ) → Result Opened MapErr → Type 0
 SomeBytes form hash result = (bytes : List ℕ) × AreBytes bytes × Answers form hash bytes result
 
 -- what is answered where the file has these bytes: nothing but their map or their fault, and that
--- it
--- is, unless the call failed
+-- it is, unless the call failed; and its cells are bytes
 pub record Tells (form : Form) (hash : List ℕ → List ℕ) (bytes : List ℕ)
-    (result : Result (Tree × ℕ) MapErr) : Type 0 where
+    (result : Result Opened MapErr) : Type 0 where
+  pub are : AreBytes bytes
   pub answers : Answers form hash bytes result
   pub fault : (f : MapFault) → mapfault hash (file_of form bytes) ≡ Some f →
       OrFails result (Err (errors.Map f))
-  pub map : (t : Tree) (b : ℕ) → IsMap form hash bytes t b → OrFails result (Ok (t, b))
+  pub map : (t : Tree) (b : ℕ) → IsMap form hash bytes t b →
+      OrFails result (Ok (record { tree = t; batch = b }))
+
+-- ---- why
 
 -- each failure has its cause, and a call that says something of the file counts no fault
-pub record MapCauses (name : List ℕ) (before after : Shelved) (result : Result (Tree × ℕ) MapErr)
+pub record MapCauses (name : List ℕ) (before after : Shelved) (result : Result Opened MapErr)
     : Type 0 where
   pub missing : IsErrOf result errors.Missing →
       MayMiss before.files name before.faults after.faults

@@ -6,9 +6,11 @@ use Rattle.std.specs.Result.{result_ok}
 use Rattle.mr_geom.specs.Rectangle.{Rectangle, IsOrdered, FitsMap}
 use Rattle.mr_record.specs.Bytes.{AreBytes}
 use Rattle.mr_record.specs.Record.{IsRecord}
+use Rattle.mr_record.specs.declared.version.Version.{Version}
 use Rattle.mr_tree.specs.Limits.{count_limit, level_limit, leaf_limit, inner_limit}
 use Rattle.mr_tree.specs.Tree.{level_step, first_level}
-use Rattle.mr_tree.specs.Digest.{Entry, entry_step}
+use Rattle.mr_tree.specs.Digest.{Scheme, entry_step}
+use Rattle.mr_tree.specs.declared.entry.Entry.{Entry}
 use Rattle.mr_tree.specs.declared.tree.Tree.TheOpen.{Tree-F, Empty, Leaf, Inner}
 use Rattle.mr_tree.specs.declared.tree.Tree.TheFolds.{map-Tree}
 use Rattle.mr_pages.specs.declared.rule.MapRule.{MapRule}
@@ -27,8 +29,8 @@ abbrev pub level_of : Node → ℕ
 level_of node = level_step (map-Tree Link ℕ (λ (l : Link). l.entry.level) node)
 
 -- the entry of a node: what is to be said of it
-abbrev pub entry_of : (List ℕ → List ℕ) → Node → Entry
-entry_of hash node = entry_step hash (map-Tree Link Entry (λ (l : Link). l.entry) node)
+abbrev pub entry_of : Scheme → Node → Entry
+entry_of s node = entry_step s (map-Tree Link Entry (λ (l : Link). l.entry) node)
 
 -- page 0
 pub record Head : Type 0 where
@@ -89,6 +91,7 @@ pub record IsHead (h : Head) : Type 0 where
 -- ---- the pages of one version of the format
 
 pub record Form : Type 0 where
+  pub version : Version
   -- in bytes
   pub size : ℕ
   -- how each kind of page is spelled

@@ -1,30 +1,30 @@
--- The bytes of the pages of a map file, version 1: page 0, a node's page and a free page. Each has
--- its fields in front, one behind the other, and is filled up with zeros.
-use Rattle.std.specs.Prelude.{◌≡◌, ℕ, zero, suc, ◌-◌, ◌==◌, ◌&&◌, nat_le, Bool, not, if◌then◌else◌, List, [], ◌∷◌, ◌++◌, length, take, drop, replicate, slice_index, slice_range, Option, Some, None, option_map, Result, Ok, Err, bytes_eq}
+-- The bytes of the pages of a map file: page 0, a node's page and a free page. Each has its fields
+-- in front, one behind the other, and is filled up with zeros.
+use Rattle.std.specs.Prelude.{◌≡◌, ℕ, zero, suc, ◌+◌, ◌-◌, ◌≤◌, ◌^◌, ◌==◌, ◌&&◌, nat_le, Bool, not, if◌then◌else◌, List, [], ◌∷◌, ◌++◌, length, take, drop, replicate, slice_index, slice_range, Option, Some, None, option_map, Result, Ok, Err, bytes_eq}
 use Rattle.std.specs.List.{flat_map, list_all}
 use Rattle.std.specs.Option.{option_and_then}
 use Rattle.std.specs.Int.{w32, w64, to_be_bytes, from_be_bytes}
 use Rattle.mr_geom.specs.Rectangle.{Rectangle}
 use Rattle.mr_record.specs.Record.{record_bytes, rectangle_of_bytes}
 use Rattle.mr_record.specs.RecordField.{record_in}
+use Rattle.mr_record.specs.Version.{version_byte}
 use Rattle.mr_record.specs.declared.record.Record.{Record}
 use Rattle.mr_record.specs.declared.record_fault.RecordFault.{RecordFault}
+use Rattle.mr_record.specs.declared.version.Version.{Version}
+use Rattle.mr_record.specs.declared.version.Version.TheVariants.{One}
 use Rattle.mr_tree.specs.Limits.{count_limit, level_limit, leaf_limit, inner_limit}
 use Rattle.mr_tree.specs.Digest.{entry_bytes, leaf_tag, inner_tag}
 use Rattle.mr_tree.specs.declared.tree.Tree.TheOpen.{Empty, Leaf, Inner}
+use Rattle.mr_pages.specs.declared.layout.Layout.{Layout}
 use Rattle.mr_pages.specs.declared.rule.MapRule.{MapRule}
 use Rattle.mr_pages.specs.declared.rule.MapRule.TheVariants.{Unsealed, Header}
 use Rattle.mr_pages.specs.Page.{Link, Node, level_of, IsNode, Head, FitsHead, Form}
 
 -- ---- what differs from one version of the format to the next
 
--- the size of a page in bytes, and the version of the file
-pub record Layout : Type 0 where
-  pub size : ℕ
-  pub version : ℕ
-
+-- version 1
 abbrev pub first_layout : Layout
-first_layout = record { size = 4096; version = 1 }
+first_layout = record { size = 4096; version = One }
 
 -- ---- how pages are spelled
 
@@ -36,6 +36,10 @@ filled size bytes = bytes ++ replicate (size - length bytes) 0
 unfoldable pub link_bytes : Link → List ℕ
 link_bytes l = to_be_bytes w32 l.page ++ entry_bytes l.entry
 
+-- how many bytes that is
+abbrev pub link_size : ℕ
+link_size = 52
+
 -- a leaf, or an inner node
 abbrev pub node_bytes : Node → List ℕ
 node_bytes Empty = []
@@ -43,8 +47,17 @@ node_bytes (Leaf records) = leaf_tag ∷ length records ∷ flat_map record_byte
 node_bytes (Inner links) =
     inner_tag ∷ level_of (Inner links) ∷ length links ∷ flat_map link_bytes links
 
-abbrev pub node_page : ℕ → Node → List ℕ
-node_page size node = filled size (node_bytes node)
+-- the most bytes of a node: 16 records of 225 bytes, behind a tag and their number
+abbrev pub node_limit : ℕ
+node_limit = 3602
+
+-- A page has room for what is put on it, and no more bytes than are read at once.
+pub record IsLayout (layout : Layout) : Type 0 where
+  pub room : node_limit ≤ layout.size
+  pub small : layout.size ≤ 2 ^ 16
+
+abbrev pub node_page : Layout → Node → List ℕ
+node_page layout node = filled layout.size (node_bytes node)
 
 abbrev pub free_tag : ℕ
 free_tag = 0x46
@@ -67,17 +80,31 @@ root_level None = 0
 root_level (Some l) = l.entry.level
 
 unfoldable pub root_bytes : Option Link → List ℕ
-root_bytes None = replicate 52 0
+root_bytes None = replicate link_size 0
 root_bytes (Some l) = link_bytes l
 
+-- where it is told on page 0, where the first free page is, and where what page 0 says ends
+abbrev pub root_place : ℕ
+root_place = 26
+
+abbrev pub free_place : ℕ
+free_place = root_place + link_size
+
+abbrev pub head_size : ℕ
+head_size = free_place + 4
+
 -- what page 0 says, up to the gap before the seal
-unfoldable pub head_bytes : ℕ → Head → List ℕ
-head_bytes version h =
-    magic ++ version ∷ root_level h.root ∷ (to_be_bytes w64 h.batch ++ to_be_bytes w64 h.count
-    ++ to_be_bytes w32 h.pages ++ root_bytes h.root ++ to_be_bytes w32 h.free)
+unfoldable pub head_bytes : Version → Head → List ℕ
+head_bytes v h = magic ++ version_byte v ∷ root_level h.root ∷ (to_be_bytes w64 h.batch
+    ++ to_be_bytes w64 h.count ++ to_be_bytes w32 h.pages ++ root_bytes h.root
+    ++ to_be_bytes w32 h.free)
+
+-- the seal stands at the page's end
+abbrev pub seal_place : ℕ → ℕ
+seal_place size = size - length seal
 
 abbrev pub head_page : Layout → Head → List ℕ
-head_page form h = filled (form.size - 4) (head_bytes form.version h) ++ seal
+head_page layout h = filled (seal_place layout.size) (head_bytes layout.version h) ++ seal
 
 -- ---- how they are read
 
@@ -98,17 +125,17 @@ found_record bytes (Err fault) = None
 abbrev pub record_field : Reader Record
 record_field bytes = found_record bytes (record_in bytes)
 
--- the child of 52 bytes, if its rectangle has its sides in order
+-- the child of so many bytes, if its rectangle has its sides in order
 unfoldable pub link_in : (level : ℕ) → List ℕ → Option Link
 link_in level bytes = option_map (λ (r : Rectangle). record {
   page = from_be_bytes w32 (take 4 bytes);
-  entry = record { level = level; rect = Some r; digest = slice_range bytes 20 52 };
+  entry = record { level = level; rect = Some r; digest = slice_range bytes 20 link_size };
 }) (rectangle_of_bytes (slice_range bytes 4 20))
 
 abbrev pub link_field : (level : ℕ) → Reader Link
 link_field level bytes =
-    if nat_le 52 (length bytes)
-    then option_map (λ l. (l, drop 52 bytes)) (link_in level (take 52 bytes))
+    if nat_le link_size (length bytes)
+    then option_map (λ l. (l, drop link_size bytes)) (link_in level (take link_size bytes))
     else None
 
 -- whether all bytes are 0
@@ -144,9 +171,9 @@ tagged_in (tag ∷ rest) =
     else if tag == inner_tag then inner_in rest
     else None
 
--- the node that a page of this size spells
-abbrev pub node_in : ℕ → List ℕ → Option Node
-node_in size page = if length page == size then tagged_in page else None
+-- the node that a page of this layout spells
+abbrev pub node_in : Layout → List ℕ → Option Node
+node_in layout page = if length page == layout.size then tagged_in page else None
 
 -- the value, if this is its spelling
 abbrev pub if_spelled : {A : Type 0} → (A → List ℕ) → List ℕ → A → Option A
@@ -165,10 +192,10 @@ unfoldable pub fields_in : List ℕ → Head
 fields_in page = record {
   batch = from_be_bytes w64 (slice_range page 6 14);
   count = from_be_bytes w64 (slice_range page 14 22);
-  pages = from_be_bytes w32 (slice_range page 22 26);
+  pages = from_be_bytes w32 (slice_range page 22 root_place);
   root = root_in (from_be_bytes w64 (slice_range page 14 22)) (slice_index page 5)
-      (slice_range page 26 78);
-  free = from_be_bytes w32 (slice_range page 78 82);
+      (slice_range page root_place free_place);
+  free = from_be_bytes w32 (slice_range page free_place head_size);
 }
 
 -- whether the root node is on a page and of a level that a file may have
@@ -180,13 +207,13 @@ abbrev pub is_head : (pages : ℕ) → Head → Bool
 is_head pages h = nat_le h.count count_limit && (h.pages == pages && is_root h.count h.root)
 
 abbrev pub is_sealed : ℕ → List ℕ → Bool
-is_sealed size page = bytes_eq (drop (size - 4) page) seal
+is_sealed size page = bytes_eq (drop (seal_place size) page) seal
 
 -- page 0 of a file of so many pages
 abbrev pub head_in : Layout → ℕ → List ℕ → Result Head MapRule
-head_in form pages page =
-    if not (is_sealed form.size page) then Err Unsealed
-    else if is_head pages (fields_in page) && bytes_eq (head_page form (fields_in page)) page
+head_in layout pages page =
+    if not (is_sealed layout.size page) then Err Unsealed
+    else if is_head pages (fields_in page) && bytes_eq (head_page layout (fields_in page)) page
     then Ok (fields_in page)
     else Err Header
 
@@ -194,16 +221,16 @@ head_in form pages page =
 
 abbrev pub form_of : Layout → Form
 form_of layout = record {
+  version = layout.version;
   size = layout.size;
   head_page = head_page layout;
-  node_page = node_page layout.size;
+  node_page = node_page layout;
   free_page = free_page layout.size;
   head_in = head_in layout;
-  node_in = node_in layout.size;
+  node_in = node_in layout;
   free_in = free_in layout.size;
 }
 
--- version 1
 abbrev pub first_form : Form
 first_form = form_of first_layout
 

@@ -3,13 +3,14 @@ use Rattle.std.specs.Prelude.{◌≡◌, ◌≢◌, ⊤, ℕ, ◌+◌, ◌*◌, 
 use Rattle.std.specs.List.{flat_map}
 use Rattle.mr_tree.specs.Limits.{level_limit, leaf_limit, inner_limit}
 use Rattle.mr_tree.specs.Tree.{level}
+use Rattle.mr_tree.specs.Digest.{by}
 use Rattle.mr_tree.specs.WellFormed.{HasOneLevel}
 use Rattle.mr_tree.specs.declared.child.Child.{Child}
 use Rattle.mr_tree.specs.declared.tree.Tree.{Tree}
 use Rattle.mr_tree.specs.declared.tree.Tree.TheVariants as tree
 use Rattle.mr_tree.specs.declared.tree.Tree.TheOpen.{Tree-F, Empty, Leaf, Inner}
 use Rattle.mr_tree.specs.declared.tree.Tree.TheFolds.{every-Tree}
-use Rattle.mr_pages.specs.PageBytes.{first_form}
+use Rattle.mr_pages.specs.Page.{Form}
 use Rattle.mr_pages.specs.Stands.{pages_of, link_of}
 use Rattle.mr_pages.specs.Walking.{child_link}
 use Rattle.mr_pages.specs.Saved.{numbered, numbered_whole, nodes_of, saved_nodes, saved_pages}
@@ -29,16 +30,17 @@ pub record CanBePut (t : Tree) : Type 0 where
 
 -- the pages of the tree's nodes, from this one on, were put behind the others, and this is said of
 -- the tree
-pub record IsPut (hash : List ℕ → List ℕ) (t : Tree) (page : ℕ) (before after : List ℕ)
-    (child : Child)
-    : Type 0 where
-  pub pages : after ≡ before ++ flat_map first_form.node_page (nodes_of hash (numbered t page))
-  pub size : length after ≡ length before + length (pages_of (numbered t page)) * 4096
-  pub link : child_link child ≡ link_of hash (numbered t page)
+pub record IsPut (form : Form) (hash : List ℕ → List ℕ) (t : Tree) (page : ℕ)
+    (before after : List ℕ) (child : Child) : Type 0 where
+  pub pages : after
+      ≡ before ++ flat_map form.node_page (nodes_of (by form.version hash) (numbered t page))
+  pub size : length after ≡ length before + length (pages_of (numbered t page)) * form.size
+  pub link : child_link child ≡ link_of (by form.version hash) (numbered t page)
 
 -- the pages of a map's file while page 0 is zeros, and what is said of the root
-pub record IsImage (hash : List ℕ → List ℕ) (t : Tree) (pages : List ℕ) (root : Option Child)
-    : Type 0 where
-  pub bytes : pages ≡ replicate first_form.size 0 ++ saved_nodes first_form hash t
-  pub size : length pages ≡ saved_pages t * 4096
-  pub link : option_map child_link root ≡ option_map (link_of hash) (numbered_whole t)
+pub record IsImage (form : Form) (hash : List ℕ → List ℕ) (t : Tree) (pages : List ℕ)
+    (root : Option Child) : Type 0 where
+  pub bytes : pages ≡ replicate form.size 0 ++ saved_nodes form hash t
+  pub size : length pages ≡ saved_pages t * form.size
+  pub link : option_map child_link root
+      ≡ option_map (link_of (by form.version hash)) (numbered_whole t)

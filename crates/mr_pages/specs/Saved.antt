@@ -2,6 +2,7 @@
 use Rattle.std.specs.Prelude.{◌≡◌, ◌≤◌, ◌⊎◌, Result, IsErrOf, OnOk, ℕ, suc, ◌+◌, List, [], ◌∷◌, ◌++◌, length, Option, Some, None, option_map}
 use Rattle.std.specs.List.{flat_map}
 use Rattle.mr_tree.specs.Tree.{records}
+use Rattle.mr_tree.specs.Digest.{Scheme, by}
 use Rattle.mr_tree.specs.declared.tree.Tree.{Tree}
 use Rattle.mr_tree.specs.declared.tree.Tree.TheOpen as node
 use Rattle.mr_tree.specs.declared.tree.Tree.TheViews.{out-Tree}
@@ -43,17 +44,17 @@ numbered_whole t = unless_empty (out-Tree t) (numbered t 1)
 -- ---- the nodes and what they hold of their children, a node before its children
 
 abbrev mutual
-  pub nodes_of : (List ℕ → List ℕ) → Placed → List Node
-  nodes_of hash (Leaf p rs) = node.Leaf rs ∷ []
-  nodes_of hash (Inner p Ps) = node.Inner (links_of hash Ps) ∷ all_nodes hash Ps
+  pub nodes_of : Scheme → Placed → List Node
+  nodes_of s (Leaf p rs) = node.Leaf rs ∷ []
+  nodes_of s (Inner p Ps) = node.Inner (links_of s Ps) ∷ all_nodes s Ps
 
-  pub all_nodes : (List ℕ → List ℕ) → Row → List Node
-  all_nodes hash no_more = []
-  all_nodes hash (first P Ps) = nodes_of hash P ++ all_nodes hash Ps
+  pub all_nodes : Scheme → Row → List Node
+  all_nodes s no_more = []
+  all_nodes s (first P Ps) = nodes_of s P ++ all_nodes s Ps
 
-abbrev pub whole_nodes : (List ℕ → List ℕ) → Option Placed → List Node
-whole_nodes hash None = []
-whole_nodes hash (Some P) = nodes_of hash P
+abbrev pub whole_nodes : Scheme → Option Placed → List Node
+whole_nodes s None = []
+whole_nodes s (Some P) = nodes_of s P
 
 -- ---- the file
 
@@ -61,22 +62,23 @@ whole_nodes hash (Some P) = nodes_of hash P
 abbrev pub saved_pages : Tree → ℕ
 saved_pages t = suc (length (whole_pages (numbered_whole t)))
 
-abbrev pub saved_head : (List ℕ → List ℕ) → Tree → (batch : ℕ) → Head
-saved_head hash t batch = record {
+abbrev pub saved_head : Form → (List ℕ → List ℕ) → Tree → (batch : ℕ) → Head
+saved_head form hash t batch = record {
   batch = batch;
   count = length (records t);
   pages = saved_pages t;
-  root = option_map (link_of hash) (numbered_whole t);
+  root = option_map (link_of (by form.version hash)) (numbered_whole t);
   free = 0;
 }
 
 -- the pages behind page 0
 abbrev pub saved_nodes : Form → (List ℕ → List ℕ) → Tree → List ℕ
-saved_nodes form hash t = flat_map form.node_page (whole_nodes hash (numbered_whole t))
+saved_nodes form hash t =
+    flat_map form.node_page (whole_nodes (by form.version hash) (numbered_whole t))
 
 abbrev pub saved : Form → (List ℕ → List ℕ) → Tree → (batch : ℕ) → List ℕ
 saved form hash t batch =
-    form.head_page (saved_head hash t batch) ++ saved_nodes form hash t
+    form.head_page (saved_head form hash t batch) ++ saved_nodes form hash t
 
 -- ---- what stands while it is not saved
 

@@ -2,7 +2,7 @@
 use Rattle.std.specs.Prelude.{◌≡◌, ◌≢◌, ◌↔◌, ⊤, ℕ, ◌*◌, ◌^◌, ◌<◌, ◌≤◌, List, [], ◌∷◌, ◌++◌, length, AllPairs, Contains, Option, Some, None, option_map, IfSome}
 use Rattle.mr_record.specs.declared.record.Record.{Record}
 use Rattle.mr_tree.specs.Tree.{records}
-use Rattle.mr_tree.specs.Digest.{entry}
+use Rattle.mr_tree.specs.Digest.{Scheme, by, entry}
 use Rattle.mr_tree.specs.declared.tree.Tree.{Tree}
 use Rattle.mr_tree.specs.declared.tree.Tree.TheVariants as tree
 use Rattle.mr_tree.specs.declared.tree.Tree.TheOpen as node
@@ -48,25 +48,25 @@ page_of (Leaf p rs) = p
 page_of (Inner p Ps) = p
 
 -- what whoever names the tree has to say of it
-abbrev pub link_of : (List ℕ → List ℕ) → Placed → Link
-link_of hash P = record { page = page_of P; entry = entry hash (tree_of P) }
+abbrev pub link_of : Scheme → Placed → Link
+link_of s P = record { page = page_of P; entry = entry s (tree_of P) }
 
-abbrev pub links_of : (List ℕ → List ℕ) → Row → List Link
-links_of hash no_more = []
-links_of hash (first P Ps) = link_of hash P ∷ links_of hash Ps
+abbrev pub links_of : Scheme → Row → List Link
+links_of s no_more = []
+links_of s (first P Ps) = link_of s P ∷ links_of s Ps
 
 -- ---- what has to stand on the pages
 
 abbrev mutual
   -- each node stands on its page, a leaf with its records and an inner node with a link to each
   -- child; `on p n` says that node n stands on page p
-  pub IsWritten : (List ℕ → List ℕ) → (on : ℕ → Node → Type 0) → Placed → Type 0
-  IsWritten hash on (Leaf p rs) = on p (node.Leaf rs)
-  IsWritten hash on (Inner p Ps) = on p (node.Inner (links_of hash Ps)) × AreWritten hash on Ps
+  pub IsWritten : Scheme → (on : ℕ → Node → Type 0) → Placed → Type 0
+  IsWritten s on (Leaf p rs) = on p (node.Leaf rs)
+  IsWritten s on (Inner p Ps) = on p (node.Inner (links_of s Ps)) × AreWritten s on Ps
 
-  pub AreWritten : (List ℕ → List ℕ) → (on : ℕ → Node → Type 0) → Row → Type 0
-  AreWritten hash on no_more = ⊤
-  AreWritten hash on (first P Ps) = IsWritten hash on P × AreWritten hash on Ps
+  pub AreWritten : Scheme → (on : ℕ → Node → Type 0) → Row → Type 0
+  AreWritten s on no_more = ⊤
+  AreWritten s on (first P Ps) = IsWritten s on P × AreWritten s on Ps
 
 -- these pages follow one another from f on, the last one naming page 0; `names p g` says that p is
 -- a free page which names g
@@ -98,7 +98,7 @@ HasFree form bytes p g = page_at form bytes p ≡ form.free_page g
 -- on the chain of free pages, which begins at this one.
 pub record Lies (form : Form) (hash : List ℕ → List ℕ) (bytes : List ℕ) (pages : ℕ)
     (placed : Option Placed) (first_free : ℕ) : Type 0 where
-  pub written : IfSome placed (IsWritten hash (HasNode form bytes))
+  pub written : IfSome placed (IsWritten (by form.version hash) (HasNode form bytes))
   pub chain : List ℕ
   pub linked : IsChain (HasFree form bytes) first_free chain
   pub all : AreAllPages pages (whole_pages placed ++ chain)
@@ -117,7 +117,7 @@ pub record Stands (form : Form) (hash : List ℕ → List ℕ) (bytes : List ℕ
   pub batch_fits : batch < 2 ^ 64
   pub count : head.count ≡ length (records t)
   pub placed : Option Placed
-  pub root : head.root ≡ option_map (link_of hash) placed
+  pub root : head.root ≡ option_map (link_of (by form.version hash)) placed
   -- the other pages
   pub tree : whole_tree placed ≡ t
   pub lies : Lies form hash bytes head.pages placed head.free

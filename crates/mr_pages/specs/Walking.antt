@@ -1,6 +1,7 @@
 -- What the walk keeps, and what it answers.
 use Rattle.std.specs.Prelude.{◌≡◌, ⊤, ℕ, ◌<◌, ◌==◌, ◌||◌, nat_le, is_none, Bool, true, List, [], ◌∷◌, ◌++◌, map, length, slice_index_or, false, Option, Some, None, option_map, Result, Ok, Err}
 use Rattle.std.specs.Bool.{OnFalse}
+use Rattle.mr_tree.specs.Digest.{Scheme}
 use Rattle.mr_tree.specs.declared.child.Child.{Child}
 use Rattle.mr_tree.specs.declared.tree.Tree.{Tree}
 use Rattle.mr_tree.specs.declared.tree.Tree.TheOpen.{Empty, Leaf, Inner}
@@ -13,6 +14,7 @@ use Rattle.mr_pages.specs.declared.error.MapErr.TheVariants as errors
 use Rattle.mr_pages.specs.declared.node.Node as owned_type
 use Rattle.mr_pages.specs.declared.node.Node.TheVariants as owned_node
 use Rattle.mr_pages.specs.declared.head.MapHead.{MapHead}
+use Rattle.mr_pages.specs.declared.opening.Opened.{Opened}
 use Rattle.mr_pages.specs.declared.seen.Seen.{Seen}
 use Rattle.mr_pages.specs.Page.{Link, Node, Head}
 use Rattle.mr_pages.specs.File.{File}
@@ -23,10 +25,7 @@ use Rattle.mr_pages.specs.Numbers.{Met}
 
 -- what is said of a node, and a node, as the definitions have them
 abbrev pub child_link : Child → Link
-child_link c = record {
-  page = c.id;
-  entry = record { level = c.level; rect = Some c.rect; digest = c.digest };
-}
+child_link c = record { page = c.id; entry = view.entry_of c }
 
 abbrev pub page_node : view.Node → Node
 page_node Empty = Empty
@@ -70,32 +69,34 @@ Counts pages ps ns new twice after =
 
 -- ---- what is answered
 
+-- why a call over pages refuses: it met this fault, or memory ran out. It asks no shelf.
+abbrev pub Refuses : (MapFault → Type 0) → MapErr → Type 0
+Refuses P (errors.Map f) = P f
+Refuses P errors.NoMemory = ⊤
+Refuses P _ = ⊥
+
 -- the node, of which nothing is broken, or the first rule that is
-abbrev pub Looks : (List ℕ → List ℕ) → (ℕ → Option Node) → Bool → Link →
+abbrev pub Looks : Scheme → (ℕ → Option Node) → Bool → Link →
     Result owned_type.Node MapErr → Type 0
-Looks hash at root link (Ok n) =
-    (node_faults hash root link (found at link) ≡ []) × (found at link ≡ Some (page_node (owned n)))
-Looks hash at root link (Err (errors.Map f)) =
-    first_of (node_faults hash root link (found at link)) ≡ Some f
-Looks hash at root link (Err errors.NoMemory) = ⊤
-Looks hash at root link (Err _) = ⊥
+Looks s at root link (Ok n) =
+    (node_faults s root link (found at link) ≡ []) × (found at link ≡ Some (page_node (owned n)))
+Looks s at root link (Err e) =
+    Refuses (λ f. first_of (node_faults s root link (found at link)) ≡ Some f) e
 
 -- a walk behind these visits met no fault among these, and this is what it keeps then
-pub record Passed (hash : List ℕ → List ℕ) (pages : ℕ) (before vs : List Visit) (after : Seen)
+pub record Passed (s : Scheme) (pages : ℕ) (before vs : List Visit) (after : Seen)
     : Type 0 where
-  pub none : walk_faults hash pages before vs ≡ []
+  pub none : walk_faults s pages before vs ≡ []
   pub saw : Saw pages after (reached (before ++ vs)) (numbers_of (all_records (before ++ vs)))
 
 -- the tree that the pages below a link spell, or the first fault of the walk there
-abbrev pub Walks : (List ℕ → List ℕ) → ℕ → (ℕ → Option Node) → (before : List Visit) → Bool → Link
+abbrev pub Walks : Scheme → ℕ → (ℕ → Option Node) → (before : List Visit) → Bool → Link
     → Result Tree MapErr → Seen → Type 0
-Walks hash pages at before root link (Ok t) after =
+Walks s pages at before root link (Ok t) after =
     (t ≡ tree_of (place at link.entry.level link))
-    × Passed hash pages before (visits at link.entry.level root link) after
-Walks hash pages at before root link (Err (errors.Map f)) after =
-    first_of (walk_faults hash pages before (visits at link.entry.level root link)) ≡ Some f
-Walks hash pages at before root link (Err errors.NoMemory) after = ⊤
-Walks hash pages at before root link (Err _) after = ⊥
+    × Passed s pages before (visits at link.entry.level root link) after
+Walks s pages at before root link (Err e) after = Refuses
+    (λ f. first_of (walk_faults s pages before (visits at link.entry.level root link)) ≡ Some f) e
 
 -- page 0
 abbrev pub head_of : MapHead → Head
@@ -112,14 +113,12 @@ Heads (Ok h) head = head ≡ Ok (head_of h)
 Heads (Err r) head = head ≡ Err r
 
 -- the same from the root on
-abbrev pub Roots : (List ℕ → List ℕ) → ℕ → (ℕ → Option Node) → Option Link → Result Tree MapErr →
+abbrev pub Roots : Scheme → ℕ → (ℕ → Option Node) → Option Link → Result Tree MapErr →
     Seen → Type 0
-Roots hash pages at root (Ok t) after =
-    (t ≡ whole_tree (placed_at at root)) × Passed hash pages [] (walk at root) after
-Roots hash pages at root (Err (errors.Map f)) after =
-    first_of (walk_faults hash pages [] (walk at root)) ≡ Some f
-Roots hash pages at root (Err errors.NoMemory) after = ⊤
-Roots hash pages at root (Err _) after = ⊥
+Roots s pages at root (Ok t) after =
+    (t ≡ whole_tree (placed_at at root)) × Passed s pages [] (walk at root) after
+Roots s pages at root (Err e) after =
+    Refuses (λ f. first_of (walk_faults s pages [] (walk at root)) ≡ Some f) e
 
 -- the chain of free pages was followed, or met this fault
 abbrev pub Follows : (ℕ → Option ℕ) → ℕ → ℕ → List ℕ → List ℕ → Option MapFault → Seen → Type 0
@@ -143,12 +142,10 @@ abbrev pub Loses : ℕ → List ℕ → Option MapFault → Type 0
 Loses pages ps r = first_of (lost_faults pages ps) ≡ r
 
 -- what opening a file answers: the map that its pages spell, where it has no fault
-abbrev pub Opens : (List ℕ → List ℕ) → File → Result (Tree × ℕ) MapErr → Type 0
-Opens hash file (Ok r) =
+abbrev pub Opens : (List ℕ → List ℕ) → File → Result Opened MapErr → Type 0
+Opens hash file (Ok map) =
     (mapfault hash file ≡ None)
     × (h : Head) × (file.head ≡ Ok h)
-    × (r.0 ≡ whole_tree (placed_at file.node h.root))
-    × (r.1 ≡ h.batch)
-Opens hash file (Err (errors.Map f)) = mapfault hash file ≡ Some f
-Opens hash file (Err errors.NoMemory) = ⊤
-Opens hash file (Err _) = ⊥
+    × (map.tree ≡ whole_tree (placed_at file.node h.root))
+    × (map.batch ≡ h.batch)
+Opens hash file (Err e) = Refuses (λ f. mapfault hash file ≡ Some f) e

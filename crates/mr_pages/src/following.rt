@@ -1,3 +1,5 @@
+//! The chain of free pages.
+
 ghost use Rattle.std.specs.Prelude.{ℕ, List};
 ghost use Rattle.mr_pages.specs.Walking.{Saw, Follows, Steps};
 
@@ -29,8 +31,7 @@ pub fn follow<P: Pages>(pages: &P, first: u32, seen: &mut Seen) -> Option<MapFau
 }
 
 // Comes to a page of the chain, and answers which it names, if it is a free page that was not
-// reached
-// before.
+// reached before.
 fn step<P: Pages>(pages: &P, page: u32, seen: &mut Seen) -> Option<u32>
     ensures { (ps ns : List ℕ) → Saw (P.file pages.now).pages seen.old ps ns →
         Steps (P.file pages.now).free (P.file pages.now).pages page ps ns result seen.new }

@@ -1,3 +1,5 @@
+//! What page 0 says.
+
 use mr_tree::Child;
 
 /// What page 0 says.

@@ -1,4 +1,8 @@
-ghost use Rattle.std.specs.Prelude.{◌≡◌, ℕ, List, Some};
+//! The judge of one node.
+
+ghost use Rattle.std.specs.Prelude.{◌≡◌, Some};
+ghost use Rattle.mr_record.specs.declared.version.Version.TheVariants.{One};
+ghost use Rattle.mr_tree.specs.Digest.{by};
 ghost use Rattle.mr_pages.specs.Page.{entry_of};
 ghost use Rattle.mr_pages.specs.Faults.{same_rect, least as fewest};
 ghost use Rattle.mr_pages.specs.Walking.{child_link, page_node};
@@ -6,20 +10,13 @@ ghost use Rattle.mr_pages.specs.Judging.{Fills, Judges};
 
 use crate::MapRule;
 use mr_geom::Rect;
-use mr_tree::{Child, Hashes, INNER_FILL, LEAF_FILL, NodeView, ROOT_FILL};
+use mr_tree::{Child, Entry, Hashes, INNER_FILL, LEAF_FILL, NodeView, ROOT_FILL};
 
-// The digest of a node.
-pub fn digest_of<H: Hashes>(view: &NodeView) -> [u8; 32]
-    ensures { result ≡ (entry_of H.of (page_node view.now)).digest }
+/// What is to be said of the node that a view shows.
+pub fn entry_on<H: Hashes>(view: &NodeView) -> Entry
+    ensures { result ≡ entry_of (by One H.of) (page_node view.now) }
 {
-    view.digest::<H>()
-}
-
-// The rectangle round a node.
-pub fn rect_of(view: &NodeView) -> Option<Rect>
-    ensures { (hash : List ℕ → List ℕ) → result ≡ (entry_of hash (page_node view.now)).rect }
-{
-    view.rect()
+    view.entry::<H>()
 }
 
 // Whether a rectangle is the one that is said.
@@ -56,16 +53,16 @@ fn is_full(view: &NodeView, root: bool) -> bool
 
 /// The first rule that a node breaks against what is said of it.
 pub fn judge<H: Hashes>(view: &NodeView, child: &Child, root: bool) -> Option<MapRule>
-    ensures { Judges H.of root (child_link child.now) (page_node view.now) result }
+    ensures { Judges (by One H.of) root (child_link child.now) (page_node view.now) result }
 {
-    let found = digest_of::<H>(view);
-    if found.as_slice() != child.digest.as_slice() {
+    let found = entry_on::<H>(view);
+    if found.digest.as_slice() != child.digest.as_slice() {
         return Some(MapRule::Digest {
             held: child.digest,
-            found,
+            found: found.digest,
         });
     }
-    if !is_said(rect_of(view), child.rect) {
+    if !is_said(found.rect, child.rect) {
         return Some(MapRule::Rect);
     }
     if !is_full(view, root) {

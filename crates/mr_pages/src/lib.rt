@@ -6,6 +6,7 @@ mod error;
 mod following;
 mod head;
 mod judging;
+mod layout;
 mod node;
 mod numbers;
 mod opening;
@@ -21,9 +22,10 @@ mod walking;
 
 pub use error::MapErr;
 pub use head::MapHead;
-pub use opening::open_plain;
+pub use layout::PAGE_SIZE;
+pub use opening::{Opened, open_plain};
 pub use page::{
-    PAGE_SIZE, read_free_page, read_head, read_page, write_free_page, write_head_page, write_page,
+    read_free_page, read_head, read_page, write_free_page, write_head_page, write_page,
 };
 pub use rule::{MapFault, MapRule};
 pub use saving::save_plain;

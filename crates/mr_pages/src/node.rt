@@ -1,3 +1,5 @@
+//! A node of one's own.
+
 ghost use Rattle.std.specs.Prelude.{◌≡◌, IfOk};
 ghost use Rattle.mr_pages.specs.Walking.{owned};
 

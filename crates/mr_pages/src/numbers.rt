@@ -1,3 +1,5 @@
+//! Numbers that were met.
+
 ghost use Rattle.std.specs.Prelude.{◌≡◌, ◌≢◌, ◌≤◌, [], IfOk};
 ghost use Rattle.mr_pages.specs.Places.{at_place};
 ghost use Rattle.mr_pages.specs.Numbers.{count_of, Met, Meets};

@@ -5,9 +5,6 @@ mod head;
 mod node;
 mod put;
 
-pub use free::{read_free_page, write_free_page};
-pub use head::{read_head, write_head_page};
-pub use node::{read_page, write_page};
-
-/// The size of a page in bytes.
-pub const PAGE_SIZE: usize = 4096;
+pub use free::{free_on, read_free_page, write_free_page};
+pub use head::{head_on, level_of_root, put_head, read_head, write_head_page};
+pub use node::{node_on, put_node, read_page, write_page};

@@ -1,3 +1,5 @@
+//! The pages of a file, as the walk sees them.
+
 ghost use Rattle.std.specs.Prelude.{◌≡◌};
 ghost use Rattle.mr_pages.specs.File.{File};
 ghost use Rattle.mr_pages.specs.Faults.{of_level};

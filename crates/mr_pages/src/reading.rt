@@ -1,20 +1,17 @@
-ghost use Rattle.std.specs.Prelude.{◌≡◌, ◌≤◌, ◌<◌, length, take, IfOk, OnOk};
+//! Reading a file whole.
+
+ghost use Rattle.std.specs.Prelude.{◌≡◌, ◌+◌, ◌-◌, ◌≤◌, ◌<◌, length, take, drop, replicate, IfOk};
 ghost use Rattle.mr_outside.specs.Told.{OfFile};
 ghost use Rattle.mr_outside.specs.Causes.{ShelfCauses};
 
 use mr_outside::{Shelf, ShelfErr};
-use std::alloc::{AllocError, Global};
+use std::alloc::Global;
 
-/// The most bytes that are asked for at once: sixteen pages.
+// The most bytes that are asked for at once: whole pages.
 const PIECE: usize = 65_536;
 
-fn zeros(alloc: Global, size: usize) -> Result<Vec<u8>, AllocError>
-    ensures { IfOk result (λ v. length v.items ≡ size) }
-{
-    vec![in alloc; 0u8; size]
-}
-
-/// All bytes of a file of this length, read in pieces. What a read gives short counts as zeros.
+/// All bytes of a file of this length, read in pieces, for each of which room is taken when it is
+/// read. What a read gives short counts as zeros.
 pub fn read_whole<S: Shelf>(
     alloc: Global,
     shelf: &mut S,
@@ -29,32 +26,53 @@ pub fn read_whole<S: Shelf>(
     ensures files { (S.state shelf.new).files ≡ (S.state shelf.old).files }
     ensures reads { (S.state shelf.old).reads ≤ (S.state shelf.new).reads }
 {
-    let mut bytes = zeros(alloc, size)?;
-    let mut at = 0;
-    while at < size {
-        at = read_piece(shelf, name, at, bytes.as_mut_slice())?;
+    let mut bytes = Vec::new(alloc);
+    while bytes.len() < size {
+        let end = bytes.len() + PIECE.min(size - bytes.len());
+        read_on(shelf, name, end, &mut bytes)?;
     }
     Ok(bytes)
 }
 
-// Reads the piece that begins at this place, and answers where the next one begins.
-fn read_piece<S: Shelf>(
+// Reads what follows the bytes that are there, up to this place, and answers how many came. Behind
+// them stand zeros.
+fn read_on<S: Shelf>(
+    shelf: &mut S,
+    name: &str,
+    end: usize,
+    bytes: &mut Vec<u8>,
+) -> Result<usize, ShelfErr>
+    requires { length bytes.old.items ≤ end }
+    ensures length { IfOk result (λ n. length bytes.new.items ≡ end) }
+    ensures bytes { IfOk result (λ n. OfFile (S.state shelf.old).files name.now ⊥
+        (λ file. end ≤ length file → bytes.old.items ≡ take (length bytes.old.items) file →
+        bytes.new.items ≡ take end file)) }
+    ensures rest { IfOk result (λ n. let came = length bytes.old.items + n in
+        drop came bytes.new.items ≡ replicate (end - came) 0) }
+    ensures causes { ShelfCauses name.now (S.state shelf.old) (S.state shelf.new) result }
+    ensures files { (S.state shelf.new).files ≡ (S.state shelf.old).files }
+    ensures reads { (S.state shelf.old).reads ≤ (S.state shelf.new).reads }
+{
+    let at = bytes.len();
+    bytes.resize(end, 0)?;
+    read_into(shelf, name, at, bytes.as_mut_slice())
+}
+
+// Reads from this place on, and answers how many bytes came. All others are as before.
+fn read_into<S: Shelf>(
     shelf: &mut S,
     name: &str,
     at: usize,
     into: &mut [u8],
 ) -> Result<usize, ShelfErr>
-    requires inside { at < length into.old }
-    ensures further { IfOk result (λ end. at < end) }
-    ensures within { IfOk result (λ end. end ≤ length into.old) }
-    ensures bytes { IfOk result (λ end. OfFile (S.state shelf.old).files name.now ⊥
-        (λ bytes. length bytes ≡ length into.old → take at into.old ≡ take at bytes →
-        take end into.new ≡ take end bytes)) }
+    requires inside { at ≤ length into.old }
+    ensures bytes { IfOk result (λ n. OfFile (S.state shelf.old).files name.now ⊥
+        (λ file. length into.old ≤ length file → take at into.old ≡ take at file →
+        into.new ≡ take (length into.old) file)) }
+    ensures rest { IfOk result (λ n. drop (at + n) into.new ≡ drop (at + n) into.old) }
     ensures causes { ShelfCauses name.now (S.state shelf.old) (S.state shelf.new) result }
     ensures files { (S.state shelf.new).files ≡ (S.state shelf.old).files }
     ensures reads { (S.state shelf.old).reads ≤ (S.state shelf.new).reads }
 {
-    let end = at + PIECE.min(into.len() - at);
-    shelf.read_at(name, at as u64, &mut into[at..end])?;
-    Ok(end)
+    shelf.read_at(name, at as u64, &mut into[at..])
 }

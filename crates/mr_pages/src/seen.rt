@@ -1,3 +1,5 @@
+//! What a walk has seen.
+
 ghost use Rattle.std.specs.Prelude.{◌≡◌, ◌≤◌, ℕ, List, [], length, IfOk};
 ghost use Rattle.mr_pages.specs.Faults.{numbers_of};
 ghost use Rattle.mr_pages.specs.Walking.{Saw, Enters, Counts, Loses};

@@ -1,3 +1,5 @@
+//! A table of numbers.
+
 ghost use Rattle.std.specs.Prelude.{◌≡◌, ◌≤◌, ◌<◌, ◌^◌, ◌%◌, replicate, vec_len, IfOk};
 ghost use Rattle.mr_pages.specs.Places.{at_place, put_at_place, taken_of};
 

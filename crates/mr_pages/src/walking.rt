@@ -1,4 +1,8 @@
+//! The walk over the nodes of a file.
+
 ghost use Rattle.std.specs.Prelude.{List};
+ghost use Rattle.mr_record.specs.declared.version.Version.TheVariants.{One};
+ghost use Rattle.mr_tree.specs.Digest.{by};
 ghost use Rattle.mr_pages.specs.File.{IsFile};
 ghost use Rattle.mr_pages.specs.Faults.{Visit, reached, all_records, numbers_of};
 ghost use Rattle.mr_pages.specs.Walking.{child_link, Saw, Looks, Walks};
@@ -13,8 +17,7 @@ use mr_tree::{Child, Hashes, NodeView, Tree};
 use std::alloc::Global;
 
 // The node that is said to stand on a page, or the first rule that it breaks against what is said
-// of
-// it. The view is only worked with.
+// of it. The view is only worked with.
 fn look<H: Hashes, P: Pages>(
     alloc: Global,
     pages: &P,
@@ -22,7 +25,7 @@ fn look<H: Hashes, P: Pages>(
     root: bool,
     view: &mut NodeView,
 ) -> Result<Node, MapErr>
-    ensures { Looks H.of (P.file pages.now).node root (child_link child.now) result }
+    ensures { Looks (by One H.of) (P.file pages.now).node root (child_link child.now) result }
 {
     if !pages.node(child.id, child.level, view) {
         return Err(MapErr::Map(MapFault {
@@ -51,7 +54,7 @@ pub fn walk<H: Hashes, P: Pages>(
     requires good { IsFile (P.file pages.now) }
     ensures { (before : List Visit) →
         Saw (P.file pages.now).pages seen.old (reached before) (numbers_of (all_records before)) →
-        Walks H.of (P.file pages.now).pages (P.file pages.now).node before root
+        Walks (by One H.of) (P.file pages.now).pages (P.file pages.now).node before root
         (child_link child.now) result seen.new }
 {
     if let Some(rule) = seen.enter(child.id) {

@@ -1,39 +1,73 @@
 //! Free pages.
 
-ghost use Rattle.std.specs.Prelude.{◌≡◌, ℕ, ◌^◌, ◌<◌, IfSome, Some};
-ghost use Rattle.mr_pages.specs.PageBytes.{first_form};
+ghost use Rattle.std.specs.Prelude.{◌≡◌, ◌≢◌, ℕ, ◌^◌, ◌<◌, ◌≤◌, ◌∷◌, length, IfSome, Some, None, MatchOption};
+ghost use Rattle.std.specs.Int.{w32, to_be_bytes};
+ghost use Rattle.mr_pages.specs.PageBytes.{free_tag, free_page, free_in, form_of, first_form, IsLayout};
 
-use crate::page::put::{are_same, fill_up, put};
+use crate::layout::{FIRST, Layout, PAGE_SIZE};
+use crate::page::put::{fill, is_filled};
+use mr_outside::Buffer;
 use mr_record::u32_of_bytes;
 
-/// Makes the page a free one, which names the next one, or 0 for none.
-pub fn write_free_page(next: u32, into: &mut [u8; 4096])
-    ensures { into.new ≡ first_form.free_page next }
+// What a free page says in front.
+fn encoded(next: u32) -> Buffer<5>
+    ensures { result ≡ free_tag ∷ to_be_bytes w32 next }
 {
-    let at = put(into, 0, b"F");
-    let at = put(into, at, &next.to_be_bytes());
-    fill_up(into, at);
+    let mut bytes = Buffer::new();
+    bytes.put(b"F");
+    bytes.put(&next.to_be_bytes());
+    bytes
 }
 
-fn next_in(page: &[u8; 4096]) -> Option<u32>
-    ensures { result ≡ first_form.free_in page.now }
+/// Makes the page a free one, which names the next one, or 0 for none.
+pub fn write_free_page(next: u32, into: &mut [u8; PAGE_SIZE])
+    ensures { into.new ≡ first_form.free_page next }
+{
+    let bytes = encoded(next);
+    fill(into, bytes.as_slice());
+}
+
+// What a page that is as long as its front names, if it is a free one.
+fn next_in(page: &[u8]) -> Option<u32>
+    requires { 5 ≤ length page.now }
+    ensures { result ≡ free_in (length page.now) page.now }
 {
     let next = u32_of_bytes(&page[1..5]);
-    let mut spelled = [0; 4096];
-    write_free_page(next, &mut spelled);
-    if are_same(&spelled, page) {
+    let bytes = encoded(next);
+    if is_filled(page, bytes.as_slice()) {
         Some(next)
     } else {
         None
     }
 }
 
+fn named_on(layout: Layout, page: &[u8]) -> Option<u32>
+    requires { IsLayout layout }
+    ensures { result ≡ free_in layout.size page.now }
+{
+    if page.len() != layout.size {
+        return None;
+    }
+    next_in(page)
+}
+
+/// The page that a free page of this layout names, 0 for none; `None` where this is no such page.
+pub fn free_on(layout: Layout, page: &[u8]) -> Option<u32>
+    requires { IsLayout layout }
+    ensures exact { result ≡ (form_of layout).free_in page.now }
+    ensures written { IfSome result (λ next. page.now ≡ (form_of layout).free_page next) }
+    ensures read { (next : ℕ) → next < 2 ^ 32 → page.now ≡ (form_of layout).free_page next
+        → result ≡ Some next }
+{
+    named_on(layout, page)
+}
+
 /// The page that a free page names, 0 for none; `None` where this is no free page.
-pub fn read_free_page(page: &[u8; 4096]) -> Option<u32>
+pub fn read_free_page(page: &[u8; PAGE_SIZE]) -> Option<u32>
     ensures exact { result ≡ first_form.free_in page.now }
     ensures written { IfSome result (λ next. page.now ≡ first_form.free_page next) }
     ensures read { (next : ℕ) → next < 2 ^ 32 → page.now ≡ first_form.free_page next
         → result ≡ Some next }
 {
-    next_in(page)
+    free_on(FIRST, page)
 }

@@ -1,68 +1,33 @@
 //! Page 0.
 
-ghost use Rattle.std.specs.Prelude.{◌≡◌, ◌+◌, ◌≤◌, ◌++◌, length, take, option_map, bytes_eq, IfOk, MatchResult};
-ghost use Rattle.mr_pages.specs.Page.{IsHead, page_limit};
+ghost use Rattle.std.specs.Prelude.{◌≡◌, ◌≤◌, ◌+◌, ◌++◌, ◌∷◌, true, length, option_map, bytes_eq, IfOk, MatchResult};
+ghost use Rattle.std.specs.Int.{w32, w64, to_be_bytes};
+ghost use Rattle.mr_record.specs.Version.{version_byte};
+ghost use Rattle.mr_pages.specs.Page.{page_limit};
 ghost use Rattle.mr_pages.specs.Page as types;
-ghost use Rattle.mr_pages.specs.PageBytes.{first_layout, root_level, root_bytes, head_bytes, head_page, root_in, fields_in, is_root, is_head, is_sealed, first_form, SpellsHead};
+ghost use Rattle.mr_pages.specs.PageBytes.{magic, root_place, link_size, head_size, root_level, root_bytes, head_bytes, head_page, root_in, fields_in, is_root, is_head, is_sealed, form_of, first_form, IsLayout, SpellsHead};
 ghost use Rattle.mr_pages.specs.Walking.{child_link, head_of, Heads};
 
-use crate::page::node::read_child;
-use crate::page::put::{are_same, fill_up, put, put_child};
+use crate::layout::{FIRST, LINK_SIZE, Layout, PAGE_SIZE};
+use crate::page::node::{encoded_link, read_child};
+use crate::page::put::{are_same, fill, is_filled};
 use crate::{MapHead, MapRule};
-use mr_record::{u32_of_bytes, u64_of_bytes};
+use mr_outside::Buffer;
+use mr_record::{Version, u32_of_bytes, u64_of_bytes};
 use mr_tree::{COUNT_LIMIT, Child, LEVEL_LIMIT};
 
-/// The version of the file.
-const VERSION: u8 = 1;
+// Where the root node is told, where the first free page is, and where what page 0 says ends.
+const ROOT_PLACE: usize = 26;
 
-fn put_root(page: &mut [u8], at: usize, root: Option<Child>) -> usize
-    requires { at + 52 ≤ length page.old }
-    ensures place { result ≡ at + 52 }
-    ensures bytes { take result page.new ≡ take at page.old ++ root_bytes
-        (option_map child_link root) }
-{
-    match root {
-        None => put(page, at, &[0; 52]),
-        Some(child) => put_child(page, at, &child),
-    }
-}
+const FREE_PLACE: usize = ROOT_PLACE + LINK_SIZE;
 
-fn put_head(head: &MapHead, page: &mut [u8]) -> usize
-    requires level { head.now.level ≡ root_level (option_map child_link head.now.root) }
-    requires room { length page.old ≡ 4092 }
-    ensures place { result ≡ 82 }
-    ensures bytes { take result page.new ≡ head_bytes 1 (head_of head.now) }
-{
-    let at = put(page, 0, &[b'M', b'R', b'M', b'P', VERSION, head.level]);
-    let at = put(page, at, &head.batch.to_be_bytes());
-    let at = put(page, at, &head.count.to_be_bytes());
-    let at = put(page, at, &head.pages.to_be_bytes());
-    let at = put_root(page, at, head.root);
-    put(page, at, &head.free.to_be_bytes())
-}
+const HEAD_SIZE: usize = FREE_PLACE + 4;
 
-/// Writes the page and the seal, whatever the head says.
-fn spell_head(head: &MapHead, into: &mut [u8; 4096])
-    requires { head.now.level ≡ root_level (option_map child_link head.now.root) }
-    ensures { into.new ≡ head_page first_layout (head_of head.now) }
-{
-    let (body, end) = into.split_at_mut(4092);
-    let at = put_head(head, body);
-    fill_up(body, at);
-    end.copy_from_slice(b"SEAL");
-}
+// The bytes at the end of page 0.
+const SEAL: &[u8; 4] = b"SEAL";
 
-fn read_root(count: u64, level: u8, raw: &[u8]) -> Option<Child>
-    requires { length raw.now ≡ 52 }
-    ensures { option_map child_link result ≡ root_in count level raw.now }
-{
-    if count == 0 {
-        return None;
-    }
-    read_child(level, raw)
-}
-
-fn level_of_root(root: &Option<Child>) -> u8
+/// The level of the root node, 0 where there is none.
+pub fn level_of_root(root: &Option<Child>) -> u8
     ensures { result ≡ root_level (option_map child_link root.now) }
 {
     match root {
@@ -71,21 +36,82 @@ fn level_of_root(root: &Option<Child>) -> u8
     }
 }
 
-/// What the fields say, whatever stands around them.
+// Puts what is told before the root node.
+fn put_counts(bytes: &mut Buffer<HEAD_SIZE>, version: Version, head: &MapHead)
+    requires room { length bytes.old + root_place ≤ head_size }
+    ensures bytes { bytes.new ≡ bytes.old ++ magic ++ version_byte version ∷ head.now.level
+        ∷ (to_be_bytes w64 head.now.batch ++ to_be_bytes w64 head.now.count
+        ++ to_be_bytes w32 head.now.pages) }
+    ensures size { length bytes.new ≡ length bytes.old + root_place }
+{
+    bytes.put(&[b'M', b'R', b'M', b'P', version.byte(), head.level]);
+    bytes.put(&head.batch.to_be_bytes());
+    bytes.put(&head.count.to_be_bytes());
+    bytes.put(&head.pages.to_be_bytes());
+}
+
+// Puts what is told of the root node.
+fn put_root(bytes: &mut Buffer<HEAD_SIZE>, root: &Option<Child>)
+    requires { length bytes.old + link_size ≤ head_size }
+    ensures bytes { bytes.new ≡ bytes.old ++ root_bytes (option_map child_link root.now) }
+    ensures size { length bytes.new ≡ length bytes.old + link_size }
+{
+    match root {
+        None => bytes.put(&[0; LINK_SIZE]),
+        Some(child) => bytes.put(encoded_link(child).as_slice()),
+    }
+}
+
+// What page 0 says, up to the gap before the seal.
+fn encoded(version: Version, head: &MapHead) -> Buffer<HEAD_SIZE>
+    requires { head.now.level ≡ root_level (option_map child_link head.now.root) }
+    ensures { result ≡ head_bytes version (head_of head.now) }
+{
+    let mut bytes = Buffer::new();
+    put_counts(&mut bytes, version, head);
+    put_root(&mut bytes, &head.root);
+    bytes.put(&head.free.to_be_bytes());
+    bytes
+}
+
+/// Writes page 0 of this layout, with its seal.
+pub fn put_head(layout: Layout, head: &MapHead, page: &mut [u8])
+    requires layout { IsLayout layout }
+    requires level { head.now.level ≡ root_level (option_map child_link head.now.root) }
+    requires size { length page.old ≡ layout.size }
+    ensures { page.new ≡ (form_of layout).head_page (head_of head.now) }
+{
+    let (body, end) = page.split_at_mut(layout.size - SEAL.len());
+    let bytes = encoded(layout.version, head);
+    fill(body, bytes.as_slice());
+    end.copy_from_slice(SEAL);
+}
+
+fn read_root(count: u64, level: u8, raw: &[u8]) -> Option<Child>
+    requires { length raw.now ≡ link_size }
+    ensures { option_map child_link result ≡ root_in count level raw.now }
+{
+    if count == 0 {
+        return None;
+    }
+    read_child(level, raw)
+}
+
+// What the fields say, whatever stands around them.
 fn read_fields(page: &[u8]) -> MapHead
-    requires { length page.now ≡ 4096 }
+    requires { head_size ≤ length page.now }
     ensures fields { head_of result ≡ fields_in page.now }
     ensures level { result.level ≡ root_level (option_map child_link result.root) }
 {
     let count = u64_of_bytes(&page[14..22]);
-    let root = read_root(count, page[5], &page[26..78]);
+    let root = read_root(count, page[5], &page[ROOT_PLACE..FREE_PLACE]);
     MapHead {
         level: level_of_root(&root),
         batch: u64_of_bytes(&page[6..14]),
         count,
-        pages: u32_of_bytes(&page[22..26]),
+        pages: u32_of_bytes(&page[22..ROOT_PLACE]),
         root,
-        free: u32_of_bytes(&page[78..82]),
+        free: u32_of_bytes(&page[FREE_PLACE..HEAD_SIZE]),
     }
 }
 
@@ -104,35 +130,58 @@ fn fits(pages: u32, head: &MapHead) -> bool
     head.count <= COUNT_LIMIT && head.pages == pages && is_root_entry(head.count, &head.root)
 }
 
-fn is_spelled(head: &MapHead, page: &[u8]) -> bool
-    requires { head.now.level ≡ root_level (option_map child_link head.now.root) }
-    ensures { result ≡ bytes_eq (head_page first_layout (head_of head.now)) page.now }
+// Whether the page is the spelling of this head, where it has its seal.
+fn is_spelled(layout: Layout, head: &MapHead, page: &[u8]) -> bool
+    requires layout { IsLayout layout }
+    requires level { head.now.level ≡ root_level (option_map child_link head.now.root) }
+    requires size { length page.now ≡ layout.size }
+    requires sealed { is_sealed layout.size page.now ≡ true }
+    ensures { result ≡ bytes_eq (head_page layout (head_of head.now)) page.now }
 {
-    let mut spelled = [0; 4096];
-    spell_head(head, &mut spelled);
-    are_same(&spelled, page)
+    let (body, _) = page.split_at(layout.size - SEAL.len());
+    let bytes = encoded(layout.version, head);
+    is_filled(body, bytes.as_slice())
 }
 
-fn has_seal(page: &[u8]) -> bool
-    requires { length page.now ≡ 4096 }
-    ensures { result ≡ is_sealed 4096 page.now }
+fn has_seal(layout: Layout, page: &[u8]) -> bool
+    requires layout { IsLayout layout }
+    ensures seal { result ≡ is_sealed layout.size page.now }
+    ensures size { result ≡ true → length page.now ≡ layout.size }
 {
-    let (_, end) = page.split_at(4092);
-    are_same(end, b"SEAL")
+    if page.len() != layout.size {
+        return false;
+    }
+    let (_, end) = page.split_at(layout.size - SEAL.len());
+    are_same(end, SEAL)
 }
 
-fn judged_head(page: &[u8; 4096], pages: u32) -> Result<MapHead, MapRule>
-    ensures exact { Heads result (first_form.head_in pages page.now) }
+/// Page 0 of a file of this layout of so many pages. A refusal is `Unsealed` where the page does
+/// not end with the seal, else `Header` where it is not the spelling of a head.
+pub fn head_on(layout: Layout, page: &[u8], pages: u32) -> Result<MapHead, MapRule>
+    requires { IsLayout layout }
+    ensures exact { Heads result ((form_of layout).head_in pages page.now) }
+    ensures level { IfOk result (λ h. h.level ≡ root_level (option_map child_link h.root)) }
+    ensures written { 1 ≤ pages → pages ≤ page_limit
+        → IfOk result (λ h. SpellsHead (form_of layout) pages page.now (head_of h)) }
+    ensures read { (h : types.Head) → SpellsHead (form_of layout) pages page.now h
+        → MatchResult result (λ found. head_of found ≡ h) (λ rule. ⊥) }
+{
+    judged_head(layout, page, pages)
+}
+
+fn judged_head(layout: Layout, page: &[u8], pages: u32) -> Result<MapHead, MapRule>
+    requires { IsLayout layout }
+    ensures exact { Heads result ((form_of layout).head_in pages page.now) }
     ensures level { IfOk result (λ h. h.level ≡ root_level (option_map child_link h.root)) }
 {
-    if !has_seal(page) {
+    if !has_seal(layout, page) {
         return Err(MapRule::Unsealed);
     }
     let head = read_fields(page);
     if !fits(pages, &head) {
         return Err(MapRule::Header);
     }
-    if !is_spelled(&head, page) {
+    if !is_spelled(layout, &head, page) {
         return Err(MapRule::Header);
     }
     Ok(head)
@@ -140,7 +189,7 @@ fn judged_head(page: &[u8; 4096], pages: u32) -> Result<MapHead, MapRule>
 
 /// Page 0 of a file of so many pages. A refusal is `Unsealed` where the page does not end with the
 /// seal, else `Header` where it is not the spelling of a head.
-pub fn read_head(page: &[u8; 4096], pages: u32) -> Result<MapHead, MapRule>
+pub fn read_head(page: &[u8; PAGE_SIZE], pages: u32) -> Result<MapHead, MapRule>
     ensures exact { Heads result (first_form.head_in pages page.now) }
     ensures level { IfOk result (λ h. h.level ≡ root_level (option_map child_link h.root)) }
     ensures written { 1 ≤ pages → pages ≤ page_limit
@@ -148,13 +197,13 @@ pub fn read_head(page: &[u8; 4096], pages: u32) -> Result<MapHead, MapRule>
     ensures read { (h : types.Head) → SpellsHead first_form pages page.now h
         → MatchResult result (λ found. head_of found ≡ h) (λ rule. ⊥) }
 {
-    judged_head(page, pages)
+    head_on(FIRST, page, pages)
 }
 
 /// Writes page 0, with its seal.
-pub fn write_head_page(head: &MapHead, into: &mut [u8; 4096])
+pub fn write_head_page(head: &MapHead, into: &mut [u8; PAGE_SIZE])
     requires level { head.now.level ≡ root_level (option_map child_link head.now.root) }
     ensures { into.new ≡ first_form.head_page (head_of head.now) }
 {
-    spell_head(head, into);
+    put_head(FIRST, head, into);
 }

@@ -1,26 +1,41 @@
 //! Pages of nodes.
 
-ghost use Rattle.std.specs.Prelude.{◌≡◌, ◌+◌, ◌-◌, ◌≤◌, ◌<◌, ◌∷◌, true, length, take, map, All, Some, None, MatchOption, option_map};
+ghost use Rattle.std.specs.Prelude.{◌≡◌, ◌+◌, ◌-◌, ◌≤◌, ◌<◌, ◌*◌, ◌++◌, true, length, take, map, All, Some, None, MatchOption, option_map};
 ghost use Rattle.std.specs.Option.{option_and_then};
+ghost use Rattle.std.specs.List.{flat_map};
+ghost use Rattle.mr_record.specs.Record.{record_bytes};
 ghost use Rattle.mr_tree.specs.declared.tree.Tree.TheOpen.{Leaf, Inner};
 ghost use Rattle.mr_tree.specs.View.{size};
 ghost use Rattle.mr_pages.specs.Page.{IsNode};
 ghost use Rattle.mr_pages.specs.Page as types;
-ghost use Rattle.mr_pages.specs.PageBytes.{many, record_field, link_in, link_field, are_zeros, before_zeros, from_one_to, leaf_in, inner_in, tagged_in, node_bytes, first_form, SpellsNode};
+ghost use Rattle.mr_pages.specs.PageBytes.{many, record_field, link_bytes, link_size, link_in, link_field, before_zeros, from_one_to, leaf_in, inner_in, tagged_in, node_in, node_bytes, node_limit, form_of, first_form, IsLayout, SpellsNode};
 ghost use Rattle.mr_pages.specs.Faults.{of_level};
 ghost use Rattle.mr_pages.specs.Walking.{child_link, page_node, Shows};
 
-use crate::page::put::{fill_up, put, put_children, put_records};
-use mr_record::{Record, read_record, rect_of_bytes, u32_of_bytes};
+use crate::layout::{FIRST, LINK_SIZE, Layout, PAGE_SIZE};
+use crate::page::put::{are_zero_bytes, fill_up, put};
+use mr_outside::Buffer;
+use mr_record::{Record, encoded, read_record, rect_of_bytes, u32_of_bytes};
 use mr_tree::{Child, INNER_LIMIT, LEAF_LIMIT, LEVEL_LIMIT, NodeView, is_view};
 
-fn are_zero_bytes(bytes: &[u8]) -> bool
-    ensures { result ≡ are_zeros bytes.now }
+// What the type tells of its values.
+fn is_digest(_digest: &[u8; 32])
+    ensures { length _digest.now ≡ 32 }
+{}
+
+/// What a page holds of a child: its page, and its entry.
+pub fn encoded_link(child: &Child) -> Buffer<LINK_SIZE>
+    ensures bytes { result ≡ link_bytes (child_link child.now) }
+    ensures size { length result ≡ link_size }
 {
-    bytes.iter().all(|b| *b == 0)
+    is_digest(&child.digest);
+    let mut bytes = Buffer::new();
+    bytes.put(&child.id.to_be_bytes());
+    bytes.put(child.entry().encoded().as_slice());
+    bytes
 }
 
-/// Fills all places with the records that stand at the front, and answers what is left.
+// Fills all places with the records that stand at the front, and answers what is left.
 fn read_records<'a>(places: &mut [Record], bytes: &'a [u8]) -> Option<&'a [u8]>
     ensures { MatchOption result (many record_field (length places.old) bytes.now ≡ None)
         (λ rest. many record_field (length places.old) bytes.now ≡ Some (places.new, rest.now)) }
@@ -39,15 +54,15 @@ fn read_records<'a>(places: &mut [Record], bytes: &'a [u8]) -> Option<&'a [u8]>
     Some(rest)
 }
 
-/// A child of this level from its 52 bytes.
+/// A child of this level from its bytes.
 pub fn read_child(level: u8, raw: &[u8]) -> Option<Child>
-    requires { length raw.now ≡ 52 }
+    requires { length raw.now ≡ link_size }
     ensures { option_map child_link result ≡ link_in level raw.now }
 {
     match rect_of_bytes(&raw[4..20]) {
         Some(rect) => {
             let mut digest = [0; 32];
-            digest.copy_from_slice(&raw[20..52]);
+            digest.copy_from_slice(&raw[20..LINK_SIZE]);
             Some(Child {
                 id: u32_of_bytes(&raw[0..4]),
                 level,
@@ -59,8 +74,8 @@ pub fn read_child(level: u8, raw: &[u8]) -> Option<Child>
     }
 }
 
-/// Fills all places with the children of this level that stand at the front, and answers what is
-/// left.
+// Fills all places with the children of this level that stand at the front, and answers what is
+// left.
 fn read_children<'a>(places: &mut [Child], level: u8, bytes: &'a [u8]) -> Option<&'a [u8]>
     ensures { MatchOption result (many (link_field level) (length places.old) bytes.now ≡ None)
         (λ rest. many (link_field level) (length places.old) bytes.now
@@ -68,10 +83,10 @@ fn read_children<'a>(places: &mut [Child], level: u8, bytes: &'a [u8]) -> Option
 {
     let mut rest = bytes;
     for place in places.iter_mut() {
-        if rest.len() < 52 {
+        if rest.len() < LINK_SIZE {
             return None;
         }
-        let (raw, behind) = rest.split_at(52);
+        let (raw, behind) = rest.split_at(LINK_SIZE);
         match read_child(level, raw) {
             Some(child) => {
                 *place = child;
@@ -184,22 +199,71 @@ fn read_tagged(bytes: &[u8], level: u8, into: &mut NodeView) -> bool
     }
 }
 
+/// Shows the node of this level that a page of this layout spells, and answers whether it spells
+/// one. Where it does not, the view is some node.
+pub fn node_on(layout: Layout, page: &[u8], level: u8, into: &mut NodeView) -> bool
+    requires { IsLayout layout }
+    ensures exact { Shows result into.new (of_level level ((form_of layout).node_in page.now)) }
+    ensures written { result ≡ true →
+        SpellsNode (form_of layout) level page.now (page_node into.new) }
+    ensures read { (n : types.Node) → SpellsNode (form_of layout) level page.now n
+        → (result ≡ true) × (page_node into.new ≡ n) }
+{
+    shown(layout, page, level, into)
+}
+
+fn shown(layout: Layout, page: &[u8], level: u8, into: &mut NodeView) -> bool
+    ensures { Shows result into.new (of_level level (node_in layout page.now)) }
+{
+    if page.len() != layout.size {
+        return false;
+    }
+    read_tagged(page, level, into)
+}
+
 /// Shows the node of this level that the page spells, and answers whether it spells one. Where it
 /// does not, the view is some node.
-pub fn read_page(page: &[u8; 4096], level: u8, into: &mut NodeView) -> bool
+pub fn read_page(page: &[u8; PAGE_SIZE], level: u8, into: &mut NodeView) -> bool
     ensures exact { Shows result into.new (of_level level (first_form.node_in page.now)) }
     ensures written { result ≡ true → SpellsNode first_form level page.now (page_node into.new) }
     ensures read { (n : types.Node) → SpellsNode first_form level page.now n
         → (result ≡ true) × (page_node into.new ≡ n) }
 {
-    read_tagged(page, level, into)
+    node_on(FIRST, page, level, into)
 }
 
-/// Writes the node at the page's front, and answers the place behind it.
-fn put_node(node: &NodeView, page: &mut [u8]) -> usize
+// Writes records from a place on, and answers the place behind them.
+fn put_records(page: &mut [u8], at: usize, records: &[Record]) -> usize
+    requires { at + 225 * length records.now ≤ length page.old }
+    ensures place { result ≤ at + 225 * length records.now }
+    ensures bytes { take result page.new ≡ take at page.old ++ flat_map record_bytes records.now }
+{
+    let mut place = at;
+    for record in records {
+        place = put(page, place, encoded(record).as_slice());
+    }
+    place
+}
+
+// Writes children from a place on, and answers the place behind them.
+fn put_children(page: &mut [u8], at: usize, children: &[Child]) -> usize
+    requires { at + link_size * length children.now ≤ length page.old }
+    ensures place { result ≡ at + link_size * length children.now }
+    ensures bytes { take result page.new ≡ take at page.old ++ flat_map link_bytes
+        (map child_link children.now) }
+{
+    let mut place = at;
+    for child in children {
+        place = put(page, place, encoded_link(child).as_slice());
+    }
+    place
+}
+
+// Writes the node at the page's front, and answers the place behind it.
+fn put_front(node: &NodeView, page: &mut [u8]) -> usize
     requires some { 1 ≤ size node.now }
-    requires room { length page.old ≡ 4096 }
-    ensures place { result ≤ 4096 }
+    requires room { node_limit ≤ length page.old }
+    ensures place { result ≤ length page.old }
     ensures bytes { take result page.new ≡ node_bytes (page_node node.now) }
 {
     let len = node.len() as u8;
@@ -212,13 +276,24 @@ fn put_node(node: &NodeView, page: &mut [u8]) -> usize
     }
 }
 
+/// Writes the page of this layout that spells the node, which has a record or a child at least.
+pub fn put_node(layout: Layout, node: &NodeView, page: &mut [u8])
+    requires layout { IsLayout layout }
+    requires some { 1 ≤ size node.now }
+    requires size { length page.old ≡ layout.size }
+    ensures page { page.new ≡ (form_of layout).node_page (page_node node.now) }
+    ensures node { IsNode (page_node node.now) }
+{
+    is_view(node);
+    let at = put_front(node, page);
+    fill_up(page, at);
+}
+
 /// Writes the page that spells the node, which has a record or a child at least.
-pub fn write_page(node: &NodeView, into: &mut [u8; 4096])
+pub fn write_page(node: &NodeView, into: &mut [u8; PAGE_SIZE])
     requires { 1 ≤ size node.now }
     ensures page { into.new ≡ first_form.node_page (page_node node.now) }
     ensures node { IsNode (page_node node.now) }
 {
-    is_view(node);
-    let at = put_node(node, into);
-    fill_up(into, at);
+    put_node(FIRST, node, into);
 }

@@ -1,13 +1,7 @@
-//! Writing into a page from the front.
+//! Writing into a page from the front, and what a page says in front.
 
-ghost use Rattle.std.specs.Prelude.{◌≡◌, ◌+◌, ◌*◌, ◌≤◌, ◌++◌, length, take, map, bytes_eq};
-ghost use Rattle.std.specs.List.{flat_map};
-ghost use Rattle.mr_record.specs.Record.{record_bytes};
-ghost use Rattle.mr_pages.specs.PageBytes.{link_bytes, filled};
-ghost use Rattle.mr_pages.specs.Walking.{child_link};
-
-use mr_record::{Record, rect_bytes};
-use mr_tree::Child;
+ghost use Rattle.std.specs.Prelude.{◌≡◌, ◌+◌, ◌≤◌, ◌++◌, length, take, bytes_eq};
+ghost use Rattle.mr_pages.specs.PageBytes.{are_zeros, filled};
 
 /// Writes a piece at a place of a page, and answers the place behind it.
 pub fn put(page: &mut [u8], at: usize, piece: &[u8]) -> usize
@@ -30,53 +24,20 @@ pub fn fill_up(page: &mut [u8], at: usize)
     behind.fill(0);
 }
 
-/// Writes a record, which takes 225 bytes at most.
-pub fn put_record(page: &mut [u8], at: usize, one: &Record) -> usize
-    requires { at + 225 ≤ length page.old }
-    ensures place { result ≤ at + 225 }
-    ensures bytes { take result page.new ≡ take at page.old ++ record_bytes one.now }
+/// Writes a piece in front, and zeros behind it.
+pub fn fill(page: &mut [u8], piece: &[u8])
+    requires { length piece.now ≤ length page.old }
+    ensures { page.new ≡ filled (length page.old) piece.now }
 {
-    let payload = one.payload.bytes();
-    let at = put(page, at, &one.number.to_be_bytes());
-    let at = put(page, at, &rect_bytes(&one.rect));
-    let at = put(page, at, &[payload.len() as u8]);
-    put(page, at, payload)
+    let at = put(page, 0, piece);
+    fill_up(page, at);
 }
 
-/// Writes what a node holds of a child, 52 bytes.
-pub fn put_child(page: &mut [u8], at: usize, child: &Child) -> usize
-    requires { at + 52 ≤ length page.old }
-    ensures place { result ≡ at + 52 }
-    ensures bytes { take result page.new ≡ take at page.old ++ link_bytes (child_link child.now) }
+/// Whether all bytes are 0.
+pub fn are_zero_bytes(bytes: &[u8]) -> bool
+    ensures { result ≡ are_zeros bytes.now }
 {
-    let at = put(page, at, &child.id.to_be_bytes());
-    let at = put(page, at, &rect_bytes(&child.rect));
-    put(page, at, &child.digest)
-}
-
-pub fn put_records(page: &mut [u8], at: usize, records: &[Record]) -> usize
-    requires { at + 225 * length records.now ≤ length page.old }
-    ensures place { result ≤ at + 225 * length records.now }
-    ensures bytes { take result page.new ≡ take at page.old ++ flat_map record_bytes records.now }
-{
-    let mut place = at;
-    for record in records {
-        place = put_record(page, place, record);
-    }
-    place
-}
-
-pub fn put_children(page: &mut [u8], at: usize, children: &[Child]) -> usize
-    requires { at + 52 * length children.now ≤ length page.old }
-    ensures place { result ≡ at + 52 * length children.now }
-    ensures bytes { take result page.new ≡ take at page.old ++ flat_map link_bytes
-        (map child_link children.now) }
-{
-    let mut place = at;
-    for child in children {
-        place = put_child(page, place, child);
-    }
-    place
+    bytes.iter().all(|b| *b == 0)
 }
 
 /// Whether the two are the same bytes.
@@ -84,4 +45,16 @@ pub fn are_same(one: &[u8], other: &[u8]) -> bool
     ensures { result ≡ bytes_eq one.now other.now }
 {
     one == other
+}
+
+/// Whether the piece stands in front, and zeros behind it.
+pub fn is_filled(page: &[u8], piece: &[u8]) -> bool
+    requires { length piece.now ≤ length page.now }
+    ensures { result ≡ bytes_eq (filled (length page.now) piece.now) page.now }
+{
+    let (front, behind) = page.split_at(piece.len());
+    if !are_same(piece, front) {
+        return false;
+    }
+    are_zero_bytes(behind)
 }

@@ -1,7 +1,7 @@
 use Rattle.std.proofs.Common.{◌∙◌, sym}
 use Rattle.std.proofs.lemmas.Result.{err_from_is_err_and}
 use Rattle.mr_pages.specs.Walking.{head_of}
-use Rattle.mr_pages.proofs.Opened.{walk_refused, count_stops, chain_stops, lost_stops, lost_of, opens}
+use Rattle.mr_pages.proofs.Stops.{walk_refused, count_stops, chain_stops, lost_stops, lost_of, opens}
 use Rattle.mr_pages.proofs.opening.open_at.Goals as goal
 
 pub returns-in_err-tree : goal.returns-in_err-tree
@@ -9,7 +9,7 @@ returns-in_err-tree g c =
     let p = err_from_is_err_and c.from_residual-in_err-tree.result c.from_residual-in_err-tree.ensures.1 in
     rw (p.1, p.2)
     (walk_refused g.H.Hashes.of (g.P.Pages.file c.args.pages.now) (head_of c.args.head.now) c.requires.sealed
-    c.in_err-tree.field-0.0 _ c.in_err-tree.ensures)
+    c.in_err-tree.field-0.0 c.in_err-tree.ensures)
 
 pub returns-then-head-found : goal.returns-then-head-found
 returns-then-head-found g c =

@@ -1,8 +1,8 @@
 use Rattle.std.proofs.Common.{subst, sym}
-use Rattle.mr_pages.specs.PageBytes.{first_form}
+use Rattle.mr_pages.specs.PageBytes.{form_of}
 use Rattle.mr_pages.specs.File.{IsFile}
 use Rattle.mr_pages.specs.Walking.{Opens}
-use Rattle.mr_pages.proofs.HeadLaws.{first_form_is}
+use Rattle.mr_pages.proofs.HeadLaws.{form_is}
 use Rattle.mr_pages.proofs.Agreement.{is_file}
 use Rattle.mr_pages.proofs.Answered.{same_file, answered, cells_are_bytes, odd_fault, finds_out}
 use Rattle.mr_pages.proofs.opening.open_bytes.Goals as goal
@@ -11,15 +11,17 @@ pub open-requires : goal.open-requires
 open-requires g c =
     let bytes = c.args.bytes.now in
     record {
-      good = subst IsFile (sym (same_file first_form c.in-Some.pages bytes c.in-Some.ensures.1 c.in-Some.ensures.0))
-          (is_file first_form first_form_is bytes (cells_are_bytes bytes c.type_inv.bytes));
+      good = subst IsFile (sym
+          (same_file (form_of c.args.layout) c.in-Some.pages bytes c.in-Some.ensures.1 c.in-Some.ensures.0))
+          (is_file (form_of c.args.layout) (form_is c.args.layout c.requires) bytes
+          (cells_are_bytes bytes c.type_inv.bytes));
     }
 
 pub returns-in-None-clause-are : goal.returns-in-None-clause-are
 returns-in-None-clause-are g c = cells_are_bytes c.args.bytes.now c.type_inv.bytes
 
 pub returns-in-None-clause-answers : goal.returns-in-None-clause-answers
-returns-in-None-clause-answers g c = odd_fault first_form g.H.Hashes.of c.args.bytes.now c.in-None.ensures
+returns-in-None-clause-answers g c = odd_fault (form_of c.args.layout) g.H.Hashes.of c.args.bytes.now c.in-None.ensures
 
 pub returns-in-Some-clause-are : goal.returns-in-Some-clause-are
 returns-in-Some-clause-are g c = cells_are_bytes c.args.bytes.now c.type_inv.bytes
@@ -27,13 +29,14 @@ returns-in-Some-clause-are g c = cells_are_bytes c.args.bytes.now c.type_inv.byt
 pub returns-in-Some-clause-answers : goal.returns-in-Some-clause-answers
 returns-in-Some-clause-answers g c =
     let bytes = c.args.bytes.now in
-    answered first_form first_form_is g.H.Hashes.of bytes (cells_are_bytes bytes c.type_inv.bytes) c.open.result
+    answered (form_of c.args.layout) (form_is c.args.layout c.requires) g.H.Hashes.of bytes
+    (cells_are_bytes bytes c.type_inv.bytes) c.open.result
     (subst (λ f. Opens g.H.Hashes.of f c.open.result)
-    (same_file first_form c.in-Some.pages bytes c.in-Some.ensures.1 c.in-Some.ensures.0) c.open.ensures)
+    (same_file (form_of c.args.layout) c.in-Some.pages bytes c.in-Some.ensures.1 c.in-Some.ensures.0) c.open.ensures)
 
 pub returns-in-Some-clause-found : goal.returns-in-Some-clause-found
 returns-in-Some-clause-found g c =
     let bytes = c.args.bytes.now in
-    finds_out first_form first_form_is g.H.Hashes.of bytes c.open.result
+    finds_out (form_of c.args.layout) (form_is c.args.layout c.requires) g.H.Hashes.of bytes c.open.result
     (subst (λ f. Opens g.H.Hashes.of f c.open.result)
-    (same_file first_form c.in-Some.pages bytes c.in-Some.ensures.1 c.in-Some.ensures.0) c.open.ensures)
+    (same_file (form_of c.args.layout) c.in-Some.pages bytes c.in-Some.ensures.1 c.in-Some.ensures.0) c.open.ensures)

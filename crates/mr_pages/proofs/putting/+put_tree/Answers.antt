@@ -1,9 +1,11 @@
 use Rattle.std.proofs.Common.{rules, ◌≡◌, ◌≤◌, ◌<◌, ◌+◌, ◌*◌, ◌/◌, suc, ◌∙◌, length, subst, sym, ap, arith}
 use Rattle.mr_tree.specs.declared.tree.Tree.TheVariants as tree
+use Rattle.mr_tree.specs.declared.tree.Tree.TheOpen as node
+use Rattle.mr_pages.specs.PageBytes.{form_of}
 use Rattle.mr_tree.specs.View.{size}
 use Rattle.mr_tree.specs.Tree.{level}
 use Rattle.mr_pages.specs.Stands.{all_pages}
-use Rattle.mr_pages.proofs.Put.{leaf_entries, next_page, child_room, child_can, child_lower, put_one, put_whole, one_of, below_first, inner_put, written_whole, some_row}
+use Rattle.mr_pages.proofs.Put.{leaf_entries, leaf_put_at, put_none, room_for, next_page, child_room, child_can, child_lower, put_one, put_whole, one_of, below_first, inner_put, written_whole, some_row}
 use Rattle.mr_pages.specs.Putting.{IsPut}
 use Rattle.mr_pages.proofs.putting.+put_tree.Goals as goal
 
@@ -17,10 +19,20 @@ set_leaf-requires-clause-few g t c =
     let few = leaf_entries c.args.tree.now c.in-Leaf.records c.requires.can c.in-Leaf.is in
     subst (λ rs. length rs ≤ 16) (sym c.as_slice.ensures) few.1
 
-pub add_page-requires : goal.add_page-requires
-add_page-requires g t c =
+pub put_page-requires-clause-some : goal.put_page-requires-clause-some
+put_page-requires-clause-some g t c =
     let few = leaf_entries c.args.tree.now c.in-Leaf.records c.requires.can c.in-Leaf.is in
     subst (λ n. 1 ≤ size n) (sym c.set_leaf.ensures) (subst (λ rs. 1 ≤ length rs) (sym c.as_slice.ensures) few.0)
+
+pub put_page-requires-clause-room : goal.put_page-requires-clause-room
+put_page-requires-clause-room g t c =
+    omega (
+      arith,
+      c.len-at.ensures,
+      c.args.pages.now.ok,
+      c.in_ok-add_page.ensures.size,
+      ap length c.as_mut_slice.ensures.value,
+    )
 
 pub child_on-requires : goal.child_on-requires
 child_on-requires g t c =
@@ -31,13 +43,13 @@ pub overflow_cast-next : goal.overflow_cast-next
 overflow_cast-next g t c =
     let ts = c.as_slice-child-items.result.now in
     let long : c.len.result ≡ length c.loop-child.pages.items = omega (arith, c.len.ensures, c.loop-child.pages.ok) in
-    let next : c.len.result / 4096 ≡ suc c.args.page + length
+    let next : c.len.result / c.args.layout.size ≡ suc c.args.page + length
     (all_pages (some_row (suc c.args.page) ts c.loop-child.child-index)) =
-    ap (λ n. n / 4096) long
-    ∙ next_page g.H.Hashes.of ts c.loop-child.child-index c.args.page c.args.pages.now.items c.loop-child.pages.items
-    c.loop-child.links.items c.loop-child.invariant in
+    ap (λ n. n / c.args.layout.size) long
+    ∙ next_page (form_of c.args.layout) g.H.Hashes.of ts c.loop-child.child-index c.args.page c.args.pages.now.items
+    c.loop-child.pages.items c.loop-child.links.items (omega (arith, c.requires.layout.room)) c.loop-child.invariant in
     let room = child_room c.args.tree.now ts c.args.page c.loop-child.child-index
-    (c.len.result / 4096) c.child-item.result
+    (c.len.result / c.args.layout.size) c.child-item.result
     (c.in-Inner.is ∙ ap tree.Inner (sym c.as_slice-child-items.ensures)) c.loop-child-test.true c.child-item.is next
     c.requires.room in
     omega (arith, room)
@@ -47,35 +59,35 @@ put_tree-requires g t c κs within =
     let ts = c.as_slice-child-items.result.now in
     let is = c.in-Inner.is ∙ ap tree.Inner (sym c.as_slice-child-items.ensures) in
     let long : c.len.result ≡ length c.loop-child.pages.items = omega (arith, c.len.ensures, c.loop-child.pages.ok) in
-    let next : c.len.result / 4096 ≡ suc c.args.page + length
+    let next : c.len.result / c.args.layout.size ≡ suc c.args.page + length
     (all_pages (some_row (suc c.args.page) ts c.loop-child.child-index)) =
-    ap (λ n. n / 4096) long
-    ∙ next_page g.H.Hashes.of ts c.loop-child.child-index c.args.page c.args.pages.now.items c.loop-child.pages.items
-    c.loop-child.links.items c.loop-child.invariant in
+    ap (λ n. n / c.args.layout.size) long
+    ∙ next_page (form_of c.args.layout) g.H.Hashes.of ts c.loop-child.child-index c.args.page c.args.pages.now.items
+    c.loop-child.pages.items c.loop-child.links.items (omega (arith, c.requires.layout.room)) c.loop-child.invariant in
     let room = child_room c.args.tree.now ts c.args.page c.loop-child.child-index
-    (c.len.result / 4096) c.child-item.result is
+    (c.len.result / c.args.layout.size) c.child-item.result is
     c.loop-child-test.true c.child-item.is next c.requires.room in
     let can = child_can c.args.tree.now ts c.loop-child.child-index c.child-item.result is c.requires.can
     c.loop-child-test.true c.child-item.is in
-    let at : length c.loop-child.pages.items ≡ c.len.result / 4096 * 4096 =
-    c.loop-child.invariant.size ∙ ap (λ n. n * 4096) (sym next) in
+    let at : length c.loop-child.pages.items ≡ c.len.result / c.args.layout.size * c.args.layout.size =
+    c.loop-child.invariant.size ∙ ap (λ n. n * c.args.layout.size) (sym next) in
     let here : level c.args.tree.now ≡ t = c.decreases in
     let lower = child_lower c.args.tree.now ts c.loop-child.child-index c.child-item.result is c.requires.can
     c.loop-child-test.true c.child-item.is in
     let smaller : level c.child-item.result < t = omega (arith, lower, here) in
-    (smaller, (search rules, (can, (at, room))))
+    (smaller, (search rules, (c.requires.layout, (can, (at, room)))))
 
 pub loop-child-preserved : goal.loop-child-preserved
 loop-child-preserved g t c =
     let ts = c.as_slice-child-items.result.now in
     let long : c.len.result ≡ length c.loop-child.pages.items = omega (arith, c.len.ensures, c.loop-child.pages.ok) in
-    let next : c.len.result / 4096 ≡ suc c.args.page + length
+    let next : c.len.result / c.args.layout.size ≡ suc c.args.page + length
     (all_pages (some_row (suc c.args.page) ts c.loop-child.child-index)) =
-    ap (λ n. n / 4096) long
-    ∙ next_page g.H.Hashes.of ts c.loop-child.child-index c.args.page c.args.pages.now.items c.loop-child.pages.items
-    c.loop-child.links.items c.loop-child.invariant in
-    put_one g.H.Hashes.of ts c.loop-child.child-index c.args.page
-    (c.len.result / 4096) c.args.pages.now.items c.loop-child.pages.items
+    ap (λ n. n / c.args.layout.size) long
+    ∙ next_page (form_of c.args.layout) g.H.Hashes.of ts c.loop-child.child-index c.args.page c.args.pages.now.items
+    c.loop-child.pages.items c.loop-child.links.items (omega (arith, c.requires.layout.room)) c.loop-child.invariant in
+    put_one (form_of c.args.layout) g.H.Hashes.of ts c.loop-child.child-index c.args.page
+    (c.len.result / c.args.layout.size) c.args.pages.now.items c.loop-child.pages.items
     c.put_tree.new.pages.items c.loop-child.links.items c.push.new.self.items c.child-item.result
     c.in_ok-link-in-Inner.link
     c.loop-child-test.true c.child-item.is next c.loop-child.invariant c.in_ok-link-in-Inner.ensures
@@ -84,7 +96,8 @@ loop-child-preserved g t c =
 pub index-requires : goal.index-requires
 index-requires g t c =
     let ts = c.as_slice-child-items.result.now in
-    let all = put_whole g.H.Hashes.of c.args.tree.now ts c.loop-child.child-index c.args.page c.args.pages.now.items
+    let all = put_whole (form_of c.args.layout) g.H.Hashes.of c.args.tree.now ts c.loop-child.child-index c.args.page
+    c.args.pages.now.items
     c.loop-child.pages.items
     c.loop-child.links.items (c.in-Inner.is ∙ ap tree.Inner (sym c.as_slice-child-items.ensures)) c.requires.can
     c.loop-child.invariant
@@ -94,7 +107,8 @@ index-requires g t c =
 pub overflow_add-index : goal.overflow_add-index
 overflow_add-index g t c =
     let ts = c.as_slice-child-items.result.now in
-    let all = put_whole g.H.Hashes.of c.args.tree.now ts c.loop-child.child-index c.args.page c.args.pages.now.items
+    let all = put_whole (form_of c.args.layout) g.H.Hashes.of c.args.tree.now ts c.loop-child.child-index c.args.page
+    c.args.pages.now.items
     c.loop-child.pages.items
     c.loop-child.links.items (c.in-Inner.is ∙ ap tree.Inner (sym c.as_slice-child-items.ensures)) c.requires.can
     c.loop-child.invariant
@@ -106,7 +120,8 @@ overflow_add-index g t c =
 pub set_inner-requires-clause-level : goal.set_inner-requires-clause-level
 set_inner-requires-clause-level g t c =
     let ts = c.as_slice-child-items.result.now in
-    let all = put_whole g.H.Hashes.of c.args.tree.now ts c.loop-child.child-index c.args.page c.args.pages.now.items
+    let all = put_whole (form_of c.args.layout) g.H.Hashes.of c.args.tree.now ts c.loop-child.child-index c.args.page
+    c.args.pages.now.items
     c.loop-child.pages.items
     c.loop-child.links.items (c.in-Inner.is ∙ ap tree.Inner (sym c.as_slice-child-items.ensures)) c.requires.can
     c.loop-child.invariant
@@ -118,7 +133,8 @@ set_inner-requires-clause-level g t c =
 pub set_inner-requires-clause-some : goal.set_inner-requires-clause-some
 set_inner-requires-clause-some g t c =
     let ts = c.as_slice-child-items.result.now in
-    let all = put_whole g.H.Hashes.of c.args.tree.now ts c.loop-child.child-index c.args.page c.args.pages.now.items
+    let all = put_whole (form_of c.args.layout) g.H.Hashes.of c.args.tree.now ts c.loop-child.child-index c.args.page
+    c.args.pages.now.items
     c.loop-child.pages.items
     c.loop-child.links.items (c.in-Inner.is ∙ ap tree.Inner (sym c.as_slice-child-items.ensures)) c.requires.can
     c.loop-child.invariant
@@ -128,7 +144,8 @@ set_inner-requires-clause-some g t c =
 pub set_inner-requires-clause-few : goal.set_inner-requires-clause-few
 set_inner-requires-clause-few g t c =
     let ts = c.as_slice-child-items.result.now in
-    let all = put_whole g.H.Hashes.of c.args.tree.now ts c.loop-child.child-index c.args.page c.args.pages.now.items
+    let all = put_whole (form_of c.args.layout) g.H.Hashes.of c.args.tree.now ts c.loop-child.child-index c.args.page
+    c.args.pages.now.items
     c.loop-child.pages.items
     c.loop-child.links.items (c.in-Inner.is ∙ ap tree.Inner (sym c.as_slice-child-items.ensures)) c.requires.can
     c.loop-child.invariant
@@ -138,7 +155,8 @@ set_inner-requires-clause-few g t c =
 pub set_inner-requires-clause-below : goal.set_inner-requires-clause-below
 set_inner-requires-clause-below g t c =
     let ts = c.as_slice-child-items.result.now in
-    let all = put_whole g.H.Hashes.of c.args.tree.now ts c.loop-child.child-index c.args.page c.args.pages.now.items
+    let all = put_whole (form_of c.args.layout) g.H.Hashes.of c.args.tree.now ts c.loop-child.child-index c.args.page
+    c.args.pages.now.items
     c.loop-child.pages.items
     c.loop-child.links.items (c.in-Inner.is ∙ ap tree.Inner (sym c.as_slice-child-items.ensures)) c.requires.can
     c.loop-child.invariant
@@ -147,21 +165,35 @@ set_inner-requires-clause-below g t c =
     (omega (arith, all.count, all.few.0)) c.index.ensures in
     below_first c.loop-child.links.items c.deref.result.now ts all c.index.result.now c.deref.ensures.value first'
 
-pub put_page-requires-clause-some : goal.put_page-requires-clause-some
-put_page-requires-clause-some g t c =
+pub put_page-requires-in-Inner-clause-some : goal.put_page-requires-in-Inner-clause-some
+put_page-requires-in-Inner-clause-some g t c =
     let ts = c.as_slice-child-items.result.now in
-    let all = put_whole g.H.Hashes.of c.args.tree.now ts c.loop-child.child-index c.args.page c.args.pages.now.items
+    let all = put_whole (form_of c.args.layout) g.H.Hashes.of c.args.tree.now ts c.loop-child.child-index c.args.page
+    c.args.pages.now.items
     c.loop-child.pages.items
     c.loop-child.links.items (c.in-Inner.is ∙ ap tree.Inner (sym c.as_slice-child-items.ensures)) c.requires.can
     c.loop-child.invariant
     (omega (arith, c.loop-child-test.false, c.loop-child.auto.child-index-end)) in
     subst (λ n. 1 ≤ size n) (sym c.set_inner.ensures) (omega
     (arith, all.count, all.few.0, ap length c.deref.ensures.value))
+
+pub put_page-requires-in-Inner-clause-room : goal.put_page-requires-in-Inner-clause-room
+put_page-requires-in-Inner-clause-room g t c =
+    let ts = c.as_slice-child-items.result.now in
+    omega (
+      arith,
+      c.len-at.ensures,
+      c.args.pages.now.ok,
+      room_for (form_of c.args.layout) g.H.Hashes.of ts c.loop-child.child-index c.args.page c.args.pages.now.items
+          c.loop-child.pages.items c.loop-child.links.items c.loop-child.invariant,
+      ap length c.as_mut_slice-in-Inner.ensures.value,
+    )
 
 pub child_on-requires-in-Inner : goal.child_on-requires-in-Inner
 child_on-requires-in-Inner g t c =
     let ts = c.as_slice-child-items.result.now in
-    let all = put_whole g.H.Hashes.of c.args.tree.now ts c.loop-child.child-index c.args.page c.args.pages.now.items
+    let all = put_whole (form_of c.args.layout) g.H.Hashes.of c.args.tree.now ts c.loop-child.child-index c.args.page
+    c.args.pages.now.items
     c.loop-child.pages.items
     c.loop-child.links.items (c.in-Inner.is ∙ ap tree.Inner (sym c.as_slice-child-items.ensures)) c.requires.can
     c.loop-child.invariant
@@ -169,18 +201,41 @@ child_on-requires-in-Inner g t c =
     subst (λ n. 1 ≤ size n) (sym c.set_inner.ensures) (omega
     (arith, all.count, all.few.0, ap length c.deref.ensures.value))
 
+pub loop-child-init : goal.loop-child-init
+loop-child-init g t c =
+    put_none (form_of c.args.layout) g.H.Hashes.of c.as_slice-child-items.result.now c.args.page
+    c.args.pages.now.items c.add_page.new.pages.items c.new-links.result.items c.requires.at
+    c.in_ok-add_page.ensures.page c.new-links.ensures.items
+
+pub returns-in-Leaf : goal.returns-in-Leaf
+returns-in-Leaf g t c =
+    let here : length c.args.pages.now.items ≡ c.len-at.result = omega (arith, c.len-at.ensures, c.args.pages.now.ok) in
+    let kept : length c.put_page.new.pages ≡ length c.as_mut_slice.result.now = c.put_page.auto.pages in
+    let whole : length c.put_page.new.pages ≡ c.add_page.new.pages.len =
+    omega (arith, kept, ap length c.as_mut_slice.ensures.value, c.add_page.new.pages.ok) in
+    subst (λ bytes. IsPut (form_of c.args.layout) g.H.Hashes.of c.args.tree.now c.args.page c.args.pages.now.items bytes
+    c.child_on.result)
+    (sym (written_whole c.add_page.new.pages.len c.put_page.new.pages c.add_page.new.pages.items whole))
+    (leaf_put_at (form_of c.args.layout) g.H.Hashes.of c.args.tree.now c.in-Leaf.records c.args.page
+    c.args.pages.now.items c.add_page.new.pages.items c.put_page.new.pages c.len-at.result c.child_on.result
+    c.in-Leaf.is here c.in_ok-add_page.ensures.page (c.set_leaf.ensures ∙ ap node.Leaf c.as_slice.ensures)
+    c.as_mut_slice.ensures.value c.put_page.ensures kept c.child_on.ensures)
+
 pub returns-after-loop-child : goal.returns-after-loop-child
 returns-after-loop-child g t c =
     let ts = c.as_slice-child-items.result.now in
-    let kept : length c.put_page.new.pages ≡ length c.as_mut_slice.result.now = c.put_page.auto.pages in
-    let whole : length c.put_page.new.pages ≡ c.loop-child.pages.len =
-    omega (arith, kept, ap length c.as_mut_slice.ensures.value, c.loop-child.pages.ok) in
-    subst (λ bytes. IsPut g.H.Hashes.of c.args.tree.now c.args.page c.args.pages.now.items bytes
+    let here : length c.args.pages.now.items ≡ c.len-at.result = omega (arith, c.len-at.ensures, c.args.pages.now.ok) in
+    let kept : length c.put_page-in-Inner.new.pages ≡ length c.as_mut_slice-in-Inner.result.now =
+    c.put_page-in-Inner.auto.pages in
+    let whole : length c.put_page-in-Inner.new.pages ≡ c.loop-child.pages.len =
+    omega (arith, kept, ap length c.as_mut_slice-in-Inner.ensures.value, c.loop-child.pages.ok) in
+    subst (λ bytes. IsPut (form_of c.args.layout) g.H.Hashes.of c.args.tree.now c.args.page c.args.pages.now.items bytes
     c.child_on-in-Inner.result)
-    (sym (written_whole c.loop-child.pages.len c.put_page.new.pages c.loop-child.pages.items whole))
-    (inner_put g.H.Hashes.of c.args.tree.now ts c.loop-child.child-index c.args.page c.args.pages.now.items
-    c.loop-child.pages.items
-    c.put_page.new.pages c.loop-child.links.items c.deref.result.now c.child_on-in-Inner.result
+    (sym (written_whole c.loop-child.pages.len c.put_page-in-Inner.new.pages c.loop-child.pages.items whole))
+    (inner_put (form_of c.args.layout) g.H.Hashes.of c.args.tree.now ts c.loop-child.child-index c.args.page
+    c.args.pages.now.items c.loop-child.pages.items c.put_page-in-Inner.new.pages c.len-at.result
+    c.loop-child.links.items c.deref.result.now c.child_on-in-Inner.result
     (c.in-Inner.is ∙ ap tree.Inner (sym c.as_slice-child-items.ensures)) c.requires.can c.loop-child.invariant
-    (omega (arith, c.loop-child-test.false, c.loop-child.auto.child-index-end)) c.requires.at c.deref.ensures.value
-    c.set_inner.ensures c.as_mut_slice.ensures.value c.put_page.ensures kept c.child_on-in-Inner.ensures)
+    (omega (arith, c.loop-child-test.false, c.loop-child.auto.child-index-end)) c.requires.at here
+    c.deref.ensures.value c.set_inner.ensures c.as_mut_slice-in-Inner.ensures.value c.put_page-in-Inner.ensures kept
+    c.child_on-in-Inner.ensures)

@@ -1,5 +1,6 @@
 use Rattle.mr_tree.specs.Tree.{level}
 use Rattle.mr_pages.proofs.Put.{PutSoFar}
+use Rattle.mr_pages.specs.PageBytes.{form_of}
 use Rattle.mr_pages.proofs.putting.+put_tree.Given as goal
 
 abbrev pub decreases-put_tree : goal.decreases-put_tree
@@ -8,4 +9,5 @@ decreases-put_tree g l = level l.tree.now
 -- the children so far were put
 abbrev pub invariant-loop-child : goal.invariant-loop-child
 invariant-loop-child g l =
-    PutSoFar g.H.Hashes.of l.child-items l.child-index l.page l.fn.pages.items l.pages.items l.links.items
+    PutSoFar (form_of l.layout) g.H.Hashes.of l.child-items l.child-index l.page l.fn.pages.items l.pages.items
+    l.links.items

@@ -5,17 +5,16 @@ use Rattle.mr_pages.proofs.Filled.{IsFront}
 use Rattle.mr_pages.proofs.reading.read_whole.Given as goal
 
 -- the shelf's files are as before, and what was read so far is the front of the named one
-pub record ReadsOn (before now : Shelved) (name : List ℕ) (size at : ℕ) (so_far : List ℕ) : Type 0 where
+pub record ReadsOn (before now : Shelved) (name : List ℕ) (size : ℕ) (so_far : List ℕ) : Type 0 where
   pub files : now.files ≡ before.files
-  pub front : OfFile before.files name ⊥ (IsFront size at so_far)
+  pub front : OfFile before.files name ⊥ (IsFront size so_far)
   pub faults : now.faults ≡ before.faults
   pub reads : before.reads ≤ now.reads
-  pub long : length so_far ≡ size
-  pub within : at ≤ size
+  pub within : length so_far ≤ size
 
-abbrev pub invariant-loop-at : goal.invariant-loop-at
-invariant-loop-at g l =
-    ReadsOn (g.S.Shelf.state l.initial.shelf) (g.S.Shelf.state l.shelf) l.name l.size l.at l.bytes.items
+abbrev pub invariant-loop-bytes : goal.invariant-loop-bytes
+invariant-loop-bytes g l =
+    ReadsOn (g.S.Shelf.state l.initial.shelf) (g.S.Shelf.state l.shelf) l.name l.size l.bytes.items
 
-abbrev pub decreases-loop-at : goal.decreases-loop-at
-decreases-loop-at g l = l.size - l.at
+abbrev pub decreases-loop-bytes : goal.decreases-loop-bytes
+decreases-loop-bytes g l = l.size - length l.bytes.items

@@ -43,7 +43,7 @@ write_at-requires g c =
     (c.in_ok-sync.ensures.files
     ∙ appended c.args.name.now c.args.pages.now c.args.head.now _ _ c.in_ok-create.ensures.made _
     c.in_ok-append.ensures.writes.whole)
-    (omega (arith, c.requires, c.told-head))
+    (omega (arith, c.requires))
 
 pub returns-in_err-write_at-clause-left : goal.returns-in_err-write_at-clause-left
 returns-in_err-write_at-clause-left g c =

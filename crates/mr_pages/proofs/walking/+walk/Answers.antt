@@ -1,5 +1,7 @@
 use Rattle.std.proofs.Common.{rules, arith, ◌≡◌, ◌-◌, ◌<◌, length, ap, sym, subst, take, ◌∙◌}
 use Rattle.std.specs.Prelude.{Some, map}
+use Rattle.mr_tree.specs.Digest.{by}
+use Rattle.mr_record.specs.declared.version.Version.TheVariants.{One}
 use Rattle.std.specs.List.{AllByRecursion}
 use Rattle.mr_pages.specs.Page.{Link}
 use Rattle.std.proofs.Math.Seq.{take-length}
@@ -10,14 +12,14 @@ use Rattle.mr_pages.proofs.walking.+walk.Goals as goal
 
 pub returns-in-Some : goal.returns-in-Some
 returns-in-Some g t c = λ before saw.
-    refused_at_entry g.H.Hashes.of (g.P.Pages.file c.args.pages.now).pages
+    refused_at_entry (by One g.H.Hashes.of) (g.P.Pages.file c.args.pages.now).pages
     (g.P.Pages.file c.args.pages.now).node before c.args.root (child_link c.args.child.now) _
     (c.in-Some.ensures _ _ _ saw)
 
 pub returns-in_err-records : goal.returns-in_err-records
 returns-in_err-records g t c = λ before saw.
     let p = err_from_is_err_and c.from_residual.result c.from_residual.ensures.1 in
-    rw (p.1, p.2) (look_refuses g.H.Hashes.of (g.P.Pages.file c.args.pages.now).pages
+    rw (p.1, p.2) (look_refuses (by One g.H.Hashes.of) (g.P.Pages.file c.args.pages.now).pages
     (g.P.Pages.file c.args.pages.now).node before c.args.root
     (child_link c.args.child.now) c.in_err-records.field-0.0 c.enter.new.self
     (c.in_default.ensures _ _ _ saw).0 c.in_err-records.ensures)
@@ -25,7 +27,7 @@ returns-in_err-records g t c = λ before saw.
 pub returns-then-branch : goal.returns-then-branch
 returns-then-branch g t c = λ before saw.
     let entered = c.in_default.ensures _ _ _ saw in
-    number_refused g.H.Hashes.of (g.P.Pages.file c.args.pages.now).pages
+    number_refused (by One g.H.Hashes.of) (g.P.Pages.file c.args.pages.now).pages
     (g.P.Pages.file c.args.pages.now).node before c.args.root
     (child_link c.args.child.now) c.in-Leaf.records.items c.deref.result.now c.in_ok-meet-in-Leaf.field-0
     entered.0 c.in_ok-records.ensures.0 (c.in_ok-records.ensures.1 ∙ ap (λ n. Some (page_node (owned n))) c.in-Leaf.is)
@@ -35,7 +37,7 @@ returns-then-branch g t c = λ before saw.
 pub returns-else-branch : goal.returns-else-branch
 returns-else-branch g t c = λ before saw.
     let entered = c.in_default.ensures _ _ _ saw in
-    leaf_passes g.H.Hashes.of (g.P.Pages.file c.args.pages.now).pages
+    leaf_passes (by One g.H.Hashes.of) (g.P.Pages.file c.args.pages.now).pages
     (g.P.Pages.file c.args.pages.now).node before c.args.root
     (child_link c.args.child.now) c.in-Leaf.records.items c.deref.result.now c.of.result
     c.in_ok-meet-in-Leaf.field-0 c.meet.new.self
@@ -47,7 +49,7 @@ pub loop-one-init : goal.loop-one-init
 loop-one-init g t c = λ before saw.
     let entered = c.in_default.ensures _ _ _ saw in
     record {
-      passed = inner_starts g.H.Hashes.of (g.P.Pages.file c.args.pages.now).pages
+      passed = inner_starts (by One g.H.Hashes.of) (g.P.Pages.file c.args.pages.now).pages
           (g.P.Pages.file c.args.pages.now).node before c.args.root (child_link c.args.child.now)
           (map child_link c.in-Inner.children.items) c.enter.new.self
           entered.0 entered.1 c.in_ok-records.ensures.0
@@ -77,7 +79,7 @@ returns-in_err-tree-in-Inner g t c = λ before saw.
     (child_link c.args.child.now) (map child_link c.in-Inner.children.items)
     (c.in_ok-records.ensures.1 ∙ ap (λ n. Some (page_node (owned n))) c.in-Inner.is) in
     let before_it = c.loop-one.invariant before saw in
-    rw (p.1, p.2) (child_refuses g.H.Hashes.of (g.P.Pages.file c.args.pages.now).pages
+    rw (p.1, p.2) (child_refuses (by One g.H.Hashes.of) (g.P.Pages.file c.args.pages.now).pages
     (g.P.Pages.file c.args.pages.now).node before c.args.root
     (child_link c.args.child.now) c.in-Inner.children.items c.deref-one-items.result.now c.loop-one.trees.items
     c.loop-one.seen c.walk.new.seen
@@ -90,7 +92,7 @@ loop-one-preserved g t c = λ before saw.
     (child_link c.args.child.now) (map child_link c.in-Inner.children.items)
     (c.in_ok-records.ensures.1 ∙ ap (λ n. Some (page_node (owned n))) c.in-Inner.is) in
     let before_it = c.loop-one.invariant before saw in
-    child_passes g.H.Hashes.of (g.P.Pages.file c.args.pages.now).pages
+    child_passes (by One g.H.Hashes.of) (g.P.Pages.file c.args.pages.now).pages
     (g.P.Pages.file c.args.pages.now).node before c.args.root
     (child_link c.args.child.now) c.in-Inner.children.items c.deref-one-items.result.now c.loop-one.trees.items
     c.push.new.self.items c.in_ok-tree-in-Inner.tree c.loop-one.seen c.walk.new.seen
@@ -103,7 +105,7 @@ returns-after-loop-one g t c = λ before saw.
     (child_link c.args.child.now) (map child_link c.in-Inner.children.items)
     (c.in_ok-records.ensures.1 ∙ ap (λ n. Some (page_node (owned n))) c.in-Inner.is) in
     let end : c.loop-one.one-index ≡ length c.deref-one-items.result.now = omega arith in
-    inner_passes g.H.Hashes.of (g.P.Pages.file c.args.pages.now).pages
+    inner_passes (by One g.H.Hashes.of) (g.P.Pages.file c.args.pages.now).pages
     (g.P.Pages.file c.args.pages.now).node before c.args.root
     (child_link c.args.child.now) c.in-Inner.children.items c.deref-one-items.result.now c.loop-one.trees.items
     c.of-in-Inner.result c.loop-one.seen c.loop-one.one-index

@@ -1,4 +1,4 @@
-use Rattle.std.proofs.Common.{◌++◌, take, sym, ap, ◌∙◌}
+use Rattle.std.proofs.Common.{◌++◌, length, sym, ap, ◌∙◌, arith, length-append}
 use Rattle.std.specs.Prelude.{Option, option_map}
 use Rattle.mr_tree.specs.declared.child.Child.{Child}
 use Rattle.mr_pages.specs.PageBytes.{root_bytes}
@@ -8,11 +8,22 @@ use Rattle.mr_pages.proofs.page.head.put_root.Goals as goal
 pub returns-in-None-clause-bytes : goal.returns-in-None-clause-bytes
 unfolding root_bytes
 returns-in-None-clause-bytes c =
-    c.put.ensures.bytes ∙ ap (λ (o : Option Child). take c.args.at c.args.page.now ++ root_bytes
-    (option_map child_link o)) (sym c.in-None.is)
+    c.put.ensures ∙ ap (λ (o : Option Child). c.args.bytes.now ++ root_bytes (option_map child_link o))
+    (sym c.in-None.is)
 
 pub returns-in-Some-clause-bytes : goal.returns-in-Some-clause-bytes
 unfolding root_bytes
 returns-in-Some-clause-bytes c =
-    c.put_child.ensures.bytes ∙ ap (λ (o : Option Child). take c.args.at c.args.page.now ++ root_bytes
-    (option_map child_link o)) (sym c.in-Some.is)
+    c.put-in-Some.ensures
+    ∙ ap (λ bs. c.args.bytes.now ++ bs) (c.as_slice.ensures.bytes ∙ c.encoded_link.ensures.bytes)
+    ∙ ap (λ (o : Option Child). c.args.bytes.now ++ root_bytes (option_map child_link o)) (sym c.in-Some.is)
+
+pub returns-in-Some-clause-size : goal.returns-in-Some-clause-size
+returns-in-Some-clause-size c =
+    omega (
+      arith,
+      ap length c.put-in-Some.ensures,
+      length-append c.args.bytes.now c.as_slice.result.now,
+      ap length c.as_slice.ensures.bytes,
+      c.encoded_link.ensures.size,
+    )

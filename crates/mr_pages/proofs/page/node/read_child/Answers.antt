@@ -3,7 +3,7 @@ use Rattle.std.specs.Prelude.{option_map, slice_range}
 use Rattle.std.specs.Int.{w32, from_be_bytes}
 use Rattle.mr_geom.specs.Rectangle.{Rectangle}
 use Rattle.mr_pages.specs.Page.{Link}
-use Rattle.mr_pages.specs.PageBytes.{link_in}
+use Rattle.mr_pages.specs.PageBytes.{link_size, link_in}
 use Rattle.mr_pages.proofs.page.node.read_child.Goals as goal
 
 pub returns-in-None : goal.returns-in-None
@@ -12,7 +12,7 @@ returns-in-None c =
     ap (option_map (λ (r : Rectangle). let x : Link = record {
       page = from_be_bytes w32 (take 4 c.args.raw.now);
       entry =
-          record { level = c.args.level; rect = Some r; digest = slice_range c.args.raw.now 20 52 };
+          record { level = c.args.level; rect = Some r; digest = slice_range c.args.raw.now 20 link_size };
     } in x))
     c.in-None.ensures.exact
 
@@ -28,6 +28,6 @@ returns-in-Some c =
     record {
       page = from_be_bytes w32 (take 4 c.args.raw.now);
       entry =
-          record { level = c.args.level; rect = Some r; digest = slice_range c.args.raw.now 20 52 };
+          record { level = c.args.level; rect = Some r; digest = slice_range c.args.raw.now 20 link_size };
     } in x))
     c.in-Some.ensures.exact

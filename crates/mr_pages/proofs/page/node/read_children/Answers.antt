@@ -4,11 +4,12 @@ use Rattle.mr_pages.specs.Walking.{child_link}
 use Rattle.mr_pages.proofs.ManyReads.{many_stops, mapped_more, link_short, link_there}
 use Rattle.mr_pages.proofs.page.node.read_children.Goals as goal
 
-pub returns-then-rest-lt52 : goal.returns-then-rest-lt52
-returns-then-rest-lt52 c =
+pub returns-then-rest-lt-LINK_SIZE : goal.returns-then-rest-lt-LINK_SIZE
+returns-then-rest-lt-LINK_SIZE c =
     many_stops (link_field c.args.level) c.loop-place.place-index
     (length c.args.places.now) c.args.bytes.now _ c.loop-place.rest.now
-    c.loop-place.invariant (link_short c.args.level c.loop-place.rest.now c.if-rest-lt52.true) c.loop-place-test.true
+    c.loop-place.invariant
+    (link_short c.args.level c.loop-place.rest.now c.if-rest-lt-LINK_SIZE.true) c.loop-place-test.true
 
 pub returns-in-None : goal.returns-in-None
 returns-in-None c =
@@ -16,7 +17,7 @@ returns-in-None c =
     (length c.args.places.now) c.args.bytes.now _ c.loop-place.rest.now
     c.loop-place.invariant
     (link_there c.args.level c.loop-place.rest.now c.split_at.result.0.now c.split_at.result.1.now None
-    c.if-rest-lt52.false c.split_at.ensures.front c.split_at.ensures.back c.in-None.ensures)
+    c.if-rest-lt-LINK_SIZE.false c.split_at.ensures.front c.split_at.ensures.back c.in-None.ensures)
     c.loop-place-test.true
 
 pub loop-place-preserved : goal.loop-place-preserved
@@ -25,5 +26,5 @@ loop-place-preserved c =
     c.loop-place.rest.now c.in-Some.child c.split_at.result.1.now
     (omega arith) c.loop-place.invariant
     (link_there c.args.level c.loop-place.rest.now c.split_at.result.0.now c.split_at.result.1.now
-    (Some (child_link c.in-Some.child)) c.if-rest-lt52.false c.split_at.ensures.front c.split_at.ensures.back
+    (Some (child_link c.in-Some.child)) c.if-rest-lt-LINK_SIZE.false c.split_at.ensures.front c.split_at.ensures.back
     c.in-Some.ensures)

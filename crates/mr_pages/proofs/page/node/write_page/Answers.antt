@@ -1,5 +1,0 @@
-use Rattle.mr_pages.proofs.ViewPages.{view_fits}
-use Rattle.mr_pages.proofs.page.node.write_page.Goals as goal
-
-pub returns-clause-node : goal.returns-clause-node
-returns-clause-node c = view_fits c.args.node.now c.is_view.ensures c.requires
