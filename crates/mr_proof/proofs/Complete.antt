@@ -1,18 +1,18 @@
 -- The honest proof is accepted, with the answer of a scan of the tree.
-use Rattle.std.proofs.Common.{◌≡◌, ℕ, ◌+◌, ◌-◌, ◌<◌, ◌≤◌, ◌^◌, Bool, true, false, eqb, List, [], ◌∷◌, ◌++◌, map, length, Option, Some, None, Ok, refl, sym, ap, subst, ◌∙◌, inl, inr, arith}
+use Rattle.std.proofs.Common.{◌≡◌, ℕ, ◌+◌, ◌-◌, ◌<◌, ◌≤◌, ◌^◌, Bool, true, false, eqb, List, [], ◌∷◌, ◌++◌, map, length, Option, Some, None, refl, sym, ap, subst, ◌∙◌, inl, inr, arith}
 use Rattle.std.specs.Prelude.{IfSome}
 use Rattle.std.specs.List.{AllByRecursion}
-use Rattle.std.specs.Int.{w64, w128, to_be_bytes}
+use Rattle.std.specs.Int.{w64, to_be_bytes}
 use Rattle.std.proofs.lemmas.List.{length-append}
-use Rattle.std.proofs.lemmas.Bool.{cases_Bool, eq-eqb, ne_eqb}
+use Rattle.std.proofs.lemmas.Bool.{cases_Bool}
 use Rattle.std.proofs.lemmas.List.Elements.{All-from_recursion, recursion_from_All}
-use Rattle.mr_geom.specs.Rectangle.{Rectangle}
-use Rattle.mr_record.specs.Bytes.{AreBytes}
 use Rattle.mr_record.specs.Record.{IsRecord}
 use Rattle.mr_record.specs.declared.record.Record.{Record}
 use Rattle.mr_tree.specs.Tree.{level, records}
-use Rattle.mr_tree.specs.Tree as trees
-use Rattle.mr_tree.specs.Digest.{Entry, entry_step, digest, root, root_preimage}
+use Rattle.mr_tree.specs.Digest.{Scheme, entry_step, digest, root, root_preimage}
+use Rattle.mr_tree.specs.declared.entry.Entry.{Entry}
+use Rattle.mr_record.specs.declared.version.Version.{Version}
+use Rattle.mr_record.specs.declared.version.Version.TheVariants.{One}
 use Rattle.mr_tree.specs.Digest as digests
 use Rattle.mr_tree.specs.Slim.{IsSlim, IsSlimNode}
 use Rattle.mr_tree.specs.WellFormed.{WellFormed, HasOneLevel}
@@ -31,20 +31,20 @@ use Rattle.mr_proof.specs.declared.head.Kind.TheVariants as kind
 use Rattle.mr_proof.specs.declared.shown.Shown.{Shown}
 use Rattle.mr_proof.specs.Cut as cut
 use Rattle.mr_proof.specs.Cut.{Cut, Cuts, Pruned, Leaf, Inner, no_more, first, count_of, entry, entries, CutOf, CutsOf}
-use Rattle.mr_proof.specs.Spelling.{FitsCut, FitCuts, FitsShown, FitsLeaf, FitsInner, FitsHead, FitsPart, head_bytes, cut_bytes, part_bytes, radius_bytes, level_bytes, opened_records, IsSpelled}
+use Rattle.mr_proof.specs.Spelling.{version_of, FitsCut, FitCuts, FitsShown, FitsLeaf, FitsInner, FitsHead, FitsPart, head_bytes, cut_bytes, part_bytes, radius_bytes, level_bytes, opened_records, IsSpelled}
 use Rattle.mr_proof.specs.Tight.{Seen, Asks, asks, IsTight, IsTightCut}
-use Rattle.mr_proof.specs.Accepted.{root_found, Proves}
-use Rattle.mr_proof.specs.Honest.{Part, pruned_cut, part, region_of, honest_cut, honest_head, honest_part, proof}
-use Rattle.mr_proof.specs.Reading.{verdict}
+use Rattle.mr_proof.specs.Accepted.{root_bytes, root_found, Proves}
+use Rattle.mr_proof.specs.Honest.{region_of, honest_cut, honest_head, honest_part, proof}
 use Rattle.mr_proof.specs.Halves.{IsHonestProof, AcceptsHonest}
 use Rattle.mr_proof.proofs.Full.{IsFull, IsFullNode, there_tree, some_record, not_full_empty, empty_or_full}
-use Rattle.mr_proof.proofs.HonestCut.{meets, known_out, honest_cuts, honest_missed, honest_met, honest_good}
+use Rattle.mr_proof.proofs.HonestCut.{meets, known_out, honest_cuts, honest_missed, pruned_shown, honest_met, honest_good, some_part, no_part}
 use Rattle.mr_proof.proofs.KeptRecords.{kept}
 use Rattle.mr_proof.proofs.Laws.{askable, SameAsked, IsLocal, is_local, radius_fits}
 use Rattle.mr_proof.proofs.HonestSize.{cut_short}
 use Rattle.mr_proof.proofs.PreimageBytes.{IsSized, digest_are_bytes}
 use Rattle.mr_proof.proofs.Completeness.{verdict_from}
-use Rattle.mr_proof.proofs.Preimages.{entry-rect}
+use Rattle.mr_proof.proofs.Preimages.{entry-rect, root_by}
+use Rattle.mr_proof.proofs.Values.{word_long, wide_long}
 
 -- ---- what is known of a tree by a cut of it
 
@@ -61,77 +61,77 @@ below_levels v ts even e =
     recursion_from_All (λ t. level t ≡ v - 1) ts
     (λ k d within. let one = (here-Inner HasOneLevel ts even k d within).1 in let up = level-Inner ts in omega arith)
 
-leaf_entry : (hash : List ℕ → List ℕ) (rs : List Record) (t : Tree) → t ≡ tree.Leaf rs
-    → entry_step hash (node.Leaf rs) ≡ digests.entry hash t
-leaf_entry hash rs t c =
-    sym (ap (digests.entry hash) c ∙ known_out hash (tree.Leaf rs) (node.Leaf rs) (tree.outs-Leaf rs))
+leaf_entry : (s : Scheme) (rs : List Record) (t : Tree) → t ≡ tree.Leaf rs
+    → entry_step s (node.Leaf rs) ≡ digests.entry s t
+leaf_entry s rs t c =
+    sym (ap (digests.entry s) c ∙ known_out s (tree.Leaf rs) (node.Leaf rs) (tree.outs-Leaf rs))
 
-inner_entry : (hash : List ℕ → List ℕ) (ts : List Tree) (t : Tree) → t ≡ tree.Inner ts
-    → entry_step hash (node.Inner (map (digests.entry hash) ts)) ≡ digests.entry hash t
-inner_entry hash ts t c =
-    sym (ap (digests.entry hash) c ∙ known_out hash (tree.Inner ts) (node.Inner ts) (tree.outs-Inner ts))
+inner_entry : (s : Scheme) (ts : List Tree) (t : Tree) → t ≡ tree.Inner ts
+    → entry_step s (node.Inner (map (digests.entry s) ts)) ≡ digests.entry s t
+inner_entry s ts t c =
+    sym (ap (digests.entry s) c ∙ known_out s (tree.Inner ts) (node.Inner ts) (tree.outs-Inner ts))
 
 mutual
-  pub entry_cut : (hash : List ℕ → List ℕ) (v : ℕ) (P : Cut) (t : Tree) → CutOf hash P t → every-Tree HasOneLevel t
-      → level t ≡ v → entry hash v P ≡ digests.entry hash t
-  entry_cut hash v (Pruned x) t c even e = λ i. record {
-    level = (sym e ∙ sym (entry_level hash t)) i;
-    rect = (c.0 ∙ sym (entry_rect hash t)) i;
+  pub entry_cut : (s : Scheme) (v : ℕ) (P : Cut) (t : Tree) → CutOf s P t → every-Tree HasOneLevel t
+      → level t ≡ v → entry s v P ≡ digests.entry s t
+  entry_cut s v (Pruned x) t c even e = λ i. record {
+    level = (sym e ∙ sym (entry_level s t)) i;
+    rect = (c.0 ∙ sym (entry_rect s t)) i;
     digest = c.1 i;
   }
-  entry_cut hash v (Leaf rs) t c even e = leaf_entry hash rs t c
-  entry_cut hash v (Inner cuts) t c even e =
+  entry_cut s v (Leaf rs) t c even e = leaf_entry s rs t c
+  entry_cut s v (Inner cuts) t c even e =
       let evens = subst (every-Tree HasOneLevel) c.1 even in
-      ap (λ (es : List Entry). entry_step hash (node.Inner es)) (entry_cuts hash (v - 1) cuts c.0 c.2
+      ap (λ (es : List Entry). entry_step s (node.Inner es)) (entry_cuts s (v - 1) cuts c.0 c.2
       (every_child HasOneLevel c.0 evens) (below_levels v c.0 evens (ap level (sym c.1) ∙ e)))
-      ∙ inner_entry hash c.0 t c.1
+      ∙ inner_entry s c.0 t c.1
 
-  pub entry_cuts : (hash : List ℕ → List ℕ) (v : ℕ) (Ps : Cuts) (ts : List Tree) → CutsOf hash Ps ts → Even ts
-      → Levels v ts → entries hash v Ps ≡ map (digests.entry hash) ts
-  entry_cuts hash v no_more ts c even e = sym (ap (map (digests.entry hash)) c)
-  entry_cuts hash v (first P Ps) ts c even e =
+  pub entry_cuts : (s : Scheme) (v : ℕ) (Ps : Cuts) (ts : List Tree) → CutsOf s Ps ts → Even ts
+      → Levels v ts → entries s v Ps ≡ map (digests.entry s) ts
+  entry_cuts s v no_more ts c even e = sym (ap (map (digests.entry s)) c)
+  entry_cuts s v (first P Ps) ts c even e =
       let evens = subst Even c.2 even in
       let es = subst (Levels v) c.2 e in
-      (λ i. entry_cut hash v P c.0 c.3 evens.0 es.0 i ∷ entry_cuts hash v Ps c.1 c.4 evens.1 es.1 i)
-      ∙ sym (ap (map (digests.entry hash)) c.2)
+      (λ i. entry_cut s v P c.0 c.3 evens.0 es.0 i ∷ entry_cuts s v Ps c.1 c.4 evens.1 es.1 i)
+      ∙ sym (ap (map (digests.entry s)) c.2)
 
 -- ---- the honest cut has each value in its range
 
-missed_fits : (hash : List ℕ → List ℕ) (region : Seen → Bool) → IsSized hash → (v : ℕ) (t : Tree) → IsFull t
-    → IsSlim t → meets region t ≡ false → FitsCut v (honest_cut hash region t)
-missed_fits hash region h v t full slim f =
+missed_fits : (s : Scheme) (region : Seen → Bool) → IsSized s.of → (v : ℕ) (t : Tree) → IsFull t
+    → IsSlim t → meets region t ≡ false → FitsCut v (honest_cut s region t)
+missed_fits s region h v t full slim f =
     let p = there_tree t full in
-    let x : Shown = record { rect = p.at; digest = digest hash t } in
-    let is : honest_cut hash region t ≡ Pruned x =
-    honest_missed hash region t f ∙ ap (λ (o : Option Rectangle). pruned_cut o (digest hash t)) p.is in
+    let x : Shown = record { rect = p.at; digest = digest s t } in
+    let is : honest_cut s region t ≡ Pruned x =
+    honest_missed s region t f ∙ pruned_shown s t p.at p.is in
     let fine : FitsShown x = record {
       ordered = p.ordered;
       coordinates = p.fits;
-      digest = ap length (digest_of_preimage hash t) ∙ h.long (digests.preimage hash t);
-      bytes = digest_are_bytes hash h t full slim;
+      digest = ap length (digest_of_preimage s t) ∙ h.long (digests.preimage s t);
+      bytes = digest_are_bytes s h t full slim;
     } in
     subst (FitsCut v) (sym is) fine
 
-abbrev Fit : (List ℕ → List ℕ) → (Seen → Bool) → Tree → Type 0
-Fit hash region t = IsFull t → IsSlim t → every-Tree HasOneLevel t → (v : ℕ) → level t ≡ v
-    → FitsCut v (honest_cut hash region t)
+abbrev Fit : Scheme → (Seen → Bool) → Tree → Type 0
+Fit s region t = IsFull t → IsSlim t → every-Tree HasOneLevel t → (v : ℕ) → level t ≡ v
+    → FitsCut v (honest_cut s region t)
 
-count_cuts : (hash : List ℕ → List ℕ) (region : Seen → Bool) (ts : List Tree)
-    → count_of (honest_cuts hash region ts) ≡ length ts
-count_cuts hash region [] = refl
-count_cuts hash region (t ∷ ts) = let rest = count_cuts hash region ts in omega arith
+count_cuts : (s : Scheme) (region : Seen → Bool) (ts : List Tree)
+    → count_of (honest_cuts s region ts) ≡ length ts
+count_cuts s region [] = refl
+count_cuts s region (t ∷ ts) = let rest = count_cuts s region ts in omega arith
 
-all_fit : (hash : List ℕ → List ℕ) (region : Seen → Bool) (ts : List Tree) → AllByRecursion (Fit hash region) ts
+all_fit : (s : Scheme) (region : Seen → Bool) (ts : List Tree) → AllByRecursion (Fit s region) ts
     → AllByRecursion IsFull ts → AllByRecursion IsSlim ts → Even ts → (v : ℕ) → Levels v ts
-    → FitCuts v (honest_cuts hash region ts)
-all_fit hash region [] all full slim even v e = tt
-all_fit hash region (t ∷ ts) all full slim even v e =
-    (all.0 full.0 slim.0 even.0 v e.0, all_fit hash region ts all.1 full.1 slim.1 even.1 v e.1)
+    → FitCuts v (honest_cuts s region ts)
+all_fit s region [] all full slim even v e = tt
+all_fit s region (t ∷ ts) all full slim even v e =
+    (all.0 full.0 slim.0 even.0 v e.0, all_fit s region ts all.1 full.1 slim.1 even.1 v e.1)
 
-leaf_fits : (hash : List ℕ → List ℕ) (region : Seen → Bool) (rs : List Record) → IsFull (tree.Leaf rs)
+leaf_fits : (s : Scheme) (region : Seen → Bool) (rs : List Record) → IsFull (tree.Leaf rs)
     → IsSlim (tree.Leaf rs) → (v : ℕ) → level (tree.Leaf rs) ≡ v → meets region (tree.Leaf rs) ≡ true
-    → FitsCut v (honest_cut hash region (tree.Leaf rs))
-leaf_fits hash region rs full slim v e m =
+    → FitsCut v (honest_cut s region (tree.Leaf rs))
+leaf_fits s region rs full slim v e m =
     let own = here-Leaf IsFullNode rs full in
     let fine : FitsLeaf v rs = record {
       at_leaf = sym e ∙ level-Leaf rs;
@@ -139,49 +139,43 @@ leaf_fits hash region rs full slim v e m =
       few = here-Leaf IsSlimNode rs slim;
       each = All-from_recursion IsRecord rs own.1;
     } in
-    subst (FitsCut v) (sym (honest_met hash region (tree.Leaf rs) (node.Leaf rs) (tree.outs-Leaf rs) m)) fine
+    subst (FitsCut v) (sym (honest_met s region (tree.Leaf rs) (node.Leaf rs) (tree.outs-Leaf rs) m)) fine
 
-inner_fits : (hash : List ℕ → List ℕ) (region : Seen → Bool) (ts : List Tree) → AllByRecursion (Fit hash region) ts
+inner_fits : (s : Scheme) (region : Seen → Bool) (ts : List Tree) → AllByRecursion (Fit s region) ts
     → IsFull (tree.Inner ts) → IsSlim (tree.Inner ts) → every-Tree HasOneLevel (tree.Inner ts) → (v : ℕ)
     → level (tree.Inner ts) ≡ v → meets region (tree.Inner ts) ≡ true
-    → FitsCut v (honest_cut hash region (tree.Inner ts))
-inner_fits hash region ts all full slim even v e m =
+    → FitsCut v (honest_cut s region (tree.Inner ts))
+inner_fits s region ts all full slim even v e m =
     let some = here-Inner IsFullNode ts full in
     let few = (here-Inner IsSlimNode ts slim).0 in
-    let count = count_cuts hash region ts in
+    let count = count_cuts s region ts in
     let up = level-Inner ts in
-    let fine : FitsInner v (count_of (honest_cuts hash region ts)) =
+    let fine : FitsInner v (count_of (honest_cuts s region ts)) =
     record { above = omega arith; some = omega arith; few = omega arith } in
-    let below = all_fit hash region ts all (every_child IsFullNode ts full) (every_child IsSlimNode ts slim)
+    let below = all_fit s region ts all (every_child IsFullNode ts full) (every_child IsSlimNode ts slim)
     (every_child HasOneLevel ts even) (v - 1) (below_levels v ts even e) in
-    subst (FitsCut v) (sym (honest_met hash region (tree.Inner ts) (node.Inner ts) (tree.outs-Inner ts) m))
+    subst (FitsCut v) (sym (honest_met s region (tree.Inner ts) (node.Inner ts) (tree.outs-Inner ts) m))
     (fine, below)
 
-honest_fits : (hash : List ℕ → List ℕ) (region : Seen → Bool) → IsSized hash → (t : Tree) → Fit hash region t
-honest_fits hash region h = tree_induction (Fit hash region)
+honest_fits : (s : Scheme) (region : Seen → Bool) → IsSized s.of → (t : Tree) → Fit s region t
+honest_fits s region h = tree_induction (Fit s region)
     (λ full slim even v e. absurd (not_full_empty full))
     (λ rs full slim even v e. elim (cases_Bool (meets region (tree.Leaf rs))) [
-      | inl m ↦ leaf_fits hash region rs full slim v e m
-      | inr f ↦ missed_fits hash region h v (tree.Leaf rs) full slim f
+      | inl m ↦ leaf_fits s region rs full slim v e m
+      | inr f ↦ missed_fits s region h v (tree.Leaf rs) full slim f
     ])
     (λ ts all full slim even v e. elim (cases_Bool (meets region (tree.Inner ts))) [
-      | inl m ↦ inner_fits hash region ts all full slim even v e m
-      | inr f ↦ missed_fits hash region h v (tree.Inner ts) full slim f
+      | inl m ↦ inner_fits s region ts all full slim even v e m
+      | inr f ↦ missed_fits s region h v (tree.Inner ts) full slim f
     ])
 
 -- ---- the head
-
-word_long : (n : ℕ) → length (to_be_bytes w64 n) ≡ 8
-word_long n = refl
 
 level_short : (count v : ℕ) → length (level_bytes count v) ≤ 1
 level_short count v = elim (cases_Bool (eqb count 0)) [
   | inl t ↦ rw t (omega arith)
   | inr f ↦ rw f (omega arith)
 ]
-
-wide_long : (n : ℕ) → length (to_be_bytes w128 n) ≡ 16
-wide_long n = refl
 
 radius_short : (k : Kind) (r : Option ℕ) → length (radius_bytes k r) ≤ 17
 radius_short kind.W r = omega arith
@@ -203,49 +197,60 @@ head_short a t b =
       level_short (length (records t)) (level t),
     )
 
+-- ---- the root that the honest proof is for
+
+-- so far there is one version
+one_version : (v w : Version) → v ≡ w
+one_version One One = refl
+
+pub root_same : (s : Scheme) (a : Asks) (t : Tree) (b : ℕ) (P : Option Cut) → WellFormed t
+    → FitsPart (honest_head a t b) P → IfSome P (λ C. CutOf s C t)
+    → digests.root_bytes s t b ≡ root_bytes s.of (honest_head a t b) P
+root_same s a t b None well fit c =
+    let own = one_version s.version (version_of (honest_head a t b)) in
+    λ i. root_preimage (own i) b (fit i) (digests.entry s t)
+root_same s a t b (Some P) well fit c =
+    let own : entry s (level t) P ≡ digests.entry s t = entry_cut s (level t) P t c well.one_level refl in
+    (λ i. root_preimage s.version b (length (records t)) (record {
+      level = entry_level s t i;
+      rect = (sym (ap (λ (e : Entry). e.rect) own) ∙ entry-rect s (level t) P) i;
+      digest = (sym (ap (λ (e : Entry). e.digest) own)) i;
+    })) ∙ sym (root_by s (honest_head a t b) P (one_version (version_of (honest_head a t b)) s.version))
+
 -- ---- the honest proof
 
-some_part : (hash : List ℕ → List ℕ) (a : Asks) (t : Tree) → 1 ≤ length (records t)
-    → honest_part hash a t ≡ Some (honest_cut hash (region_of a t) t)
-some_part hash a t some = rw (ne_eqb (length (records t)) 0 (λ z. omega arith)) refl
-
-no_part : (hash : List ℕ → List ℕ) (a : Asks) (t : Tree) → length (records t) ≡ 0 → honest_part hash a t ≡ None
-no_part hash a t none = rw (eq-eqb (length (records t)) 0 none) refl
-
 -- what is shown of the honest proof, whose cut this is
-record IsOwn (hash : List ℕ → List ℕ) (t : Tree) (b : ℕ) (q : Query) (P : Option Cut) : Type 0 where
-  same : honest_part hash (asks q) t ≡ P
-  spelled : IsSpelled (honest_head (asks q) t b) P (proof hash t b q)
+record IsOwn (s : Scheme) (t : Tree) (b : ℕ) (q : Query) (P : Option Cut) : Type 0 where
+  same : honest_part s (asks q) t ≡ P
+  spelled : IsSpelled (honest_head (asks q) t b) P (proof s t b q)
   tight : IsTight (asks q) (honest_head (asks q) t b) P
-  cut : IfSome P (λ C. CutOf hash C t)
-  held : root_found hash (honest_head (asks q) t b) P ≡ root hash t b
+  cut : IfSome P (λ C. CutOf s C t)
+  held : root_found s.of (honest_head (asks q) t b) P ≡ root s t b
   scanned : scan (records t) q ≡ scan (opened_records P) q
-  short : length (proof hash t b q) < 2 ^ 30
+  short : length (proof s t b q) < 2 ^ 30
 
 -- the honest cut of a tree with records has the radius and the answer of all of them
-opened_same : (hash : List ℕ → List ℕ) (a : Asks) → IsLocal a → (t : Tree) (P : Cut) → IsFull t → CutOf hash P t
+opened_same : (s : Scheme) (a : Asks) → IsLocal a → (t : Tree) (P : Cut) → IsFull t → CutOf s P t
     → IsTightCut (region_of a t) P → SameAsked a (records t) (cut.records P)
-opened_same hash a law t P full c tight =
+opened_same s a law t P full c tight =
     law.same (records t) (cut.records P)
-    (sym (kept hash (region_of a t) (law.misses (a.radius (records t))) P t full c tight))
+    (sym (kept s (region_of a t) (law.misses (a.radius (records t))) P t full c tight))
 
-filled_own : (hash : List ℕ → List ℕ) → IsSized hash → (t : Tree) (b : ℕ) (q : Query) → IsQuery q → WellFormed t
-    → IsFull t → b < 2 ^ 64 → IsOwn hash t b q (Some (honest_cut hash (region_of (asks q) t) t))
-filled_own hash h t b q is well full low =
+filled_own : (s : Scheme) → IsSized s.of → (t : Tree) (b : ℕ) (q : Query) → IsQuery q → WellFormed t
+    → IsFull t → b < 2 ^ 64 → IsOwn s t b q (Some (honest_cut s (region_of (asks q) t) t))
+filled_own s h t b q is well full low =
     let region = region_of (asks q) t in
     let head = honest_head (asks q) t b in
-    let P = honest_cut hash region t in
-    let good = honest_good hash region t full in
+    let P = honest_cut s region t in
+    let good = honest_good s region t full in
     let some = some_record t full in
-    let same = some_part hash (asks q) t some in
-    let own : entry hash (level t) P ≡ digests.entry hash t =
-    entry_cut hash (level t) P t good.cut well.one_level refl in
+    let same = some_part s (asks q) t some in
     let few = well.few in
-    let fits = honest_fits hash region h t full (slim_tree t well) well.one_level (level t) refl in
+    let fits = honest_fits s region h t full (slim_tree t well) well.one_level (level t) refl in
     let whole = ap (λ (o : Option Cut). head_bytes head ++ part_bytes o) same in
     let front = head_short (asks q) t b in
-    let behind = cut_short hash (level t) P t full fits good.cut in
-    let size : length (proof hash t b q) ≡ length (head_bytes head) + length (cut_bytes P) =
+    let behind = cut_short s (level t) P t full fits good.cut in
+    let size : length (proof s t b q) ≡ length (head_bytes head) + length (cut_bytes P) =
     ap length whole ∙ length-append (head_bytes head) (cut_bytes P) in
     let shallow : FitsHead head = record {
       batch = low;
@@ -254,36 +259,28 @@ filled_own hash h t b q is well full low =
       level = well.shallow;
       empty = λ z. absurd (omega arith);
     } in
-    let all = opened_same hash (asks q) (is_local q (askable q is)) t P full good.cut good.tight in
+    let all = opened_same s (asks q) (is_local q (askable q is)) t P full good.cut good.tight in
     record {
       same = same;
       spelled = record { head = shallow; part = (some, fits); whole = whole; short = omega arith };
       tight = record { parts = good.tight; radius = all.radius };
       cut = good.cut;
-      held = ap hash (λ i. root_preimage b (length (records t)) (record {
-        level = level t;
-        rect = (sym (entry-rect hash (level t) P) ∙ ap (λ (e : Entry). e.rect) own) i;
-        digest = (own i).digest;
-      })) ∙ ap hash (λ i. root_preimage b (length (records t)) (record {
-        level = sym (entry_level hash t) i;
-        rect = (digests.entry hash t).rect;
-        digest = digest hash t;
-      }));
+      held = ap s.of (sym (root_same s (asks q) t b (Some P) well (some, fits) good.cut));
       scanned = all.answer;
       short = omega arith;
     }
 
-empty_own : (hash : List ℕ → List ℕ) (t : Tree) (b : ℕ) (q : Query) → IsQuery q → WellFormed t → t ≡ tree.Empty
-    → b < 2 ^ 64 → IsOwn hash t b q None
-empty_own hash t b q is well e low =
+empty_own : (s : Scheme) (t : Tree) (b : ℕ) (q : Query) → IsQuery q → WellFormed t → t ≡ tree.Empty
+    → b < 2 ^ 64 → IsOwn s t b q None
+empty_own s t b q is well e low =
     let head = honest_head (asks q) t b in
     let none : records t ≡ [] = ap records e ∙ records-Empty in
     let zero : length (records t) ≡ 0 = ap length none in
     let flat : level t ≡ 0 = ap level e ∙ level-Empty in
-    let same = no_part hash (asks q) t zero in
+    let same = no_part s (asks q) t zero in
     let whole = ap (λ (o : Option Cut). head_bytes head ++ part_bytes o) same in
     let front = head_short (asks q) t b in
-    let size : length (proof hash t b q) ≡ length (head_bytes head) + 0 =
+    let size : length (proof s t b q) ≡ length (head_bytes head) + 0 =
     ap length whole ∙ length-append (head_bytes head) [] in
     let fits : FitsHead head = record {
       batch = low;
@@ -297,23 +294,23 @@ empty_own hash t b q is well e low =
       spelled = record { head = fits; part = zero; whole = whole; short = omega arith };
       tight = record { parts = tt; radius = ap (asks q).radius none };
       cut = tt;
-      held = ap hash (sym (ap (λ (n : ℕ). root_preimage b n (digests.entry hash t)) zero));
+      held = ap s.of (sym (root_same s (asks q) t b None well zero tt));
       scanned = ap (λ (rs : List Record). scan rs q) none;
       short = omega arith;
     }
 
-own_part : (hash : List ℕ → List ℕ) → IsSized hash → (t : Tree) (b : ℕ) (q : Query) → IsQuery q → WellFormed t
-    → b < 2 ^ 64 → (P : Option Cut) × IsOwn hash t b q P
-own_part hash h t b q is well low = elim (empty_or_full t well) [
-  | inl e ↦ (None, empty_own hash t b q is well e low)
-  | inr full ↦ (Some (honest_cut hash (region_of (asks q) t) t), filled_own hash h t b q is well full low)
+own_part : (s : Scheme) → IsSized s.of → (t : Tree) (b : ℕ) (q : Query) → IsQuery q → WellFormed t
+    → b < 2 ^ 64 → (P : Option Cut) × IsOwn s t b q P
+own_part s h t b q is well low = elim (empty_or_full t well) [
+  | inl e ↦ (None, empty_own s t b q is well e low)
+  | inr full ↦ (Some (honest_cut s (region_of (asks q) t) t), filled_own s h t b q is well full low)
 ]
 
 -- the honest proof proves the answer of a scan
-honest_proves : (hash : List ℕ → List ℕ) → IsSized hash → (t : Tree) (b : ℕ) (q : Query) → IsQuery q → WellFormed t
-    → b < 2 ^ 64 → Proves hash (root hash t b) (asks q) (proof hash t b q) (scan (records t) q)
-honest_proves hash h t b q is well low =
-    let p = own_part hash h t b q is well low in
+honest_proves : (s : Scheme) → IsSized s.of → (t : Tree) (b : ℕ) (q : Query) → IsQuery q → WellFormed t
+    → b < 2 ^ 64 → Proves s.of (root s t b) (asks q) (proof s t b q) (scan (records t) q)
+honest_proves s h t b q is well low =
+    let p = own_part s h t b q is well low in
     record {
       head = honest_head (asks q) t b;
       part = p.0;
@@ -324,19 +321,19 @@ honest_proves hash h t b q is well low =
       scanned = p.1.scanned;
     }
 
-pub accepts_honest : (hash : List ℕ → List ℕ) → IsSized hash → (q : Query) → IsQuery q → AcceptsHonest hash q
-accepts_honest hash h q is = λ t b well low. verdict_from hash (root hash t b) q (proof hash t b q) (scan (records t) q)
-    (askable q is) (honest_proves hash h t b q is well low)
+pub accepts_honest : (s : Scheme) → IsSized s.of → (q : Query) → IsQuery q → AcceptsHonest s q
+accepts_honest s h q is = λ t b well low. verdict_from s.of (root s t b) q (proof s t b q) (scan (records t) q)
+    (askable q is) (honest_proves s h t b q is well low)
 
-pub honest_stands : (hash : List ℕ → List ℕ) → IsSized hash → (q : Query) → IsQuery q → (t : Tree) (b : ℕ)
-    → WellFormed t → b < 2 ^ 64 → IsHonestProof hash t b q
-honest_stands hash h q is t b well low =
-    let p = own_part hash h t b q is well low in
+pub honest_stands : (s : Scheme) → IsSized s.of → (q : Query) → IsQuery q → (t : Tree) (b : ℕ)
+    → WellFormed t → b < 2 ^ 64 → IsHonestProof s t b q
+honest_stands s h q is t b well low =
+    let p = own_part s h t b q is well low in
     let same = sym p.1.same in
     record {
-      spelled = subst (λ (o : Option Cut). IsSpelled (honest_head (asks q) t b) o (proof hash t b q)) same p.1.spelled;
+      spelled = subst (λ (o : Option Cut). IsSpelled (honest_head (asks q) t b) o (proof s t b q)) same p.1.spelled;
       tight = subst (λ (o : Option Cut). IsTight (asks q) (honest_head (asks q) t b) o) same p.1.tight;
-      cut = subst (λ (o : Option Cut). IfSome o (λ C. CutOf hash C t)) same p.1.cut;
-      held = subst (λ (o : Option Cut). root_found hash (honest_head (asks q) t b) o ≡ root hash t b) same p.1.held;
+      cut = subst (λ (o : Option Cut). IfSome o (λ C. CutOf s C t)) same p.1.cut;
+      held = subst (λ (o : Option Cut). root_found s.of (honest_head (asks q) t b) o ≡ root s t b) same p.1.held;
       short = p.1.short;
     }

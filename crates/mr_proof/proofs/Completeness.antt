@@ -1,15 +1,15 @@
 -- What is spelled is read again without a fault; where notes are heeded, if its cut is tight.
-use Rattle.std.proofs.Common.{◌≡◌, ◌⊎◌, ℕ, zero, suc, ◌+◌, ◌-◌, ◌<◌, ◌≤◌, ◌^◌, Bool, true, false, cond, eqb, ltb, List, [], ◌∷◌, ◌++◌, length, take, drop, Result, Ok, Option, Some, None, refl, sym, ap, subst, ◌∙◌, inl, inr, arith, append_assoc}
-use Rattle.std.specs.Prelude.{if◌then◌else◌, ◌==◌, nat_le, not, ◌&&◌, ◌||◌, IfSome}
+use Rattle.std.proofs.Common.{◌≡◌, ℕ, zero, suc, ◌+◌, ◌-◌, ◌<◌, ◌≤◌, ◌^◌, Bool, true, false, cond, eqb, ltb, List, [], ◌∷◌, ◌++◌, length, take, drop, Result, Ok, Option, Some, None, refl, sym, ap, subst, ◌∙◌, inl, inr, arith, append_assoc}
+use Rattle.std.specs.Prelude.{if◌then◌else◌, ◌==◌, not, IfSome}
 use Rattle.std.specs.List.{flat_map, AllByRecursion}
-use Rattle.std.specs.Int.{w64, w128, to_be_bytes, from_be_bytes}
-use Rattle.std.proofs.lemmas.Bool.{false≢true, eqb-true, le-ltb, le-leb, eq-eqb, ne_eqb, or_right}
+use Rattle.std.specs.Int.{w64, w128, to_be_bytes}
+use Rattle.std.proofs.lemmas.Bool.{false≢true, eqb-true, le-ltb, eq-eqb, ne_eqb}
 use Rattle.std.proofs.lemmas.List.{append-nil, length-append, take_at, drop_at}
-use Rattle.std.proofs.lemmas.Nat.{from_be_bytes-to_be_bytes_8}
 use Rattle.std.proofs.lemmas.List.Concat.{flat_map-cons}
 use Rattle.std.proofs.lemmas.List.Elements.{recursion_from_All}
-use Rattle.mr_geom.specs.Rectangle.{Rectangle, IsOrdered, FitsMap}
+use Rattle.mr_geom.specs.Rectangle.{Rectangle}
 use Rattle.mr_record.specs.Record.{IsRecord, record_bytes, rectangle_bytes}
+use Rattle.mr_record.specs.Version.{version_byte}
 use Rattle.mr_record.specs.declared.record.Record.{Record}
 use Rattle.mr_query.specs.Word.{IsAskable}
 use Rattle.mr_query.specs.declared.query.Query.{Query}
@@ -25,22 +25,19 @@ use Rattle.mr_proof.specs.declared.want.Want.TheVariants as want
 use Rattle.mr_proof.specs.declared.field.Field.{Field}
 use Rattle.mr_proof.specs.declared.field.Field.TheVariants as field
 use Rattle.mr_proof.specs.declared.shown.Shown.{Shown}
-use Rattle.mr_proof.specs.Limits.{count_limit, radius_limit, level_limit, leaf_limit, inner_limit, place_limit}
-use Rattle.mr_proof.specs.Fields.{size_of, field_of, only_if, magic, kind_byte, pruned_tag, leaf_tag, inner_tag, opened_tag, version}
-use Rattle.mr_geom.specs.Rectangle.{in_order}
+use Rattle.mr_proof.specs.Limits.{count_limit, level_limit, place_limit}
+use Rattle.mr_proof.specs.Fields.{size_of, field_of, magic, kind_byte, pruned_tag, leaf_tag, inner_tag, opened_tag, version}
 use Rattle.mr_proof.specs.Cut.{Cut, Cuts, Pruned, Leaf, Inner, no_more, first, count_of}
 use Rattle.mr_proof.specs.Spelling.{shown_bytes, cut_bytes, cuts_bytes, FitsShown, FitsLeaf, FitsInner, FitsCut, FitCuts, radius_bytes, level_bytes, head_bytes, FitsRadius, FitsHead, Said, said, opened_records, part_bytes, FitsPart, IsSpelled}
-use Rattle.mr_proof.specs.Tight.{Seen, seen_at, seen, met_by, asks, radius_of, IsTightCut, AreTightCuts}
+use Rattle.mr_proof.specs.Tight.{Seen, seen_at, seen, met_by, asks, IsTightCut, AreTightCuts}
 use Rattle.mr_proof.specs.Accepted.{root_found, Proves}
-use Rattle.mr_proof.specs.Grammar.{Note, must, opens, Grammar, done, reads, notes, number_in, wide_in, tag_in, rect_in, bytes_in, payload, one_record, some_records, opened, leaf, some_items, inner, pruned, item, radius, level, head, part, whole}
+use Rattle.mr_proof.specs.Grammar.{must, opens, Grammar, done, reads, notes, number_in, wide_in, tag_in, rect_in, bytes_in, payload, one_record, some_records, opened, leaf, some_items, inner, pruned, item, radius, level, head, part, whole}
 use Rattle.mr_proof.specs.Layout.{Stand, start, behind, field_at}
 use Rattle.mr_proof.specs.Refused.{has_other_radius}
-use Rattle.mr_proof.specs.Reading.{past, walk, ending, checked, verdict}
-use Rattle.mr_record.proofs.Encodings.{sides_again}
-use Rattle.mr_geom.proofs.Rectangles.{is_in_order}
+use Rattle.mr_proof.specs.Reading.{walk, ending, checked, verdict}
 use Rattle.mr_proof.proofs.Laws.{radius_stands}
-use Rattle.mr_proof.proofs.Values.{bytes_same}
-use Rattle.mr_proof.proofs.Wide.{wide_again}
+use Rattle.mr_proof.proofs.Values.{bytes_same, word_long, wide_long, rectangle_long, tail}
+use Rattle.mr_proof.proofs.FieldValues.{number_value, batch_value, count_value, level_value, length_value, leaf_count_value, inner_count_value, rect_value, payload_value, digest_value, tag_value, magic_value, version_value, kind_value, flag_value, radius_value}
 
 -- the text is read from the front, and what follows it is read behind it
 pub record Comes {A B : Type 0} (heeds : Bool) (e : A → Stand → Result B Fault) (g k : Grammar A) (s : Stand)
@@ -92,95 +89,6 @@ reads_again heeds e w m next s raw rest f long value parts within = record {
   same = rw (field_again w s raw rest f long value parts within) refl;
 }
 
--- ---- the fields of values
-
-number_value : (n : ℕ) → n < 2 ^ 64 → field_of want.Number (to_be_bytes w64 n) ≡ Ok (field.Num n)
-unfolding field_of
-number_value n lt = ap (λ (k : ℕ). Ok (field.Num k)) (from_be_bytes-to_be_bytes_8 n lt)
-
-batch_value : (n : ℕ) → n < 2 ^ 64 → field_of want.Batch (to_be_bytes w64 n) ≡ Ok (field.Num n)
-unfolding field_of
-batch_value n lt = ap (λ (k : ℕ). Ok (field.Num k)) (from_be_bytes-to_be_bytes_8 n lt)
-
-passes : (b : Bool) (v : Field) (d : Rule) → b ≡ true → only_if b v d ≡ Ok v
-passes true v d t = refl
-passes false v d t = absurd cc
-
-count_value : (n : ℕ) → n ≤ count_limit → field_of want.Count (to_be_bytes w64 n) ≡ Ok (field.Num n)
-unfolding field_of
-count_value n le =
-    let same : from_be_bytes w64 (to_be_bytes w64 n) ≡ n = from_be_bytes-to_be_bytes_8 n (omega arith) in
-    ap (λ (k : ℕ). only_if (nat_le k count_limit) (field.Num k) rule.BadCount) same
-    ∙ passes (nat_le n count_limit) (field.Num n) rule.BadCount (le-leb n count_limit le)
-
-level_value : (n : ℕ) → n ≤ level_limit → field_of want.Level (n ∷ []) ≡ Ok (field.Num n)
-unfolding field_of
-level_value n le = passes (nat_le n level_limit) (field.Num n) rule.BadLevel (le-leb n level_limit le)
-
-length_value : (n : ℕ) → n ≤ 200 → field_of want.Length (n ∷ []) ≡ Ok (field.Num n)
-unfolding field_of
-length_value n le = passes (nat_le n 200) (field.Num n) rule.BadLength (le-leb n 200 le)
-
-entries_value : (most n : ℕ) → 1 ≤ n → n ≤ most
-    → only_if (nat_le 1 n && nat_le n most) (field.Num n) rule.BadEntries ≡ Ok (field.Num n)
-entries_value most n low high =
-    passes (nat_le 1 n && nat_le n most) (field.Num n) rule.BadEntries (rw (le-leb 1 n low, le-leb n most high) refl)
-
-leaf_count_value : (n : ℕ) → 1 ≤ n → n ≤ leaf_limit → field_of want.LeafCount (n ∷ []) ≡ Ok (field.Num n)
-unfolding field_of
-leaf_count_value n low high = entries_value leaf_limit n low high
-
-inner_count_value : (n : ℕ) → 1 ≤ n → n ≤ inner_limit → field_of want.InnerCount (n ∷ []) ≡ Ok (field.Num n)
-unfolding field_of
-inner_count_value n low high = entries_value inner_limit n low high
-
-rect_value : (r : Rectangle) → IsOrdered r → FitsMap r → field_of want.Rect (rectangle_bytes r) ≡ Ok (field.Rect r)
-unfolding field_of
-rect_value r ordered coordinates =
-    ap (λ (k : Rectangle). only_if (in_order k) (field.Rect k) rule.BadRect) (sides_again r coordinates)
-    ∙ passes (in_order r) (field.Rect r) rule.BadRect (is_in_order r ordered)
-
-payload_value : (n : ℕ) (p : List ℕ) → field_of (want.Payload n) p ≡ Ok (field.Payload p)
-unfolding field_of
-payload_value n p = refl
-
-digest_value : (d : List ℕ) → field_of want.Digest d ≡ Ok (field.Digest d)
-unfolding field_of
-digest_value d = refl
-
-either_tag : (b c d : ℕ) → (b ≡ c) ⊎ (b ≡ d) → (b == c || b == d) ≡ true
-either_tag b c d (inl p) = rw (eq-eqb b c p) refl
-either_tag b c d (inr p) = or_right (b == c) (b == d) (eq-eqb b d p)
-
-tag_value : (v b : ℕ) → (b ≡ pruned_tag) ⊎ (b ≡ opened_tag v) → field_of (want.Tag v) (b ∷ []) ≡ Ok (field.Tag b)
-unfolding field_of
-tag_value v b is =
-    passes (b == pruned_tag || b == opened_tag v) (field.Tag b) rule.BadTag (either_tag b pruned_tag (opened_tag v) is)
-
-magic_value : field_of want.Magic magic ≡ Ok field.Plain
-unfolding field_of
-magic_value = refl
-
-version_value : field_of want.Version (version ∷ []) ≡ Ok field.Plain
-unfolding field_of
-version_value = refl
-
-kind_value : (k : Kind) → field_of (want.Kind k) (kind_byte k ∷ []) ≡ Ok field.Plain
-unfolding field_of
-kind_value kind.W = refl
-kind_value kind.K = refl
-
-flag_value : (n : ℕ) → n ≤ 1 → field_of want.Flag (n ∷ []) ≡ Ok (field.Num n)
-unfolding field_of
-flag_value n le = passes (nat_le n 1) (field.Num n) rule.BadFlag (le-leb n 1 le)
-
-radius_value : (n : ℕ) → n ≤ radius_limit → field_of want.Radius (to_be_bytes w128 n) ≡ Ok (field.Wide n)
-unfolding field_of
-radius_value n le =
-    let same : from_be_bytes w128 (to_be_bytes w128 n) ≡ n = wide_again n (omega arith) in
-    ap (λ (k : ℕ). only_if (nat_le k radius_limit) (field.Wide k) rule.BadRadius) same
-    ∙ passes (nat_le n radius_limit) (field.Wide n) rule.BadRadius (le-leb n radius_limit le)
-
 -- ---- records
 
 payload_again : {A B : Type 0} (heeds : Bool) (e : A → Stand → Result B Fault) (next : List ℕ → Grammar A) (s : Stand)
@@ -193,16 +101,6 @@ payload_again heeds e next s (b ∷ p) rest parts within =
     (reads (want.Payload (length (b ∷ p))) (λ f. next (bytes_in f)))) (next (b ∷ p)) s (b ∷ p) rest) (sym some)
     (reads_again heeds e (want.Payload (length (b ∷ p))) bytes_in next s (b ∷ p) rest (field.Payload (b ∷ p)) refl
     (payload_value (length (b ∷ p)) (b ∷ p)) parts within)
-
-word_long : (n : ℕ) → length (to_be_bytes w64 n) ≡ 8
-word_long n = refl
-
-wide_long : (n : ℕ) → length (to_be_bytes w128 n) ≡ 16
-wide_long n = refl
-
-rectangle_long : (r : Rectangle) → length (rectangle_bytes r) ≡ 16
-unfolding rectangle_bytes
-rectangle_long r = refl
 
 record_again : {A B : Type 0} (heeds : Bool) (e : A → Stand → Result B Fault) (next : Record → Grammar A) (s : Stand)
     (r : Record) (rest : List ℕ) → IsRecord r → s.rest ≡ record_bytes r ++ rest
@@ -273,9 +171,6 @@ records_again heeds e next s (r ∷ rs) rest fine parts within =
     (flat_map record_bytes rs) rest one others)
 
 -- ---- items
-
-abbrev tail : Cut → List ℕ
-tail P = drop 1 (cut_bytes P)
 
 note_again : {A B : Type 0} (heeds : Bool) (e : A → Stand → Result B Fault) (broken : Rule) (b : Bool) (g : Grammar A)
     (s : Stand) (rest : List ℕ) → (heeds ≡ true → b ≡ true) → s.rest ≡ rest
@@ -485,7 +380,7 @@ no_value f = tt
 
 -- what stands before the batch
 abbrev opening_bytes : Kind → List ℕ
-opening_bytes k = magic ++ version ∷ kind_byte k ∷ []
+opening_bytes k = magic ++ version_byte version ∷ kind_byte k ∷ []
 
 opening_again : {A B : Type 0} (heeds : Bool) (e : A → Stand → Result B Fault) (k : Kind) (g : Grammar A) (s : Stand)
     (rest : List ℕ) → s.rest ≡ opening_bytes k ++ rest → s.at + 6 ≤ place_limit
@@ -494,10 +389,10 @@ opening_again : {A B : Type 0} (heeds : Bool) (e : A → Stand → Result B Faul
 opening_again heeds e k g s rest parts within =
     let m = reads_again heeds e want.Magic no_value
     (λ _. reads want.Version (λ _. reads (want.Kind k) (λ _. g))) s magic
-    (version ∷ kind_byte k ∷ rest) field.Plain refl magic_value parts (omega arith) in
+    (version_byte version ∷ kind_byte k ∷ rest) field.Plain refl magic_value parts (omega arith) in
     let m1 = m.place in
-    let v = reads_again heeds e want.Version no_value (λ _. reads (want.Kind k) (λ _. g)) m.end (version ∷ [])
-    (kind_byte k ∷ rest) field.Plain refl version_value m.left (omega arith) in
+    let v = reads_again heeds e want.Version no_value (λ _. reads (want.Kind k) (λ _. g)) m.end
+    (version_byte version ∷ []) (kind_byte k ∷ rest) field.Plain refl version_value m.left (omega arith) in
     let v1 = v.place in
     let b = reads_again heeds e (want.Kind k) no_value (λ _. g) v.end (kind_byte k ∷ []) rest field.Plain refl
     (kind_value k) v.left (omega arith) in

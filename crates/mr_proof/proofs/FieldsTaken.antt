@@ -1,5 +1,5 @@
 -- Single fields of a proof, taken from the front of a byte string: what the bytes mean.
-use Rattle.std.proofs.Common.{◌≡◌, ◌⊎◌, ℕ, ◌+◌, ◌-◌, ◌<◌, ◌≤◌, ◌^◌, Bool, true, false, cond, List, [], ◌∷◌, ◌++◌, length, take, Result, Ok, Err, refl, sym, ap, subst, ◌∙◌, inl, inr, arith, append_assoc}
+use Rattle.std.proofs.Common.{◌≡◌, ◌⊎◌, ℕ, ◌+◌, ◌<◌, ◌≤◌, ◌^◌, Bool, true, false, cond, List, [], ◌∷◌, ◌++◌, length, take, Result, Ok, Err, refl, sym, ap, subst, ◌∙◌, inl, inr, arith, append_assoc}
 use Rattle.std.specs.Prelude.{if◌then◌else◌, ◌==◌, nat_lt, nat_le, ◌&&◌, ◌||◌, slice_index, bytes_eq, ⊤}
 use Rattle.std.specs.Int.{w64, w128, to_be_bytes, from_be_bytes}
 use Rattle.std.proofs.lemmas.Bool.{eqb-true, ltb-false, leb-true, and_parts, or_cases}
@@ -7,6 +7,7 @@ use Rattle.std.proofs.lemmas.List.{take-append-drop, length-take-le, length-appe
 use Rattle.mr_geom.specs.Rectangle.{Rectangle, IsOrdered, FitsMap}
 use Rattle.mr_record.specs.Bytes.{AreBytes}
 use Rattle.mr_record.specs.Record.{rectangle_bytes}
+use Rattle.mr_record.specs.Version.{version_byte}
 use Rattle.mr_proof.specs.declared.head.Kind.{Kind}
 use Rattle.mr_proof.specs.declared.rule.Rule.{Rule}
 use Rattle.mr_proof.specs.declared.rule.Rule.TheVariants as rule
@@ -19,19 +20,13 @@ use Rattle.mr_proof.specs.Limits.{count_limit, radius_limit, level_limit, leaf_l
 use Rattle.mr_proof.specs.Fields.{size_of, field_of, only_if, magic, kind_byte, pruned_tag, opened_tag, version}
 use Rattle.mr_geom.specs.Rectangle.{in_order}
 use Rattle.mr_record.specs.Record.{sides_of}
-use Rattle.mr_proof.specs.Grammar.{Grammar, reads, number_in, wide_in, tag_in, rect_in, bytes_in, part}
+use Rattle.mr_proof.specs.Grammar.{Grammar, reads, number_in, wide_in, tag_in, rect_in, bytes_in}
 use Rattle.mr_proof.specs.Layout.{fault, Stand, behind, field_or_fault, field_at}
-use Rattle.mr_proof.specs.Reading.{◌>>=◌, past, walk}
+use Rattle.mr_proof.specs.Reading.{◌>>=◌, walk}
 use Rattle.mr_record.proofs.Encodings.{IsBytes, IsBytes-take, IsBytes-drop, AreBytes-from, word_is, word_below, sides_are, sides_fit}
 use Rattle.mr_geom.proofs.Rectangles.{in_order_is}
-use Rattle.mr_proof.proofs.Values.{single, same_bytes}
+use Rattle.mr_proof.proofs.Values.{single, same_bytes, same_value}
 use Rattle.mr_proof.proofs.Wide.{wide_is}
-
-abbrev ok : {A : Type 0} → A → Result A Fault
-ok x = Ok x
-
-pub same_value : {A : Type 0} (x y : A) → ok x ≡ ok y → x ≡ y
-same_value x y e = cc
 
 -- this text was taken from the front, and no field in it ends past the limit
 pub record Took (text : List ℕ) (s t : Stand) : Type 0 where
@@ -286,12 +281,12 @@ unfolding field_of
 magic_meant raw f long fits e = (same_bytes raw magic (passed (bytes_eq raw magic) field.Plain f rule.BadMagic e).0, tt)
 
 pub version_meant : (raw : List ℕ) (f : Field) → length raw ≡ size_of want.Version → IsBytes raw
-    → field_of want.Version raw ≡ Ok f → (raw ≡ version ∷ []) × ⊤
+    → field_of want.Version raw ≡ Ok f → (raw ≡ version_byte version ∷ []) × ⊤
 unfolding field_of
 version_meant raw f long fits e = (
   single raw long ∙ ap (λ (k : ℕ). k ∷ [])
-      (eqb-true (slice_index raw 0) version (passed
-      (slice_index raw 0 == version) field.Plain f rule.BadVersion e).0),
+      (eqb-true (slice_index raw 0) (version_byte version) (passed
+      (slice_index raw 0 == version_byte version) field.Plain f rule.BadVersion e).0),
   tt,
 )
 

@@ -21,16 +21,11 @@ use Rattle.mr_proof.specs.Cut.{Cut, Cuts, Pruned, Leaf, Inner, no_more, first}
 use Rattle.mr_proof.specs.Spelling.{Said, said, opened_records}
 use Rattle.mr_proof.specs.Tight.{Seen, asks}
 use Rattle.mr_proof.specs.Accepted.{root_found}
-use Rattle.mr_proof.specs.Grammar.{Note, must, opens, Grammar, done, reads, notes, number_in, tag_in, rect_in, wide_in, bytes_in, payload, one_record, some_records, opened, leaf, some_items, inner, pruned, item, radius, level, head, part, whole}
+use Rattle.mr_proof.specs.Grammar.{must, opens, Grammar, done, reads, notes, number_in, tag_in, rect_in, wide_in, bytes_in, payload, one_record, some_records, opened, leaf, some_items, inner, pruned, item, radius, level, head, part, whole}
 use Rattle.mr_proof.specs.Layout.{fault, Stand, start, behind, field_or_fault, field_at}
-use Rattle.mr_proof.specs.Refused.{rank, Before, IsFirst, with_field, if_fault, note_faults, faults, has_other_radius, last_faults, all_faults, IsRefused}
+use Rattle.mr_proof.specs.Refused.{rank, Before, IsFirst, with_field, if_fault, faults, has_other_radius, last_faults, all_faults, IsRefused}
 use Rattle.mr_proof.specs.Reading.{◌>>=◌, walk, ending, checked, verdict}
-
-abbrev ok : {A : Type 0} → A → Result A Fault
-ok x = Ok x
-
-abbrev failed : {A : Type 0} → Fault → Result A Fault
-failed f = Err f
+use Rattle.mr_proof.proofs.Values.{same_value, failed, same_fault}
 
 -- ---- the first of some faults
 
@@ -58,12 +53,6 @@ front_is_first f fs all = record {
 }
 
 -- ---- a field
-
-same_value : {A : Type 0} (x y : A) → ok x ≡ ok y → x ≡ y
-same_value x y e = cc
-
-same_fault : {A : Type 0} (f g : Fault) → failed {A = A} f ≡ failed g → f ≡ g
-same_fault f g e = cc
 
 same_error : {B : Type 0} (f g : Fault) → failed {A = B} f ≡ failed g → f ≡ g
 same_error f g e = cc

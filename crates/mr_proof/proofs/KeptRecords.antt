@@ -1,5 +1,5 @@
 -- A tight cut of a tree has each record of the tree that the region meets.
-use Rattle.std.proofs.Common.{◌≡◌, ℕ, ◌≤◌, Bool, true, false, leb, List, [], ◌∷◌, ◌++◌, map, refl, sym, ap, subst, ◌∙◌, arith}
+use Rattle.std.proofs.Common.{◌≡◌, ℕ, ◌≤◌, Bool, true, false, leb, List, [], ◌∷◌, ◌++◌, refl, sym, ap, subst, ◌∙◌, arith}
 use Rattle.std.specs.Prelude.{Option, Some, None, fold, filter}
 use Rattle.std.specs.List.{AllByRecursion}
 use Rattle.std.proofs.lemmas.Bool.{false≢true, leb-false, lt-leb}
@@ -14,6 +14,7 @@ use Rattle.mr_geom.proofs.Planes.{SidesMeet, touches-sides, sides-touches, Insid
 use Rattle.mr_record.specs.Record.{IsRecord}
 use Rattle.mr_record.specs.declared.record.Record.{Record}
 use Rattle.mr_tree.specs.Tree as trees
+use Rattle.mr_tree.specs.Digest.{Scheme}
 use Rattle.mr_tree.specs.declared.tree.Tree.{Tree}
 use Rattle.mr_tree.proofs.Equations.{records-Leaf, records-Inner}
 use Rattle.mr_tree.proofs.Induction.{every_child}
@@ -59,24 +60,24 @@ missed_tree region law t full r e f =
 -- ---- all nodes
 
 mutual
-  pub kept : (hash : List ℕ → List ℕ) (region : Seen → Bool) → MissesParts region → (P : Cut) (t : Tree) → IsFull t
-      → CutOf hash P t → IsTightCut region P
+  pub kept : (s : Scheme) (region : Seen → Bool) → MissesParts region → (P : Cut) (t : Tree) → IsFull t
+      → CutOf s P t → IsTightCut region P
       → filter (met region) (records P) ≡ filter (met region) (trees.records t)
-  kept hash region law (Pruned x) t full c tight = sym (missed_tree region law t full x.rect c.0 tight)
-  kept hash region law (Leaf rs) t full c tight =
+  kept s region law (Pruned x) t full c tight = sym (missed_tree region law t full x.rect c.0 tight)
+  kept s region law (Leaf rs) t full c tight =
       ap (filter (met region)) (sym (ap trees.records c ∙ records-Leaf rs))
-  kept hash region law (Inner cuts) t full c tight =
-      all_kept hash region law cuts c.0 (every_child IsFullNode c.0 (subst IsFull c.1 full)) c.2 tight.1
+  kept s region law (Inner cuts) t full c tight =
+      all_kept s region law cuts c.0 (every_child IsFullNode c.0 (subst IsFull c.1 full)) c.2 tight.1
       ∙ ap (filter (met region)) (sym (ap trees.records c.1 ∙ records-Inner c.0))
 
-  all_kept : (hash : List ℕ → List ℕ) (region : Seen → Bool) → MissesParts region → (Ps : Cuts) (ts : List Tree)
-      → AllByRecursion IsFull ts → CutsOf hash Ps ts → AreTightCuts region Ps
+  all_kept : (s : Scheme) (region : Seen → Bool) → MissesParts region → (Ps : Cuts) (ts : List Tree)
+      → AllByRecursion IsFull ts → CutsOf s Ps ts → AreTightCuts region Ps
       → filter (met region) (all_records Ps) ≡ filter (met region) (flat ts)
-  all_kept hash region law no_more ts full c tight = sym (ap (λ (us : List Tree). filter (met region) (flat us)) c)
-  all_kept hash region law (first P Ps) ts full c tight =
+  all_kept s region law no_more ts full c tight = sym (ap (λ (us : List Tree). filter (met region) (flat us)) c)
+  all_kept s region law (first P Ps) ts full c tight =
       let fulls = subst (AllByRecursion IsFull) c.2 full in
       filter-append (met region) (records P) (all_records Ps)
-      ∙ (λ i. kept hash region law P c.0 fulls.0 c.3 tight.0 i ++ all_kept hash region law Ps c.1 fulls.1 c.4 tight.1 i)
+      ∙ (λ i. kept s region law P c.0 fulls.0 c.3 tight.0 i ++ all_kept s region law Ps c.1 fulls.1 c.4 tight.1 i)
       ∙ sym (filter-append (met region) (trees.records c.0) (flat c.1))
       ∙ sym (ap (λ (us : List Tree). filter (met region) (flat us)) c.2)
 

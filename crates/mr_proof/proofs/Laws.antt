@@ -1,18 +1,17 @@
 -- What each kind of query owes: its region, its radius and its answer hang together, and its rule on the radius is
 -- broken just where the radius is another than that of the records.
-use Rattle.std.proofs.Common.{◌≡◌, ℕ, ◌+◌, ◌<◌, ◌≤◌, Bool, true, false, leb, ltb, ◌||◌, List, [], ◌∷◌, length, map, Option, Some, None, refl, sym, ap, subst, ◌∙◌, arith}
+use Rattle.std.proofs.Common.{◌≡◌, ℕ, ◌+◌, ◌<◌, ◌≤◌, Bool, true, false, leb, ltb, ◌||◌, List, [], ◌∷◌, length, Option, Some, None, refl, sym, ap, subst, ◌∙◌, arith}
 use Rattle.std.specs.Prelude.{filter, IfSome, All}
 use Rattle.std.specs.List.{AllByRecursion}
-use Rattle.std.proofs.lemmas.Bool.{leb-true, leb-false, ltb-true, ltb-false, lt-leb, le-ltb}
+use Rattle.std.proofs.lemmas.Bool.{leb-false, ltb-false, lt-leb, le-ltb}
 use Rattle.std.proofs.lemmas.List.Elements.{recursion_from_All}
-use Rattle.mr_geom.specs.Distance.{least_squared_distance}
 use Rattle.mr_geom.specs.Rectangle.{Rectangle}
 use Rattle.mr_geom.specs.declared.point.Point.{Point}
 use Rattle.mr_geom.proofs.Distances.{least_squared_distance_bound}
 use Rattle.mr_record.specs.Record.{IsRecord}
 use Rattle.mr_record.specs.declared.record.Record.{Record}
 use Rattle.mr_query.specs.Nearest.{distance, distances, kth_least, is_within, nearer_than, not_farther_than}
-use Rattle.mr_query.specs.Radius.{below, IsRadius}
+use Rattle.mr_query.specs.Radius.{IsRadius}
 use Rattle.mr_query.specs.Region.{reaches}
 use Rattle.mr_query.specs.Scan.{by_number, scan}
 use Rattle.mr_query.specs.Word.{FitsPoint, IsAskable, IsQuery}
@@ -24,10 +23,9 @@ use Rattle.mr_query.proofs.Nearest.{SameNearest, all_pass, same_nearest, no_radi
 use Rattle.mr_query.proofs.Scans.{window_scan, nearest_scan, filter_twice, window_scan_reached}
 use Rattle.mr_proof.specs.declared.head.Kind.{Kind}
 use Rattle.mr_proof.specs.declared.head.Head.{Head}
-use Rattle.mr_proof.specs.Cut.{Cut}
 use Rattle.mr_proof.specs.Limits.{radius_limit}
-use Rattle.mr_proof.specs.Spelling.{FitsHead, FitsRadius, opened_records}
-use Rattle.mr_proof.specs.Tight.{Seen, seen_at, Asks, asks}
+use Rattle.mr_proof.specs.Spelling.{FitsHead, FitsRadius}
+use Rattle.mr_proof.specs.Tight.{seen_at, Asks, asks}
 use Rattle.mr_proof.specs.Refused.{has_other_radius}
 use Rattle.mr_proof.proofs.KeptRecords.{MissesParts, window_law, circle_law}
 

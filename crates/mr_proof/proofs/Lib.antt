@@ -3,6 +3,8 @@ pub mod Values
 pub mod Wide
 pub mod FirstFault
 pub mod FieldsTaken
+pub mod FieldValues
+pub mod FieldLaws
 pub mod Soundness
 pub mod Completeness
 pub mod Halves

@@ -1,10 +1,9 @@
 -- What a byte string breaks, any longer one breaks too, but for what is only found at its end.
-use Rattle.std.proofs.Common.{◌≡◌, ℕ, zero, suc, ◌+◌, ◌<◌, ◌≤◌, Bool, true, false, cond, ltb, List, [], ◌∷◌, ◌++◌, length, take, drop, Result, Ok, Err, refl, sym, ap, subst, ◌∙◌, inl, inr, arith}
+use Rattle.std.proofs.Common.{◌≡◌, ℕ, ◌+◌, ◌<◌, ◌≤◌, Bool, true, false, cond, ltb, List, ◌++◌, length, take, drop, Result, Ok, Err, refl, sym, ap, subst, ◌∙◌, inl, inr, arith}
 use Rattle.std.specs.Prelude.{if◌then◌else◌, nat_lt, not, bytes_eq}
 use Rattle.std.proofs.lemmas.Bool.{cases_Bool, ltb-true, ltb-false, le-ltb, lt-ltb}
 use Rattle.std.proofs.lemmas.List.{length-append, take-append-le, drop-append-le}
 use Rattle.mr_query.specs.declared.query.Query.{Query}
-use Rattle.mr_record.specs.declared.record.Record.{Record}
 use Rattle.mr_proof.specs.declared.rule.Rule.{Rule}
 use Rattle.mr_proof.specs.declared.rule.Rule.TheVariants as rule
 use Rattle.mr_proof.specs.declared.rule.Fault.{Fault}
@@ -16,21 +15,16 @@ use Rattle.mr_proof.specs.Spelling.{Said, opened_records}
 use Rattle.mr_proof.specs.Tight.{asks}
 use Rattle.mr_proof.specs.Accepted.{root_found}
 use Rattle.mr_proof.specs.Grammar.{Grammar, must, opens, done, reads, notes, whole}
-use Rattle.mr_proof.specs.Layout.{fault, Stand, start, behind, field_or_fault, field_at}
+use Rattle.mr_proof.specs.Layout.{fault, Stand, start, field_or_fault, field_at}
 use Rattle.mr_proof.specs.Refused.{has_other_radius}
 use Rattle.mr_proof.specs.Reading.{◌>>=◌, walk, ending, checked, verdict}
 use Rattle.mr_proof.specs.Halves.{IsSettled, StaysRefused}
 use Rattle.mr_proof.proofs.FirstFault.{refuses_just}
+use Rattle.mr_proof.proofs.Values.{same_fault}
 
 -- the same place in a longer string
 abbrev longer : List ℕ → Stand → Stand
 longer more s = record { at = s.at; last = s.last; rest = s.rest ++ more }
-
-abbrev failed : {A : Type 0} → Fault → Result A Fault
-failed f = Err f
-
-same_fault : {A : Type 0} (f g : Fault) → failed {A = A} f ≡ failed g → f ≡ g
-same_fault f g e = cc
 
 -- ---- one field
 

@@ -1,6 +1,6 @@
 -- Bytes spell at most one pair of a head and a cut, and reading finds it.
-use Rattle.std.proofs.Common.{◌≡◌, ℕ, Bool, true, false, eqb, List, [], ◌∷◌, ◌++◌, length, Result, Ok, Err, Option, Some, None, refl, sym, ap, subst, ◌∙◌}
-use Rattle.std.specs.Prelude.{if◌then◌else◌, ◌==◌, nat_lt, slice_index}
+use Rattle.std.proofs.Common.{◌≡◌, ℕ, false, List, length, Result, Ok, Err, Option, Some, refl, sym, ap, subst, ◌∙◌}
+use Rattle.std.specs.Prelude.{if◌then◌else◌, ◌==◌, nat_lt}
 use Rattle.std.proofs.lemmas.Bool.{false≢true}
 use Rattle.mr_proof.specs.declared.head.Kind.{Kind}
 use Rattle.mr_proof.specs.declared.head.Kind.TheVariants as kind
@@ -9,13 +9,13 @@ use Rattle.mr_proof.specs.declared.rule.Rule.TheVariants as rule
 use Rattle.mr_proof.specs.declared.rule.Fault.{Fault}
 use Rattle.mr_proof.specs.Fields.{kind_byte}
 use Rattle.mr_proof.specs.Cut.{Cut}
-use Rattle.mr_proof.specs.Spelling.{Said, said, head_bytes, part_bytes, IsSpelled}
+use Rattle.mr_proof.specs.Spelling.{Said, said, IsSpelled}
 use Rattle.mr_proof.specs.Grammar.{whole}
-use Rattle.mr_proof.specs.Layout.{fault, Stand, start}
+use Rattle.mr_proof.specs.Layout.{fault, start}
 use Rattle.mr_proof.specs.Reading.{walk, kind_in, at_end, if_spelled, anywhere, pair_in}
 use Rattle.mr_proof.specs.Halves.{SpellsOne, FindsPair}
 use Rattle.mr_record.proofs.Encodings.{IsBytes}
-use Rattle.mr_proof.proofs.Soundness.{TakenWhole, take_whole, spelled_whole, not_failed, nothing_left}
+use Rattle.mr_proof.proofs.Soundness.{take_whole, spelled_whole, not_failed, nothing_left}
 use Rattle.mr_proof.proofs.Completeness.{whole_again}
 
 -- ---- the kind stands at the sixth byte

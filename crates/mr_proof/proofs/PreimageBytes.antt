@@ -1,5 +1,5 @@
 -- The preimages and digests of a tree that is not empty are bytes.
-use Rattle.std.proofs.Common.{◌≡◌, ℕ, zero, suc, ◌+◌, ◌<◌, ◌≤◌, ◌^◌, List, [], ◌∷◌, ◌++◌, map, length, refl, sym, ap, subst, ◌∙◌, arith}
+use Rattle.std.proofs.Common.{◌≡◌, ℕ, zero, suc, ◌+◌, ◌<◌, ◌^◌, List, [], ◌∷◌, ◌++◌, map, length, refl, sym, ap, subst, arith}
 use Rattle.std.specs.Prelude.{Option, Some, None}
 use Rattle.std.specs.Int.{w32, w64, byte_at, bytes_high_first, to_be_bytes, cast_unsigned}
 use Rattle.std.specs.List.{flat_map, AllByRecursion}
@@ -11,9 +11,10 @@ use Rattle.mr_record.specs.Bytes.{AreBytes}
 use Rattle.mr_record.specs.Record.{IsRecord, record_bytes, rectangle_bytes, coordinate_bytes}
 use Rattle.mr_record.specs.declared.record.Record.{Record}
 use Rattle.mr_tree.specs.Tree.{level, first_level}
-use Rattle.mr_tree.specs.Digest.{Entry, entry, entry_step, entry_bytes, rect_bytes, level_over, node_preimage, digest}
+use Rattle.mr_tree.specs.Digest.{Scheme, entry, entry_step, entry_bytes, rect_bytes, level_over, node_preimage, digest}
 use Rattle.mr_tree.specs.Digest.{leaf_tag, inner_tag}
 use Rattle.mr_tree.specs.Slim.{IsSlim, IsSlimNode}
+use Rattle.mr_tree.specs.declared.entry.Entry.{Entry}
 use Rattle.mr_tree.specs.declared.tree.Tree.{Tree}
 use Rattle.mr_tree.specs.declared.tree.Tree.TheVariants as tree
 use Rattle.mr_tree.specs.declared.tree.Tree.TheOpen as node
@@ -78,52 +79,52 @@ rect_are_bytes (Some r) = rectangle_are_bytes r
 
 -- ---- digests
 
-abbrev HasBytes : (List ℕ → List ℕ) → Tree → Type 0
-HasBytes hash t = IsFull t → IsSlim t → AreBytes (digest hash t)
+abbrev HasBytes : Scheme → Tree → Type 0
+HasBytes s t = IsFull t → IsSlim t → AreBytes (digest s t)
 
-entries_are_bytes : (hash : List ℕ → List ℕ) (ts : List Tree) → AllByRecursion (HasBytes hash) ts
-    → AllByRecursion IsFull ts → AllByRecursion IsSlim ts → AreBytes (flat_map entry_bytes (map (entry hash) ts))
-entries_are_bytes hash [] all full slim = none
-entries_are_bytes hash (t ∷ ts) all full slim =
-    subst AreBytes (sym (flat_map-cons entry_bytes (entry hash t) (map (entry hash) ts)))
-    (both (entry_bytes (entry hash t)) (flat_map entry_bytes (map (entry hash) ts))
-    (both (rect_bytes (entry hash t).rect) (digest hash t) (rect_are_bytes (entry hash t).rect) (all.0 full.0 slim.0))
-    (entries_are_bytes hash ts all.1 full.1 slim.1))
+entries_are_bytes : (s : Scheme) (ts : List Tree) → AllByRecursion (HasBytes s) ts
+    → AllByRecursion IsFull ts → AllByRecursion IsSlim ts → AreBytes (flat_map entry_bytes (map (entry s) ts))
+entries_are_bytes s [] all full slim = none
+entries_are_bytes s (t ∷ ts) all full slim =
+    subst AreBytes (sym (flat_map-cons entry_bytes (entry s t) (map (entry s) ts)))
+    (both (entry_bytes (entry s t)) (flat_map entry_bytes (map (entry s) ts))
+    (both (rect_bytes (entry s t).rect) (digest s t) (rect_are_bytes (entry s t).rect) (all.0 full.0 slim.0))
+    (entries_are_bytes s ts all.1 full.1 slim.1))
 
-levels_same : (hash : List ℕ → List ℕ) (ts : List Tree)
-    → map (λ (e : Entry). e.level) (map (entry hash) ts) ≡ map level ts
-levels_same hash [] = refl
-levels_same hash (t ∷ ts) = λ i. entry_level hash t i ∷ levels_same hash ts i
+levels_same : (s : Scheme) (ts : List Tree)
+    → map (λ (e : Entry). e.level) (map (entry s) ts) ≡ map level ts
+levels_same s [] = refl
+levels_same s (t ∷ ts) = λ i. entry_level s t i ∷ levels_same s ts i
 
-leaf_has_bytes : (hash : List ℕ → List ℕ) → IsSized hash → (rs : List Record) → HasBytes hash (tree.Leaf rs)
-leaf_has_bytes hash h rs full slim =
+leaf_has_bytes : (s : Scheme) → IsSized s.of → (rs : List Record) → HasBytes s (tree.Leaf rs)
+leaf_has_bytes s h rs full slim =
     let own = here-Leaf IsFullNode rs full in
     let few = here-Leaf IsSlimNode rs slim in
     let whole = node_preimage (node.Leaf rs) in
     let fine : AreBytes whole = one_more leaf_tag (length rs ∷ flat_map record_bytes rs) (omega arith)
     (one_more (length rs) (flat_map record_bytes rs) (omega (arith, few)) (records_are_bytes rs own.1)) in
-    subst AreBytes (sym (ap (λ (e : Entry). e.digest) (fold-Leaf Entry (entry_step hash) rs))) (h.bytes whole fine)
+    subst AreBytes (sym (ap (λ (e : Entry). e.digest) (fold-Leaf Entry (entry_step s) rs))) (h.bytes whole fine)
 
-inner_has_bytes : (hash : List ℕ → List ℕ) → IsSized hash → (ts : List Tree) → AllByRecursion (HasBytes hash) ts
-    → HasBytes hash (tree.Inner ts)
-inner_has_bytes hash h ts all full slim =
+inner_has_bytes : (s : Scheme) → IsSized s.of → (ts : List Tree) → AllByRecursion (HasBytes s) ts
+    → HasBytes s (tree.Inner ts)
+inner_has_bytes s h ts all full slim =
     let own = here-Inner IsSlimNode ts slim in
     let few = own.0 in
     let low = own.1 in
-    let entries = map (entry hash) ts in
+    let entries = map (entry s) ts in
     let whole = node_preimage (node.Inner entries) in
-    let long : length entries ≡ length ts = length-map ts (entry hash) in
+    let long : length entries ≡ length ts = length-map ts (entry s) in
     let high : level_over entries ≡ first_level (map level ts) + 1 =
-    ap (λ (ns : List ℕ). first_level ns + 1) (levels_same hash ts) in
-    let each = entries_are_bytes hash ts all (every_child IsFullNode ts full) (every_child IsSlimNode ts slim) in
+    ap (λ (ns : List ℕ). first_level ns + 1) (levels_same s ts) in
+    let each = entries_are_bytes s ts all (every_child IsFullNode ts full) (every_child IsSlimNode ts slim) in
     let fine : AreBytes whole = one_more inner_tag (level_over entries ∷ length entries ∷ flat_map entry_bytes entries)
     (omega arith) (one_more (level_over entries) (length entries ∷ flat_map entry_bytes entries)
     (omega (arith, high, low)) (one_more (length entries) (flat_map entry_bytes entries)
     (omega (arith, long, few)) each)) in
-    subst AreBytes (sym (ap (λ (e : Entry). e.digest) (fold-Inner Entry (entry_step hash) ts))) (h.bytes whole fine)
+    subst AreBytes (sym (ap (λ (e : Entry). e.digest) (fold-Inner Entry (entry_step s) ts))) (h.bytes whole fine)
 
-pub digest_are_bytes : (hash : List ℕ → List ℕ) → IsSized hash → (t : Tree) → HasBytes hash t
-digest_are_bytes hash h = tree_induction (HasBytes hash)
+pub digest_are_bytes : (s : Scheme) → IsSized s.of → (t : Tree) → HasBytes s t
+digest_are_bytes s h = tree_induction (HasBytes s)
     (λ full slim. absurd (not_full_empty full))
-    (leaf_has_bytes hash h)
-    (inner_has_bytes hash h)
+    (leaf_has_bytes s h)
+    (inner_has_bytes s h)

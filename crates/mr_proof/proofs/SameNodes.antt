@@ -10,8 +10,9 @@ use Rattle.mr_geom.specs.Rectangle.{Rectangle}
 use Rattle.mr_record.specs.Record.{IsRecord, record_bytes, rectangle_bytes}
 use Rattle.mr_record.specs.declared.record.Record.{Record}
 use Rattle.mr_record.proofs.RecordFields.{length-rectangle_bytes}
-use Rattle.mr_tree.specs.Digest.{Entry, entry_bytes, rect_bytes, node_preimage, level_over}
+use Rattle.mr_tree.specs.Digest.{Scheme, entry_bytes, rect_bytes, node_preimage, level_over}
 use Rattle.mr_tree.specs.Digest as digests
+use Rattle.mr_tree.specs.declared.entry.Entry.{Entry}
 use Rattle.mr_tree.specs.declared.tree.Tree.{Tree}
 use Rattle.mr_tree.specs.declared.tree.Tree.TheVariants as tree
 use Rattle.mr_tree.specs.declared.tree.Tree.TheOpen as node
@@ -82,50 +83,50 @@ entry_front e f x y p q is =
       rest = whole.rest;
     }
 
-pub named_tree : (hash : List ℕ → List ℕ) → ((m : List ℕ) → length (hash m) ≡ 32) → (t : Tree) → IsFull t
-    → IsNamed (digests.entry hash t)
-named_tree hash sized t full = record {
-  there = subst IsThere (sym (entry_rect hash t)) (there_tree t full);
-  long = ap length (digest_of_preimage hash t) ∙ sized (digests.preimage hash t);
+pub named_tree : (s : Scheme) → ((m : List ℕ) → length (s.of m) ≡ 32) → (t : Tree) → IsFull t
+    → IsNamed (digests.entry s t)
+named_tree s sized t full = record {
+  there = subst IsThere (sym (entry_rect s t)) (there_tree t full);
+  long = ap length (digest_of_preimage s t) ∙ sized (digests.preimage s t);
 }
 
-rects_some : (hash : List ℕ → List ℕ) (v : ℕ) (Ps : Cuts) → 1 ≤ count_of Ps
-    → 1 ≤ length (map (λ (e : Entry). e.rect) (entries hash v Ps))
-rects_some hash v no_more some = absurd (omega arith)
-rects_some hash v (first P Ps) some = omega arith
+rects_some : (s : Scheme) (v : ℕ) (Ps : Cuts) → 1 ≤ count_of Ps
+    → 1 ≤ length (map (λ (e : Entry). e.rect) (entries s v Ps))
+rects_some s v no_more some = absurd (omega arith)
+rects_some s v (first P Ps) some = omega arith
 
 mutual
-  pub named_cut : (hash : List ℕ → List ℕ) → ((m : List ℕ) → length (hash m) ≡ 32) → (v : ℕ) (P : Cut) → FitsCut v P
-      → IsNamed (entry hash v P)
-  named_cut hash sized v (Pruned x) fit = record {
+  pub named_cut : (s : Scheme) → ((m : List ℕ) → length (s.of m) ≡ 32) → (v : ℕ) (P : Cut) → FitsCut v P
+      → IsNamed (entry s v P)
+  named_cut s sized v (Pruned x) fit = record {
     there = record { at = x.rect; is = refl; ordered = fit.ordered; fits = fit.coordinates };
     long = fit.digest;
   }
-  named_cut hash sized v (Leaf rs) fit =
+  named_cut s sized v (Leaf rs) fit =
       record { there = there_records rs fit.some (recursion_from_All IsRecord rs fit.each); long = sized _ }
-  named_cut hash sized v (Inner cuts) fit = record {
-    there = there_union (map (λ (e : Entry). e.rect) (entries hash (v - 1) cuts))
-        (rects_some hash (v - 1) cuts fit.0.some) (named_cuts hash sized (v - 1) cuts fit.1);
+  named_cut s sized v (Inner cuts) fit = record {
+    there = there_union (map (λ (e : Entry). e.rect) (entries s (v - 1) cuts))
+        (rects_some s (v - 1) cuts fit.0.some) (named_cuts s sized (v - 1) cuts fit.1);
     long = sized _;
   }
 
-  pub named_cuts : (hash : List ℕ → List ℕ) → ((m : List ℕ) → length (hash m) ≡ 32) → (v : ℕ) (Ps : Cuts)
-      → FitCuts v Ps → AllByRecursion IsThere (map (λ (e : Entry). e.rect) (entries hash v Ps))
-  named_cuts hash sized v no_more fit = tt
-  named_cuts hash sized v (first P Ps) fit =
-      ((named_cut hash sized v P fit.0).there, named_cuts hash sized v Ps fit.1)
+  pub named_cuts : (s : Scheme) → ((m : List ℕ) → length (s.of m) ≡ 32) → (v : ℕ) (Ps : Cuts)
+      → FitCuts v Ps → AllByRecursion IsThere (map (λ (e : Entry). e.rect) (entries s v Ps))
+  named_cuts s sized v no_more fit = tt
+  named_cuts s sized v (first P Ps) fit =
+      ((named_cut s sized v P fit.0).there, named_cuts s sized v Ps fit.1)
 
 -- ---- one node
 
-pub preimage-Leaf : (hash : List ℕ → List ℕ) (rs : List Record)
-    → digests.preimage hash (tree.Leaf rs) ≡ 0x4c ∷ length rs ∷ flat_map record_bytes rs
-preimage-Leaf hash rs =
-    ap (λ (x : Tree-F Tree). node_preimage (map-Tree Tree Entry (digests.entry hash) x)) (tree.outs-Leaf rs)
+pub preimage-Leaf : (s : Scheme) (rs : List Record)
+    → digests.preimage s (tree.Leaf rs) ≡ 0x4c ∷ length rs ∷ flat_map record_bytes rs
+preimage-Leaf s rs =
+    ap (λ (x : Tree-F Tree). node_preimage (map-Tree Tree Entry (digests.entry s) x)) (tree.outs-Leaf rs)
 
-pub preimage-Inner : (hash : List ℕ → List ℕ) (ts : List Tree)
-    → digests.preimage hash (tree.Inner ts) ≡ node_preimage (node.Inner (map (digests.entry hash) ts))
-preimage-Inner hash ts =
-    ap (λ (x : Tree-F Tree). node_preimage (map-Tree Tree Entry (digests.entry hash) x)) (tree.outs-Inner ts)
+pub preimage-Inner : (s : Scheme) (ts : List Tree)
+    → digests.preimage s (tree.Inner ts) ≡ node_preimage (node.Inner (map (digests.entry s) ts))
+preimage-Inner s ts =
+    ap (λ (x : Tree-F Tree). node_preimage (map-Tree Tree Entry (digests.entry s) x)) (tree.outs-Inner ts)
 
 record Counted (n m : ℕ) (x y : List ℕ) : Type 0 where
   count : n ≡ m
@@ -140,90 +141,90 @@ third_on a b c d n m x y e = record { count = cc; rest = cc }
 other_letter : (x y : List ℕ) → (0x4c ∷ x) ≡ (0x4e ∷ y) → ⊥
 other_letter x y e = let h = (cons_parts 0x4c 0x4e x y e).0 in omega arith
 
-leaf_same : (hash : List ℕ → List ℕ) (rs : List Record) → AllByRecursion IsRecord rs → (t : Tree) → IsFull t
-    → digests.preimage hash t ≡ 0x4c ∷ length rs ∷ flat_map record_bytes rs → t ≡ tree.Leaf rs
-leaf_same hash rs each =
-    tree_induction (λ t. IsFull t → digests.preimage hash t ≡ 0x4c ∷ length rs ∷ flat_map record_bytes rs
+leaf_same : (s : Scheme) (rs : List Record) → AllByRecursion IsRecord rs → (t : Tree) → IsFull t
+    → digests.preimage s t ≡ 0x4c ∷ length rs ∷ flat_map record_bytes rs → t ≡ tree.Leaf rs
+leaf_same s rs each =
+    tree_induction (λ t. IsFull t → digests.preimage s t ≡ 0x4c ∷ length rs ∷ flat_map record_bytes rs
     → t ≡ tree.Leaf rs)
     (λ full e. absurd (not_full_empty full))
     (λ ss full e.
     let c = second_on 0x4c 0x4c (length ss) (length rs) (flat_map record_bytes ss) (flat_map record_bytes rs)
-    (sym (preimage-Leaf hash ss) ∙ e) in
+    (sym (preimage-Leaf s ss) ∙ e) in
     ap tree.Leaf (same_records ss rs (here-Leaf IsFullNode ss full).1 each c.count c.rest))
-    (λ ts below full e. absurd (other_letter _ _ (sym e ∙ preimage-Inner hash ts)))
+    (λ ts below full e. absurd (other_letter _ _ (sym e ∙ preimage-Inner s ts)))
 
 -- an inner node with these entries
-record InnerWith (hash : List ℕ → List ℕ) (es : List Entry) (t : Tree) : Type 0 where
+record InnerWith (s : Scheme) (es : List Entry) (t : Tree) : Type 0 where
   is : t ≡ tree.Inner (children t)
   full : AllByRecursion IsFull (children t)
   count : length (children t) ≡ length es
-  bytes : flat_map entry_bytes (map (digests.entry hash) (children t)) ≡ flat_map entry_bytes es
+  bytes : flat_map entry_bytes (map (digests.entry s) (children t)) ≡ flat_map entry_bytes es
 
-inner_with : (hash : List ℕ → List ℕ) (es : List Entry) (ts : List Tree) → IsFull (tree.Inner ts)
-    → length ts ≡ length es → flat_map entry_bytes (map (digests.entry hash) ts) ≡ flat_map entry_bytes es
-    → InnerWith hash es (tree.Inner ts)
-inner_with hash es ts full count bytes =
+inner_with : (s : Scheme) (es : List Entry) (ts : List Tree) → IsFull (tree.Inner ts)
+    → length ts ≡ length es → flat_map entry_bytes (map (digests.entry s) ts) ≡ flat_map entry_bytes es
+    → InnerWith s es (tree.Inner ts)
+inner_with s es ts full count bytes =
     let same : children (tree.Inner ts) ≡ ts = ap children_in (tree.outs-Inner ts) in
     record {
       is = ap tree.Inner (sym same);
       full = subst (AllByRecursion IsFull) (sym same) (every_child IsFullNode ts full);
       count = ap length same ∙ count;
-      bytes = ap (λ (us : List Tree). flat_map entry_bytes (map (digests.entry hash) us)) same ∙ bytes;
+      bytes = ap (λ (us : List Tree). flat_map entry_bytes (map (digests.entry s) us)) same ∙ bytes;
     }
 
-inner_same : (hash : List ℕ → List ℕ) (es : List Entry) (t : Tree) → IsFull t
-    → digests.preimage hash t ≡ node_preimage (node.Inner es) → InnerWith hash es t
-inner_same hash es =
-    tree_induction (λ t. IsFull t → digests.preimage hash t ≡ node_preimage (node.Inner es) → InnerWith hash es t)
+inner_same : (s : Scheme) (es : List Entry) (t : Tree) → IsFull t
+    → digests.preimage s t ≡ node_preimage (node.Inner es) → InnerWith s es t
+inner_same s es =
+    tree_induction (λ t. IsFull t → digests.preimage s t ≡ node_preimage (node.Inner es) → InnerWith s es t)
     (λ full e. absurd (not_full_empty full))
-    (λ ss full e. absurd (other_letter _ _ (sym (preimage-Leaf hash ss) ∙ e)))
+    (λ ss full e. absurd (other_letter _ _ (sym (preimage-Leaf s ss) ∙ e)))
     (λ ts below full e.
-    let own = map (digests.entry hash) ts in
+    let own = map (digests.entry s) ts in
     let c = third_on 0x4e 0x4e (level_over own) (level_over es) (length own) (length es) (flat_map entry_bytes own)
-    (flat_map entry_bytes es) (sym (preimage-Inner hash ts) ∙ e) in
-    inner_with hash es ts full (sym (length-map ts (digests.entry hash)) ∙ c.count) c.rest)
+    (flat_map entry_bytes es) (sym (preimage-Inner s ts) ∙ e) in
+    inner_with s es ts full (sym (length-map ts (digests.entry s)) ∙ c.count) c.rest)
 
 -- ---- all nodes
 
-same_hash : (hash : List ℕ → List ℕ) (t : Tree) (x : List ℕ) → digests.digest hash t ≡ hash x
-    → hash (digests.preimage hash t) ≡ hash x
-same_hash hash t x e = sym (digest_of_preimage hash t) ∙ e
+same_hash : (s : Scheme) (t : Tree) (x : List ℕ) → digests.digest s t ≡ s.of x
+    → s.of (digests.preimage s t) ≡ s.of x
+same_hash s t x e = sym (digest_of_preimage s t) ∙ e
 
-abbrev below : (List ℕ → List ℕ) → ℕ → Cuts → List ℕ
-below hash v cuts = node_preimage (node.Inner (entries hash (v - 1) cuts))
+abbrev below : Scheme → ℕ → Cuts → List ℕ
+below s v cuts = node_preimage (node.Inner (entries s (v - 1) cuts))
 
 mutual
-  pub cut_or_clash : (hash : List ℕ → List ℕ) → ((m : List ℕ) → length (hash m) ≡ 32) → (v : ℕ) (t : Tree) (P : Cut)
-      → IsFull t → FitsCut v P → SameEntry (digests.entry hash t) (entry hash v P)
-      → NoneAnd hash (node_clash hash v t P) (CutOf hash P t)
-  cut_or_clash hash sized v t (Pruned x) full fit e = (sym e.rect ∙ entry_rect hash t, sym e.digest)
-  cut_or_clash hash sized v t (Leaf rs) full fit e =
-      let x = digests.preimage hash t in
+  pub cut_or_clash : (s : Scheme) → ((m : List ℕ) → length (s.of m) ≡ 32) → (v : ℕ) (t : Tree) (P : Cut)
+      → IsFull t → FitsCut v P → SameEntry (digests.entry s t) (entry s v P)
+      → NoneAnd s.of (node_clash s v t P) (CutOf s P t)
+  cut_or_clash s sized v t (Pruned x) full fit e = (sym e.rect ∙ entry_rect s t, sym e.digest)
+  cut_or_clash s sized v t (Leaf rs) full fit e =
+      let x = digests.preimage s t in
       let y = node_preimage (node.Leaf rs) in
-      none_more hash (differ x (Some y)) (x ≡ y) (t ≡ tree.Leaf rs)
-      (none_differ hash x y (same_hash hash t y e.digest))
-      (leaf_same hash rs (recursion_from_All IsRecord rs fit.each) t full)
-  cut_or_clash hash sized v t (Inner cuts) full fit e =
-      let x = digests.preimage hash t in
-      let y = below hash v cuts in
-      none_both hash (differ x (Some y)) (children_clash hash (v - 1) (children t) cuts) (x ≡ y)
-      (CutOf hash (Inner cuts) t) (none_differ hash x y (same_hash hash t y e.digest)) (λ same.
-      let n = inner_same hash (entries hash (v - 1) cuts) t full same in
-      none_more hash (children_clash hash (v - 1) (children t) cuts) (CutsOf hash cuts (children t))
-      (CutOf hash (Inner cuts) t)
-      (cuts_or_clash hash sized (v - 1) (children t) cuts n.full fit.1 n.count n.bytes)
+      none_more s.of (differ x (Some y)) (x ≡ y) (t ≡ tree.Leaf rs)
+      (none_differ s.of x y (same_hash s t y e.digest))
+      (leaf_same s rs (recursion_from_All IsRecord rs fit.each) t full)
+  cut_or_clash s sized v t (Inner cuts) full fit e =
+      let x = digests.preimage s t in
+      let y = below s v cuts in
+      none_both s.of (differ x (Some y)) (children_clash s (v - 1) (children t) cuts) (x ≡ y)
+      (CutOf s (Inner cuts) t) (none_differ s.of x y (same_hash s t y e.digest)) (λ same.
+      let n = inner_same s (entries s (v - 1) cuts) t full same in
+      none_more s.of (children_clash s (v - 1) (children t) cuts) (CutsOf s cuts (children t))
+      (CutOf s (Inner cuts) t)
+      (cuts_or_clash s sized (v - 1) (children t) cuts n.full fit.1 n.count n.bytes)
       (λ all. (children t, n.is, all)))
 
-  pub cuts_or_clash : (hash : List ℕ → List ℕ) → ((m : List ℕ) → length (hash m) ≡ 32) → (v : ℕ) (ts : List Tree)
-      (Ps : Cuts) → AllByRecursion IsFull ts → FitCuts v Ps → length ts ≡ length (entries hash v Ps)
-      → flat_map entry_bytes (map (digests.entry hash) ts) ≡ flat_map entry_bytes (entries hash v Ps)
-      → NoneAnd hash (children_clash hash v ts Ps) (CutsOf hash Ps ts)
-  cuts_or_clash hash sized v ts no_more full fit long e = nil_from_length ts long
-  cuts_or_clash hash sized v [] (first P Ps) full fit long e = absurd (omega arith)
-  cuts_or_clash hash sized v (t ∷ ts) (first P Ps) full fit long e =
-      let c = entry_front (digests.entry hash t) (entry hash v P) (flat_map entry_bytes (map (digests.entry hash) ts))
-      (flat_map entry_bytes (entries hash v Ps)) (named_tree hash sized t full.0) (named_cut hash sized v P fit.0) e in
-      none_both hash (node_clash hash v t P) (children_clash hash v ts Ps) (CutOf hash P t)
-      (CutsOf hash (first P Ps) (t ∷ ts)) (cut_or_clash hash sized v t P full.0 fit.0 c.here) (λ one.
-      none_more hash (children_clash hash v ts Ps) (CutsOf hash Ps ts) (CutsOf hash (first P Ps) (t ∷ ts))
-      (cuts_or_clash hash sized v ts Ps full.1 fit.1 (omega arith) c.rest) (λ all. (t, ts, refl, one, all)))
+  pub cuts_or_clash : (s : Scheme) → ((m : List ℕ) → length (s.of m) ≡ 32) → (v : ℕ) (ts : List Tree)
+      (Ps : Cuts) → AllByRecursion IsFull ts → FitCuts v Ps → length ts ≡ length (entries s v Ps)
+      → flat_map entry_bytes (map (digests.entry s) ts) ≡ flat_map entry_bytes (entries s v Ps)
+      → NoneAnd s.of (children_clash s v ts Ps) (CutsOf s Ps ts)
+  cuts_or_clash s sized v ts no_more full fit long e = nil_from_length ts long
+  cuts_or_clash s sized v [] (first P Ps) full fit long e = absurd (omega arith)
+  cuts_or_clash s sized v (t ∷ ts) (first P Ps) full fit long e =
+      let c = entry_front (digests.entry s t) (entry s v P) (flat_map entry_bytes (map (digests.entry s) ts))
+      (flat_map entry_bytes (entries s v Ps)) (named_tree s sized t full.0) (named_cut s sized v P fit.0) e in
+      none_both s.of (node_clash s v t P) (children_clash s v ts Ps) (CutOf s P t)
+      (CutsOf s (first P Ps) (t ∷ ts)) (cut_or_clash s sized v t P full.0 fit.0 c.here) (λ one.
+      none_more s.of (children_clash s v ts Ps) (CutsOf s Ps ts) (CutsOf s (first P Ps) (t ∷ ts))
+      (cuts_or_clash s sized v ts Ps full.1 fit.1 (omega arith) c.rest) (λ all. (t, ts, refl, one, all)))

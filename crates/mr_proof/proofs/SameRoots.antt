@@ -1,8 +1,12 @@
--- Two roots with one preimage are of one batch, count, level, rectangle and digest.
+-- Two roots with one preimage are of one version, batch, count, level, rectangle and digest.
 use Rattle.std.proofs.Common.{◌≡◌, ℕ, ◌<◌, ◌≤◌, ◌^◌, List, ◌∷◌, ◌++◌, length, refl, sym, ◌∙◌, arith, append_assoc}
 use Rattle.std.specs.Int.{w64, to_be_bytes}
 use Rattle.std.proofs.lemmas.Bool.{ne_eqb}
-use Rattle.mr_tree.specs.Digest.{Entry, entry_bytes, rect_bytes, root_preimage, version, root_tag, empty_tag}
+use Rattle.mr_tree.specs.Digest.{entry_bytes, rect_bytes, root_preimage, root_tag, empty_tag}
+use Rattle.mr_tree.specs.declared.entry.Entry.{Entry}
+use Rattle.mr_record.specs.Version.{version_byte}
+use Rattle.mr_record.specs.declared.version.Version.{Version}
+use Rattle.mr_record.specs.declared.version.Version.TheVariants.{One}
 use Rattle.mr_proof.proofs.Full.{IsThere}
 use Rattle.mr_proof.proofs.Spellings.{fronts, cons_parts, same_word}
 use Rattle.mr_proof.proofs.SameNodes.{SameEntry, same_rect, rect_long}
@@ -11,18 +15,24 @@ use Rattle.mr_proof.proofs.SameNodes.{SameEntry, same_rect, rect_long}
 tail_of : ℕ → ℕ → Entry → List ℕ
 tail_of b c e = to_be_bytes w64 b ++ to_be_bytes w64 c ++ e.level ∷ entry_bytes e
 
-filled_root : (b c : ℕ) (e : Entry) → 1 ≤ c → root_preimage b c e ≡ root_tag ∷ version ∷ tail_of b c e
+filled_root : (v : Version) (b c : ℕ) (e : Entry) → 1 ≤ c
+    → root_preimage v b c e ≡ root_tag ∷ version_byte v ∷ tail_of b c e
 unfolding tail_of
-filled_root b c e some = rw (ne_eqb c 0 (λ z. omega arith)) refl
+filled_root v b c e some = rw (ne_eqb c 0 (λ z. omega arith)) refl
 
-pub record SameRoot (b c d k : ℕ) (e f : Entry) : Type 0 where
+pub record SameRoot (v w : Version) (b c d k : ℕ) (e f : Entry) : Type 0 where
+  pub version : v ≡ w
   pub batch : b ≡ d
   pub count : c ≡ k
   pub level : e.level ≡ f.level
   pub same : SameEntry e f
 
-behind_two : (l m v w : ℕ) (x y : List ℕ) → l ∷ v ∷ x ≡ m ∷ w ∷ y → x ≡ y
-behind_two l m v w x y e = cc
+-- of two versions with one byte
+same_version : (v w : Version) → version_byte v ≡ version_byte w → v ≡ w
+same_version One One e = refl
+
+behind_two : (l m v w : ℕ) (x y : List ℕ) → l ∷ v ∷ x ≡ m ∷ w ∷ y → (v ≡ w) × (x ≡ y)
+behind_two l m v w x y e = (cc, cc)
 
 record Parts (a b c d : List ℕ) (m n : ℕ) (x y : List ℕ) : Type 0 where
   batch : a ≡ b
@@ -40,15 +50,16 @@ parts a b c d m n x y p q e =
     let l = cons_parts m n x y g.rest in
     record { batch = f.front; count = g.front; level = l.0; rest = l.1 }
 
-tails : (b c d k : ℕ) (e f : Entry) → b < 2 ^ 64 → c < 2 ^ 64 → d < 2 ^ 64 → k < 2 ^ 64 → IsThere e.rect
-    → IsThere f.rect → tail_of b c e ≡ tail_of d k f → SameRoot b c d k e f
+tails : (v w : Version) (b c d k : ℕ) (e f : Entry) → v ≡ w → b < 2 ^ 64 → c < 2 ^ 64 → d < 2 ^ 64 → k < 2 ^ 64
+    → IsThere e.rect → IsThere f.rect → tail_of b c e ≡ tail_of d k f → SameRoot v w b c d k e f
 unfolding tail_of
-tails b c d k e f bl cl dl kl p q is =
+tails v w b c d k e f one bl cl dl kl p q is =
     let x = parts (to_be_bytes w64 b) (to_be_bytes w64 d) (to_be_bytes w64 c) (to_be_bytes w64 k) e.level f.level
     (entry_bytes e) (entry_bytes f) refl refl is in
     let y = fronts (rect_bytes e.rect) (rect_bytes f.rect) e.digest f.digest
     (rect_long e.rect p ∙ sym (rect_long f.rect q)) x.rest in
     record {
+      version = one;
       batch = same_word b d bl dl x.batch;
       count = same_word c k cl kl x.count;
       level = x.level;
@@ -56,20 +67,25 @@ tails b c d k e f bl cl dl kl p q is =
     }
 
 -- of maps with records
-pub same_root : (b c d k : ℕ) (e f : Entry) → b < 2 ^ 64 → c < 2 ^ 64 → d < 2 ^ 64 → k < 2 ^ 64 → 1 ≤ c → 1 ≤ k
-    → IsThere e.rect → IsThere f.rect → root_preimage b c e ≡ root_preimage d k f → SameRoot b c d k e f
-same_root b c d k e f bl cl dl kl some few p q is =
-    tails b c d k e f bl cl dl kl p q (behind_two root_tag root_tag version version (tail_of b c e) (tail_of d k f)
-    (sym (filled_root b c e some) ∙ is ∙ filled_root d k f few))
+pub same_root : (v w : Version) (b c d k : ℕ) (e f : Entry) → b < 2 ^ 64 → c < 2 ^ 64 → d < 2 ^ 64 → k < 2 ^ 64
+    → 1 ≤ c → 1 ≤ k → IsThere e.rect → IsThere f.rect → root_preimage v b c e ≡ root_preimage w d k f
+    → SameRoot v w b c d k e f
+same_root v w b c d k e f bl cl dl kl some few p q is =
+    let behind = behind_two root_tag root_tag (version_byte v) (version_byte w) (tail_of b c e) (tail_of d k f)
+    (sym (filled_root v b c e some) ∙ is ∙ filled_root w d k f few) in
+    tails v w b c d k e f (same_version v w behind.0) bl cl dl kl p q behind.1
 
 letters : (x y : List ℕ) → (0x45 ∷ x) ≡ (0x52 ∷ y) → ⊥
 letters x y e = let h = (cons_parts 0x45 0x52 x y e).0 in omega arith
 
 -- the empty map's root preimage is no other map's
-pub empty_filled : (b d k : ℕ) (e f : Entry) → 1 ≤ k → root_preimage b 0 e ≡ root_preimage d k f → ⊥
-empty_filled b d k e f some is =
-    letters (version ∷ to_be_bytes w64 b) (version ∷ tail_of d k f) (is ∙ filled_root d k f some)
+pub empty_filled : (v w : Version) (b d k : ℕ) (e f : Entry) → 1 ≤ k
+    → root_preimage v b 0 e ≡ root_preimage w d k f → ⊥
+empty_filled v w b d k e f some is =
+    letters (version_byte v ∷ to_be_bytes w64 b) (version_byte w ∷ tail_of d k f) (is ∙ filled_root w d k f some)
 
-pub same_empty : (b d : ℕ) (e f : Entry) → b < 2 ^ 64 → d < 2 ^ 64 → root_preimage b 0 e ≡ root_preimage d 0 f → b ≡ d
-same_empty b d e f p q is =
-    same_word b d p q (behind_two empty_tag empty_tag version version (to_be_bytes w64 b) (to_be_bytes w64 d) is)
+pub same_empty : (v w : Version) (b d : ℕ) (e f : Entry) → b < 2 ^ 64 → d < 2 ^ 64
+    → root_preimage v b 0 e ≡ root_preimage w d 0 f → b ≡ d
+same_empty v w b d e f p q is =
+    same_word b d p q (behind_two empty_tag empty_tag (version_byte v) (version_byte w) (to_be_bytes w64 b)
+    (to_be_bytes w64 d) is).1

@@ -1,5 +1,5 @@
 -- What is read without a fault is spelled so, byte by byte; and where notes are heeded, its cut is tight.
-use Rattle.std.proofs.Common.{◌≡◌, ◌⊎◌, ℕ, zero, suc, ◌+◌, ◌-◌, ◌<◌, ◌≤◌, ◌^◌, Bool, true, false, cond, eqb, List, [], ◌∷◌, ◌++◌, length, drop, Result, Ok, Err, Option, Some, None, refl, sym, ap, subst, ◌∙◌, inl, inr, arith}
+use Rattle.std.proofs.Common.{◌≡◌, ◌⊎◌, ℕ, zero, suc, ◌+◌, ◌-◌, ◌<◌, ◌≤◌, ◌^◌, Bool, true, false, cond, eqb, List, [], ◌∷◌, ◌++◌, length, Result, Ok, Err, Option, Some, None, refl, sym, ap, subst, ◌∙◌, inl, inr, arith}
 use Rattle.std.specs.Prelude.{if◌then◌else◌, ◌==◌, not, nat_lt, bytes_eq, ⊤, IfSome}
 use Rattle.std.specs.List.{flat_map, AllByRecursion}
 use Rattle.std.specs.Int.{w64, w128, to_be_bytes}
@@ -10,6 +10,7 @@ use Rattle.std.proofs.lemmas.List.Elements.{All-from_recursion}
 use Rattle.mr_geom.specs.Rectangle.{Rectangle, IsOrdered, FitsMap}
 use Rattle.mr_record.specs.Bytes.{AreBytes}
 use Rattle.mr_record.specs.Record.{IsRecord, record_bytes, rectangle_bytes}
+use Rattle.mr_record.specs.Version.{version_byte}
 use Rattle.mr_record.specs.declared.record.Record.{Record}
 use Rattle.mr_query.specs.Word.{IsAskable}
 use Rattle.mr_query.specs.declared.query.Query.{Query}
@@ -28,13 +29,13 @@ use Rattle.mr_proof.specs.Spelling.{cut_bytes, cuts_bytes, FitsShown, FitsLeaf, 
 use Rattle.mr_proof.specs.Tight.{Seen, seen_at, seen, met_by, asks, IsTightCut, AreTightCuts}
 use Rattle.mr_proof.specs.Accepted.{root_found, Proves}
 use Rattle.mr_proof.specs.Grammar.{must, opens, Grammar, done, reads, notes, number_in, wide_in, tag_in, rect_in, bytes_in, payload, one_record, some_records, opened, leaf, some_items, inner, pruned, item, radius, level, head, part, whole}
-use Rattle.mr_proof.specs.Layout.{fault, Stand, start, behind}
+use Rattle.mr_proof.specs.Layout.{fault, Stand, start}
 use Rattle.mr_proof.specs.Refused.{has_other_radius}
 use Rattle.mr_proof.specs.Reading.{past, walk, ending, checked, verdict}
 use Rattle.mr_record.proofs.Encodings.{IsBytes, AreBytes-from}
 use Rattle.mr_proof.proofs.Laws.{right_radius}
-use Rattle.mr_proof.proofs.Values.{same_bytes}
-use Rattle.mr_proof.proofs.FieldsTaken.{same_value, Took, took_none, took_both, took_as, Taken, behind_step, take_reads, passed, length_meant, level_meant, flag_meant, leaf_count_meant, inner_count_meant, number_meant, batch_meant, count_meant, radius_meant, rect_meant, payload_meant, digest_meant, tag_meant, magic_meant, version_meant, kind_meant}
+use Rattle.mr_proof.proofs.Values.{same_bytes, same_value, tail}
+use Rattle.mr_proof.proofs.FieldsTaken.{Took, took_none, took_both, took_as, Taken, behind_step, take_reads, length_meant, level_meant, flag_meant, leaf_count_meant, inner_count_meant, number_meant, batch_meant, count_meant, radius_meant, rect_meant, payload_meant, digest_meant, tag_meant, magic_meant, version_meant, kind_meant}
 
 -- ---- records
 
@@ -110,10 +111,6 @@ IsGood heeds region v P = FitsCut v P × (heeds ≡ true → IsTightCut region P
 
 abbrev pub AreGood : Bool → (Seen → Bool) → ℕ → ℕ → Cuts → Type 0
 AreGood heeds region v n Ps = (count_of Ps ≡ n) × FitCuts v Ps × (heeds ≡ true → AreTightCuts region Ps)
-
--- what stands behind the tag of an item
-abbrev tail : Cut → List ℕ
-tail P = drop 1 (cut_bytes P)
 
 -- a note was passed
 note_passed : {B : Type 0} (heeds : Bool) (broken : Rule) (b : Bool) (at : ℕ) (r : Result B Fault) (a : B)
@@ -367,17 +364,18 @@ take_radius heeds e kind.K next s a fits within is =
 take_opening : {A B : Type 0} (heeds : Bool) (e : A → Stand → Result B Fault) (k : Kind) (g : Grammar A) (s : Stand)
     (a : B) → IsBytes s.rest
     → walk heeds e (reads want.Magic (λ _. reads want.Version (λ _. reads (want.Kind k) (λ _. g)))) s ≡ Ok a
-    → (t : Stand) × Took (magic ++ version ∷ kind_byte k ∷ []) s t × (walk heeds e g t ≡ Ok a)
+    → (t : Stand) × Took (magic ++ version_byte version ∷ kind_byte k ∷ []) s t × (walk heeds e g t ≡ Ok a)
 take_opening heeds e k g s a fits is =
     let m = take_reads heeds e want.Magic (λ _. tt) (λ (_ : Unit {0}). magic) (λ _. ⊤) magic_meant
     (λ _. reads want.Version (λ _. reads (want.Kind k) (λ _. g))) s a fits is in
-    let v = take_reads heeds e want.Version (λ _. tt) (λ (_ : Unit {0}). version ∷ []) (λ _. ⊤) version_meant
+    let v = take_reads heeds e want.Version (λ _. tt) (λ (_ : Unit {0}). version_byte version ∷ []) (λ _. ⊤)
+    version_meant
     (λ _. reads (want.Kind k) (λ _. g)) m.end a m.took.fits m.rest in
     let b = take_reads heeds e (want.Kind k) (λ _. tt) (λ (_ : Unit {0}). kind_byte k ∷ []) (λ _. ⊤) (kind_meant k)
     (λ _. g) v.end a v.took.fits v.rest in (
       b.end,
-      took_both magic (version ∷ kind_byte k ∷ []) s m.end b.end m.took
-          (took_both (version ∷ []) (kind_byte k ∷ []) m.end v.end b.end v.took b.took),
+      took_both magic (version_byte version ∷ kind_byte k ∷ []) s m.end b.end m.took
+          (took_both (version_byte version ∷ []) (kind_byte k ∷ []) m.end v.end b.end v.took b.took),
       b.rest,
     )
 
@@ -409,7 +407,7 @@ take_head heeds e k next s a fits is =
       value = record { kind = k; batch = b.value; count = c.value; radius = r.value; level = l.value };
       end = l.end;
       good = (refl, record { batch = b.good; count = c.good; radius = r.good; level = l.good.0; empty = l.good.1 });
-      took = took_both (magic ++ version ∷ kind_byte k ∷ [])
+      took = took_both (magic ++ version_byte version ∷ kind_byte k ∷ [])
           (to_be_bytes w64 b.value ++ (to_be_bytes w64 c.value ++
           (radius_bytes k r.value ++ level_bytes c.value l.value))) s o.0 l.end o.1 behind_kind;
       rest = l.rest;

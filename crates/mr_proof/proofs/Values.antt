@@ -1,7 +1,13 @@
--- Single bytes, and byte strings that are equal.
-use Rattle.std.proofs.Common.{◌≡◌, ℕ, true, List, [], ◌∷◌, length, refl, arith}
+-- Single bytes, byte strings that are equal, and how long words are; values and faults of results.
+use Rattle.std.proofs.Common.{◌≡◌, ℕ, true, List, [], ◌∷◌, length, drop, Result, Ok, Err, refl, arith}
 use Rattle.std.specs.Prelude.{slice_index, bytes_eq}
+use Rattle.std.specs.Int.{w64, w128, to_be_bytes}
 use Rattle.std.proofs.lemmas.Slice.Eq.{bytes_eq-Decides}
+use Rattle.mr_geom.specs.Rectangle.{Rectangle}
+use Rattle.mr_record.specs.Record.{rectangle_bytes}
+use Rattle.mr_proof.specs.declared.rule.Fault.{Fault}
+use Rattle.mr_proof.specs.Cut.{Cut}
+use Rattle.mr_proof.specs.Spelling.{cut_bytes}
 
 -- a single byte
 pub single : (raw : List ℕ) → length raw ≡ 1 → raw ≡ slice_index raw 0 ∷ []
@@ -14,3 +20,31 @@ same_bytes xs ys t = (bytes_eq-Decides xs ys).0 t
 
 pub bytes_same : (xs ys : List ℕ) → xs ≡ ys → bytes_eq xs ys ≡ true
 bytes_same xs ys e = (bytes_eq-Decides xs ys).1 e
+
+pub word_long : (n : ℕ) → length (to_be_bytes w64 n) ≡ 8
+word_long n = refl
+
+pub wide_long : (n : ℕ) → length (to_be_bytes w128 n) ≡ 16
+wide_long n = refl
+
+pub rectangle_long : (r : Rectangle) → length (rectangle_bytes r) ≡ 16
+unfolding rectangle_bytes
+rectangle_long r = refl
+
+-- what stands behind the tag of an item
+abbrev pub tail : Cut → List ℕ
+tail P = drop 1 (cut_bytes P)
+
+-- ---- results
+
+abbrev ok : {A : Type 0} → A → Result A Fault
+ok x = Ok x
+
+pub same_value : {A : Type 0} (x y : A) → ok x ≡ ok y → x ≡ y
+same_value x y e = cc
+
+abbrev pub failed : {A : Type 0} → Fault → Result A Fault
+failed f = Err f
+
+pub same_fault : {A : Type 0} (f g : Fault) → failed {A = A} f ≡ failed g → f ≡ g
+same_fault f g e = cc

@@ -1,20 +1,21 @@
 -- The accepting half: when the bytes of a proof prove an answer, against a root digest.
 use Rattle.std.specs.Prelude.{◌≡◌, ℕ, List, [], Option, Some, None}
 use Rattle.mr_record.specs.declared.record.Record.{Record}
-use Rattle.mr_tree.specs.Digest.{root_preimage}
+use Rattle.mr_tree.specs.Digest.{by, root_preimage}
 use Rattle.mr_proof.specs.declared.head.Head.{Head}
 use Rattle.mr_proof.specs.Cut.{Cut, rect, digest}
-use Rattle.mr_proof.specs.Spelling.{opened_records, IsSpelled}
+use Rattle.mr_proof.specs.Spelling.{version_of, opened_records, IsSpelled}
 use Rattle.mr_proof.specs.Tight.{Asks, IsTight}
 
 -- The bytes that the root digest is of, of the map of which a proof with this head and cut is: by
--- the head's batch, count and level, and the rectangle and digest of the cut. Without a cut the map
--- is empty.
+-- the head's version, batch, count and level, and the rectangle and digest of the cut. Without a
+-- cut the map is empty.
 abbrev pub root_bytes : (List ℕ → List ℕ) → Head → Option Cut → List ℕ
-root_bytes hash h None = root_preimage h.batch 0 (record { level = 0; rect = None; digest = [] })
+root_bytes hash h None =
+    root_preimage (version_of h) h.batch 0 (record { level = 0; rect = None; digest = [] })
 root_bytes hash h (Some P) =
-    root_preimage h.batch h.count (record
-    { level = h.level; rect = rect P; digest = digest hash h.level P })
+    root_preimage (version_of h) h.batch h.count (record
+    { level = h.level; rect = rect P; digest = digest (by (version_of h) hash) h.level P })
 
 -- the root digest of that map
 abbrev pub root_found : (List ℕ → List ℕ) → Head → Option Cut → List ℕ

@@ -1,6 +1,7 @@
 -- The first two strings, of the owner and of a proof, that stand at one place and differ.
 use Rattle.std.specs.Prelude.{◌≡◌, ◌≢◌, ℕ, ◌-◌, if◌then◌else◌, List, [], ◌∷◌, Option, Some, None, bytes_eq}
 use Rattle.mr_tree.specs.Digest as digests
+use Rattle.mr_tree.specs.Digest.{Scheme}
 use Rattle.mr_tree.specs.declared.tree.Tree.{Tree}
 use Rattle.mr_tree.specs.declared.tree.Tree.TheOpen as node
 use Rattle.mr_tree.specs.declared.tree.Tree.TheOpen.{Tree-F}
@@ -37,29 +38,29 @@ children t = children_in (out-Tree t)
 abbrev mutual
   -- Of a tree and a cut of this level, by the preimages of their nodes: a node before its children,
   -- and children from left to right. What is pruned is left out.
-  pub node_clash : (List ℕ → List ℕ) → (level : ℕ) → Tree → Cut → Option Pair
-  node_clash hash level t (Pruned part) = None
-  node_clash hash level t (Leaf records) =
-      differ (digests.preimage hash t) (preimage hash level (Leaf records))
-  node_clash hash level t (Inner cuts) = or_else
-      (differ (digests.preimage hash t) (preimage hash level (Inner cuts)))
-      (children_clash hash (level - 1) (children t) cuts)
+  pub node_clash : Scheme → (level : ℕ) → Tree → Cut → Option Pair
+  node_clash s level t (Pruned part) = None
+  node_clash s level t (Leaf records) =
+      differ (digests.preimage s t) (preimage s level (Leaf records))
+  node_clash s level t (Inner cuts) = or_else
+      (differ (digests.preimage s t) (preimage s level (Inner cuts)))
+      (children_clash s (level - 1) (children t) cuts)
 
-  pub children_clash : (List ℕ → List ℕ) → (level : ℕ) → List Tree → Cuts → Option Pair
-  children_clash hash level ts no_more = None
-  children_clash hash level [] (first P Ps) = None
-  children_clash hash level (t ∷ ts) (first P Ps) =
-      or_else (node_clash hash level t P) (children_clash hash level ts Ps)
+  pub children_clash : Scheme → (level : ℕ) → List Tree → Cuts → Option Pair
+  children_clash s level ts no_more = None
+  children_clash s level [] (first P Ps) = None
+  children_clash s level (t ∷ ts) (first P Ps) =
+      or_else (node_clash s level t P) (children_clash s level ts Ps)
 
-abbrev pub part_clash : (List ℕ → List ℕ) → (level : ℕ) → Tree → Option Cut → Option Pair
-part_clash hash level t None = None
-part_clash hash level t (Some P) = node_clash hash level t P
+abbrev pub part_clash : Scheme → (level : ℕ) → Tree → Option Cut → Option Pair
+part_clash s level t None = None
+part_clash s level t (Some P) = node_clash s level t P
 
 -- of the map with this tree at this batch, and a head and a cut: the roots before the nodes
-abbrev pub pair_clash : (List ℕ → List ℕ) → Tree → (batch : ℕ) → Said → Option Pair
-pair_clash hash t batch x = or_else
-    (differ (digests.root_bytes hash t batch) (Some (root_bytes hash x.head x.part)))
-    (part_clash hash x.head.level t x.part)
+abbrev pub pair_clash : Scheme → Tree → (batch : ℕ) → Said → Option Pair
+pair_clash s t batch x = or_else
+    (differ (digests.root_bytes s t batch) (Some (root_bytes s.of x.head x.part)))
+    (part_clash s x.head.level t x.part)
 
 abbrev pub if_said : Option Said → (Said → Option Pair) → Option Pair
 if_said None f = None
@@ -67,8 +68,8 @@ if_said (Some x) f = f x
 
 -- of the map and the head and cut that the bytes spell, for a query of whatever kind; bytes that
 -- spell none show no string
-abbrev pub clash : (List ℕ → List ℕ) → Tree → (batch : ℕ) → List ℕ → Option Pair
-clash hash t batch bytes = if_said (pair_in bytes) (pair_clash hash t batch)
+abbrev pub clash : Scheme → Tree → (batch : ℕ) → List ℕ → Option Pair
+clash s t batch bytes = if_said (pair_in bytes) (pair_clash s t batch)
 
 -- two strings that differ and have one hash
 pub record IsCollision (hash : List ℕ → List ℕ) (p : Pair) : Type 0 where

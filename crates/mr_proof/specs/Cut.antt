@@ -1,11 +1,12 @@
 -- A cut of a tree: some nodes of it opened, the other parts pruned.
-use Rattle.std.specs.Prelude.{◌≡◌, ℕ, ◌+◌, ◌-◌, List, [], ◌∷◌, ◌++◌, Option, Some, None}
+use Rattle.std.specs.Prelude.{◌≡◌, ℕ, ◌+◌, ◌-◌, List, [], ◌∷◌, ◌++◌, Option, Some, None, option_map}
 use Rattle.mr_geom.specs.Rectangle.{Rectangle}
 use Rattle.mr_record.specs.declared.record.Record.{Record}
 use Rattle.mr_tree.specs.Tree.{union_of, rect_step}
 use Rattle.mr_tree.specs.Tree as tree
-use Rattle.mr_tree.specs.Digest.{Entry, entry_step, node_preimage}
+use Rattle.mr_tree.specs.Digest.{Scheme, entry_step, node_preimage}
 use Rattle.mr_tree.specs.Digest as digests
+use Rattle.mr_tree.specs.declared.entry.Entry.{Entry}
 use Rattle.mr_tree.specs.declared.tree.Tree.{Tree}
 use Rattle.mr_tree.specs.declared.tree.Tree.TheVariants as trees
 use Rattle.mr_tree.specs.declared.tree.Tree.TheOpen as node
@@ -22,6 +23,30 @@ mutual
   pub data Cuts : Type 0 where
     no_more : Cuts
     first : Cut → Cuts → Cuts
+
+-- ---- what is shown of a pruned part: what its parent's entry shows of it
+
+abbrev pub shown_with : Entry → Rectangle → Shown
+shown_with e r = record { rect = r; digest = e.digest }
+
+-- the entry of the empty tree, of which there is no cut, has no rectangle and shows nothing
+abbrev pub shown_of : Entry → Option Shown
+shown_of e = option_map (shown_with e) e.rect
+
+-- the entry of a part of this level, by what is shown of it
+abbrev pub entry_shown : (level : ℕ) → Shown → Entry
+entry_shown level part = record
+    { level = level; rect = Some part.rect; digest = part.digest }
+
+abbrev pub pruned_if : Option Shown → Cut
+pruned_if None = Leaf []
+pruned_if (Some part) = Pruned part
+
+-- the part with this entry, pruned
+abbrev pub pruned_cut : Entry → Cut
+pruned_cut e = pruned_if (shown_of e)
+
+-- ---- cuts side by side
 
 abbrev pub cuts_of : List Cut → Cuts
 cuts_of [] = no_more
@@ -46,25 +71,24 @@ abbrev mutual
 
 abbrev mutual
   -- what the parent of the tree, a tree of this level, knows of it
-  pub entry : (List ℕ → List ℕ) → ℕ → Cut → Entry
-  entry hash level (Pruned part) = record
-      { level = level; rect = Some part.rect; digest = part.digest }
-  entry hash level (Leaf records) = entry_step hash (node.Leaf records)
-  entry hash level (Inner cuts) = entry_step hash (node.Inner (entries hash (level - 1) cuts))
+  pub entry : Scheme → ℕ → Cut → Entry
+  entry s level (Pruned part) = entry_shown level part
+  entry s level (Leaf records) = entry_step s (node.Leaf records)
+  entry s level (Inner cuts) = entry_step s (node.Inner (entries s (level - 1) cuts))
 
-  pub entries : (List ℕ → List ℕ) → ℕ → Cuts → List Entry
-  entries hash level no_more = []
-  entries hash level (first P Ps) = entry hash level P ∷ entries hash level Ps
+  pub entries : Scheme → ℕ → Cuts → List Entry
+  entries s level no_more = []
+  entries s level (first P Ps) = entry s level P ∷ entries s level Ps
 
 -- the digest of the tree, a tree of this level
-abbrev pub digest : (List ℕ → List ℕ) → ℕ → Cut → List ℕ
-digest hash level P = (entry hash level P).digest
+abbrev pub digest : Scheme → ℕ → Cut → List ℕ
+digest s level P = (entry s level P).digest
 
 -- the bytes that the digest of an opened node is of; of a pruned part they are not known
-abbrev pub preimage : (List ℕ → List ℕ) → ℕ → Cut → Option (List ℕ)
-preimage hash level (Pruned part) = None
-preimage hash level (Leaf records) = Some (node_preimage (node.Leaf records))
-preimage hash level (Inner cuts) = Some (node_preimage (node.Inner (entries hash (level - 1) cuts)))
+abbrev pub preimage : Scheme → ℕ → Cut → Option (List ℕ)
+preimage s level (Pruned part) = None
+preimage s level (Leaf records) = Some (node_preimage (node.Leaf records))
+preimage s level (Inner cuts) = Some (node_preimage (node.Inner (entries s (level - 1) cuts)))
 
 abbrev mutual
   -- the opened records, left to right
@@ -92,14 +116,14 @@ abbrev mutual
 
 abbrev mutual
   -- this is a cut of that tree
-  pub CutOf : (List ℕ → List ℕ) → Cut → Tree → Type 0
-  CutOf hash (Pruned part) t = (Some part.rect ≡ tree.rect t)
-      × (part.digest ≡ digests.digest hash t)
-  CutOf hash (Leaf records) t = t ≡ trees.Leaf records
-  CutOf hash (Inner cuts) t = (children : List Tree) × (t ≡ trees.Inner children)
-      × CutsOf hash cuts children
+  pub CutOf : Scheme → Cut → Tree → Type 0
+  CutOf s (Pruned part) t = (Some part.rect ≡ tree.rect t)
+      × (part.digest ≡ digests.digest s t)
+  CutOf s (Leaf records) t = t ≡ trees.Leaf records
+  CutOf s (Inner cuts) t = (children : List Tree) × (t ≡ trees.Inner children)
+      × CutsOf s cuts children
 
-  pub CutsOf : (List ℕ → List ℕ) → Cuts → List Tree → Type 0
-  CutsOf hash no_more ts = ts ≡ []
-  CutsOf hash (first P Ps) ts =
-      (t : Tree) × (others : List Tree) × (ts ≡ t ∷ others) × CutOf hash P t × CutsOf hash Ps others
+  pub CutsOf : Scheme → Cuts → List Tree → Type 0
+  CutsOf s no_more ts = ts ≡ []
+  CutsOf s (first P Ps) ts =
+      (t : Tree) × (others : List Tree) × (ts ≡ t ∷ others) × CutOf s P t × CutsOf s Ps others

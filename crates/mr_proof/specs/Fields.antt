@@ -1,9 +1,13 @@
 -- The fields of a proof, each by itself: its size, and the value of its bytes or the rule that they
 -- break.
-use Rattle.std.specs.Prelude.{◌≡◌, ◌⊎◌, ℕ, ◌≤◌, ⊤, Bool, true, ◌==◌, ◌&&◌, ◌||◌, nat_le, if◌then◌else◌, List, [], ◌∷◌, length, slice_index, bytes_eq, Result, Ok, Err}
-use Rattle.std.specs.Int.{w64, w128, from_be_bytes}
-use Rattle.mr_geom.specs.Rectangle.{Rectangle, in_order}
-use Rattle.mr_record.specs.Record.{sides_of}
+use Rattle.std.specs.Prelude.{◌≡◌, ◌⊎◌, ℕ, ◌<◌, ◌≤◌, ◌^◌, ⊤, Bool, true, ◌==◌, ◌&&◌, ◌||◌, nat_le, if◌then◌else◌, List, [], ◌∷◌, length, slice_index, bytes_eq, Result, Ok, Err, pos}
+use Rattle.std.specs.Int.{w64, w128, from_be_bytes, to_be_bytes}
+use Rattle.mr_geom.specs.Rectangle.{Rectangle, FitsMap, in_order}
+use Rattle.mr_record.specs.Bytes.{AreBytes}
+use Rattle.mr_record.specs.Record.{sides_of, rectangle_bytes}
+use Rattle.mr_record.specs.Version.{version_byte}
+use Rattle.mr_record.specs.declared.version.Version.{Version}
+use Rattle.mr_record.specs.declared.version.Version.TheVariants.{One}
 use Rattle.mr_proof.specs.Limits.{count_limit, radius_limit, level_limit, leaf_limit, inner_limit, payload_limit}
 use Rattle.mr_proof.specs.declared.head.Kind.{Kind}
 use Rattle.mr_proof.specs.declared.head.Kind.TheVariants as kind
@@ -46,9 +50,9 @@ only_if good value broken = if good then Ok value else Err broken
 abbrev pub magic : List ℕ
 magic = 77 ∷ 82 ∷ 86 ∷ 79 ∷ []
 
--- the version of proofs
-abbrev pub version : ℕ
-version = 1
+-- the version of proofs, so far the only one
+abbrev pub version : Version
+version = One
 
 -- `W` or `K`
 abbrev pub kind_byte : Kind → ℕ
@@ -81,7 +85,8 @@ rectangle_field r = only_if (in_order r) (field.Rect r) rule.BadRect
 -- the value of a field's bytes, else the rule that they break
 unfoldable pub field_of : Want → List ℕ → Result Field Rule
 field_of want.Magic bytes = only_if (bytes_eq bytes magic) field.Plain rule.BadMagic
-field_of want.Version bytes = only_if (slice_index bytes 0 == version) field.Plain rule.BadVersion
+field_of want.Version bytes =
+    only_if (slice_index bytes 0 == version_byte version) field.Plain rule.BadVersion
 field_of (want.Kind k) bytes =
     only_if (slice_index bytes 0 == kind_byte k) field.Plain rule.WrongKind
 field_of want.Batch bytes = Ok (field.Num (from_be_bytes w64 bytes))
@@ -107,7 +112,63 @@ field_of want.Length bytes =
 field_of (want.Payload n) bytes = Ok (field.Payload bytes)
 field_of want.Digest bytes = Ok (field.Digest bytes)
 
+-- ---- what a field holds, where it is one of this form
+
+abbrev pub number_in : Field → ℕ
+number_in (field.Num n) = n
+number_in _ = 0
+
+abbrev pub wide_in : Field → ℕ
+wide_in (field.Wide n) = n
+wide_in _ = 0
+
+abbrev pub tag_in : Field → ℕ
+tag_in (field.Tag b) = b
+tag_in _ = 0
+
+abbrev pub nowhere : Rectangle
+nowhere = record { x0 = pos 0; y0 = pos 0; x1 = pos 0; y1 = pos 0 }
+
+abbrev pub rect_in : Field → Rectangle
+rect_in (field.Rect r) = r
+rect_in _ = nowhere
+
+abbrev pub bytes_in : Field → List ℕ
+bytes_in (field.Payload bytes) = bytes
+bytes_in (field.Digest bytes) = bytes
+bytes_in _ = []
+
+-- ---- the bytes of a field with this value
+
+unfoldable pub field_bytes : Want → Field → List ℕ
+field_bytes want.Magic f = magic
+field_bytes want.Version f = version_byte version ∷ []
+field_bytes (want.Kind k) f = kind_byte k ∷ []
+field_bytes want.Batch f = to_be_bytes w64 (number_in f)
+field_bytes want.Count f = to_be_bytes w64 (number_in f)
+field_bytes want.Flag f = number_in f ∷ []
+field_bytes want.Radius f = to_be_bytes w128 (wide_in f)
+field_bytes want.Level f = number_in f ∷ []
+field_bytes (want.Tag level) f = tag_in f ∷ []
+field_bytes want.LeafCount f = number_in f ∷ []
+field_bytes want.InnerCount f = number_in f ∷ []
+field_bytes want.Number f = to_be_bytes w64 (number_in f)
+field_bytes want.Rect f = rectangle_bytes (rect_in f)
+field_bytes want.Length f = number_in f ∷ []
+field_bytes (want.Payload n) f = bytes_in f
+field_bytes want.Digest f = bytes_in f
+
 -- ---- which values there are
+
+-- the value is one of its type
+abbrev pub IsField : Field → Type 0
+IsField field.Plain = ⊤
+IsField (field.Num n) = n < 2 ^ 64
+IsField (field.Wide n) = n < 2 ^ 128
+IsField (field.Tag b) = b < 2 ^ 8
+IsField (field.Rect r) = FitsMap r
+IsField (field.Payload bytes) = AreBytes bytes
+IsField (field.Digest bytes) = AreBytes bytes
 
 -- a number with this fact
 abbrev pub NumberWith : (ℕ → Type 0) → Field → Type 0

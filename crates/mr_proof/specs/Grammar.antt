@@ -1,6 +1,5 @@
 -- Which field comes next in a proof, by the fields before it, and what is noted between them.
-use Rattle.std.specs.Prelude.{ℕ, zero, suc, Bool, not, ◌==◌, if◌then◌else◌, List, [], ◌∷◌, Option, Some, None, pos}
-use Rattle.mr_geom.specs.Rectangle.{Rectangle}
+use Rattle.std.specs.Prelude.{ℕ, zero, suc, Bool, not, ◌==◌, if◌then◌else◌, List, [], ◌∷◌, Option, Some, None}
 use Rattle.mr_record.specs.declared.record.Record.{Record}
 use Rattle.mr_proof.specs.declared.head.Kind.{Kind}
 use Rattle.mr_proof.specs.declared.head.Kind.TheVariants as kind
@@ -10,8 +9,8 @@ use Rattle.mr_proof.specs.declared.rule.Rule.TheVariants as rule
 use Rattle.mr_proof.specs.declared.want.Want.{Want}
 use Rattle.mr_proof.specs.declared.want.Want.TheVariants as want
 use Rattle.mr_proof.specs.declared.field.Field.{Field}
-use Rattle.mr_proof.specs.declared.field.Field.TheVariants as field
 use Rattle.mr_proof.specs.Fields.{pruned_tag}
+pub use Rattle.mr_proof.specs.Fields.{number_in, wide_in, tag_in, rect_in, bytes_in}
 use Rattle.mr_proof.specs.Cut.{Cut, Cuts, Pruned, Leaf, Inner, no_more, first}
 use Rattle.mr_proof.specs.Spelling.{Said, said}
 use Rattle.mr_proof.specs.Tight.{Seen, seen_at, seen, met_by}
@@ -28,32 +27,6 @@ pub data Grammar (A : Type 0) : Type 0 where
   done : A → Grammar A
   reads : Want → (Field → Grammar A) → Grammar A
   notes : Note → Grammar A → Grammar A
-
--- ---- what a field holds, where it is one of this form
-
-abbrev pub number_in : Field → ℕ
-number_in (field.Num n) = n
-number_in _ = 0
-
-abbrev pub wide_in : Field → ℕ
-wide_in (field.Wide n) = n
-wide_in _ = 0
-
-abbrev pub tag_in : Field → ℕ
-tag_in (field.Tag b) = b
-tag_in _ = 0
-
-abbrev pub nowhere : Rectangle
-nowhere = record { x0 = pos 0; y0 = pos 0; x1 = pos 0; y1 = pos 0 }
-
-abbrev pub rect_in : Field → Rectangle
-rect_in (field.Rect r) = r
-rect_in _ = nowhere
-
-abbrev pub bytes_in : Field → List ℕ
-bytes_in (field.Payload bytes) = bytes
-bytes_in (field.Digest bytes) = bytes
-bytes_in _ = []
 
 -- ---- records and items, and what follows them
 

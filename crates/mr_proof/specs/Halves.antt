@@ -2,7 +2,7 @@
 use Rattle.std.specs.Prelude.{◌≡◌, ◌⊎◌, ◌↔◌, ℕ, ◌^◌, ◌<◌, List, ◌++◌, length, ⊤, Option, Some, IfSome, Ok, Err}
 use Rattle.mr_record.specs.declared.record.Record.{Record}
 use Rattle.mr_tree.specs.Tree.{records}
-use Rattle.mr_tree.specs.Digest.{root}
+use Rattle.mr_tree.specs.Digest.{Scheme, root}
 use Rattle.mr_tree.specs.WellFormed.{WellFormed}
 use Rattle.mr_tree.specs.declared.tree.Tree.{Tree}
 use Rattle.mr_query.specs.declared.query.Query.{Query}
@@ -64,18 +64,18 @@ StaysRefused hash root q bytes =
 -- ---- the honest proof
 
 -- the honest proof of every map is accepted, with the answer of a scan of the map's records
-abbrev pub AcceptsHonest : (List ℕ → List ℕ) → Query → Type 0
-AcceptsHonest hash q =
+abbrev pub AcceptsHonest : Scheme → Query → Type 0
+AcceptsHonest s q =
     (t : Tree) (batch : ℕ) → WellFormed t → batch < 2 ^ 64
-    → verdict hash (root hash t batch) q (proof hash t batch q) ≡ Ok (scan (records t) q)
+    → verdict s.of (root s t batch) q (proof s t batch q) ≡ Ok (scan (records t) q)
 
 -- it spells its head and its cut, which is a tight cut of the tree, with the map's root digest; and
 -- it is short
-pub record IsHonestProof (hash : List ℕ → List ℕ) (t : Tree) (batch : ℕ) (q : Query) : Type 0 where
-  pub spelled : IsSpelled (honest_head (asks q) t batch) (honest_part hash (asks q) t)
-      (proof hash t batch q)
-  pub tight : IsTight (asks q) (honest_head (asks q) t batch) (honest_part hash (asks q) t)
-  pub cut : IfSome (honest_part hash (asks q) t) (λ P. CutOf hash P t)
-  pub held : root_found hash (honest_head (asks q) t batch) (honest_part hash (asks q) t) ≡ root
-      hash t batch
-  pub short : length (proof hash t batch q) < 2 ^ 30
+pub record IsHonestProof (s : Scheme) (t : Tree) (batch : ℕ) (q : Query) : Type 0 where
+  pub spelled : IsSpelled (honest_head (asks q) t batch) (honest_part s (asks q) t)
+      (proof s t batch q)
+  pub tight : IsTight (asks q) (honest_head (asks q) t batch) (honest_part s (asks q) t)
+  pub cut : IfSome (honest_part s (asks q) t) (λ P. CutOf s P t)
+  pub held : root_found s.of (honest_head (asks q) t batch) (honest_part s (asks q) t) ≡ root
+      s t batch
+  pub short : length (proof s t batch q) < 2 ^ 30

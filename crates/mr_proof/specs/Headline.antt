@@ -3,7 +3,7 @@
 use Rattle.std.specs.Prelude.{◌≡◌, ◌≢◌, ◌⊎◌, ℕ, ◌^◌, ◌<◌, List, Some, None, Ok, Err}
 use Rattle.mr_record.specs.declared.record.Record.{Record}
 use Rattle.mr_tree.specs.Tree.{records}
-use Rattle.mr_tree.specs.Digest.{root}
+use Rattle.mr_tree.specs.Digest.{Scheme, root}
 use Rattle.mr_tree.specs.WellFormed.{WellFormed}
 use Rattle.mr_tree.specs.declared.tree.Tree.{Tree}
 use Rattle.mr_query.specs.declared.query.Query.{Query}
@@ -16,41 +16,41 @@ use Rattle.mr_proof.specs.Reading.{verdict}
 use Rattle.mr_proof.specs.Clash.{Pair, clash, IsCollision, NoneAnd}
 
 -- the answer is the whole of it, and the bytes are those that an honest server sends
-pub record IsHonest (hash : List ℕ → List ℕ) (t : Tree) (batch : ℕ) (q : Query)
+pub record IsHonest (s : Scheme) (t : Tree) (batch : ℕ) (q : Query)
     (bytes : List ℕ) (answer : List Record) : Type 0 where
   pub complete : answer ≡ scan (records t) q
-  pub own : bytes ≡ proof hash t batch q
+  pub own : bytes ≡ proof s t batch q
 
 -- No two strings stand at one place and differ, and all is honest; or the first two that do are a
 -- collision.
-abbrev pub IsHonestOrCollides : (List ℕ → List ℕ) → Tree → (batch : ℕ) → Query → List ℕ
+abbrev pub IsHonestOrCollides : Scheme → Tree → (batch : ℕ) → Query → List ℕ
     → List Record → Type 0
-IsHonestOrCollides hash t batch q bytes answer =
-    NoneAnd hash (clash hash t batch bytes) (IsHonest hash t batch q bytes answer)
+IsHonestOrCollides s t batch q bytes answer =
+    NoneAnd s.of (clash s t batch bytes) (IsHonest s t batch q bytes answer)
 
 -- What bytes are worth that prove an answer against the root digest of a map, whatever the map.
-abbrev pub Headline : (List ℕ → List ℕ) → Query → List ℕ → Type 0
-Headline hash q bytes =
+abbrev pub Headline : Scheme → Query → List ℕ → Type 0
+Headline s q bytes =
     (t : Tree) (batch : ℕ) (answer : List Record) → WellFormed t → batch < 2 ^ 64
-    → Proves hash (root hash t batch) (asks q) bytes answer
-    → IsHonestOrCollides hash t batch q bytes answer
+    → Proves s.of (root s t batch) (asks q) bytes answer
+    → IsHonestOrCollides s t batch q bytes answer
 
 -- The same by the verdict: what an accepted proof is worth.
-abbrev pub AcceptedIsHonest : (List ℕ → List ℕ) → Query → List ℕ → Type 0
-AcceptedIsHonest hash q bytes =
+abbrev pub AcceptedIsHonest : Scheme → Query → List ℕ → Type 0
+AcceptedIsHonest s q bytes =
     (t : Tree) (batch : ℕ) (answer : List Record) → WellFormed t → batch < 2 ^ 64
-    → verdict hash (root hash t batch) q bytes ≡ Ok answer
-    → IsHonestOrCollides hash t batch q bytes answer
+    → verdict s.of (root s t batch) q bytes ≡ Ok answer
+    → IsHonestOrCollides s t batch q bytes answer
 
 -- Bytes other than the honest proof are refused, or show a collision.
-abbrev pub OthersFail : (List ℕ → List ℕ) → Query → List ℕ → Type 0
-OthersFail hash q bytes =
-    (t : Tree) (batch : ℕ) → WellFormed t → batch < 2 ^ 64 → bytes ≢ proof hash t batch q
-    → ((f : Fault) × (verdict hash (root hash t batch) q bytes ≡ Err f))
-    ⊎ ((p : Pair) × (clash hash t batch bytes ≡ Some p) × IsCollision hash p)
+abbrev pub OthersFail : Scheme → Query → List ℕ → Type 0
+OthersFail s q bytes =
+    (t : Tree) (batch : ℕ) → WellFormed t → batch < 2 ^ 64 → bytes ≢ proof s t batch q
+    → ((f : Fault) × (verdict s.of (root s t batch) q bytes ≡ Err f))
+    ⊎ ((p : Pair) × (clash s t batch bytes ≡ Some p) × IsCollision s.of p)
 
 -- The honest proof shows no pair.
-abbrev pub HonestIsQuiet : (List ℕ → List ℕ) → Query → Type 0
-HonestIsQuiet hash q =
+abbrev pub HonestIsQuiet : Scheme → Query → Type 0
+HonestIsQuiet s q =
     (t : Tree) (batch : ℕ) → WellFormed t → batch < 2 ^ 64
-    → clash hash t batch (proof hash t batch q) ≡ None
+    → clash s t batch (proof s t batch q) ≡ None

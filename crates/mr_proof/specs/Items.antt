@@ -1,22 +1,22 @@
 -- The items of a proof one by one: the bytes of a cut are those of its items.
 use Rattle.std.specs.Prelude.{◌≡◌, ℕ, ◌≤◌, ⊤, List, [], ◌∷◌, length}
-use Rattle.mr_tree.specs.View.{level_of, records_in}
+use Rattle.mr_tree.specs.View.{level_of, records_in, entry_of}
 use Rattle.mr_proof.specs.declared.item.Item.{Item}
 use Rattle.mr_proof.specs.declared.item.Item.TheVariants as item
 use Rattle.mr_proof.specs.Limits.{leaf_limit, inner_limit}
 use Rattle.mr_proof.specs.Fields.{inner_tag}
-use Rattle.mr_proof.specs.Cut.{Pruned, Leaf}
+use Rattle.mr_proof.specs.Cut.{Leaf, pruned_cut}
 use Rattle.mr_proof.specs.Spelling.{cut_bytes}
 
 -- a pruned part and a leaf whole; of an inner node the tag and the number of its children
 abbrev pub item_bytes : Item → List ℕ
-item_bytes (item.Pruned rect digest) = cut_bytes (Pruned (record { rect = rect; digest = digest }))
+item_bytes (item.Pruned child) = cut_bytes (pruned_cut (entry_of child.now))
 item_bytes (item.Leaf view) = cut_bytes (Leaf (records_in view.now))
 item_bytes (item.Inner count) = inner_tag ∷ count ∷ []
 
 -- a leaf is one, with 1 to 16 records; an inner node has 1 to 64 children
 abbrev pub FitsItem : Item → Type 0
-FitsItem (item.Pruned rect digest) = ⊤
+FitsItem (item.Pruned child) = ⊤
 FitsItem (item.Leaf view) = (level_of view.now ≡ 0) × (1 ≤ length (records_in view.now)) ×
     (length (records_in view.now) ≤ leaf_limit)
 FitsItem (item.Inner count) = (1 ≤ count) × (count ≤ inner_limit)

@@ -8,7 +8,7 @@ use Rattle.mr_proof.specs.declared.rule.Rule.TheVariants as rule
 use Rattle.mr_proof.specs.declared.rule.Fault.{Fault}
 use Rattle.mr_proof.specs.Fields.{kind_byte}
 use Rattle.mr_proof.specs.Spelling.{Said, opened_records}
-use Rattle.mr_proof.specs.Tight.{Seen, Asks, asks}
+use Rattle.mr_proof.specs.Tight.{Seen, asks}
 use Rattle.mr_proof.specs.Accepted.{root_found}
 use Rattle.mr_proof.specs.Grammar.{Note, must, opens, Grammar, done, reads, notes, whole}
 use Rattle.mr_proof.specs.Layout.{fault, Stand, start, field_at}

@@ -1,10 +1,13 @@
 -- The one spelling of a head and a cut.
-use Rattle.std.specs.Prelude.{◌≡◌, ℕ, ◌-◌, ◌+◌, ◌^◌, ◌<◌, ◌≤◌, ⊤, ◌==◌, if◌then◌else◌, List, [], ◌∷◌, ◌++◌, length, All, Option, Some, None, IfSome}
+use Rattle.std.specs.Prelude.{◌≡◌, ℕ, ◌-◌, ◌^◌, ◌<◌, ◌≤◌, ⊤, ◌==◌, if◌then◌else◌, List, [], ◌∷◌, ◌++◌, length, All, Option, Some, None, IfSome}
 use Rattle.std.specs.List.{flat_map}
 use Rattle.std.specs.Int.{w64, w128, to_be_bytes}
 use Rattle.mr_geom.specs.Rectangle.{IsOrdered, FitsMap}
 use Rattle.mr_record.specs.Bytes.{AreBytes}
-use Rattle.mr_record.specs.Record.{IsRecord, record_bytes, rectangle_bytes}
+use Rattle.mr_record.specs.Record.{IsRecord, record_bytes}
+use Rattle.mr_record.specs.Version.{version_byte}
+use Rattle.mr_record.specs.declared.version.Version.{Version}
+use Rattle.mr_tree.specs.Digest.{entry_bytes}
 use Rattle.mr_record.specs.declared.record.Record.{Record}
 use Rattle.mr_proof.specs.declared.head.Kind.{Kind}
 use Rattle.mr_proof.specs.declared.head.Kind.TheVariants as kind
@@ -12,12 +15,13 @@ use Rattle.mr_proof.specs.declared.head.Head.{Head}
 use Rattle.mr_proof.specs.declared.shown.Shown.{Shown}
 use Rattle.mr_proof.specs.Limits.{count_limit, radius_limit, level_limit, leaf_limit, inner_limit, place_limit}
 use Rattle.mr_proof.specs.Fields.{magic, version, kind_byte, pruned_tag, leaf_tag, inner_tag}
-use Rattle.mr_proof.specs.Cut.{Cut, Cuts, Pruned, Leaf, Inner, no_more, first, count_of, records}
+use Rattle.mr_proof.specs.Cut.{Cut, Cuts, Pruned, Leaf, Inner, no_more, first, entry_shown, count_of, records}
 
 -- ---- items
 
+-- those of the part's entry, which do not tell its level
 abbrev pub shown_bytes : Shown → List ℕ
-shown_bytes part = rectangle_bytes part.rect ++ part.digest
+shown_bytes part = entry_bytes (entry_shown 0 part)
 
 abbrev mutual
   pub cut_bytes : Cut → List ℕ
@@ -68,9 +72,13 @@ radius_bytes kind.K (Some r) = 1 ∷ to_be_bytes w128 r
 abbrev pub level_bytes : ℕ → ℕ → List ℕ
 level_bytes count level = if count == 0 then [] else level ∷ []
 
+-- the version that a head tells; so far there is one
+abbrev pub version_of : Head → Version
+version_of h = version
+
 abbrev pub head_bytes : Head → List ℕ
 head_bytes h =
-    magic ++ version ∷ kind_byte h.kind
+    magic ++ version_byte (version_of h) ∷ kind_byte h.kind
     ∷ (to_be_bytes w64 h.batch ++ (to_be_bytes w64 h.count ++
     (radius_bytes h.kind h.radius ++ level_bytes h.count h.level)))
 

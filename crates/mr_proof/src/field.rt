@@ -1,13 +1,17 @@
-ghost use Rattle.std.specs.Prelude.{◌≡◌, ◌≤◌, ◌==◌, IfOk, length, slice_index, if◌then◌else◌, Ok, Err, bytes_eq, nat_le};
-ghost use Rattle.std.specs.Int.{w64, w128, from_be_bytes};
+//! The fields of a proof, and their values.
+
+ghost use Rattle.std.specs.Prelude.{◌≡◌, ◌≤◌, IfOk, length, Ok};
 ghost use Rattle.mr_record.specs.Record.{sides_of};
-ghost use Rattle.mr_proof.specs.Fields.{size_of, field_of, FitsPayload, HasForm, only_if, tag_of, entries_of, rectangle_field, kind_byte};
+ghost use Rattle.mr_proof.specs.declared.field.Field as types;
+ghost use Rattle.mr_proof.specs.Fields.{size_of, field_of, field_bytes, IsField, FitsPayload, HasForm, only_if, tag_of, entries_of, rectangle_field, kind_byte};
 ghost use Rattle.mr_proof.specs.declared.field.Field.TheVariants as field;
 
 use crate::limits::RADIUS_LIMIT;
 use crate::{Kind, Rule, Want};
 use mr_geom::Rect as Rectangle;
-use mr_record::{PAYLOAD_LIMIT, Payload as Bytes, rect_of_bytes, u64_of_bytes, u128_of_bytes};
+use mr_record::{
+    PAYLOAD_LIMIT, Payload as Bytes, Version, rect_of_bytes, u64_of_bytes, u128_of_bytes,
+};
 use mr_tree::{COUNT_LIMIT, INNER_LIMIT, LEAF_LIMIT, LEVEL_LIMIT};
 
 /// The value of a field that breaks no rule.
@@ -89,8 +93,8 @@ pub(crate) fn kind_byte(kind: Kind) -> u8
     }
 }
 
-// The version of the formats.
-pub(crate) const VERSION: u8 = 1;
+/// The version of proofs, so far the only one.
+pub const VERSION: Version = Version::One;
 
 #[tactic(auto, unfolding(crate::specs::Fields::field_of))]
 fn value_of(want: &Want, bytes: &[u8]) -> Result<Field, Rule>
@@ -100,7 +104,7 @@ fn value_of(want: &Want, bytes: &[u8]) -> Result<Field, Rule>
 {
     match want {
         Want::Magic => only_if(bytes == b"MRVO".as_slice(), Field::Plain, Rule::BadMagic),
-        Want::Version => only_if(bytes[0] == VERSION, Field::Plain, Rule::BadVersion),
+        Want::Version => only_if(bytes[0] == VERSION.byte(), Field::Plain, Rule::BadVersion),
         Want::Kind(kind) => only_if(bytes[0] == kind_byte(*kind), Field::Plain, Rule::WrongKind),
         Want::Batch | Want::Number => Ok(Field::Num(u64_of_bytes(bytes))),
         Want::Count => {
@@ -135,12 +139,16 @@ fn value_of(want: &Want, bytes: &[u8]) -> Result<Field, Rule>
     }
 }
 
-/// The value of a field's bytes, or the rule that they break.
+/// The value of a field's bytes, or the rule that they break. It is a value that the field may have
+/// and of which these are the bytes; and from the bytes of any such value that value is read.
 pub fn read_field(want: &Want, bytes: &[u8]) -> Result<Field, Rule>
     requires size { length bytes.now ≡ size_of want.now }
     requires payload { FitsPayload want.now }
     ensures exact { result ≡ field_of want.now bytes.now }
     ensures form { IfOk result (HasForm want.now) }
+    ensures written { IfOk result (λ f. bytes.now ≡ field_bytes want.now f) }
+    ensures read { (f : types.Field) → IsField f → HasForm want.now f →
+        bytes.now ≡ field_bytes want.now f → result ≡ Ok f }
 {
     value_of(want, bytes)
 }

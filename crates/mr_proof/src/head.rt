@@ -1,7 +1,12 @@
+//! What a proof says before its items.
+
 ghost use Rattle.std.specs.Prelude.{◌≡◌};
+ghost use Rattle.mr_proof.specs.Spelling.{version_of};
 ghost use Rattle.mr_proof.specs.Tight.{kind_of};
 
+use crate::field::VERSION;
 use mr_query::Query;
+use mr_record::Version;
 
 /// The kind of query that a proof is for.
 #[derive(Clone, Copy, Debug, PartialEq, Eq)]
@@ -25,6 +30,15 @@ pub struct Head {
     pub radius: Option<u128>,
     /// The level of the root node, 0 for the empty map.
     pub level: u8,
+}
+
+impl Head {
+    /// The version that the proof is of, so far the only one.
+    pub fn version(&self) -> Version
+        ensures { result ≡ version_of self.now }
+    {
+        VERSION
+    }
 }
 
 /// The kind of the proofs for a query.

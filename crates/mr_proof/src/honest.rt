@@ -1,6 +1,9 @@
-ghost use Rattle.std.specs.Prelude.{◌≡◌, ℕ, ◌^◌, ◌<◌, List, length};
-ghost use Rattle.mr_record.specs.Bytes.{AreBytes};
+//! What proofs learn of the honest proof and of accepted bytes.
+
+ghost use Rattle.std.specs.Prelude.{ℕ, ◌^◌, ◌<◌};
+ghost use Rattle.mr_record.specs.declared.version.Version.{Version};
 ghost use Rattle.mr_query.specs.Word.{IsAskable};
+ghost use Rattle.mr_tree.specs.Digest.{by};
 ghost use Rattle.mr_tree.specs.WellFormed.{WellFormed};
 ghost use Rattle.mr_tree.specs.declared.tree.Tree.{Tree};
 ghost use Rattle.mr_proof.specs.Halves.{IsHonestProof, AcceptsHonest};
@@ -13,9 +16,9 @@ use mr_tree::Hashes;
 /// name says, and that it is accepted.
 pub fn honest_is_accepted<H: Hashes>(q: &Query)
     requires { IsAskable q.now }
-    ensures accepted { AcceptsHonest H.of q.now }
-    ensures honest { (t : Tree) (batch : ℕ) → WellFormed t → batch < 2 ^ 64
-        → IsHonestProof H.of t batch q.now }
+    ensures accepted { (v : Version) → AcceptsHonest (by v H.of) q.now }
+    ensures honest { (v : Version) (t : Tree) (batch : ℕ) → WellFormed t → batch < 2 ^ 64
+        → IsHonestProof (by v H.of) t batch q.now }
 {
     is_query(q);
 }
@@ -24,10 +27,10 @@ pub fn honest_is_accepted<H: Hashes>(q: &Query)
 /// but the honest proof are refused or show a collision, and that the honest proof shows none.
 pub fn accepted_is_honest<H: Hashes>(q: &Query, _bytes: &[u8])
     requires { IsAskable q.now }
-    ensures headline { Headline H.of q.now _bytes.now }
-    ensures accepted { AcceptedIsHonest H.of q.now _bytes.now }
-    ensures others { OthersFail H.of q.now _bytes.now }
-    ensures quiet { HonestIsQuiet H.of q.now }
+    ensures headline { (v : Version) → Headline (by v H.of) q.now _bytes.now }
+    ensures accepted { (v : Version) → AcceptedIsHonest (by v H.of) q.now _bytes.now }
+    ensures others { (v : Version) → OthersFail (by v H.of) q.now _bytes.now }
+    ensures quiet { (v : Version) → HonestIsQuiet (by v H.of) q.now }
 {
     is_query(q);
 }

@@ -1,11 +1,12 @@
-use mr_geom::Rect;
-use mr_tree::NodeView;
+//! The items of a proof.
+
+use mr_tree::{Child, NodeView};
 
 /// An item of a proof, as it is written.
 #[derive(Clone, Copy)]
 pub enum Item<'a> {
-    /// A part that the region misses: the least rectangle round its records, and its digest.
-    Pruned(Rect, [u8; 32]),
+    /// A part that the region misses, by the entry that its parent holds of it.
+    Pruned(&'a Child),
     /// An opened leaf, with its records.
     Leaf(&'a NodeView),
     /// An opened inner node, by the number of its children, whose items follow.

@@ -2,7 +2,6 @@
 //! what it breaks.
 #![tactic(auto)]
 
-mod buffer;
 mod field;
 mod head;
 mod honest;
@@ -13,7 +12,7 @@ mod shown;
 mod want;
 mod write;
 
-pub use field::{Field, read_field};
+pub use field::{Field, VERSION, read_field};
 pub use head::{Head, Kind, kind_of};
 pub use honest::{accepted_is_honest, honest_is_accepted};
 pub use item::Item;

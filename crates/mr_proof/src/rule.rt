@@ -1,3 +1,5 @@
+//! The rules that a proof may break.
+
 ghost use Rattle.std.specs.Prelude.{◌≡◌};
 ghost use Rattle.mr_proof.specs.RuleNames.{rule_text};
 

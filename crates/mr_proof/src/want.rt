@@ -1,3 +1,5 @@
+//! The fields of a proof, as they are wanted.
+
 ghost use Rattle.std.specs.Prelude.{◌≡◌, ◌<◌};
 ghost use Rattle.mr_proof.specs.Fields.{size_of};
 

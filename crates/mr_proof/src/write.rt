@@ -1,29 +1,32 @@
 //! The writers of a proof's pieces, each with one write to the sink.
 
-ghost use Rattle.std.specs.Prelude.{◌≡◌, ◌+◌, ◌*◌, ◌<◌, ◌≤◌, ◌++◌, [], length, OnOk};
+ghost use Rattle.std.specs.Prelude.{◌≡◌, ◌+◌, ◌*◌, ◌<◌, ◌≤◌, ◌++◌, length, OnOk};
 ghost use Rattle.std.specs.List.{flat_map};
 ghost use Rattle.mr_outside.specs.Causes.{SinkCauses};
 ghost use Rattle.mr_outside.specs.Told.{Takes, TakesFront};
 ghost use Rattle.mr_record.specs.Record.{record_bytes};
+ghost use Rattle.mr_tree.specs.View.{entry_of};
 ghost use Rattle.mr_proof.specs.Limits.{count_limit, level_limit};
-ghost use Rattle.mr_proof.specs.Cut.{Pruned, Leaf};
+ghost use Rattle.mr_proof.specs.Cut.{Leaf, pruned_cut};
 ghost use Rattle.mr_proof.specs.Spelling.{cut_bytes, radius_bytes, level_bytes, head_bytes, FitsRadius};
 ghost use Rattle.mr_proof.specs.Items.{item_bytes, FitsItem};
 
-use crate::buffer::Buffer;
 use crate::field::{VERSION, kind_byte};
 use crate::{Head, Item, Kind};
-use mr_geom::Rect;
-use mr_outside::{Sink, SinkErr, write_all};
-use mr_record::{Record, is_record, rect_bytes};
+use mr_outside::{Buffer, Sink, SinkErr, write_all};
+use mr_record::{RECORD_LIMIT, Record, encoded};
+use mr_tree::{Child, ENTRY_LIMIT};
 
 // ---- the head
 
-fn put_radius(bytes: &mut Buffer, kind: Kind, radius: Option<u128>)
-    requires room { length bytes.old < 100 }
+// The most bytes of a head: the magic, version, kind, batch, count, flag, squared radius and level.
+const HEAD_LIMIT: usize = 40;
+
+fn put_radius(bytes: &mut Buffer<HEAD_LIMIT>, kind: Kind, radius: Option<u128>)
+    requires room { length bytes.old ≤ 22 }
     requires radius { FitsRadius kind radius }
     ensures value { bytes.new ≡ bytes.old ++ radius_bytes kind radius }
-    ensures short { length bytes.new < 200 }
+    ensures short { length bytes.new ≤ 39 }
 {
     match kind {
         Kind::W => {}
@@ -37,8 +40,8 @@ fn put_radius(bytes: &mut Buffer, kind: Kind, radius: Option<u128>)
     }
 }
 
-fn put_level(bytes: &mut Buffer, count: u64, level: u8)
-    requires { length bytes.old < 200 }
+fn put_level(bytes: &mut Buffer<HEAD_LIMIT>, count: u64, level: u8)
+    requires { length bytes.old ≤ 39 }
     ensures { bytes.new ≡ bytes.old ++ level_bytes count level }
 {
     if count > 0 {
@@ -46,13 +49,13 @@ fn put_level(bytes: &mut Buffer, count: u64, level: u8)
     }
 }
 
-fn head_of(head: &Head) -> Buffer
+fn head_of(head: &Head) -> Buffer<HEAD_LIMIT>
     requires { FitsRadius head.now.kind head.now.radius }
     ensures { result ≡ head_bytes head.now }
 {
     let mut bytes = Buffer::new();
     bytes.put(b"MRVO");
-    bytes.put(&[VERSION, kind_byte(head.kind)]);
+    bytes.put(&[VERSION.byte(), kind_byte(head.kind)]);
     bytes.put(&head.batch.to_be_bytes());
     bytes.put(&head.count.to_be_bytes());
     put_radius(&mut bytes, head.kind, head.radius);
@@ -71,44 +74,38 @@ pub fn write_head<W: Sink>(out: &mut W, head: &Head) -> Result<(), SinkErr>
     ensures causes { SinkCauses (W.state out.old) (W.state out.new) result }
 {
     let bytes = head_of(head);
-    write_all(out, bytes.bytes())
+    write_all(out, bytes.as_slice())
 }
 
 // ---- items
 
-fn pruned(rect: &Rect, digest: &[u8; 32]) -> Buffer
-    ensures { result ≡ cut_bytes (Pruned (record { rect = rect.now; digest = digest.now })) }
+// The bytes of a pruned part: a tag and the entry.
+const PRUNED_LIMIT: usize = 1 + ENTRY_LIMIT;
+
+// The most bytes of a leaf: a tag, a count and 16 records.
+const LEAF_BYTES: usize = 2 + 16 * RECORD_LIMIT;
+
+fn pruned(child: &Child) -> Buffer<PRUNED_LIMIT>
+    ensures { result ≡ cut_bytes (pruned_cut (entry_of child.now)) }
 {
     let mut bytes = Buffer::new();
     bytes.put(b"P");
-    bytes.put(&rect_bytes(rect));
-    bytes.put(digest);
+    let entry = child.entry().encoded();
+    bytes.put(entry.as_slice());
     bytes
 }
 
-fn put_record(bytes: &mut Buffer, one: &Record)
-    requires { length bytes.old + 225 ≤ 3602 }
-    ensures value { bytes.new ≡ bytes.old ++ record_bytes one.now }
-    ensures short { length bytes.new ≤ length bytes.old + 225 }
-{
-    is_record(one);
-    let payload = one.payload.bytes();
-    bytes.put(&one.number.to_be_bytes());
-    bytes.put(&rect_bytes(&one.rect));
-    bytes.put(&[payload.len() as u8]);
-    bytes.put(payload);
-}
-
-fn put_records(bytes: &mut Buffer, records: &[Record])
+fn put_records(bytes: &mut Buffer<LEAF_BYTES>, records: &[Record])
     requires { length bytes.old + 225 * length records.now ≤ 3602 }
     ensures { bytes.new ≡ bytes.old ++ flat_map record_bytes records.now }
 {
     for one in records {
-        put_record(bytes, one);
+        let record = encoded(one);
+        bytes.put(record.as_slice());
     }
 }
 
-fn leaf(records: &[Record]) -> Buffer
+fn leaf(records: &[Record]) -> Buffer<LEAF_BYTES>
     requires { length records.now ≤ 16 }
     ensures { result ≡ cut_bytes (Leaf records.now) }
 {
@@ -128,8 +125,8 @@ pub fn write_item<W: Sink>(out: &mut W, item: &Item) -> Result<(), SinkErr>
     ensures causes { SinkCauses (W.state out.old) (W.state out.new) result }
 {
     match item {
-        Item::Pruned(rect, digest) => write_all(out, pruned(rect, digest).bytes()),
-        Item::Leaf(view) => write_all(out, leaf(view.records()).bytes()),
+        Item::Pruned(child) => write_all(out, pruned(child).as_slice()),
+        Item::Leaf(view) => write_all(out, leaf(view.records()).as_slice()),
         Item::Inner(count) => write_all(out, &[b'N', *count]),
     }
 }

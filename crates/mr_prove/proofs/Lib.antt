@@ -5,5 +5,4 @@ mod Least
 mod Nearer
 mod Queue
 mod Rounds
-mod Searched
 mod Sums

@@ -14,11 +14,12 @@ use Rattle.mr_geom.proofs.Distances.{least_squared_distance-Inside}
 use Rattle.mr_record.specs.Record.{IsRecord}
 use Rattle.mr_record.specs.declared.record.Record.{Record}
 use Rattle.mr_tree.specs.Tree.{records, join, union_of, rect}
-use Rattle.mr_tree.specs.Digest.{Entry, entry}
+use Rattle.mr_tree.specs.Digest.{Scheme, by, entry}
 use Rattle.mr_tree.specs.View.{entry_of}
 use Rattle.mr_tree.specs.Nodes.{Standing, HasIds, MayFetch, subtrees}
 use Rattle.mr_tree.specs.WellFormed.{WellFormed}
 use Rattle.mr_tree.specs.declared.child.Child.{Child}
+use Rattle.mr_tree.specs.declared.entry.Entry.{Entry}
 use Rattle.mr_tree.specs.declared.tree.Tree.{Tree}
 use Rattle.mr_tree.specs.declared.tree.Tree.TheVariants as tree
 use Rattle.mr_tree.proofs.Equations.{entry_rect, records-Inner}
@@ -57,10 +58,10 @@ no_nearer p x whole (r ∷ rs) h inside ordered =
     let here = least_squared_distance-Inside r.rect whole p ordered.0 inside.0 in
     (omega (arith, h, here), no_nearer p x whole rs h inside.1 ordered.1)
 
-none_in : (hash : List ℕ → List ℕ) (p : Point) (t : Tree) (c : Child) (x : ℕ) → entry_of c ≡ entry hash t
+none_in : (scheme : Scheme) (p : Point) (t : Tree) (c : Child) (x : ℕ) → entry_of c ≡ entry scheme t
     → AreOrdered (records t) → x ≤ least_squared_distance c.rect p → below x (distances p (records t)) ≡ 0
-none_in hash p t c x e ordered h =
-    let around : rect t ≡ Some c.rect = sym (entry_rect hash t) ∙ ap (λ (x : Entry). x.rect) (sym e) in
+none_in scheme p t c x e ordered h =
+    let around : rect t ≡ Some c.rect = sym (entry_rect scheme t) ∙ ap (λ (x : Entry). x.rect) (sym e) in
     below-none x (distances p (records t))
     (no_nearer p x c.rect (records t) h (records_inside c.rect (records t) (sym (rect_round t) ∙ around)) ordered)
 
@@ -114,23 +115,24 @@ ordered_node s t i ids well some =
 
 -- ---- below the distance of a node's rectangle there is none of its records
 
-none_at : (hash : List ℕ → List ℕ) (p : Point) (o : Option Tree) (c : Child) (x : ℕ)
-    → IsSomeAnd o (λ t. entry_of c ≡ entry hash t) → (IsSome o → IfSome o (λ t. AreOrdered (records t)))
+none_at : (scheme : Scheme) (p : Point) (o : Option Tree) (c : Child) (x : ℕ)
+    → IsSomeAnd o (λ t. entry_of c ≡ entry scheme t) → (IsSome o → IfSome o (λ t. AreOrdered (records t)))
     → x ≤ least_squared_distance c.rect p → below x (distances_at p o) ≡ 0
 unfolding distances_at
-none_at hash p None c x known ordered h = absurd known
-none_at hash p (Some t) c x known ordered h = none_in hash p t c x known (ordered refl) h
+none_at scheme p None c x known ordered h = absurd known
+none_at scheme p (Some t) c x known ordered h = none_in scheme p t c x known (ordered refl) h
 
-none_told : (hash : List ℕ → List ℕ) (p : Point) (s : Standing) (o : Option Tree) (c : Child) (x : ℕ)
+none_told : (scheme : Scheme) (p : Point) (s : Standing) (o : Option Tree) (c : Child) (x : ℕ)
     → IfSome o (λ t. ∥ WellFormed t ∥₁) → IfSome o (HasIds s) → IsSome o
-    → IsSomeAnd (s.node c.id) (λ t. entry_of c ≡ entry hash t) → x ≤ least_squared_distance c.rect p
+    → IsSomeAnd (s.node c.id) (λ t. entry_of c ≡ entry scheme t) → x ≤ least_squared_distance c.rect p
     → below x (distances_at p (s.node c.id)) ≡ 0
-none_told hash p s None c x wells ids told known h = cc
-none_told hash p s (Some t) c x wells ids told known h =
+none_told scheme p s None c x wells ids told known h = cc
+none_told scheme p s (Some t) c x wells ids told known h =
     ∥∥₁_elim wells (ℕ_set (below x (distances_at p (s.node c.id))) 0)
-    (λ well. none_at hash p (s.node c.id) c x known (λ some. ordered_node s t c.id ids well some) h)
+    (λ well. none_at scheme p (s.node c.id) c x known (λ some. ordered_node s t c.id ids well some) h)
 
 pub none_below : (hash : List ℕ → List ℕ) (p : Point) (s : Standing) (c : Child) (x : ℕ)
     → IfSome s.tree (λ t. ∥ WellFormed t ∥₁) → IfSome s.tree (HasIds s) → IsSome s.tree → MayFetch hash s c
     → x ≤ least_squared_distance c.rect p → below x (distances_at p (s.node c.id)) ≡ 0
-none_below hash p s c x wells ids told may h = none_told hash p s s.tree c x wells ids told (may.known told) h
+none_below hash p s c x wells ids told may h =
+    none_told (by s.version hash) p s s.tree c x wells ids told (may.known told) h

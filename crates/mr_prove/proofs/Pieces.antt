@@ -7,10 +7,11 @@ use Rattle.std.proofs.lemmas.List.Sums.{sum_by-cons}
 use Rattle.mr_geom.specs.Rectangle.{Rectangle}
 use Rattle.mr_record.specs.declared.record.Record.{Record}
 use Rattle.mr_tree.specs.Tree.{rect}
-use Rattle.mr_tree.specs.Digest.{Entry, entry}
+use Rattle.mr_tree.specs.Digest.{Scheme, entry}
 use Rattle.mr_tree.specs.View.{Node, children_in, entry_of}
 use Rattle.mr_tree.specs.Nodes.{Standing, IsNodeOf}
 use Rattle.mr_tree.specs.declared.child.Child.{Child}
+use Rattle.mr_tree.specs.declared.entry.Entry.{Entry}
 use Rattle.mr_tree.specs.declared.tree.Tree.{Tree}
 use Rattle.mr_tree.specs.declared.tree.Tree.TheVariants as tree
 use Rattle.mr_tree.specs.declared.tree.Tree.TheOpen as node
@@ -18,10 +19,10 @@ use Rattle.mr_tree.specs.declared.tree.Tree.TheViews.{out-Tree}
 use Rattle.mr_tree.proofs.Equations.{entry_rect, rect-Empty}
 use Rattle.mr_tree.proofs.Induction.{tree_induction}
 use Rattle.mr_proof.specs.Fields.{inner_tag}
-use Rattle.mr_proof.specs.Cut.{Pruned, Leaf, Inner, count_of, opened_nodes, all_opened}
+use Rattle.mr_proof.specs.Cut.{Leaf, Inner, pruned_cut, count_of, opened_nodes, all_opened}
 use Rattle.mr_proof.specs.Spelling.{cut_bytes, cuts_bytes}
 use Rattle.mr_proof.specs.Tight.{Seen, seen_at, met_by}
-use Rattle.mr_proof.specs.Honest.{pruned_cut, honest_cut}
+use Rattle.mr_proof.specs.Honest.{honest_cut}
 use Rattle.mr_proof.proofs.HonestCut.{meets, honest_cuts, honest_missed, honest_met}
 use Rattle.mr_prove.specs.Parts.{node_bytes, part_at, opened_at, parts_of, opened_in}
 
@@ -46,54 +47,53 @@ pub sum_by_along : {X Y Z : Type 0} (f : Z → ℕ) (g : X → Z) (h : Y → Z) 
     → map g xs ≡ map h ys → sum_by (λ x. f (g x)) xs ≡ sum_by (λ y. f (h y)) ys
 sum_by_along f g h xs ys e = sym (sum_by_map f g xs) ∙ ap (sum_by f) e ∙ sum_by_map f h ys
 
-module _ (hash : List ℕ → List ℕ) (region : Seen → Bool) where
+module _ (scheme : Scheme) (region : Seen → Bool) where
   -- ---- the honest cuts of some trees
 
-  count_cuts : (ts : List Tree) → count_of (honest_cuts hash region ts) ≡ length ts
+  count_cuts : (ts : List Tree) → count_of (honest_cuts scheme region ts) ≡ length ts
   count_cuts [] = refl
   count_cuts (t ∷ ts) = let rest = count_cuts ts in omega arith
 
   bytes_of_cuts : (ts : List Tree)
-      → cuts_bytes (honest_cuts hash region ts) ≡ flat_map (λ t. cut_bytes (honest_cut hash region t)) ts
+      → cuts_bytes (honest_cuts scheme region ts) ≡ flat_map (λ t. cut_bytes (honest_cut scheme region t)) ts
   bytes_of_cuts [] = refl
-  bytes_of_cuts (t ∷ ts) = ap (λ xs. cut_bytes (honest_cut hash region t) ++ xs) (bytes_of_cuts ts)
+  bytes_of_cuts (t ∷ ts) = ap (λ xs. cut_bytes (honest_cut scheme region t) ++ xs) (bytes_of_cuts ts)
 
   opened_of_cuts : (ts : List Tree)
-      → all_opened (honest_cuts hash region ts) ≡ sum_by (λ t. opened_nodes (honest_cut hash region t)) ts
+      → all_opened (honest_cuts scheme region ts) ≡ sum_by (λ t. opened_nodes (honest_cut scheme region t)) ts
   opened_of_cuts [] = refl
   opened_of_cuts (t ∷ ts) =
-      ap (λ n. opened_nodes (honest_cut hash region t) + n) (opened_of_cuts ts)
-      ∙ sym (sum_by-cons (λ t. opened_nodes (honest_cut hash region t)) t ts)
+      ap (λ n. opened_nodes (honest_cut scheme region t) + n) (opened_of_cuts ts)
+      ∙ sym (sum_by-cons (λ t. opened_nodes (honest_cut scheme region t)) t ts)
 
   -- ---- a tree of which the child is the entry
 
-  rect_is : (t : Tree) (c : Child) → entry_of c ≡ entry hash t → rect t ≡ Some c.rect
-  rect_is t c e = sym (entry_rect hash t) ∙ ap (λ (x : Entry). x.rect) (sym e)
+  rect_is : (t : Tree) (c : Child) → entry_of c ≡ entry scheme t → rect t ≡ Some c.rect
+  rect_is t c e = sym (entry_rect scheme t) ∙ ap (λ (x : Entry). x.rect) (sym e)
 
-  meets_is : (t : Tree) (c : Child) (b : Bool) → entry_of c ≡ entry hash t → region (seen_at c.rect) ≡ b
+  meets_is : (t : Tree) (c : Child) (b : Bool) → entry_of c ≡ entry scheme t → region (seen_at c.rect) ≡ b
       → meets region t ≡ b
   meets_is t c b e f = ap (λ (o : Option Rectangle). met_by region (option_map seen_at o)) (rect_is t c e) ∙ f
 
-  cut_missed : (t : Tree) (c : Child) → entry_of c ≡ entry hash t → region (seen_at c.rect) ≡ false
-      → honest_cut hash region t ≡ Pruned (record { rect = c.rect; digest = c.digest })
+  cut_missed : (t : Tree) (c : Child) → entry_of c ≡ entry scheme t → region (seen_at c.rect) ≡ false
+      → honest_cut scheme region t ≡ pruned_cut (entry_of c)
   cut_missed t c e f =
-      honest_missed hash region t (meets_is t c false e f)
-      ∙ (λ i. pruned_cut (rect_is t c e i) (sym e i).digest)
+      honest_missed scheme region t (meets_is t c false e f) ∙ ap pruned_cut (sym e)
 
-  pub missed_at : (o : Option Tree) (c : Child) → IsSomeAnd o (λ t. entry_of c ≡ entry hash t)
+  pub missed_at : (o : Option Tree) (c : Child) → IsSomeAnd o (λ t. entry_of c ≡ entry scheme t)
       → region (seen_at c.rect) ≡ false
-      → part_at hash region o ≡ cut_bytes (Pruned (record { rect = c.rect; digest = c.digest }))
+      → part_at scheme region o ≡ cut_bytes (pruned_cut (entry_of c))
   unfolding part_at
   missed_at None c e f = absurd e
   missed_at (Some t) c e f = ap cut_bytes (cut_missed t c e f)
 
   pub cut_leaf : (t : Tree) (rs : List Record) → t ≡ tree.Leaf rs → meets region t ≡ true
-      → honest_cut hash region t ≡ Leaf rs
-  cut_leaf t rs e m = honest_met hash region t (node.Leaf rs) (ap out-Tree e ∙ tree.outs-Leaf rs) m
+      → honest_cut scheme region t ≡ Leaf rs
+  cut_leaf t rs e m = honest_met scheme region t (node.Leaf rs) (ap out-Tree e ∙ tree.outs-Leaf rs) m
 
   pub cut_inner : (t : Tree) (ts : List Tree) → t ≡ tree.Inner ts → meets region t ≡ true
-      → honest_cut hash region t ≡ Inner (honest_cuts hash region ts)
-  cut_inner t ts e m = honest_met hash region t (node.Inner ts) (ap out-Tree e ∙ tree.outs-Inner ts) m
+      → honest_cut scheme region t ≡ Inner (honest_cuts scheme region ts)
+  cut_inner t ts e m = honest_met scheme region t (node.Inner ts) (ap out-Tree e ∙ tree.outs-Inner ts) m
 
   same_length : (s : Standing) (cs : List Child) (ts : List Tree)
       → map (λ (d : Child). s.node d.id) cs ≡ map Some ts → length ts ≡ length cs
@@ -101,8 +101,8 @@ module _ (hash : List ℕ → List ℕ) (region : Seen → Bool) where
       sym (length-map ts Some) ∙ sym (ap length e) ∙ length-map cs (λ (d : Child). s.node d.id)
 
   bytes_met : (s : Standing) (t : Tree) (n : Node) → IsNodeOf s t n → meets region t ≡ true
-      → cut_bytes (honest_cut hash region t)
-      ≡ node_bytes n ++ parts_of hash region s (children_in n)
+      → cut_bytes (honest_cut scheme region t)
+      ≡ node_bytes n ++ parts_of scheme region s (children_in n)
   unfolding part_at
   bytes_met s t node.Empty is m = absurd is
   bytes_met s t (node.Leaf rs) is m =
@@ -110,13 +110,13 @@ module _ (hash : List ℕ → List ℕ) (region : Seen → Bool) where
   bytes_met s t (node.Inner cs) is m =
       ap cut_bytes (cut_inner t is.0 is.1 m)
       ∙ (λ i. inner_tag ∷ (count_cuts is.0 ∙ same_length s cs is.0 is.2) i ∷ (bytes_of_cuts is.0
-      ∙ sym (flat_map_along (part_at hash region) (λ (d : Child). s.node d.id) Some cs is.0 is.2)) i)
+      ∙ sym (flat_map_along (part_at scheme region) (λ (d : Child). s.node d.id) Some cs is.0 is.2)) i)
 
   pub met_at : (s : Standing) (o : Option Tree) (c : Child) (n : Node)
-      → IsSomeAnd o (λ t. entry_of c ≡ entry hash t) → IfSome o (λ t. IsNodeOf s t n)
+      → IsSomeAnd o (λ t. entry_of c ≡ entry scheme t) → IfSome o (λ t. IsNodeOf s t n)
       → region (seen_at c.rect) ≡ true
-      → part_at hash region o
-      ≡ node_bytes n ++ parts_of hash region s (children_in n)
+      → part_at scheme region o
+      ≡ node_bytes n ++ parts_of scheme region s (children_in n)
   unfolding part_at
   met_at s None c n e is m = absurd e
   met_at s (Some t) c n e is m = bytes_met s t n is (meets_is t c true e m)
@@ -124,37 +124,37 @@ module _ (hash : List ℕ → List ℕ) (region : Seen → Bool) where
   -- ---- the number of opened nodes
 
   opened_met : (s : Standing) (t : Tree) (n : Node) → IsNodeOf s t n → meets region t ≡ true
-      → opened_nodes (honest_cut hash region t)
-      ≡ 1 + opened_in hash region s (children_in n)
+      → opened_nodes (honest_cut scheme region t)
+      ≡ 1 + opened_in scheme region s (children_in n)
   unfolding opened_at
   opened_met s t node.Empty is m = absurd is
   opened_met s t (node.Leaf rs) is m = ap opened_nodes (cut_leaf t rs is m)
   opened_met s t (node.Inner cs) is m =
       let all = ap opened_nodes (cut_inner t is.0 is.1 m) in
       let same = opened_of_cuts is.0
-      ∙ sym (sum_by_along (opened_at hash region) (λ (d : Child). s.node d.id) Some cs is.0 is.2) in
+      ∙ sym (sum_by_along (opened_at scheme region) (λ (d : Child). s.node d.id) Some cs is.0 is.2) in
       omega (arith, all, same)
 
   pub opened_met_at : (s : Standing) (o : Option Tree) (c : Child) (n : Node)
-      → IsSomeAnd o (λ t. entry_of c ≡ entry hash t) → IfSome o (λ t. IsNodeOf s t n)
+      → IsSomeAnd o (λ t. entry_of c ≡ entry scheme t) → IfSome o (λ t. IsNodeOf s t n)
       → region (seen_at c.rect) ≡ true
-      → opened_at hash region o
-      ≡ 1 + opened_in hash region s (children_in n)
+      → opened_at scheme region o
+      ≡ 1 + opened_in scheme region s (children_in n)
   unfolding opened_at
   opened_met_at s None c n e is m = absurd e
   opened_met_at s (Some t) c n e is m = opened_met s t n is (meets_is t c true e m)
 
   -- a tree that the region meets has a node
   opened_some : (t : Tree) → (r : Rectangle) → rect t ≡ Some r → meets region t ≡ true
-      → 1 ≤ opened_nodes (honest_cut hash region t)
+      → 1 ≤ opened_nodes (honest_cut scheme region t)
   opened_some = tree_induction (λ t. (r : Rectangle) → rect t ≡ Some r → meets region t ≡ true
-      → 1 ≤ opened_nodes (honest_cut hash region t))
+      → 1 ≤ opened_nodes (honest_cut scheme region t))
       (λ r e m. let none : ◌≡◌ {A = Option Rectangle} None (Some r) = sym rect-Empty ∙ e in absurd cc)
       (λ rs r e m. let one = ap opened_nodes (cut_leaf (tree.Leaf rs) rs refl m) in omega (arith, one))
       (λ ts below r e m. let more = ap opened_nodes (cut_inner (tree.Inner ts) ts refl m) in omega (arith, more))
 
-  pub opened_one_at : (o : Option Tree) (c : Child) → IsSomeAnd o (λ t. entry_of c ≡ entry hash t)
-      → region (seen_at c.rect) ≡ true → 1 ≤ opened_at hash region o
+  pub opened_one_at : (o : Option Tree) (c : Child) → IsSomeAnd o (λ t. entry_of c ≡ entry scheme t)
+      → region (seen_at c.rect) ≡ true → 1 ≤ opened_at scheme region o
   unfolding opened_at
   opened_one_at None c e m = absurd e
   opened_one_at (Some t) c e m = opened_some t c.rect (rect_is t c e) (meets_is t c true e m)

@@ -14,7 +14,7 @@ use Rattle.mr_geom.specs.declared.point.Point.{Point}
 use Rattle.mr_outside.specs.Faults.{next_count}
 use Rattle.mr_record.specs.declared.record.Record.{Record}
 use Rattle.mr_tree.specs.Tree.{records}
-use Rattle.mr_tree.specs.Digest.{entry}
+use Rattle.mr_tree.specs.Digest.{Scheme, by, entry}
 use Rattle.mr_tree.specs.View.{Node, records_in, children_in, entry_of}
 use Rattle.mr_tree.specs.Nodes.{Standing, HasIds, IsNodeOf, IsTop, MayFetch, Shows, tree_under}
 use Rattle.mr_tree.specs.WellFormed.{WellFormed}
@@ -66,13 +66,13 @@ below_node p s x t (node.Inner cs) is =
     ∙ sym (sum_by_along (λ o. below x (distances_at p o)) (λ (d : Child). s.node d.id) Some cs is.0 is.2) in
     omega arith
 
-below_at : (hash : List ℕ → List ℕ) (p : Point) (s : Standing) (x : ℕ) (o : Option Tree) (c : Child) (n : Node)
-    → IsSomeAnd o (λ t. entry_of c ≡ entry hash t) → IfSome o (λ t. IsNodeOf s t n)
+below_at : (scheme : Scheme) (p : Point) (s : Standing) (x : ℕ) (o : Option Tree) (c : Child) (n : Node)
+    → IsSomeAnd o (λ t. entry_of c ≡ entry scheme t) → IfSome o (λ t. IsNodeOf s t n)
     → below x (distances_at p o) ≡ below x (distances p (records_in n))
     + sum_by (λ (d : Child). below x (distances_at p (s.node d.id))) (children_in n)
 unfolding distances_at
-below_at hash p s x None c n known is = absurd known
-below_at hash p s x (Some t) c n known is = below_node p s x t n is
+below_at scheme p s x None c n known is = absurd known
+below_at scheme p s x (Some t) c n known is = below_node p s x t n is
 
 -- ---- what was kept, in place of all
 
@@ -158,7 +158,8 @@ module _ (hash : List ℕ → List ℕ) (k : ℕ) (p : Point) (s : Standing) whe
         let few = old.few t e in
         let radius = kth_least k (distances p (records t)) in
         let same = sum_by-IsPermutation
-        (λ (w : Waiting). opened_at hash (near_region p radius) (s.node w.child.id)) pending moved perm in
+        (λ (w : Waiting). opened_at (by s.version hash) (near_region p radius) (s.node w.child.id)) pending moved perm
+        in
         omega arith;
   }
 
@@ -180,7 +181,8 @@ module _ (hash : List ℕ → List ℕ) (k : ℕ) (p : Point) (s : Standing) whe
             let F : Waiting → ℕ = λ w. below x (distances_at p (s.node w.child.id)) in
             let all = old.found t e x in
             let cons = sum_by-cons F next rest in
-            let here = below_at hash p s x (s.node next.child.id) next.child n (first.may.known (ap is_some e))
+            let here = below_at (by s.version hash) p s x (s.node next.child.id) next.child n (first.may.known (ap
+            is_some e))
             shows.node in
             let perm = sum_by-IsPermutation F (rest ++ map (waiting p) (children_in n)) pending moved in
             let both = sum_by-append F rest (map (waiting p) (children_in n)) in
@@ -239,10 +241,10 @@ module _ (hash : List ℕ → List ℕ) (k : ℕ) (p : Point) (s : Standing) whe
     bounded_visited not_yet some n pending before now after shows moved one bounded = record {
       few = λ t e.
           let r = kth_least k (distances p (records t)) in
-          let F : Waiting → ℕ = λ w. opened_at hash (near_region p r) (s.node w.child.id) in
+          let F : Waiting → ℕ = λ w. opened_at (by s.version hash) (near_region p r) (s.node w.child.id) in
           let few = bounded.few t e in
           let may = (All-head (Waits hash p s) next rest known.waits).may in
-          let here = opened_met_at hash (near_region p r) s (s.node next.child.id) next.child n
+          let here = opened_met_at (by s.version hash) (near_region p r) s (s.node next.child.id) next.child n
           (may.known (ap is_some e)) shows.node (within_kth not_yet some t e) in
           let more = next_count-≤ now in
           let cons = sum_by-cons F next rest in
@@ -259,10 +261,10 @@ module _ (hash : List ℕ → List ℕ) (k : ℕ) (p : Point) (s : Standing) whe
     bounded_spent not_yet some before now after one bounded = record {
       few = λ t e.
           let r = kth_least k (distances p (records t)) in
-          let F : Waiting → ℕ = λ w. opened_at hash (near_region p r) (s.node w.child.id) in
+          let F : Waiting → ℕ = λ w. opened_at (by s.version hash) (near_region p r) (s.node w.child.id) in
           let few = bounded.few t e in
           let may = (All-head (Waits hash p s) next rest known.waits).may in
-          let here = opened_one_at hash (near_region p r) (s.node next.child.id) next.child
+          let here = opened_one_at (by s.version hash) (near_region p r) (s.node next.child.id) next.child
           (may.known (ap is_some e)) (within_kth not_yet some t e) in
           let more = next_count-≤ now in
           let cons = sum_by-cons F next rest in
@@ -280,9 +282,10 @@ module _ (hash : List ℕ → List ℕ) (k : ℕ) (p : Point) (s : Standing) whe
       radius_of_all k r (distances p (records t)) best (λ x. unseen p s x []) kept (known.found t e) refl
 
   pub fetched_so_far : (pending : List Waiting) (before now : ℕ) → Bounded hash k p s pending before now
-      → IfSome s.tree (λ t. now ≤ before + near_opened hash p k t)
+      → IfSome s.tree (λ t. now ≤ before + near_opened (by s.version hash) p k t)
   fetched_so_far pending before now bounded =
-      by_told s.tree (λ t. now ≤ before + near_opened hash p k t) (λ t e. let few = bounded.few t e in omega arith)
+      by_told s.tree (λ t. now ≤ before + near_opened (by s.version hash) p k t) (λ t e. let few = bounded.few t e in
+      omega arith)
 
   pub kth_found : {E : Type 0} (r : Result (Option ℕ) E) → 1 ≤ k
       → IfOk r (λ r. (t : Tree) → s.tree ≡ Some t → IsRadius k (distances p (records t)) r)
@@ -327,7 +330,7 @@ module _ (hash : List ℕ → List ℕ) (k : ℕ) (p : Point) (s : Standing) whe
           no_records (records t) (omega arith)
 
       nothing : (rs : List Record) (r : Option ℕ) (t : Tree) → length rs ≡ 0
-          → cond (length rs == 0) 0 (opened_nodes (honest_cut hash (near_region p r) t)) ≡ 0
+          → cond (length rs == 0) 0 (opened_nodes (honest_cut (by s.version hash) (near_region p r) t)) ≡ 0
       nothing [] r t e = refl
       nothing (x ∷ rs) r t e = absurd (omega arith)
 
@@ -347,11 +350,12 @@ module _ (hash : List ℕ → List ℕ) (k : ℕ) (p : Point) (s : Standing) whe
         omega arith;
     few = λ t e.
         let r = kth_least k (distances p (records t)) in
-        let F : Waiting → ℕ = λ w. opened_at hash (near_region p r) (s.node w.child.id) in
+        let F : Waiting → ℕ = λ w. opened_at (by s.version hash) (near_region p r) (s.node w.child.id) in
         let perm = sum_by-IsPermutation F (waiting p c ∷ []) queue moved in
         let cons = sum_by-cons F (waiting p c) [] in
-        let here : opened_at hash (near_region p r) (s.node c.id) ≡ opened_nodes (honest_cut hash (near_region p r) t) =
-        ap (opened_at hash (near_region p r)) (at t e) in
+        let here : opened_at (by s.version hash) (near_region p r) (s.node c.id) ≡ opened_nodes (honest_cut (by
+        s.version hash) (near_region p r) t) =
+        ap (opened_at (by s.version hash) (near_region p r)) (at t e) in
         let all = something (records t) r t (some t e) in
         omega arith;
   }
@@ -370,8 +374,9 @@ module _ (hash : List ℕ → List ℕ) (k : ℕ) (p : Point) (s : Standing) whe
           cc
 
       something : (rs : List Record) (r : Option ℕ) (t : Tree) → (length rs ≡ 0 → ⊥)
-          → cond (length rs == 0) 0 (opened_nodes (honest_cut hash (near_region p r) t))
-          ≡ opened_nodes (honest_cut hash (near_region p r) t)
+          → cond (length rs == 0) 0 (opened_nodes (honest_cut (by s.version hash) (near_region p r) t))
+          ≡ opened_nodes (honest_cut (by s.version hash) (near_region p r) t)
       something [] r t full = absurd (full refl)
       something (x ∷ rs) r t full =
-          ap (λ b. cond b 0 (opened_nodes (honest_cut hash (near_region p r) t))) (eqb-suc-zero (length rs))
+          ap (λ b. cond b 0 (opened_nodes (honest_cut (by s.version hash) (near_region p r) t))) (eqb-suc-zero (length
+          rs))

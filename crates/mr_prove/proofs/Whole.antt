@@ -1,15 +1,15 @@
 -- The whole proof is the head, and the part of the root node where there is one.
-use Rattle.std.proofs.Common.{◌≡◌, ◌≢◌, ℕ, ◌+◌, ◌≤◌, List, ◌++◌, length, append-nil, refl, sym, ap, subst, ◌∙◌}
+use Rattle.std.proofs.Common.{◌≡◌, ◌≢◌, ℕ, ◌+◌, ◌≤◌, List, [], ◌++◌, length, append-nil, refl, sym, ap, subst, ◌∙◌, arith}
 use Rattle.std.specs.Prelude.{Option, Some, None, IsSome, IsNone, IfSome, IsSomeAnd, Result, Ok, Err, OnOk, OnErr}
-use Rattle.std.proofs.lemmas.Bool.{eq-eqb, ne_eqb}
 use Rattle.mr_outside.specs.State.{Sunk}
 use Rattle.mr_outside.specs.Told.{Takes, TakesFront}
-use Rattle.mr_outside.proofs.Taking.{Takes-append}
+use Rattle.mr_outside.proofs.Taking.{Takes-none, Takes-append}
 use Rattle.mr_tree.specs.Tree.{level, records}
-use Rattle.mr_tree.specs.Digest.{Entry, entry}
+use Rattle.mr_tree.specs.Digest.{Scheme, by, entry}
 use Rattle.mr_tree.specs.View.{entry_of}
-use Rattle.mr_tree.specs.Nodes.{Standing, MayFetch, IsTop, tree_under}
+use Rattle.mr_tree.specs.Nodes.{Standing, MayFetch, IsTop, tree_under, root_entry}
 use Rattle.mr_tree.specs.declared.child.Child.{Child}
+use Rattle.mr_tree.specs.declared.entry.Entry.{Entry}
 use Rattle.mr_tree.specs.declared.nodes.Top.{Top}
 use Rattle.mr_tree.specs.declared.tree.Tree.{Tree}
 use Rattle.mr_tree.specs.declared.tree.Tree.TheVariants as tree
@@ -20,22 +20,23 @@ use Rattle.mr_proof.specs.Cut.{Cut}
 use Rattle.mr_proof.specs.Spelling.{head_bytes, part_bytes}
 use Rattle.mr_proof.specs.Tight.{asks, kind_of}
 use Rattle.mr_proof.specs.Honest.{honest_cut, honest_head, honest_part, proof, opened_of, opened}
+use Rattle.mr_proof.proofs.HonestCut.{some_part as some_there, no_part as none_there}
 use Rattle.mr_prove.specs.declared.error.ProveErr.{ProveErr}
-use Rattle.mr_prove.specs.Parts.{part_at, opened_at, level_at, head_by, proof_at, all_opened_at, IsRight}
+use Rattle.mr_prove.specs.Parts.{part_at, opened_at, head_by, proof_at, all_opened_at, IsRight}
 use Rattle.mr_prove.proofs.Steps.{front_first, front_second}
 
 -- ---- a map whose tree is told
 
 -- what is known of the root by its entry
-level_of_root : (hash : List ℕ → List ℕ) (o : Option Tree) (t : Tree) (c : Child)
-    → IsSomeAnd o (λ t. entry_of c ≡ entry hash t) → o ≡ Some t → c.level ≡ level t
-level_of_root hash None t c k e = cc
-level_of_root hash (Some u) t c k e =
+level_of_root : (scheme : Scheme) (o : Option Tree) (t : Tree) (c : Child)
+    → IsSomeAnd o (λ t. entry_of c ≡ entry scheme t) → o ≡ Some t → c.level ≡ level t
+level_of_root scheme None t c k e = cc
+level_of_root scheme (Some u) t c k e =
     let same : u ≡ t = cc in
-    ap (λ (x : Entry). x.level) k ∙ entry_level hash u ∙ ap level same
+    ap (λ (x : Entry). x.level) k ∙ entry_level scheme u ∙ ap level same
 
 head_with : (s : Standing) (t : Tree) (top : Top) (q : Query) (r : Option ℕ) → top.batch ≡ s.batch
-    → top.count ≡ length (records t) → r ≡ (asks q).radius (records t) → level_at top.root ≡ level t
+    → top.count ≡ length (records t) → r ≡ (asks q).radius (records t) → (root_entry top.root).level ≡ level t
     → honest_head (asks q) t s.batch ≡ head_by top q r
 head_with s t top q r b n e l = λ i. record {
   kind = kind_of q;
@@ -46,21 +47,21 @@ head_with s t top q r b n e l = λ i. record {
 }
 
 -- the proof by its cut
-proof_by : (hash : List ℕ → List ℕ) (s : Standing) (t : Tree) (top : Top) (q : Query) (r : Option ℕ) (P : Option Cut)
-    → honest_head (asks q) t s.batch ≡ head_by top q r → honest_part hash (asks q) t ≡ P
-    → proof hash t s.batch q ≡ head_bytes (head_by top q r) ++ part_bytes P
-proof_by hash s t top q r P h p = λ i. head_bytes (h i) ++ part_bytes (p i)
+proof_by : (scheme : Scheme) (s : Standing) (t : Tree) (top : Top) (q : Query) (r : Option ℕ) (P : Option Cut)
+    → honest_head (asks q) t s.batch ≡ head_by top q r → honest_part scheme (asks q) t ≡ P
+    → proof scheme t s.batch q ≡ head_bytes (head_by top q r) ++ part_bytes P
+proof_by scheme s t top q r P h p = λ i. head_bytes (h i) ++ part_bytes (p i)
 
-no_part : (hash : List ℕ → List ℕ) (q : Query) (t : Tree) → t ≡ tree.Empty → honest_part hash (asks q) t ≡ None
-no_part hash q t e =
+no_part : (scheme : Scheme) (q : Query) (t : Tree) → t ≡ tree.Empty → honest_part scheme (asks q) t ≡ None
+no_part scheme q t e =
     let none : length (records t) ≡ 0 = ap length (ap records e ∙ records-Empty) in
-    rw (eq-eqb (length (records t)) 0 none) refl
+    none_there scheme (asks q) t none
 
-some_part : (hash : List ℕ → List ℕ) (q : Query) (r : Option ℕ) (t : Tree) → r ≡ (asks q).radius (records t)
-    → length (records t) ≢ 0 → honest_part hash (asks q) t ≡ Some (honest_cut hash ((asks q).region r) t)
-some_part hash q r t e some =
-    (rw (ne_eqb (length (records t)) 0 some) refl)
-    ∙ ap (λ (o : Option ℕ). Some (honest_cut hash ((asks q).region o) t)) (sym e)
+some_part : (scheme : Scheme) (q : Query) (r : Option ℕ) (t : Tree) → r ≡ (asks q).radius (records t)
+    → length (records t) ≢ 0 → honest_part scheme (asks q) t ≡ Some (honest_cut scheme ((asks q).region r) t)
+some_part scheme q r t e some =
+    some_there scheme (asks q) t (omega arith)
+    ∙ ap (λ (o : Option ℕ). Some (honest_cut scheme ((asks q).region o) t)) (sym e)
 
 told_tree : (o : Option Tree) → IsSome o → (t : Tree) × (o ≡ Some t)
 told_tree None told = cc
@@ -79,7 +80,7 @@ record Rooted (hash : List ℕ → List ℕ) (s : Standing) (top : Top) (c : Chi
   is : s.tree ≡ Some tree
   node : s.node c.id ≡ Some tree
   head : honest_head (asks q) tree s.batch ≡ head_by top q r
-  part : honest_part hash (asks q) tree ≡ Some (honest_cut hash ((asks q).region r) tree)
+  part : honest_part (by s.version hash) (asks q) tree ≡ Some (honest_cut (by s.version hash) ((asks q).region r) tree)
 
 rooted : (hash : List ℕ → List ℕ) (s : Standing) (top : Top) (c : Child) (q : Query) (r : Option ℕ)
     → IsTop hash s top → IsRight q s r → top.root ≡ Some c → IsSome s.tree → Rooted hash s top c q r
@@ -91,8 +92,8 @@ rooted hash s top c q r is right root told =
     ap (tree_under s) (sym root) ∙ subst (λ (o : Option Tree). IfSome o (λ t. tree_under s top.root ≡ Some t)) x.1
     is.tree in
     let may : MayFetch hash s c = subst (λ (o : Option Child). IfSome o (MayFetch hash s)) root is.root in
-    let high : level_at top.root ≡ level x.0 =
-    ap level_at root ∙ level_of_root hash (s.node c.id) x.0 c (may.known told) at in
+    let high : (root_entry top.root).level ≡ level x.0 =
+    ap (λ o. (root_entry o).level) root ∙ level_of_root (by s.version hash) (s.node c.id) x.0 c (may.known told) at in
     let own : r ≡ (asks q).radius (records x.0) =
     subst (λ (o : Option Tree). IfSome o (λ t. r ≡ (asks q).radius (records t))) x.1 right in
     let some : length (records x.0) ≢ 0 =
@@ -102,32 +103,34 @@ rooted hash s top c q r is right root told =
       is = x.1;
       node = at;
       head = head_with s x.0 top q r is.batch count own high;
-      part = some_part hash q r x.0 own some;
+      part = some_part (by s.version hash) q r x.0 own some;
     }
 
 pub proof_of_root : (hash : List ℕ → List ℕ) (s : Standing) (top : Top) (c : Child) (q : Query) (r : Option ℕ)
     → IsTop hash s top → IsRight q s r → top.root ≡ Some c → IsSome s.tree
-    → proof_at hash s.batch q s.tree
-    ≡ head_bytes (head_by top q r) ++ part_at hash ((asks q).region r) (s.node c.id)
+    → proof_at (by s.version hash) s.batch q s.tree
+    ≡ head_bytes (head_by top q r) ++ part_at (by s.version hash) ((asks q).region r) (s.node c.id)
 unfolding proof_at part_at
 proof_of_root hash s top c q r is right root told =
     let x = rooted hash s top c q r is right root told in
-    ap (proof_at hash s.batch q) x.is
-    ∙ proof_by hash s x.tree top q r (Some (honest_cut hash ((asks q).region r) x.tree)) x.head x.part
-    ∙ sym (ap (λ (o : Option Tree). head_bytes (head_by top q r) ++ part_at hash ((asks q).region r) o) x.node)
+    ap (proof_at (by s.version hash) s.batch q) x.is
+    ∙ proof_by (by s.version hash) s x.tree top q r (Some (honest_cut (by s.version hash) ((asks q).region r) x.tree))
+    x.head x.part
+    ∙ sym (ap (λ (o : Option Tree). head_bytes (head_by top q r) ++ part_at (by s.version hash) ((asks q).region r) o)
+    x.node)
 
 pub opened_of_root : (hash : List ℕ → List ℕ) (s : Standing) (top : Top) (c : Child) (q : Query) (r : Option ℕ)
     → IsTop hash s top → IsRight q s r → top.root ≡ Some c → IsSome s.tree
-    → all_opened_at hash q s.tree ≡ opened_at hash ((asks q).region r) (s.node c.id)
+    → all_opened_at (by s.version hash) q s.tree ≡ opened_at (by s.version hash) ((asks q).region r) (s.node c.id)
 unfolding all_opened_at opened_at
 opened_of_root hash s top c q r is right root told =
     let x = rooted hash s top c q r is right root told in
-    ap (all_opened_at hash q) x.is ∙ ap opened_of x.part
-    ∙ sym (ap (opened_at hash ((asks q).region r)) x.node)
+    ap (all_opened_at (by s.version hash) q) x.is ∙ ap opened_of x.part
+    ∙ sym (ap (opened_at (by s.version hash) ((asks q).region r)) x.node)
 
 pub proof_of_empty : (hash : List ℕ → List ℕ) (s : Standing) (top : Top) (q : Query) (r : Option ℕ)
     → IsTop hash s top → IsRight q s r → top.root ≡ None → IsSome s.tree
-    → proof_at hash s.batch q s.tree ≡ head_bytes (head_by top q r)
+    → proof_at (by s.version hash) s.batch q s.tree ≡ head_bytes (head_by top q r)
 unfolding proof_at
 proof_of_empty hash s top q r is right root told =
     let x = told_tree s.tree told in
@@ -139,77 +142,110 @@ proof_of_empty hash s top q r is right root told =
     let own : r ≡ (asks q).radius (records x.0) =
     subst (λ (o : Option Tree). IfSome o (λ t. r ≡ (asks q).radius (records t))) x.1 right in
     let empty : x.0 ≡ tree.Empty = same_tree tree.Empty x.0 at in
-    let flat : level_at top.root ≡ level x.0 = ap level_at root ∙ sym (ap level empty ∙ level-Empty) in
-    ap (proof_at hash s.batch q) x.1
-    ∙ proof_by hash s x.0 top q r None (head_with s x.0 top q r is.batch count own flat) (no_part hash q x.0 empty)
+    let flat : (root_entry top.root).level ≡ level x.0 = ap (λ o. (root_entry o).level) root ∙ sym (ap level empty ∙ level-Empty) in
+    ap (proof_at (by s.version hash) s.batch q) x.1
+    ∙ proof_by (by s.version hash) s x.0 top q r None (head_with s x.0 top q r is.batch count own flat) (no_part (by
+    s.version hash) q x.0 empty)
     ∙ append-nil (head_bytes (head_by top q r))
 
 -- ---- what was written
 
-pub whole_with_root : (hash : List ℕ → List ℕ) (s : Standing) (top : Top) (c : Child) (q : Query) (r : Option ℕ) (h : Head)
-    (from mid to : Sunk) → IsTop hash s top → IsRight q s r → top.root ≡ Some c → h ≡ head_by top q r → Takes from mid (head_bytes h)
-    → (IsSome s.tree → Takes mid to (part_at hash ((asks q).region r) (s.node c.id)))
-    → IsSome s.tree → Takes from to (proof_at hash s.batch q s.tree)
+pub whole_with_root : (hash : List ℕ → List ℕ) (s : Standing) (top : Top) (c : Child) (q : Query) (r : Option ℕ) (h :
+    Head)
+    (from mid to : Sunk) → IsTop hash s top → IsRight q s r → top.root ≡ Some c → h ≡ head_by top q r
+    → Takes from mid (head_bytes h)
+    → (IsSome s.tree → Takes mid to (part_at (by s.version hash) ((asks q).region r) (s.node c.id)))
+    → IsSome s.tree → Takes from to (proof_at (by s.version hash) s.batch q s.tree)
 whole_with_root hash s top c q r h from mid to is right root e first rest told =
     subst (Takes from to) (sym (proof_of_root hash s top c q r is right root told))
-    (Takes-append from mid to (head_bytes (head_by top q r)) (part_at hash ((asks q).region r) (s.node c.id))
+    (Takes-append from mid to (head_bytes (head_by top q r)) (part_at (by s.version hash) ((asks q).region r) (s.node
+    c.id))
     (subst (λ (h : Head). Takes from mid (head_bytes h)) e first) (rest told))
 
-pub front_with_root : (hash : List ℕ → List ℕ) (s : Standing) (top : Top) (c : Child) (q : Query) (r : Option ℕ) (h : Head)
-    (from mid to : Sunk) → IsTop hash s top → IsRight q s r → top.root ≡ Some c → h ≡ head_by top q r → Takes from mid (head_bytes h)
-    → (IsSome s.tree → TakesFront mid to (part_at hash ((asks q).region r) (s.node c.id)))
-    → IsSome s.tree → TakesFront from to (proof_at hash s.batch q s.tree)
+pub front_with_root : (hash : List ℕ → List ℕ) (s : Standing) (top : Top) (c : Child) (q : Query) (r : Option ℕ) (h :
+    Head)
+    (from mid to : Sunk) → IsTop hash s top → IsRight q s r → top.root ≡ Some c → h ≡ head_by top q r
+    → Takes from mid (head_bytes h)
+    → (IsSome s.tree → TakesFront mid to (part_at (by s.version hash) ((asks q).region r) (s.node c.id)))
+    → IsSome s.tree → TakesFront from to (proof_at (by s.version hash) s.batch q s.tree)
 front_with_root hash s top c q r h from mid to is right root e first rest told =
     subst (TakesFront from to) (sym (proof_of_root hash s top c q r is right root told))
-    (front_second from mid to (head_bytes (head_by top q r)) (part_at hash ((asks q).region r) (s.node c.id))
+    (front_second from mid to (head_bytes (head_by top q r)) (part_at (by s.version hash) ((asks q).region r) (s.node
+    c.id))
     (subst (λ (h : Head). Takes from mid (head_bytes h)) e first) (rest told))
 
-pub whole_of_empty : (hash : List ℕ → List ℕ) (s : Standing) (top : Top) (q : Query) (r : Option ℕ) (h : Head) (from to : Sunk)
+pub whole_of_empty : (hash : List ℕ → List ℕ) (s : Standing) (top : Top) (q : Query) (r : Option ℕ) (h : Head) (from
+    to : Sunk)
     → IsTop hash s top → IsRight q s r → top.root ≡ None → h ≡ head_by top q r → Takes from to (head_bytes h)
-    → IsSome s.tree → Takes from to (proof_at hash s.batch q s.tree)
+    → IsSome s.tree → Takes from to (proof_at (by s.version hash) s.batch q s.tree)
 whole_of_empty hash s top q r h from to is right root e all told =
     subst (Takes from to) (sym (proof_of_empty hash s top q r is right root told))
     (subst (λ (h : Head). Takes from to (head_bytes h)) e all)
 
 front_by : (hash : List ℕ → List ℕ) (s : Standing) (top : Top) (q : Query) (r : Option ℕ) (from to : Sunk)
-    (o : Option Child) → top.root ≡ o → IsTop hash s top → IsRight q s r → IsSome s.tree → TakesFront from to (head_bytes (head_by top q r))
-    → TakesFront from to (proof_at hash s.batch q s.tree)
+    (o : Option Child) → top.root ≡ o → IsTop hash s top → IsRight q s r → IsSome s.tree
+    → TakesFront from to (head_bytes (head_by top q r))
+    → TakesFront from to (proof_at (by s.version hash) s.batch q s.tree)
 front_by hash s top q r from to None root is right told front =
     subst (TakesFront from to) (sym (proof_of_empty hash s top q r is right root told)) front
 front_by hash s top q r from to (Some c) root is right told front =
     subst (TakesFront from to) (sym (proof_of_root hash s top c q r is right root told))
-    (front_first from to (head_bytes (head_by top q r)) (part_at hash ((asks q).region r) (s.node c.id)) front)
+    (front_first from to (head_bytes (head_by top q r)) (part_at (by s.version hash) ((asks q).region r) (s.node
+    c.id)) front)
 
-pub front_of_head : (hash : List ℕ → List ℕ) (s : Standing) (top : Top) (q : Query) (r : Option ℕ) (h : Head) (from to : Sunk)
+pub front_of_head : (hash : List ℕ → List ℕ) (s : Standing) (top : Top) (q : Query) (r : Option ℕ) (h : Head) (from to
+    : Sunk)
     → IsTop hash s top → IsRight q s r → h ≡ head_by top q r → TakesFront from to (head_bytes h)
-    → IsSome s.tree → TakesFront from to (proof_at hash s.batch q s.tree)
+    → IsSome s.tree → TakesFront from to (proof_at (by s.version hash) s.batch q s.tree)
 front_of_head hash s top q r h from to is right e front told =
     front_by hash s top q r from to top.root refl is right told
     (subst (λ (h : Head). TakesFront from to (head_bytes h)) e front)
 
 -- ---- of the tree that is told
 
-pub whole_told : {A : Type 0} (hash : List ℕ → List ℕ) (batch : ℕ) (q : Query) (o : Option Tree) (from to : Sunk)
-    (r : Result A ProveErr) → OnOk r (IsSome o → Takes from to (proof_at hash batch q o))
-    → IfSome o (λ t. OnOk r (Takes from to (proof hash t batch q)))
+pub whole_told : {A : Type 0} (scheme : Scheme) (batch : ℕ) (q : Query) (o : Option Tree) (from to : Sunk)
+    (r : Result A ProveErr) → OnOk r (IsSome o → Takes from to (proof_at scheme batch q o))
+    → IfSome o (λ t. OnOk r (Takes from to (proof scheme t batch q)))
 unfolding proof_at
-whole_told hash batch q None from to r h = tt
-whole_told hash batch q (Some t) from to (Ok x) h = h refl
-whole_told hash batch q (Some t) from to (Err e) h = tt
+whole_told scheme batch q None from to r h = tt
+whole_told scheme batch q (Some t) from to (Ok x) h = h refl
+whole_told scheme batch q (Some t) from to (Err e) h = tt
 
-pub front_told : {A : Type 0} (hash : List ℕ → List ℕ) (batch : ℕ) (q : Query) (o : Option Tree) (from to : Sunk)
-    (r : Result A ProveErr) → OnErr r (IsSome o → TakesFront from to (proof_at hash batch q o))
-    → IfSome o (λ t. OnErr r (TakesFront from to (proof hash t batch q)))
+pub front_told : {A : Type 0} (scheme : Scheme) (batch : ℕ) (q : Query) (o : Option Tree) (from to : Sunk)
+    (r : Result A ProveErr) → OnErr r (IsSome o → TakesFront from to (proof_at scheme batch q o))
+    → IfSome o (λ t. OnErr r (TakesFront from to (proof scheme t batch q)))
 unfolding proof_at
-front_told hash batch q None from to r h = tt
-front_told hash batch q (Some t) from to (Ok x) h = tt
-front_told hash batch q (Some t) from to (Err e) h = h refl
+front_told scheme batch q None from to r h = tt
+front_told scheme batch q (Some t) from to (Ok x) h = tt
+front_told scheme batch q (Some t) from to (Err e) h = h refl
 
-pub fetched_told : (hash : List ℕ → List ℕ) (q : Query) (o : Option Tree) (before now : ℕ)
-    → (IsSome o → now ≤ before + all_opened_at hash q o) → IfSome o (λ t. now ≤ before + opened hash t q)
+pub fetched_told : (scheme : Scheme) (q : Query) (o : Option Tree) (before now : ℕ)
+    → (IsSome o → now ≤ before + all_opened_at scheme q o) → IfSome o (λ t. now ≤ before + opened scheme t q)
 unfolding all_opened_at
-fetched_told hash q None before now h = tt
-fetched_told hash q (Some t) before now h = h refl
+fetched_told scheme q None before now h = tt
+fetched_told scheme q (Some t) before now h = h refl
+
+-- where nothing was written, nothing is the front of the proof that was
+pub front_none : {A : Type 0} (scheme : Scheme) (batch : ℕ) (q : Query) (o : Option Tree) (state : Sunk)
+    (r : Result A ProveErr) → IfSome o (λ t. OnErr r (TakesFront state state (proof scheme t batch q)))
+front_none scheme batch q None state r = tt
+front_none scheme batch q (Some t) state (Ok x) = tt
+front_none scheme batch q (Some t) state (Err e) = record
+    { front = []; rest = proof scheme t batch q; whole = refl; takes = Takes-none state }
+
+-- ---- what was written for this query
+
+pub written_for : {A : Type 0} (scheme : Scheme) (batch : ℕ) (o : Option Tree) (q p : Query) (from to : Sunk)
+    (r : Result A ProveErr) → q ≡ p → IfSome o (λ t. OnOk r (Takes from to (proof scheme t batch p)))
+    → IfSome o (λ t. OnOk r (Takes from to (proof scheme t batch q)))
+written_for scheme batch o q p from to r e h =
+    subst (λ q. IfSome o (λ t. OnOk r (Takes from to (proof scheme t batch q)))) (sym e) h
+
+pub front_for : {A : Type 0} (scheme : Scheme) (batch : ℕ) (o : Option Tree) (q p : Query) (from to : Sunk)
+    (r : Result A ProveErr) → q ≡ p → IfSome o (λ t. OnErr r (TakesFront from to (proof scheme t batch p)))
+    → IfSome o (λ t. OnErr r (TakesFront from to (proof scheme t batch q)))
+front_for scheme batch o q p from to r e h =
+    subst (λ q. IfSome o (λ t. OnErr r (TakesFront from to (proof scheme t batch q)))) (sym e) h
 
 pub ok_through : {A E : Type 0} (r : Result A E) (P Q : Type 0) → (P → Q) → OnOk r P → OnOk r Q
 ok_through (Ok x) P Q f h = f h

@@ -1,5 +1,5 @@
 -- Why a proof was not written.
-use Rattle.std.specs.Prelude.{◌≡◌, ◌≢◌, ℕ, ◌≤◌, ⊤, Result, IfErr, OnOk}
+use Rattle.std.specs.Prelude.{◌≡◌, ◌≢◌, ℕ, ◌≤◌, ⊤, Option, Some, Result, IfErr, OnOk}
 use Rattle.mr_outside.specs.Faults.{Rose}
 use Rattle.mr_outside.specs.State.{Sunk}
 use Rattle.mr_outside.specs.declared.sink.SinkErr.{SinkErr}
@@ -37,6 +37,12 @@ pub record ProveCauses {A : Type 0} (s : Standing) (before after : ℕ) (from to
   pub faults : from.faults ≤ to.faults
   pub still : OnOk result (after ≡ before)
   pub quiet : OnOk result (to.faults ≡ from.faults)
+
+-- a refusal of the nodes is handed on as the last that a fetch gave
+abbrev pub IsHandedOn : (last : Option NodesErr) → ProveErr → Type 0
+IsHandedOn last (errors.Nodes e) = last ≡ Some e
+IsHandedOn last errors.Sink = ⊤
+IsHandedOn last errors.NoMemory = ⊤
 
 -- ---- the number of fetches
 

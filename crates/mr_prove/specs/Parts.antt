@@ -3,8 +3,9 @@
 use Rattle.std.specs.Prelude.{◌≡◌, ℕ, Bool, List, [], ◌∷◌, length, Option, Some, None, IfSome}
 use Rattle.std.specs.List.{flat_map, sum_by}
 use Rattle.mr_tree.specs.Tree.{records}
+use Rattle.mr_tree.specs.Digest.{Scheme, by}
 use Rattle.mr_tree.specs.View.{Node}
-use Rattle.mr_tree.specs.Nodes.{Standing}
+use Rattle.mr_tree.specs.Nodes.{Standing, root_entry}
 use Rattle.mr_tree.specs.declared.child.Child.{Child}
 use Rattle.mr_tree.specs.declared.nodes.Top.{Top}
 use Rattle.mr_tree.specs.declared.tree.Tree.{Tree}
@@ -29,30 +30,32 @@ node_bytes (node.Leaf records) = cut_bytes (Leaf records)
 node_bytes (node.Inner children) = inner_tag ∷ length children ∷ []
 
 -- the bytes of the honest cut of a tree that is told
-unfoldable pub part_at : (List ℕ → List ℕ) → (Seen → Bool) → Option Tree → List ℕ
-part_at hash region None = []
-part_at hash region (Some t) = cut_bytes (honest_cut hash region t)
+unfoldable pub part_at : Scheme → (Seen → Bool) → Option Tree → List ℕ
+part_at scheme region None = []
+part_at scheme region (Some t) = cut_bytes (honest_cut scheme region t)
 
 -- the number of nodes that it opens
-unfoldable pub opened_at : (List ℕ → List ℕ) → (Seen → Bool) → Option Tree → ℕ
-opened_at hash region None = 0
-opened_at hash region (Some t) = opened_nodes (honest_cut hash region t)
+unfoldable pub opened_at : Scheme → (Seen → Bool) → Option Tree → ℕ
+opened_at scheme region None = 0
+opened_at scheme region (Some t) = opened_nodes (honest_cut scheme region t)
+
+-- those of the tree under the child's node
+abbrev pub part_under : (List ℕ → List ℕ) → (Seen → Bool) → Standing → Child → List ℕ
+part_under hash region s c = part_at (by s.version hash) region (s.node c.id)
+
+abbrev pub opened_under : (List ℕ → List ℕ) → (Seen → Bool) → Standing → Child → ℕ
+opened_under hash region s c = opened_at (by s.version hash) region (s.node c.id)
 
 -- the parts of some children, and how many nodes they open
-abbrev pub parts_of : (List ℕ → List ℕ) → (Seen → Bool) → Standing → List Child → List ℕ
-parts_of hash region s children =
-    flat_map (λ (d : Child). part_at hash region (s.node d.id)) children
+abbrev pub parts_of : Scheme → (Seen → Bool) → Standing → List Child → List ℕ
+parts_of scheme region s children =
+    flat_map (λ (d : Child). part_at scheme region (s.node d.id)) children
 
-abbrev pub opened_in : (List ℕ → List ℕ) → (Seen → Bool) → Standing → List Child → ℕ
-opened_in hash region s children =
-    sum_by (λ (d : Child). opened_at hash region (s.node d.id)) children
+abbrev pub opened_in : Scheme → (Seen → Bool) → Standing → List Child → ℕ
+opened_in scheme region s children =
+    sum_by (λ (d : Child). opened_at scheme region (s.node d.id)) children
 
 -- ---- the whole proof
-
--- the level of the root node, by its entry; 0 of the empty map
-abbrev pub level_at : Option Child → ℕ
-level_at None = 0
-level_at (Some c) = c.level
 
 -- the head, by what the nodes say of the map, with this squared radius
 abbrev pub head_by : Top → Query → Option ℕ → Head
@@ -61,17 +64,24 @@ head_by top q radius = record {
   batch = top.batch;
   count = top.count;
   radius = radius;
-  level = level_at top.root;
+  level = (root_entry top.root).level;
 }
 
 -- the bytes of the proof, and the number of nodes that it opens, of a map whose tree is told
-unfoldable pub proof_at : (List ℕ → List ℕ) → (batch : ℕ) → Query → Option Tree → List ℕ
-proof_at hash batch q None = []
-proof_at hash batch q (Some t) = proof hash t batch q
+unfoldable pub proof_at : Scheme → (batch : ℕ) → Query → Option Tree → List ℕ
+proof_at scheme batch q None = []
+proof_at scheme batch q (Some t) = proof scheme t batch q
 
-unfoldable pub all_opened_at : (List ℕ → List ℕ) → Query → Option Tree → ℕ
-all_opened_at hash q None = 0
-all_opened_at hash q (Some t) = opened hash t q
+unfoldable pub all_opened_at : Scheme → Query → Option Tree → ℕ
+all_opened_at scheme q None = 0
+all_opened_at scheme q (Some t) = opened scheme t q
+
+-- those of the map that stands
+abbrev pub proof_of : (List ℕ → List ℕ) → Query → Standing → List ℕ
+proof_of hash q s = proof_at (by s.version hash) s.batch q s.tree
+
+abbrev pub opened_by : (List ℕ → List ℕ) → Query → Standing → ℕ
+opened_by hash q s = all_opened_at (by s.version hash) q s.tree
 
 -- the squared radius, where the tree is told, is that of its records
 abbrev pub IsRight : Query → Standing → Option ℕ → Type 0

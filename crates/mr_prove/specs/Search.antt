@@ -10,14 +10,13 @@ use Rattle.mr_geom.specs.Distance.{least_squared_distance}
 use Rattle.mr_geom.specs.declared.point.Point.{Point}
 use Rattle.mr_outside.specs.Faults.{Rose}
 use Rattle.mr_tree.specs.Tree.{records}
+use Rattle.mr_tree.specs.Digest.{Scheme, by}
 use Rattle.mr_tree.specs.View.{Node, records_in, children_in}
 use Rattle.mr_tree.specs.Nodes.{Standing, MayFetch, Shows}
 use Rattle.mr_tree.specs.declared.child.Child.{Child}
 use Rattle.mr_tree.specs.declared.tree.Tree.{Tree}
 use Rattle.mr_query.specs.Nearest.{distances, kth_least, is_within}
 use Rattle.mr_query.specs.Radius.{below}
-use Rattle.mr_query.specs.declared.query.Query.{Query}
-use Rattle.mr_query.specs.declared.query.Query.TheVariants.{Window, Nearest}
 use Rattle.mr_proof.specs.Cut.{opened_nodes}
 use Rattle.mr_proof.specs.Tight.{Seen}
 use Rattle.mr_proof.specs.Honest.{honest_cut}
@@ -33,15 +32,10 @@ abbrev pub near_region : Point → Option ℕ → Seen → Bool
 near_region p radius s = is_within p radius s.rect
 
 -- how many nodes the honest cut opens for the kth least distance of the tree's records
-abbrev pub near_opened : (List ℕ → List ℕ) → Point → ℕ → Tree → ℕ
-near_opened hash p k t =
+abbrev pub near_opened : Scheme → Point → ℕ → Tree → ℕ
+near_opened scheme p k t =
     if length (records t) == 0 then 0
-    else opened_nodes (honest_cut hash (near_region p (kth_least k (distances p (records t)))) t)
-
--- how many nodes are fetched to find the squared radius, which a window does not have
-abbrev pub searched : (List ℕ → List ℕ) → Tree → Query → ℕ
-searched hash t (Window w) = 0
-searched hash t (Nearest p k) = near_opened hash p k t
+    else opened_nodes (honest_cut scheme (near_region p (kth_least k (distances p (records t)))) t)
 
 -- the greatest squared distance of two points of a map
 abbrev pub farthest : ℕ
@@ -97,9 +91,9 @@ unseen p s x pending =
     sum_by (λ (w : Waiting). below x (distances_at p (s.node w.child.id))) pending
 
 -- how many nodes within the radius the search may still fetch
-abbrev pub unopened : (List ℕ → List ℕ) → Point → Option ℕ → Standing → List Waiting → ℕ
-unopened hash p radius s pending =
-    sum_by (λ (w : Waiting). opened_at hash (near_region p radius) (s.node w.child.id)) pending
+abbrev pub unopened : Scheme → Point → Option ℕ → Standing → List Waiting → ℕ
+unopened scheme p radius s pending =
+    sum_by (λ (w : Waiting). opened_at scheme (near_region p radius) (s.node w.child.id)) pending
 
 -- below each number lie, counted up to k, as many distances as were kept or wait
 pub record Searching (hash : List ℕ → List ℕ) (k : ℕ) (p : Point) (s : Standing)
@@ -112,8 +106,8 @@ pub record Searching (hash : List ℕ → List ℕ) (k : ℕ) (p : Point) (s : S
 pub record Bounded (hash : List ℕ → List ℕ) (k : ℕ) (p : Point) (s : Standing)
     (pending : List Waiting) (before now : ℕ) : Type 0 where
   pub few : (t : Tree) → s.tree ≡ Some t →
-      now + unopened hash p (kth_least k (distances p (records t))) s pending
-      ≤ before + near_opened hash p k t
+      now + unopened (by s.version hash) p (kth_least k (distances p (records t))) s pending
+      ≤ before + near_opened (by s.version hash) p k t
 
 -- nothing was fetched yet: all waits that there is
 pub record IsStart (hash : List ℕ → List ℕ) (k : ℕ) (p : Point) (s : Standing)
@@ -122,7 +116,8 @@ pub record IsStart (hash : List ℕ → List ℕ) (k : ℕ) (p : Point) (s : Sta
   pub all : (t : Tree) → s.tree ≡ Some t → (x : ℕ) →
       unseen p s x pending ≡ below x (distances p (records t))
   pub few : (t : Tree) → s.tree ≡ Some t →
-      unopened hash p (kth_least k (distances p (records t))) s pending ≡ near_opened hash p k t
+      unopened (by s.version hash) p (kth_least k (distances p (records t))) s pending
+      ≡ near_opened (by s.version hash) p k t
 
 -- A node was fetched: its children wait, and the distances of its records are among those of which
 -- the k least are kept.

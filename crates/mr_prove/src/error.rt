@@ -1,3 +1,5 @@
+//! Why a proof was not written.
+
 ghost use Rattle.std.specs.Prelude.{◌≡◌};
 ghost use Rattle.mr_prove.specs.Causes.{of_nodes, of_sink};
 

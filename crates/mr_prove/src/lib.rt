@@ -3,10 +3,11 @@
 
 mod best;
 mod error;
+mod fetching;
 mod part;
 mod proving;
 mod search;
 mod waiting;
 
 pub use error::ProveErr;
-pub use proving::prove;
+pub use proving::{prove, prove_window};

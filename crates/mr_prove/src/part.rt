@@ -1,16 +1,20 @@
 //! The proof's part for one node and all below it.
 
-ghost use Rattle.std.specs.Prelude.{◌≡◌, ◌+◌, ◌≤◌, true, Bool, OnOk, OnErr, IsSome};
+ghost use Rattle.std.specs.Prelude.{◌≡◌, ℕ, ◌+◌, ◌≤◌, true, Bool, Option, OnOk, OnErr, IfErr, IsSome};
 ghost use Rattle.mr_outside.specs.Causes.{SinkCauses};
 ghost use Rattle.mr_outside.specs.Told.{Takes, TakesFront};
 ghost use Rattle.mr_outside.specs.Faults.{next_count};
-ghost use Rattle.mr_tree.specs.View.{size};
-ghost use Rattle.mr_tree.specs.Nodes.{MayFetch, Shows};
+ghost use Rattle.mr_tree.specs.View.{size, entry_of};
+ghost use Rattle.mr_tree.specs.Nodes.{Standing, MayFetch, Shows};
+ghost use Rattle.mr_tree.specs.declared.nodes.NodesErr as error;
+ghost use Rattle.mr_proof.specs.Cut.{pruned_cut};
+ghost use Rattle.mr_proof.specs.Spelling.{cut_bytes};
 ghost use Rattle.mr_proof.specs.Tight.{Seen, seen_at};
-ghost use Rattle.mr_prove.specs.Causes.{ProveCauses};
-ghost use Rattle.mr_prove.specs.Parts.{region_in, node_bytes, part_at, opened_at};
+ghost use Rattle.mr_prove.specs.Causes.{ProveCauses, IsHandedOn};
+ghost use Rattle.mr_prove.specs.Parts.{region_in, node_bytes, part_under, opened_under};
 
 use crate::ProveErr;
+use crate::fetching::fetched;
 use mr_outside::{Sink, SinkErr};
 use mr_proof::{Item, write_item};
 use mr_query::Area;
@@ -45,17 +49,34 @@ fn open_node<N: Nodes, W: Sink>(
     ensures whole { OnOk result (Takes (W.state out.old) (W.state out.new) (node_bytes view.new)) }
     ensures front { OnErr result (IsSome (N.stands nodes.old).tree → (region : Seen → Bool) →
         region (seen_at child.now.rect) ≡ true → TakesFront (W.state out.old) (W.state out.new)
-        (part_at N.Hash.of region ((N.stands nodes.old).node child.now.id))) }
+        (part_under N.Hash.of region (N.stands nodes.old) child.now)) }
     ensures causes { ProveCauses (N.stands nodes.old) (N.faults nodes.old) (N.faults nodes.new)
         (W.state out.old) (W.state out.new) result }
+    ensures refused { IfErr result (IsHandedOn (N.refusal nodes.new)) }
 {
-    nodes.fetch(child, view)?;
+    fetched(nodes, child, view)?;
     write_node(view, out)?;
     Ok(())
 }
 
-/// Writes the part of the node of which the child is the entry: where the region misses it what is
-/// shown of it, and else the node and the parts of its children, each once it is fetched.
+// Writes a part that is pruned, by its entry. A refusal is one of the sink.
+fn write_pruned<W: Sink>(child: &Child, out: &mut W) -> Result<(), ProveErr>
+    ensures whole { OnOk result (Takes (W.state out.old) (W.state out.new)
+        (cut_bytes (pruned_cut (entry_of child.now)))) }
+    ensures front { TakesFront (W.state out.old) (W.state out.new)
+        (cut_bytes (pruned_cut (entry_of child.now))) }
+    ensures causes { (s : Standing) (faults : ℕ) →
+        ProveCauses s faults faults (W.state out.old) (W.state out.new) result }
+    ensures refused { (last : Option error.NodesErr) → IfErr result (IsHandedOn last) }
+{
+    match write_item(out, &Item::Pruned(child)) {
+        Ok(()) => Ok(()),
+        Err(error) => Err(ProveErr::from(error)),
+    }
+}
+
+// Writes the part of the node of which the child is the entry: where the region misses it what is
+// shown of it, and else the node and the parts of its children, each once it is fetched.
 pub(crate) fn write_part<N: Nodes, W: Sink>(
     nodes: &mut N,
     area: &Area,
@@ -66,18 +87,18 @@ pub(crate) fn write_part<N: Nodes, W: Sink>(
     ensures kept { N.kept nodes.old nodes.new }
     ensures whole { OnOk result (IsSome (N.stands nodes.old).tree →
         Takes (W.state out.old) (W.state out.new)
-        (part_at N.Hash.of (region_in area.now) ((N.stands nodes.old).node child.now.id))) }
+        (part_under N.Hash.of (region_in area.now) (N.stands nodes.old) child.now)) }
     ensures front { OnErr result (IsSome (N.stands nodes.old).tree →
         TakesFront (W.state out.old) (W.state out.new)
-        (part_at N.Hash.of (region_in area.now) ((N.stands nodes.old).node child.now.id))) }
+        (part_under N.Hash.of (region_in area.now) (N.stands nodes.old) child.now)) }
     ensures fetched { IsSome (N.stands nodes.old).tree → N.fetches nodes.new ≤ N.fetches nodes.old +
-        opened_at N.Hash.of (region_in area.now) ((N.stands nodes.old).node child.now.id) }
+        opened_under N.Hash.of (region_in area.now) (N.stands nodes.old) child.now }
     ensures causes { ProveCauses (N.stands nodes.old) (N.faults nodes.old) (N.faults nodes.new)
         (W.state out.old) (W.state out.new) result }
+    ensures refused { IfErr result (IsHandedOn (N.refusal nodes.new)) }
 {
     if !area.meets(&child.rect) {
-        write_item(out, &Item::Pruned(child.rect, child.digest))?;
-        return Ok(());
+        return write_pruned(child, out);
     }
     let mut view = NodeView::new();
     open_node(nodes, child, &mut view, out)?;

@@ -1,33 +1,27 @@
 //! The whole proof.
 
-ghost use Rattle.std.specs.Prelude.{◌≡◌, ◌+◌, ◌*◌, ◌≤◌, OnOk, OnErr, IfOk, IfSome, IsSome};
+ghost use Rattle.std.specs.Prelude.{◌≡◌, ◌+◌, ◌*◌, ◌≤◌, OnOk, OnErr, IfErr, IfSome, IsSome};
 ghost use Rattle.mr_outside.specs.Told.{Takes, TakesFront};
+ghost use Rattle.mr_record.specs.declared.version.Version.{Version};
+ghost use Rattle.mr_tree.specs.Digest.{by};
 ghost use Rattle.mr_query.specs.Word.{IsAskable};
+ghost use Rattle.mr_query.specs.declared.query.Query.TheVariants as queries;
 ghost use Rattle.mr_proof.specs.Spelling.{FitsRadius};
 ghost use Rattle.mr_proof.specs.Tight.{kind_of};
 ghost use Rattle.mr_proof.specs.Honest.{proof, opened};
 ghost use Rattle.mr_proof.specs.Halves.{AcceptsHonest};
-ghost use Rattle.mr_prove.specs.Causes.{ProveCauses, rounds};
-ghost use Rattle.mr_prove.specs.Parts.{level_at, head_by, proof_at, all_opened_at, IsRight};
-ghost use Rattle.mr_prove.specs.Search.{SearchCauses, searched};
+ghost use Rattle.mr_prove.specs.Causes.{ProveCauses, IsHandedOn, rounds};
+ghost use Rattle.mr_prove.specs.Parts.{head_by, proof_of, opened_by, IsRight};
 
 use crate::ProveErr;
 use crate::part::write_part;
 use crate::search::kth_distance;
+use mr_geom::{Point, Rect};
 use mr_outside::Sink;
 use mr_proof::{Head, honest_is_accepted, kind_of, write_head};
 use mr_query::{Area, Query};
-use mr_tree::{Child, Nodes, Top};
+use mr_tree::{Nodes, Top};
 use std::alloc::Global;
-
-fn level_of(root: &Option<Child>) -> u8
-    ensures { result ≡ level_at root.now }
-{
-    match root {
-        None => 0,
-        Some(root) => root.level,
-    }
-}
 
 fn head_of(top: &Top, q: &Query, radius: Option<u128>) -> Head
     ensures { result ≡ head_by top.now q.now radius }
@@ -37,7 +31,7 @@ fn head_of(top: &Top, q: &Query, radius: Option<u128>) -> Head
         batch: top.batch,
         count: top.count,
         radius,
-        level: level_of(&top.root),
+        level: top.root_entry().level,
     }
 }
 
@@ -53,14 +47,15 @@ fn write_proof<N: Nodes, W: Sink>(
     ensures kept { N.kept nodes.old nodes.new }
     ensures whole { OnOk result (IsSome (N.stands nodes.old).tree →
         Takes (W.state out.old) (W.state out.new)
-        (proof_at N.Hash.of (N.stands nodes.old).batch q.now (N.stands nodes.old).tree)) }
+        (proof_of N.Hash.of q.now (N.stands nodes.old))) }
     ensures front { OnErr result (IsSome (N.stands nodes.old).tree →
         TakesFront (W.state out.old) (W.state out.new)
-        (proof_at N.Hash.of (N.stands nodes.old).batch q.now (N.stands nodes.old).tree)) }
+        (proof_of N.Hash.of q.now (N.stands nodes.old))) }
     ensures fetched { IsSome (N.stands nodes.old).tree → N.fetches nodes.new ≤ N.fetches nodes.old +
-        all_opened_at N.Hash.of q.now (N.stands nodes.old).tree }
+        opened_by N.Hash.of q.now (N.stands nodes.old) }
     ensures causes { ProveCauses (N.stands nodes.old) (N.faults nodes.old) (N.faults nodes.new)
         (W.state out.old) (W.state out.new) result }
+    ensures refused { IfErr result (IsHandedOn (N.refusal nodes.new)) }
 {
     let top = nodes.top();
     write_head(out, &head_of(&top, q, radius))?;
@@ -71,21 +66,63 @@ fn write_proof<N: Nodes, W: Sink>(
     }
 }
 
-// The squared radius of the answer to the query on the map.
-fn radius_of<N: Nodes>(alloc: Global, nodes: &mut N, q: &Query) -> Result<Option<u128>, ProveErr>
-    requires { IsAskable q.now }
+// Writes the proof for the nearest records: their radius is searched for, and then the nodes are
+// walked.
+fn prove_nearest<N: Nodes, W: Sink>(
+    alloc: Global,
+    nodes: &mut N,
+    center: &Point,
+    k: u16,
+    out: &mut W,
+) -> Result<(), ProveErr>
+    requires { 1 ≤ k }
     ensures kept { N.kept nodes.old nodes.new }
-    ensures right { IfOk result (IsRight q.now (N.stands nodes.old)) }
-    ensures fits { IfOk result (FitsRadius (kind_of q.now)) }
+    ensures written { IfSome (N.stands nodes.old).tree (λ t. OnOk result
+        (Takes (W.state out.old) (W.state out.new)
+        (proof (by (N.stands nodes.old).version N.Hash.of) t (N.stands nodes.old).batch
+        (queries.Nearest center.now k)))) }
+    ensures front { IfSome (N.stands nodes.old).tree (λ t. OnErr result
+        (TakesFront (W.state out.old) (W.state out.new)
+        (proof (by (N.stands nodes.old).version N.Hash.of) t (N.stands nodes.old).batch
+        (queries.Nearest center.now k)))) }
     ensures fetched { IfSome (N.stands nodes.old).tree (λ t. N.fetches nodes.new ≤
-        N.fetches nodes.old + searched N.Hash.of t q.now) }
-    ensures causes { SearchCauses (N.stands nodes.old) (N.faults nodes.old) (N.faults nodes.new)
-        result }
+        N.fetches nodes.old + 2 * opened (by (N.stands nodes.old).version N.Hash.of) t
+        (queries.Nearest center.now k)) }
+    ensures causes { ProveCauses (N.stands nodes.old) (N.faults nodes.old) (N.faults nodes.new)
+        (W.state out.old) (W.state out.new) result }
+    ensures refused { IfErr result (IsHandedOn (N.refusal nodes.new)) }
 {
-    match q {
-        Query::Window(_) => Ok(None),
-        Query::Nearest { center, k } => kth_distance(alloc, nodes, center, *k),
-    }
+    let radius = kth_distance(alloc, nodes, center, k)?;
+    let q = Query::Nearest { center: *center, k };
+    write_proof(nodes, &q, radius, out)
+}
+
+/// Writes the proof of the answer to a query for a window, as `prove` does. The nodes are walked
+/// depth first and what is known is written at once: the walk keeps the nodes on the path, at most
+/// eight, inline, and is given no allocator. So the proof for a window takes no memory beyond what
+/// the nodes and the sink take.
+pub fn prove_window<N: Nodes, W: Sink>(
+    nodes: &mut N,
+    window: &Rect,
+    out: &mut W,
+) -> Result<(), ProveErr>
+    ensures kept { N.kept nodes.old nodes.new }
+    ensures written { IfSome (N.stands nodes.old).tree (λ t. OnOk result
+        (Takes (W.state out.old) (W.state out.new)
+        (proof (by (N.stands nodes.old).version N.Hash.of) t (N.stands nodes.old).batch
+        (queries.Window window.now)))) }
+    ensures front { IfSome (N.stands nodes.old).tree (λ t. OnErr result
+        (TakesFront (W.state out.old) (W.state out.new)
+        (proof (by (N.stands nodes.old).version N.Hash.of) t (N.stands nodes.old).batch
+        (queries.Window window.now)))) }
+    ensures fetched { IfSome (N.stands nodes.old).tree (λ t. N.fetches nodes.new ≤
+        N.fetches nodes.old + opened (by (N.stands nodes.old).version N.Hash.of) t
+        (queries.Window window.now)) }
+    ensures causes { ProveCauses (N.stands nodes.old) (N.faults nodes.old) (N.faults nodes.new)
+        (W.state out.old) (W.state out.new) result }
+    ensures refused { IfErr result (IsHandedOn (N.refusal nodes.new)) }
+{
+    write_proof(nodes, &Query::Window(*window), None, out)
 }
 
 /// Writes the proof of the answer to the query: that of the cut which opens just the nodes that the
@@ -94,10 +131,8 @@ fn radius_of<N: Nodes>(alloc: Global, nodes: &mut N, q: &Query) -> Result<Option
 /// many for nearest records.
 ///
 /// The radius of nearest records is found first, by a search that keeps the nodes it has met and as
-/// many distances as records are asked for. Then the nodes are walked depth first and what is known
-/// is written at once: the walk keeps the nodes on the path, at most eight, inline, and takes no
-/// memory of its own. So the proof for a window takes no memory beyond what the nodes and the sink
-/// take. After a refusal some front of the proof was taken.
+/// many distances as records are asked for. Then the nodes are walked depth first, as
+/// `prove_window` does from the beginning. After a refusal some front of the proof was taken.
 pub fn prove<N: Nodes, W: Sink>(
     alloc: Global,
     nodes: &mut N,
@@ -108,17 +143,21 @@ pub fn prove<N: Nodes, W: Sink>(
     ensures kept { N.kept nodes.old nodes.new }
     ensures written { IfSome (N.stands nodes.old).tree (λ t. OnOk result
         (Takes (W.state out.old) (W.state out.new)
-        (proof N.Hash.of t (N.stands nodes.old).batch q.now))) }
+        (proof (by (N.stands nodes.old).version N.Hash.of) t (N.stands nodes.old).batch q.now))) }
     ensures front { IfSome (N.stands nodes.old).tree (λ t. OnErr result
         (TakesFront (W.state out.old) (W.state out.new)
-        (proof N.Hash.of t (N.stands nodes.old).batch q.now))) }
+        (proof (by (N.stands nodes.old).version N.Hash.of) t (N.stands nodes.old).batch q.now))) }
     ensures fetched { IfSome (N.stands nodes.old).tree (λ t. N.fetches nodes.new ≤
-        N.fetches nodes.old + rounds q.now * opened N.Hash.of t q.now) }
+        N.fetches nodes.old + rounds q.now * opened (by (N.stands nodes.old).version N.Hash.of) t
+        q.now) }
     ensures causes { ProveCauses (N.stands nodes.old) (N.faults nodes.old) (N.faults nodes.new)
         (W.state out.old) (W.state out.new) result }
-    ensures accepted { AcceptsHonest N.Hash.of q.now }
+    ensures refused { IfErr result (IsHandedOn (N.refusal nodes.new)) }
+    ensures accepted { (v : Version) → AcceptsHonest (by v N.Hash.of) q.now }
 {
     honest_is_accepted::<N::Hash>(q);
-    let radius = radius_of(alloc, nodes, q)?;
-    write_proof(nodes, q, radius, out)
+    match q {
+        Query::Window(window) => prove_window(nodes, window, out),
+        Query::Nearest { center, k } => prove_nearest(alloc, nodes, center, *k, out),
+    }
 }

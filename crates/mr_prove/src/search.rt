@@ -1,19 +1,22 @@
 //! The kth least distance of a map's records to a point, by a search from node to node, the nearest
 //! first (Hjaltason and Samet 1999).
 
-ghost use Rattle.std.specs.Prelude.{◌≡◌, ℕ, ◌+◌, ◌-◌, ◌*◌, ◌^◌, ◌≤◌, ◌++◌, ◌∷◌, Some, OnOk, IfOk, IfSome, map, true};
+ghost use Rattle.std.specs.Prelude.{◌≡◌, ℕ, ◌+◌, ◌-◌, ◌*◌, ◌^◌, ◌≤◌, ◌++◌, ◌∷◌, Some, OnOk, IfOk, IfErr, IfSome, map, true};
 ghost use Rattle.std.specs.BinaryHeap.{IsHeap, heap_items};
 ghost use Rattle.std.specs.List.Sorted.{IsPermutation};
 ghost use Rattle.mr_outside.specs.Faults.{next_count};
 ghost use Rattle.mr_tree.specs.Tree.{records};
+ghost use Rattle.mr_tree.specs.Digest.{by};
 ghost use Rattle.mr_tree.specs.Nodes.{MayFetch};
 ghost use Rattle.mr_tree.specs.declared.tree.Tree.{Tree};
 ghost use Rattle.mr_query.specs.Nearest.{distances, kth_least, is_within};
 ghost use Rattle.mr_query.specs.Radius.{IsRadius};
+ghost use Rattle.mr_prove.specs.Causes.{IsHandedOn};
 ghost use Rattle.mr_prove.specs.Search.{nearest_first, waiting, farthest, near_opened, Best, Searching, Bounded, IsStart, Visited, SearchCauses};
 
 use crate::ProveErr;
 use crate::best::{is_reached, offer_all, radius_of};
+use crate::fetching::fetched;
 use crate::waiting::Waiting;
 use mr_geom::Point;
 use mr_tree::{Child, NodeView, Nodes};
@@ -79,9 +82,10 @@ fn visit<N: Nodes>(
         (heap_items best.old) (heap_items best.new)) }
     ensures causes { SearchCauses (N.stands nodes.old) (N.faults nodes.old) (N.faults nodes.new)
         result }
+    ensures refused { IfErr result (IsHandedOn (N.refusal nodes.new)) }
 {
     let mut view = NodeView::new();
-    nodes.fetch(child, &mut view)?;
+    fetched(nodes, child, &mut view)?;
     offer_all(best, k, center, view.records())?;
     wait_for_all(queue, center, view.children())?;
     Ok(())
@@ -107,9 +111,11 @@ fn best_first<N: Nodes>(
         IsRadius k (distances center.now (records t)) r) }
     ensures low { IfOk result (λ r. IfSome r (λ n. n ≤ farthest)) }
     ensures fetched { IfSome (N.stands nodes.old).tree (λ t. N.fetches nodes.new ≤
-        N.fetches nodes.old + near_opened N.Hash.of center.now k t) }
+        N.fetches nodes.old + near_opened (by (N.stands nodes.old).version N.Hash.of)
+        center.now k t) }
     ensures causes { SearchCauses (N.stands nodes.old) (N.faults nodes.old) (N.faults nodes.new)
         result }
+    ensures refused { IfErr result (IsHandedOn (N.refusal nodes.new)) }
 {
     while let Some(next) = queue.pop() {
         let radius = radius_of(best, k);
@@ -141,11 +147,11 @@ fn start<N: Nodes>(
     }
 }
 
-/// The kth least squared distance of a record to the point, in squared map units, or none where
-/// there are fewer than k records.
-///
-/// Only nodes that lie within that distance are fetched, each once at most: no more than the honest
-/// cut for it opens. The queue and the k least distances are kept in heaps.
+// The kth least squared distance of a record to the point, in squared map units, or none where
+// there are fewer than k records.
+//
+// Only nodes that lie within that distance are fetched, each once at most: no more than the honest
+// cut for it opens. The queue and the k least distances are kept in heaps.
 pub(crate) fn kth_distance<N: Nodes>(
     alloc: Global,
     nodes: &mut N,
@@ -158,9 +164,11 @@ pub(crate) fn kth_distance<N: Nodes>(
         r ≡ kth_least k (distances center.now (records t)))) }
     ensures low { IfOk result (λ r. IfSome r (λ n. n ≤ 2 * ((2 ^ 32 - 1) * (2 ^ 32 - 1)))) }
     ensures fetched { IfSome (N.stands nodes.old).tree (λ t. N.fetches nodes.new ≤
-        N.fetches nodes.old + near_opened N.Hash.of center.now k t) }
+        N.fetches nodes.old + near_opened (by (N.stands nodes.old).version N.Hash.of)
+        center.now k t) }
     ensures causes { SearchCauses (N.stands nodes.old) (N.faults nodes.old) (N.faults nodes.new)
         result }
+    ensures refused { IfErr result (IsHandedOn (N.refusal nodes.new)) }
 {
     let mut queue = start(alloc, nodes, center)?;
     let mut best = BinaryHeap::new(alloc);

@@ -9,8 +9,8 @@ ghost use Rattle.std.specs.Ordering.{nat_cmp, on, flip_args, as_partial_cmp};
 use mr_tree::Child;
 use std::cmp::Ordering;
 
-/// A node that waits to be fetched, with its squared distance in squared map units. Of two the
-/// nearer one is the greater, so that a heap gives the nearest first.
+// A node that waits to be fetched, with its squared distance in squared map units. Of two the
+// nearer one is the greater, so that a heap gives the nearest first.
 #[derive(Clone, Copy)]
 pub(crate) struct Waiting {
     pub(crate) far: u128,

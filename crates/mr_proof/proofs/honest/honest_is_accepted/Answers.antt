@@ -1,3 +1,4 @@
+use Rattle.mr_tree.specs.Digest.{by}
 use Rattle.mr_proof.proofs.PreimageBytes.{IsSized}
 use Rattle.mr_proof.proofs.Complete.{accepts_honest, honest_stands}
 use Rattle.mr_proof.proofs.honest.honest_is_accepted.Goals as goal
@@ -5,9 +6,9 @@ use Rattle.mr_proof.proofs.honest.honest_is_accepted.Goals as goal
 pub returns-clause-accepted : goal.returns-clause-accepted
 returns-clause-accepted g c =
     let sized : IsSized g.H.Hashes.of = record { long = g.met.H.Hashes.sized; bytes = g.met.H.Hashes.bytes } in
-    accepts_honest g.H.Hashes.of sized c.args.q.now c.is_query.ensures
+    λ v. accepts_honest (by v g.H.Hashes.of) sized c.args.q.now c.is_query.ensures
 
 pub returns-clause-honest : goal.returns-clause-honest
 returns-clause-honest g c =
     let sized : IsSized g.H.Hashes.of = record { long = g.met.H.Hashes.sized; bytes = g.met.H.Hashes.bytes } in
-    λ t batch well low. honest_stands g.H.Hashes.of sized c.args.q.now c.is_query.ensures t batch well low
+    λ v t batch well low. honest_stands (by v g.H.Hashes.of) sized c.args.q.now c.is_query.ensures t batch well low

@@ -1,27 +1,46 @@
 use Rattle.std.proofs.Common.{◌+◌, ◌≤◌, ◌∙◌, sym, subst, arith}
 use Rattle.std.specs.Prelude.{IsSome}
 use Rattle.mr_outside.specs.Told.{Takes, TakesFront}
+use Rattle.mr_tree.specs.Digest.{by}
 use Rattle.mr_tree.specs.Nodes.{Standing}
 use Rattle.mr_tree.specs.declared.child.Child.{Child}
 use Rattle.mr_prove.specs.Parts.{region_in, part_at, opened_at}
+use Rattle.mr_tree.specs.View.{entry_of}
+use Rattle.mr_proof.specs.Cut.{pruned_cut}
+use Rattle.mr_proof.specs.Spelling.{cut_bytes}
+use Rattle.mr_prove.proofs.Whole.{ok_through}
 use Rattle.mr_prove.proofs.Steps.{on_err, written_more, fetched_more, pruned_whole, pruned_front, met_whole, met_front, one_fetch, some_fetches}
 use Rattle.mr_prove.proofs.part.+write_part.Goals as goal
 
-pub returns-in_err-write_item-clause-front : goal.returns-in_err-write_item-clause-front
-returns-in_err-write_item-clause-front g t c =
-    let s = g.N.Nodes.stands c.args.nodes.now in
-    let region = region_in c.args.area.now in
-    on_err c.from_residual.result (IsSome s.tree → TakesFront (g.W.Sink.state c.args.out.now)
-    (g.W.Sink.state c.write_item.new.out) (part_at g.N.Hash.Hashes.of region (s.node c.args.child.now.id)))
-    (λ told. pruned_front g.N.Hash.Hashes.of region s c.args.child.now c.requires told
-    (g.W.Sink.state c.args.out.now) (g.W.Sink.state c.write_item.new.out) (sym c.meets.ensures ∙ c.if-not-meets.true)
-    c.write_item.ensures.front)
-
 pub returns-then-not-meets-clause-whole : goal.returns-then-not-meets-clause-whole
 returns-then-not-meets-clause-whole g t c =
-    λ told. pruned_whole g.N.Hash.Hashes.of (region_in c.args.area.now) (g.N.Nodes.stands c.args.nodes.now)
-    c.args.child.now c.requires told (g.W.Sink.state c.args.out.now) (g.W.Sink.state c.write_item.new.out)
-    (sym c.meets.ensures ∙ c.if-not-meets.true) c.in_ok-write_item.ensures.whole
+    let s = g.N.Nodes.stands c.args.nodes.now in
+    let region = region_in c.args.area.now in
+    let from = g.W.Sink.state c.args.out.now in
+    let to = g.W.Sink.state c.write_pruned.new.out in
+    ok_through c.write_pruned.result (Takes from to (cut_bytes (pruned_cut (entry_of c.args.child.now))))
+    (IsSome s.tree → Takes from to (part_at (by s.version g.N.Hash.Hashes.of) region (s.node c.args.child.now.id)))
+    (λ taken told. pruned_whole g.N.Hash.Hashes.of region s c.args.child.now c.requires told from to
+    (sym c.meets.ensures ∙ c.if-not-meets.true) taken)
+    c.write_pruned.ensures.whole
+
+pub returns-then-not-meets-clause-front : goal.returns-then-not-meets-clause-front
+returns-then-not-meets-clause-front g t c =
+    let s = g.N.Nodes.stands c.args.nodes.now in
+    let region = region_in c.args.area.now in
+    let from = g.W.Sink.state c.args.out.now in
+    let to = g.W.Sink.state c.write_pruned.new.out in
+    on_err c.write_pruned.result
+    (IsSome s.tree → TakesFront from to (part_at (by s.version g.N.Hash.Hashes.of) region (s.node c.args.child.now.id)))
+    (λ told. pruned_front g.N.Hash.Hashes.of region s c.args.child.now c.requires told from to
+    (sym c.meets.ensures ∙ c.if-not-meets.true) c.write_pruned.ensures.front)
+
+pub returns-then-not-meets-clause-causes : goal.returns-then-not-meets-clause-causes
+returns-then-not-meets-clause-causes g t c =
+    c.write_pruned.ensures.causes (g.N.Nodes.stands c.args.nodes.now) (g.N.Nodes.faults c.args.nodes.now)
+
+pub returns-then-not-meets-clause-refused : goal.returns-then-not-meets-clause-refused
+returns-then-not-meets-clause-refused g t c = c.write_pruned.ensures.refused (g.N.Nodes.refusal c.args.nodes.now)
 
 pub returns-in_err-open_node-clause-fetched : goal.returns-in_err-open_node-clause-fetched
 returns-in_err-open_node-clause-fetched g t c =
@@ -36,10 +55,10 @@ returns-in_err-write_part-clause-front g t c =
     let region = region_in c.args.area.now in
     let same = g.met.N.Nodes.kept_stands c.args.nodes.now c.loop-next.nodes c.loop-next.invariant.kept in
     let next = subst (λ (s : Standing). IsSome s.tree → TakesFront (g.W.Sink.state c.loop-next.out)
-    (g.W.Sink.state c.write_part.new.out) (part_at hash region (s.node c.next-item.result.id))) same
+    (g.W.Sink.state c.write_part.new.out) (part_at (by s.version hash) region (s.node c.next-item.result.id))) same
     c.in_err-write_part.ensures.front in
     on_err c.from_residual-in_err-write_part.result (IsSome s.tree → TakesFront (g.W.Sink.state c.args.out.now)
-    (g.W.Sink.state c.write_part.new.out) (part_at hash region (s.node c.args.child.now.id)))
+    (g.W.Sink.state c.write_part.new.out) (part_at (by s.version hash) region (s.node c.args.child.now.id)))
     (λ told. met_front hash region s c.args.child.now c.requires told c.open_node.new.view
     c.children-next-items.result.now c.loop-next.next-index c.next-item.result (g.W.Sink.state c.args.out.now)
     (g.W.Sink.state c.open_node.new.out) (g.W.Sink.state c.loop-next.out) (g.W.Sink.state c.write_part.new.out)
@@ -54,13 +73,14 @@ returns-in_err-write_part-clause-fetched g t c =
     let region = region_in c.args.area.now in
     let same = g.met.N.Nodes.kept_stands c.args.nodes.now c.loop-next.nodes c.loop-next.invariant.kept in
     let next = subst (λ (s : Standing). IsSome s.tree → g.N.Nodes.fetches c.write_part.new.nodes ≤ g.N.Nodes.fetches
-    c.loop-next.nodes + opened_at hash region (s.node c.next-item.result.id)) same c.write_part.ensures.fetched in
+    c.loop-next.nodes + opened_at (by s.version hash) region (s.node c.next-item.result.id)) same
+    c.write_part.ensures.fetched in
     λ told. some_fetches hash region s c.args.child.now c.requires told c.open_node.new.view
     c.children-next-items.result.now (c.loop-next.next-index + 1) (g.N.Nodes.fetches c.args.nodes.now)
     (g.N.Nodes.fetches c.open_node.new.nodes) (g.N.Nodes.fetches c.write_part.new.nodes)
     c.children-next-items.ensures.value c.in_ok-open_node.ensures.shows (sym c.meets.ensures ∙ c.if-not-meets.false)
     c.open_node.ensures.counted
-    (fetched_more (λ (d : Child). opened_at hash region (s.node d.id)) c.children-next-items.result.now
+    (fetched_more (λ (d : Child). opened_at (by s.version hash) region (s.node d.id)) c.children-next-items.result.now
     c.loop-next.next-index c.next-item.result (g.N.Nodes.fetches c.open_node.new.nodes)
     (g.N.Nodes.fetches c.loop-next.nodes) (g.N.Nodes.fetches c.write_part.new.nodes) c.next-item.is
     c.loop-next-test.true (c.loop-next.invariant.fetched told) (next told))
@@ -72,18 +92,19 @@ loop-next-preserved g t c =
     let region = region_in c.args.area.now in
     let same = g.met.N.Nodes.kept_stands c.args.nodes.now c.loop-next.nodes c.loop-next.invariant.kept in
     let written = subst (λ (s : Standing). IsSome s.tree → Takes (g.W.Sink.state c.loop-next.out)
-    (g.W.Sink.state c.write_part.new.out) (part_at hash region (s.node c.next-item.result.id))) same
+    (g.W.Sink.state c.write_part.new.out) (part_at (by s.version hash) region (s.node c.next-item.result.id))) same
     c.in_ok-write_part.ensures.whole in
     let few = subst (λ (s : Standing). IsSome s.tree → g.N.Nodes.fetches c.write_part.new.nodes ≤ g.N.Nodes.fetches
-    c.loop-next.nodes + opened_at hash region (s.node c.next-item.result.id)) same c.write_part.ensures.fetched in
+    c.loop-next.nodes + opened_at (by s.version hash) region (s.node c.next-item.result.id)) same
+    c.write_part.ensures.fetched in
     record {
       kept = g.met.N.Nodes.kept_on c.args.nodes.now c.loop-next.nodes c.write_part.new.nodes
           c.loop-next.invariant.kept c.write_part.ensures.kept;
-      whole = λ told. written_more (λ (d : Child). part_at hash region (s.node d.id))
+      whole = λ told. written_more (λ (d : Child). part_at (by s.version hash) region (s.node d.id))
           c.children-next-items.result.now c.loop-next.next-index c.next-item.result
           (g.W.Sink.state c.open_node.new.out) (g.W.Sink.state c.loop-next.out) (g.W.Sink.state c.write_part.new.out)
           c.next-item.is c.loop-next-test.true (c.loop-next.invariant.whole told) (written told);
-      fetched = λ told. fetched_more (λ (d : Child). opened_at hash region (s.node d.id))
+      fetched = λ told. fetched_more (λ (d : Child). opened_at (by s.version hash) region (s.node d.id))
           c.children-next-items.result.now c.loop-next.next-index c.next-item.result
           (g.N.Nodes.fetches c.open_node.new.nodes) (g.N.Nodes.fetches c.loop-next.nodes)
           (g.N.Nodes.fetches c.write_part.new.nodes) c.next-item.is c.loop-next-test.true

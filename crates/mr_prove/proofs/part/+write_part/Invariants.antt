@@ -1,6 +1,7 @@
 use Rattle.std.proofs.Common.{◌≡◌, ◌+◌, ◌≤◌, take}
 use Rattle.std.specs.Prelude.{IsSome}
 use Rattle.mr_outside.specs.Told.{Takes}
+use Rattle.mr_tree.specs.Digest.{by}
 use Rattle.mr_prove.specs.Parts.{region_in, parts_of, opened_in}
 use Rattle.mr_prove.proofs.part.+write_part.Given as goal
 
@@ -12,10 +13,12 @@ invariant-loop-next g l = record {
   kept : g.N.Nodes.kept l.fn.nodes l.nodes;
   whole : IsSome (g.N.Nodes.stands l.fn.nodes).tree →
       Takes (g.W.Sink.state l.initial.out) (g.W.Sink.state l.out)
-      (parts_of g.N.Hash.Hashes.of (region_in l.fn.area) (g.N.Nodes.stands l.fn.nodes)
+      (parts_of (by (g.N.Nodes.stands l.fn.nodes).version g.N.Hash.Hashes.of) (region_in l.fn.area) (g.N.Nodes.stands
+      l.fn.nodes)
       (take l.next-index l.next-items));
   fetched : IsSome (g.N.Nodes.stands l.fn.nodes).tree →
-      g.N.Nodes.fetches l.nodes ≤ g.N.Nodes.fetches l.initial.nodes + opened_in g.N.Hash.Hashes.of
+      g.N.Nodes.fetches l.nodes ≤ g.N.Nodes.fetches l.initial.nodes + opened_in (by (g.N.Nodes.stands
+      l.fn.nodes).version g.N.Hash.Hashes.of)
       (region_in l.fn.area) (g.N.Nodes.stands l.fn.nodes) (take l.next-index l.next-items);
   still : g.N.Nodes.faults l.nodes ≡ g.N.Nodes.faults l.initial.nodes;
   quiet : (g.W.Sink.state l.out).faults ≡ (g.W.Sink.state l.initial.out).faults;

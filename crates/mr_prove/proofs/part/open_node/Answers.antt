@@ -1,6 +1,7 @@
 use Rattle.std.specs.Prelude.{IsSome, Bool, true, ◌≡◌}
 use Rattle.mr_outside.specs.Told.{TakesFront}
 use Rattle.mr_proof.specs.Tight.{Seen, seen_at}
+use Rattle.mr_tree.specs.Digest.{by}
 use Rattle.mr_prove.specs.Parts.{part_at}
 use Rattle.mr_prove.proofs.Steps.{on_err, node_front}
 use Rattle.mr_prove.proofs.part.open_node.Goals as goal
@@ -11,7 +12,8 @@ returns-in_err-write_node-clause-front g c =
     (IsSome (g.N.Nodes.stands c.args.nodes.now).tree → (region : Seen → Bool)
     → region (seen_at c.args.child.now.rect) ≡ true
     → TakesFront (g.W.Sink.state c.args.out.now) (g.W.Sink.state c.write_node.new.out)
-    (part_at g.N.Hash.Hashes.of region ((g.N.Nodes.stands c.args.nodes.now).node c.args.child.now.id)))
+    (part_at (by (g.N.Nodes.stands c.args.nodes.now).version g.N.Hash.Hashes.of) region ((g.N.Nodes.stands
+    c.args.nodes.now).node c.args.child.now.id)))
     (λ told region m. node_front g.N.Hash.Hashes.of region (g.N.Nodes.stands c.args.nodes.now) c.args.child.now
-    c.requires told c.fetch.new.into (g.W.Sink.state c.args.out.now) (g.W.Sink.state c.write_node.new.out)
-    c.in_ok-fetch.ensures.shows m c.write_node.ensures.front)
+    c.requires told c.fetched.new.into (g.W.Sink.state c.args.out.now) (g.W.Sink.state c.write_node.new.out)
+    c.in_ok-fetched.ensures.shows m c.write_node.ensures.front)

@@ -12,12 +12,12 @@ use Rattle.mr_prove.proofs.search.visit.Goals as goal
 
 pub returns-clause-visited : goal.returns-clause-visited
 returns-clause-visited g c = record {
-  node = c.fetch.new.into;
-  shows = c.in_ok-fetch.ensures.shows;
+  node = c.fetched.new.into;
+  shows = c.in_ok-fetched.ensures.shows;
   children = c.children.ensures.few;
   lower =
-      subst (λ n. All (λ (d : Child). d.level + 1 ≡ n) (children_in c.fetch.new.into))
-      c.in_ok-fetch.ensures.shows.level c.children.ensures.alike;
+      subst (λ n. All (λ (d : Child). d.level + 1 ≡ n) (children_in c.fetched.new.into))
+      c.in_ok-fetched.ensures.shows.level c.children.ensures.alike;
   queued =
       subst (λ (cs : List Child). IsPermutation (heap_items c.args.queue.now ++ map (waiting c.args.center.now) cs)
       (heap_items c.wait_for_all.new.queue)) c.children.ensures.value c.in_ok-wait_for_all.ensures.joined;
