@@ -6,14 +6,15 @@ use Rattle.std.proofs.lemmas.Bool.{eq-eqb, ne_eqb}
 use Rattle.std.proofs.lemmas.List.{append-nil}
 use Rattle.mr_geom.specs.Rectangle.{Rectangle}
 use Rattle.mr_record.specs.declared.record.Record.{Record}
-use Rattle.mr_tree.specs.Digest.{Entry as NodeEntry, root_preimage}
+use Rattle.mr_tree.specs.Digest.{by, root_preimage}
+use Rattle.mr_tree.specs.declared.entry.Entry.{Entry}
 use Rattle.mr_query.specs.declared.query.Query.{Query}
 use Rattle.mr_query.specs.Scan.{scan}
 use Rattle.mr_query.specs.Word.{IsAskable}
 use Rattle.mr_proof.specs.declared.head.Head.{Head}
 use Rattle.mr_proof.specs.declared.rule.Fault.{Fault}
 use Rattle.mr_proof.specs.Cut.{Cut, rect, digest, entry}
-use Rattle.mr_proof.specs.Spelling.{Said, said, opened_records}
+use Rattle.mr_proof.specs.Spelling.{Said, said, version_of, opened_records}
 use Rattle.mr_proof.specs.Tight.{asks, kind_of}
 use Rattle.mr_proof.specs.Accepted.{root_bytes}
 use Rattle.mr_proof.specs.Grammar.{Grammar, done, head, item, part}
@@ -24,16 +25,15 @@ use Rattle.mr_proof.proofs.Laws.{other_asked, scan_asked}
 use Rattle.mr_proof.proofs.Preimages.{entry-rect}
 use Rattle.mr_proof.proofs.Soundness.{take_end}
 use Rattle.mr_check.specs.declared.cursor.Cursor.{Cursor}
-use Rattle.mr_check.specs.declared.entry.Entry.{Entry}
 use Rattle.mr_check.specs.declared.error.CheckErr.{CheckErr}
 use Rattle.mr_check.specs.declared.error.CheckErr.TheVariants as errors
 use Rattle.mr_check.specs.Answers.{Checks}
-use Rattle.mr_check.specs.Steps.{stand, Goes, Stops, known, region, area_of, TookOr, TookRoot, TookRootOr, Ends, EndsAs}
+use Rattle.mr_check.specs.Steps.{stand, Goes, Stops, region, area_of, TookOr, TookRoot, TookRootOr, Ends, EndsAs}
 
 -- ---- the root node
 
 pub empty_took : (hash : List ℕ → List ℕ) (q : Query) (h : Head) (s : Stand) (d : List ℕ) (old : List Record)
-    → h.count ≡ 0 → TookRoot hash q h (record { rect = None; digest = d }) s s old old
+    → h.count ≡ 0 → TookRoot hash q h (record { level = 0; rect = None; digest = d }) s s old old
 empty_took hash q h s d old none =
     let zero : eqb h.count 0 ≡ true = eq-eqb h.count 0 none in
     record { part = None; goes = λ e. rw zero refl; root = rw none refl; kept = sym (append-nil old) }
@@ -47,16 +47,18 @@ filled q h s e some =
 
 pub root_took : (hash : List ℕ → List ℕ) (q : Query) (h : Head) (result : Result Entry CheckErr) (s : Stand)
     (after : Cursor) (old new : List Record) → (h.count ≡ 0 → ⊥)
-    → TookOr hash (area_of q h) h.level (item (region (area_of q h)) h.level) result s after old new
+    → TookOr (by (version_of h) hash) (area_of q h) h.level (item (region (area_of q h)) h.level) result s after old new
     → TookRootOr hash q h result s after old new
 root_took hash q h (Ok x) s after old new some took = record {
   part = Some took.cut;
   goes = λ e. filled q h s e some ∙ took.goes e (λ P. done (said h (Some P)));
   root =
-      let place : x.rect ≡ rect took.cut = sym (ap (λ (y : NodeEntry). y.rect) took.knows)
-      ∙ entry-rect hash h.level took.cut in
-      let same : x.digest ≡ digest hash h.level took.cut = sym (ap (λ (y : NodeEntry). y.digest) took.knows) in
-      λ i. root_preimage h.batch h.count (record { level = h.level; rect = place i; digest = same i });
+      let scheme = by (version_of h) hash in
+      let place : x.rect ≡ rect took.cut = sym (ap (λ (y : Entry). y.rect) took.says)
+      ∙ entry-rect scheme h.level took.cut in
+      let same : x.digest ≡ digest scheme h.level took.cut = sym (ap (λ (y : Entry). y.digest) took.says) in
+      λ i. root_preimage (version_of h) h.batch h.count
+      (record { level = took.at_level i; rect = place i; digest = same i });
   kept = took.kept;
 }
 root_took hash q h (Err (errors.Fault f)) s after old new some stops =
@@ -102,7 +104,7 @@ other_kept hash q h x s t new took =
 pub end_refused : (hash : List ℕ → List ℕ) (root : List ℕ) (q : Query) (bytes : List ℕ) (h : Head) (s t : Stand)
     (new : List Record) (x : Entry) (f : Fault) → Goes (head (kind_of q)) (start bytes) h s
     → TookRoot hash q h x s t [] new → ((P : Option Cut)
-    → root_preimage h.batch h.count (known h.level x) ≡ root_bytes hash h P
+    → root_preimage (version_of h) h.batch h.count x ≡ root_bytes hash h P
     → has_other_radius q h.radius new ≡ has_other_radius q h.radius (opened_records P)
     → ending hash root q (said h P) t ≡ Err f) → (verdict hash root q bytes ≡ Err f)
 end_refused hash root q bytes h s t new x f goes took ends =
@@ -117,7 +119,7 @@ right_end hash root q x y s e = (take_end hash root q x s y e).2
 pub accepted : (hash : List ℕ → List ℕ) (root : List ℕ) (q : Query) (bytes : List ℕ) (h : Head) (s t : Stand)
     (new : List Record) (x : Entry) (v : Vec Record) → IsAskable q → Goes (head (kind_of q)) (start bytes) h s
     → TookRoot hash q h x s t [] new → ((P : Option Cut)
-    → root_preimage h.batch h.count (known h.level x) ≡ root_bytes hash h P
+    → root_preimage (version_of h) h.batch h.count x ≡ root_bytes hash h P
     → has_other_radius q h.radius new ≡ has_other_radius q h.radius (opened_records P)
     → ending hash root q (said h P) t ≡ Ok (said h P)) → v.items ≡ scan new q
     → (verdict hash root q bytes ≡ Ok v.items)

@@ -1,17 +1,20 @@
 -- Nodes read item by item: what is known of one once its parts were read.
 use Rattle.std.proofs.Common.{◌≡◌, ℕ, zero, suc, ◌-◌, ◌+◌, ◌≤◌, ◌<◌, Bool, true, false, cond, eqb, List, [], ◌∷◌, ◌++◌, length, map, Result, Ok, Err, Option, Some, None, refl, sym, ap, subst, ◌∙◌, append_assoc, arith, inl, inr}
-use Rattle.std.specs.Prelude.{filter, fold, option_map, if◌then◌else◌, ◌==◌}
+use Rattle.std.specs.Prelude.{filter, option_map, if◌then◌else◌, ◌==◌}
 use Rattle.std.specs.List.{flat_map}
 use Rattle.std.proofs.lemmas.Bool.{ne_eqb}
 use Rattle.std.proofs.lemmas.List.{append-nil, map-append, length-append}
 use Rattle.std.proofs.lemmas.List.Elements.{filter-append}
-use Rattle.std.proofs.lemmas.List.Sums.{fold-append}
+use Rattle.std.proofs.lemmas.Simd.{map-map}
 use Rattle.std.proofs.lemmas.Grind.{flat_map-append}
 use Rattle.mr_geom.specs.Rectangle.{Rectangle}
-use Rattle.mr_record.specs.Record.{record_bytes}
 use Rattle.mr_record.specs.declared.record.Record.{Record}
-use Rattle.mr_tree.specs.Tree.{join, union_of, first_level}
-use Rattle.mr_tree.specs.Digest.{Entry as NodeEntry, rect_bytes, entry_bytes}
+use Rattle.mr_tree.specs.Tree.{union_of, first_level}
+use Rattle.mr_tree.specs.Digest.{Scheme, entry_step, level_over, inner_tag}
+use Rattle.mr_tree.specs.Gathers.{Gathers, Piece as Part, of_entry}
+use Rattle.mr_tree.specs.declared.entry.Entry.{Entry}
+use Rattle.mr_tree.specs.declared.tree.Tree.TheOpen as node
+use Rattle.mr_tree.proofs.Gathered.{inner_gathered}
 use Rattle.mr_query.specs.declared.area.Area.{Area}
 use Rattle.mr_proof.specs.declared.rule.Rule.{Rule}
 use Rattle.mr_proof.specs.declared.rule.Rule.TheVariants as rule
@@ -21,18 +24,17 @@ use Rattle.mr_proof.specs.declared.field.Field.{Field}
 use Rattle.mr_proof.specs.declared.field.Field.TheVariants as field
 use Rattle.mr_proof.specs.declared.shown.Shown.{Shown}
 use Rattle.mr_proof.specs.Fields.{pruned_tag}
-use Rattle.mr_proof.specs.Cut.{Cut, Cuts, Pruned, Leaf, Inner, no_more, first, cuts_of, rect, rects, entry, entries, records, all_records}
+use Rattle.mr_proof.specs.Cut.{Cut, Cuts, Pruned, entry_shown, Leaf, Inner, no_more, first, cuts_of, rect, rects, entry, entries, records, all_records}
 use Rattle.mr_proof.specs.Spelling.{Said}
 use Rattle.mr_proof.specs.Tight.{Seen, seen_at, seen, met_by}
 use Rattle.mr_proof.specs.Grammar.{Grammar, notes, must, some_records, opened, leaf, some_items, inner, pruned, item}
 use Rattle.mr_proof.specs.Layout.{Stand, field_at, fault}
 use Rattle.mr_proof.specs.Reading.{past, walk}
 use Rattle.mr_proof.proofs.Preimages.{entry-rect, entries-rects}
-use Rattle.mr_check.specs.declared.entry.Entry.{Entry}
 use Rattle.mr_check.specs.declared.cursor.Cursor.{Cursor}
 use Rattle.mr_check.specs.declared.error.CheckErr.{CheckErr}
 use Rattle.mr_check.specs.declared.error.CheckErr.TheVariants as errors
-use Rattle.mr_check.specs.Steps.{Piece, Goes, Stops, StopsOr, known, region, asked, stand, Took, TookOr}
+use Rattle.mr_check.specs.Steps.{Piece, Goes, Stops, StopsOr, region, asked, stand, Took, TookOr}
 
 -- ---- an opened node
 
@@ -47,19 +49,19 @@ missed_stops false at w e = refl
 
 -- ---- a leaf
 
-pub leaf_took : (hash : List ℕ → List ℕ) (z : Area) (s a t : Stand) (count : ℕ) (rs : List Record) (x : Entry)
+pub leaf_took : (hash : Scheme) (z : Area) (s a t : Stand) (count : ℕ) (rs : List Record) (x : Entry)
     (old new : List Record) → field_at want.LeafCount s ≡ Ok (field.Num count, a) → Goes (some_records count) a rs t
-    → met_by (region z) (option_map seen_at x.rect) ≡ true → x.rect ≡ rect (Leaf rs)
-    → x.digest ≡ hash (0x4c ∷ length rs ∷ flat_map record_bytes rs) → new ≡ old ++ filter (asked z) rs
-    → Took hash z 0 (leaf (region z)) x s t old new
-leaf_took hash z s a t count rs x old new read goes met place same kept =
+    → met_by (region z) (option_map seen_at x.rect) ≡ true → x ≡ entry_step hash (node.Leaf rs)
+    → new ≡ old ++ filter (asked z) rs → Took hash z 0 (leaf (region z)) x s t old new
+leaf_took hash z s a t count rs x old new read goes met says kept =
     let here : met_by (region z) (seen (Leaf rs)) ≡ true = ap
-    (λ (o : Option Rectangle). met_by (region z) (option_map seen_at o)) (sym place) ∙ met in
+    (λ (o : Option Rectangle). met_by (region z) (option_map seen_at o)) (sym (ap (λ (y : Entry). y.rect) says)) ∙ met in
     record {
       cut = Leaf rs;
       goes = λ e next. rw read (goes e (λ rs. opened (region z) (Leaf rs) next)
           ∙ met_goes (met_by (region z) (seen (Leaf rs))) t.last (walk true e (next (Leaf rs)) t) here);
-      knows = λ i. record { level = 0; rect = sym place i; digest = sym same i };
+      says = sym says;
+      at_level = ap (λ (y : Entry). y.level) says;
       kept = kept;
     }
 
@@ -89,73 +91,78 @@ with_front-none : (front : List Cut) → with_front front no_more ≡ cuts_of fr
 with_front-none [] = refl
 with_front-none (P ∷ front) = ap (first P) (with_front-none front)
 
-entries-cuts_of : (hash : List ℕ → List ℕ) (w : ℕ) (front : List Cut)
+entries-cuts_of : (hash : Scheme) (w : ℕ) (front : List Cut)
     → entries hash w (cuts_of front) ≡ map (entry hash w) front
 entries-cuts_of hash w [] = refl
-entries-cuts_of hash w (P ∷ front) = ap (λ (es : List NodeEntry). entry hash w P ∷ es) (entries-cuts_of hash w front)
+entries-cuts_of hash w (P ∷ front) = ap (λ (es : List Entry). entry hash w P ∷ es) (entries-cuts_of hash w front)
 
 records-cuts_of : (front : List Cut) → all_records (cuts_of front) ≡ flat_map records front
 records-cuts_of [] = refl
 records-cuts_of (P ∷ front) = ap (λ (rs : List Record). records P ++ rs) (records-cuts_of front)
 
--- what is known of some children
-abbrev known_of : (List ℕ → List ℕ) → ℕ → List Cut → List NodeEntry
-known_of hash w front = map (entry hash w) front
+-- what is said of some children
+abbrev said_of : Scheme → ℕ → List Cut → List Entry
+said_of hash w front = map (entry hash w) front
 
-abbrev pub union_over : List NodeEntry → Option Rectangle
-union_over es = union_of (map (λ (e : NodeEntry). e.rect) es)
+abbrev pub union_over : List Entry → Option Rectangle
+union_over es = union_of (map (λ (e : Entry). e.rect) es)
 
-abbrev pub levels_of : List NodeEntry → List ℕ
-levels_of es = map (λ (e : NodeEntry). e.level) es
+abbrev pub levels_of : List Entry → List ℕ
+levels_of es = map (λ (e : Entry). e.level) es
 
--- Of a node with so many children, of this level, so many were read: a cut of each, the hasher that was fed their
--- entries, the rectangle round them, and the records that are kept.
-pub record ChildrenSo (hash : List ℕ → List ℕ) (holds : List ℕ → Type 0) (z : Area) (w v count i : ℕ) (s t : Stand)
+-- the pieces of the preimage that some children give
+abbrev parts_of : Scheme → ℕ → List Cut → List Part
+parts_of hash w front = map (λ (P : Cut). of_entry (entry hash w P)) front
+
+-- Of a node with so many children, of this level, so many were read: a cut of each, what was gathered of
+-- their entries, and the records that are kept.
+pub record ChildrenSo (hash : Scheme) (holds : List ℕ → Type 0) (z : Area) (w v count i : ℕ) (s t : Stand)
     (place : Option Rectangle) (old kept : List Record) : Type 0 where
   pub front : List Cut
   pub counted : length front ≡ i
   pub goes : (e : Said → Stand → Result Said Fault) (next : Cuts → Grammar Said)
       → walk true e (some_items (item (region z) w) count next) s ≡ walk true e
       (some_items (item (region z) w) (count - i) (λ Ps. next (with_front front Ps))) t
-  pub fed : holds (0x4e ∷ v ∷ count ∷ flat_map entry_bytes (known_of hash w front))
-  pub union : place ≡ union_over (known_of hash w front)
-  pub level : 0 < i → first_level (levels_of (known_of hash w front)) ≡ w
+  pub all : Gathers holds place (inner_tag ∷ v ∷ count ∷ []) (parts_of hash w front)
+  pub level : 0 < i → first_level (levels_of (said_of hash w front)) ≡ w
   pub kept_so : kept ≡ old ++ filter (asked z) (flat_map records front)
 
-pub children_begin : (hash : List ℕ → List ℕ) (holds : List ℕ → Type 0) (z : Area) (w v count : ℕ) (s : Stand)
-    (place : Option Rectangle) (old : List Record) → holds (0x4e ∷ v ∷ count ∷ []) → place ≡ None
+pub children_begin : (hash : Scheme) (holds : List ℕ → Type 0) (z : Area) (w v count : ℕ) (s : Stand)
+    (place : Option Rectangle) (old : List Record) → Gathers holds place (inner_tag ∷ v ∷ count ∷ []) []
     → ChildrenSo hash holds z w v count 0 s s place old old
-children_begin hash holds z w v count s place old fed none = record {
+children_begin hash holds z w v count s place old all = record {
   front = [];
   counted = refl;
-  goes = λ e next. let all : count - 0 ≡ count = omega arith in rw all refl;
-  fed = fed;
-  union = none;
+  goes = λ e next. let none : count - 0 ≡ count = omega arith in rw none refl;
+  all = all;
   level = λ lt. absurd (omega arith);
   kept_so = sym (append-nil old);
 }
 
 -- the level of the first child is that of the first read
-first_stays : (w i : ℕ) (es : List NodeEntry) (x : NodeEntry) → length es ≡ i → (0 < i → first_level (levels_of es) ≡ w)
+first_stays : (w i : ℕ) (es : List Entry) (x : Entry) → length es ≡ i → (0 < i → first_level (levels_of es) ≡ w)
     → x.level ≡ w → first_level (levels_of (es ++ x ∷ [])) ≡ w
 first_stays w i [] x counted so is = is
 first_stays w i (e ∷ es) x counted so is = so (omega arith)
 
-length-known : (hash : List ℕ → List ℕ) (w : ℕ) (front : List Cut) → length (known_of hash w front) ≡ length front
-length-known hash w [] = refl
-length-known hash w (P ∷ front) = ap suc (length-known hash w front)
+length-said : (hash : Scheme) (w : ℕ) (front : List Cut) → length (said_of hash w front) ≡ length front
+length-said hash w [] = refl
+length-said hash w (P ∷ front) = ap suc (length-said hash w front)
 
-pub children_go_on : (hash : List ℕ → List ℕ) (before after : List ℕ → Type 0) (z : Area) (w v count i : ℕ)
-    (s t u : Stand) (place : Option Rectangle) (old kept more : List Record) (x : Entry) (around : Option Rectangle)
-    → i < count
+pub children_go_on : (hash : Scheme) (before after : List ℕ → Type 0) (z : Area) (w v count i : ℕ)
+    (s t u : Stand) (place around : Option Rectangle) (old kept more : List Record) (x : Entry) → i < count
     → ChildrenSo hash before z w v count i s t place old kept → Took hash z w (item (region z) w) x t u kept more
-    → ((fed : List ℕ) → before fed → after (fed ++ (rect_bytes x.rect ++ x.digest))) → around ≡ join place x.rect
+    → ((head : List ℕ) (pieces : List Part) → Gathers before place head pieces
+    → Gathers after around head (pieces ++ of_entry x ∷ []))
     → ChildrenSo hash after z w v count (i + 1) s u around old more
-children_go_on hash before after z w v count i s t u place old kept more x around lt so one feeds joins =
-    let es = known_of hash w so.front in
+children_go_on hash before after z w v count i s t u place around old kept more x lt so one adds =
+    let es = said_of hash w so.front in
     let all = so.front ++ one.cut ∷ [] in
-    let new : known_of hash w all ≡ es ++ known w x ∷ [] = map-append (entry hash w) so.front (one.cut ∷ [])
-    ∙ ap (λ (e : NodeEntry). es ++ e ∷ []) one.knows in
+    let new : said_of hash w all ≡ es ++ x ∷ [] = map-append (entry hash w) so.front (one.cut ∷ [])
+    ∙ ap (λ (e : Entry). es ++ e ∷ []) one.says in
+    let parts : parts_of hash w so.front ++ of_entry x ∷ [] ≡ parts_of hash w all =
+    ap (λ (e : Entry). parts_of hash w so.front ++ of_entry e ∷ []) (sym one.says)
+    ∙ sym (map-append (λ (P : Cut). of_entry (entry hash w P)) so.front (one.cut ∷ [])) in
     let left : count - i ≡ suc (count - (i + 1)) = omega arith in
     record {
       front = all;
@@ -169,26 +176,9 @@ children_go_on hash before after z w v count i s t u place old kept more x aroun
           so.goes e next ∙ here ∙ (λ j. walk true e
           (some_items (item (region z) w) (count - (i + 1)) (λ Ps. next (with_front-append so.front one.cut Ps j)))
           u);
-      fed =
-          let text = 0x4e ∷ v ∷ count ∷ flat_map entry_bytes es in
-          let last : flat_map entry_bytes (known w x ∷ []) ≡ rect_bytes x.rect ++ x.digest = append-nil
-          (rect_bytes x.rect ++ x.digest) in
-          let whole : text ++ (rect_bytes x.rect ++ x.digest) ≡ 0x4e ∷ v ∷ count ∷ flat_map entry_bytes
-          (known_of hash w all) =
-          ap (λ (bytes : List ℕ). 0x4e ∷ v ∷ count ∷ bytes)
-          (ap (λ (bytes : List ℕ). flat_map entry_bytes es ++ bytes) (sym last)
-          ∙ sym (flat_map-append entry_bytes es (known w x ∷ [])))
-          ∙ ap (λ (es : List NodeEntry). 0x4e ∷ v ∷ count ∷ flat_map entry_bytes es) (sym new) in
-          subst after whole (feeds text so.fed);
-      union =
-          let more_rects : map (λ (e : NodeEntry). e.rect) (es ++ known w x ∷ []) ≡ map
-          (λ (e : NodeEntry). e.rect) es ++ x.rect ∷ [] = map-append (λ (e : NodeEntry). e.rect) es
-          (known w x ∷ []) in
-          joins ∙ ap (λ (o : Option Rectangle). join o x.rect) so.union
-          ∙ sym (fold-append join None (map (λ (e : NodeEntry). e.rect) es) (x.rect ∷ []))
-          ∙ ap union_of (sym more_rects) ∙ ap union_over (sym new);
-      level = λ _. ap (λ (es : List NodeEntry). first_level (levels_of es)) new
-          ∙ first_stays w i es (known w x) (length-known hash w so.front ∙ so.counted) so.level refl;
+      all = subst (Gathers after around (inner_tag ∷ v ∷ count ∷ [])) parts (adds _ _ so.all);
+      level = λ _. ap (λ (es : List Entry). first_level (levels_of es)) new
+          ∙ first_stays w i es x (length-said hash w so.front ∙ so.counted) so.level one.at_level;
       kept_so =
           let last : flat_map records (one.cut ∷ []) ≡ records one.cut = append-nil (records one.cut) in
           let mine : filter (asked z) (flat_map records all) ≡ filter (asked z) (flat_map records so.front) ++ filter
@@ -211,7 +201,7 @@ behind_count : (z : Area) (w : ℕ) (e : Said → Stand → Result Said Fault) (
 behind_count z w e next s a count read = rw read refl
 
 -- a child stops the reading
-pub inner_stops : (hash : List ℕ → List ℕ) (holds : List ℕ → Type 0) (z : Area) (w v count i : ℕ) (s a t : Stand)
+pub inner_stops : (hash : Scheme) (holds : List ℕ → Type 0) (z : Area) (w v count i : ℕ) (s a t : Stand)
     (place : Option Rectangle) (old kept : List Record) (e : CheckErr) → i < count
     → field_at want.InnerCount s ≡ Ok (field.Num count, a)
     → ChildrenSo hash holds z w v count i a t place old kept → StopsOr (item (region z) w) t e
@@ -227,7 +217,7 @@ inner_stops hash holds z w v count i s a t place old kept (errors.Fault f) lt re
 inner_stops hash holds z w v count i s a t place old kept errors.NoMemory lt read so stops = tt
 
 -- all children were read
-all_read : (hash : List ℕ → List ℕ) (holds : List ℕ → Type 0) (z : Area) (w v count i : ℕ) (s a t : Stand)
+all_read : (hash : Scheme) (holds : List ℕ → Type 0) (z : Area) (w v count i : ℕ) (s a t : Stand)
     (place : Option Rectangle) (old kept : List Record) → count ≤ i
     → field_at want.InnerCount s ≡ Ok (field.Num count, a)
     → (so : ChildrenSo hash holds z w v count i a t place old kept)
@@ -242,50 +232,47 @@ all_read hash holds z w v count i s a t place old kept le read so e next =
     rw none (ap (λ (Ps : Cuts). walk true e (opening Ps) t) (with_front-none so.front)) in
     behind_count z w e next s a count read ∙ so.goes e opening ∙ here
 
-rect_of_all : (hash : List ℕ → List ℕ) (w : ℕ) (front : List Cut)
-    → union_over (known_of hash w front) ≡ rect (Inner (cuts_of front))
+rect_of_all : (hash : Scheme) (w : ℕ) (front : List Cut)
+    → union_of (map (λ (p : Part). p.rect) (parts_of hash w front)) ≡ rect (Inner (cuts_of front))
 rect_of_all hash w front =
-    ap union_over (sym (entries-cuts_of hash w front)) ∙ ap union_of (entries-rects hash w (cuts_of front))
+    ap union_of (map-map (λ (p : Part). p.rect) (λ (P : Cut). of_entry (entry hash w P)) front
+    ∙ sym (map-map (λ (e : Entry). e.rect) (entry hash w) front))
+    ∙ ap union_over (sym (entries-cuts_of hash w front)) ∙ ap union_of (entries-rects hash w (cuts_of front))
 
-abbrev inner_known : (List ℕ → List ℕ) → List NodeEntry → NodeEntry
-inner_known hash es = record {
-  level = first_level (levels_of es) + 1;
-  rect = union_over es;
-  digest = hash
-      (0x4e ∷ (first_level (levels_of es) + 1) ∷ length es ∷ flat_map entry_bytes es);
-}
-
-pub inner_took : (hash : List ℕ → List ℕ) (holds : List ℕ → Type 0) (z : Area) (w v count i : ℕ) (s a t : Stand)
+pub inner_took : (hash : Scheme) (holds : List ℕ → Type 0) (z : Area) (w v count i : ℕ) (s a t : Stand)
     (place : Option Rectangle) (old kept : List Record) (x : Entry) → count ≤ i → i ≤ count → 1 ≤ count → w ≡ v - 1
     → 0 < v
     → field_at want.InnerCount s ≡ Ok (field.Num count, a) → ChildrenSo hash holds z w v count i a t place old kept
-    → x.rect ≡ place → ((fed : List ℕ) → holds fed → x.digest ≡ hash fed)
+    → x.level ≡ v → x.rect ≡ place → ((fed : List ℕ) → holds fed → x.digest ≡ hash.of fed)
     → met_by (region z) (option_map seen_at x.rect) ≡ true
     → Took hash z v (inner (region z) (item (region z) w)) x s t old kept
-inner_took hash holds z w v count i s a t place old kept x le ge some below above read so around digests met =
+inner_took hash holds z w v count i s a t place old kept x le ge some below above read so low around digests met =
     let Ps = cuts_of so.front in
-    let es = known_of hash w so.front in
-    let place_is : x.rect ≡ rect (Inner Ps) = around ∙ so.union ∙ rect_of_all hash w so.front in
+    let es = said_of hash w so.front in
+    let place_is : x.rect ≡ rect (Inner Ps) = around ∙ so.all.round ∙ rect_of_all hash w so.front in
     let here : met_by (region z) (seen (Inner Ps)) ≡ true = ap
     (λ (o : Option Rectangle). met_by (region z) (option_map seen_at o)) (sym place_is) ∙ met in
-    let level_is : first_level (levels_of es) + 1 ≡ v = let first = so.level (omega arith) in omega arith in
-    let long : length es ≡ count = length-known hash w so.front ∙ so.counted ∙ omega arith in
+    let level_is : v ≡ level_over es = let first = so.level (omega arith) in omega arith in
+    let long : count ≡ length so.front = omega (arith, so.counted) in
     let children : entries hash (v - 1) Ps ≡ es = ap (λ (k : ℕ). entries hash k Ps) (sym below)
     ∙ entries-cuts_of hash w so.front in
-    let fed_is : x.digest ≡ hash (0x4e ∷ (first_level (levels_of es) + 1) ∷ length es ∷ flat_map entry_bytes es) =
-    digests (0x4e ∷ v ∷ count ∷ flat_map entry_bytes es) so.fed
-    ∙ (λ j. hash (0x4e ∷ sym level_is j ∷ sym long j ∷ flat_map entry_bytes es)) in
-    let place_known : x.rect ≡ union_over es = around ∙ so.union in
+    let all : Gathers holds x.rect (inner_tag ∷ v ∷ length so.front ∷ []) (parts_of hash w so.front) = record {
+      fed = subst (λ (n : ℕ). holds ((inner_tag ∷ v ∷ n ∷ [])
+          ++ flat_map (λ (p : Part). p.bytes) (parts_of hash w so.front))) long so.all.fed;
+      round = around ∙ so.all.round;
+    } in
+    let says : x ≡ entry_step hash (node.Inner es) =
+    inner_gathered hash holds (entry hash w) so.front v x level_is low all digests in
     record {
       cut = Inner Ps;
       goes = λ e next. all_read hash holds z w v count i s a t place old kept le read so e next
           ∙ met_goes (met_by (region z) (seen (Inner Ps))) t.last (walk true e (next (Inner Ps)) t) here;
-      knows = ap (inner_known hash) children ∙
-          (λ j. record { level = level_is j; rect = sym place_known j; digest = sym fed_is j });
+      says = ap (λ (ds : List Entry). entry_step hash (node.Inner ds)) children ∙ sym says;
+      at_level = low;
       kept = so.kept_so ∙ ap (λ (rs : List Record). old ++ filter (asked z) rs) (sym (records-cuts_of so.front));
     }
 
-pub inner_missed : (hash : List ℕ → List ℕ) (holds : List ℕ → Type 0) (z : Area) (w v count i : ℕ) (s a t : Stand)
+pub inner_missed : (hash : Scheme) (holds : List ℕ → Type 0) (z : Area) (w v count i : ℕ) (s a t : Stand)
     (place here : Option Rectangle) (old kept : List Record) → count ≤ i
     → field_at want.InnerCount s ≡ Ok (field.Num count, a)
     → ChildrenSo hash holds z w v count i a t place old kept → here ≡ place
@@ -293,7 +280,7 @@ pub inner_missed : (hash : List ℕ → List ℕ) (holds : List ℕ → Type 0) 
     → Stops (inner (region z) (item (region z) w)) s (fault rule.Needless t.last)
 inner_missed hash holds z w v count i s a t place here old kept le read so around missed = λ e next.
     let Ps = cuts_of so.front in
-    let place_is : here ≡ rect (Inner Ps) = around ∙ so.union ∙ rect_of_all hash w so.front in
+    let place_is : here ≡ rect (Inner Ps) = around ∙ so.all.round ∙ rect_of_all hash w so.front in
     let none : met_by (region z) (seen (Inner Ps)) ≡ false = ap
     (λ (o : Option Rectangle). met_by (region z) (option_map seen_at o)) (sym place_is) ∙ missed in
     all_read hash holds z w v count i s a t place old kept le read so e next
@@ -301,13 +288,20 @@ inner_missed hash holds z w v count i s a t place here old kept le read so aroun
 
 -- ---- an item, by its tag
 
-pub pruned_took : (hash : List ℕ → List ℕ) (z : Area) (v b : ℕ) (s a t : Stand) (x : Shown) (old : List Record)
+pub pruned_took : (hash : Scheme) (z : Area) (v b : ℕ) (s a t : Stand) (x : Shown) (e : Entry) (old : List Record)
     → field_at (want.Tag v) s ≡ Ok (field.Tag b, a) → b ≡ pruned_tag → Goes (pruned (region z)) a (Pruned x) t
-    → Took hash z v (item (region z) v) (record { rect = Some x.rect; digest = x.digest }) s t old old
-pruned_took hash z zero b s a t x old read is goes = record
-    { cut = Pruned x; goes = λ e next. rw (read, is) (goes e next); knows = refl; kept = sym (append-nil old) }
-pruned_took hash z (suc w) b s a t x old read is goes = record
-    { cut = Pruned x; goes = λ e next. rw (read, is) (goes e next); knows = refl; kept = sym (append-nil old) }
+    → e ≡ entry_shown v x → Took hash z v (item (region z) v) e s t old old
+pruned_took hash z v b s a t x e old read is goes says = record {
+  cut = Pruned x;
+  goes = passed v read;
+  says = sym says;
+  at_level = ap (λ (y : Entry). y.level) says;
+  kept = sym (append-nil old);
+}
+  where
+    passed : (v : ℕ) → field_at (want.Tag v) s ≡ Ok (field.Tag b, a) → Goes (item (region z) v) s (Pruned x) t
+    passed zero read = λ e next. rw (read, is) (goes e next)
+    passed (suc w) read = λ e next. rw (read, is) (goes e next)
 
 pub pruned_stops : (z : Area) (v b : ℕ) (s a : Stand) (f : Fault) → field_at (want.Tag v) s ≡ Ok (field.Tag b, a)
     → b ≡ pruned_tag → Stops (pruned (region z)) a f → Stops (item (region z) v) s f
@@ -338,7 +332,7 @@ opened_goes z (suc w) b s a e next read is =
     rw read (other_piece (eqb b pruned_tag) (pruned (region z) next) (inner (region z) (item (region z) w) next) e a is)
 
 -- what a call that reads the piece behind the tag says, said of the item
-opened_item : (z : Area) (v b : ℕ) (s a t : Stand) (hash : List ℕ → List ℕ) (x : Entry) (old new : List Record)
+opened_item : (z : Area) (v b : ℕ) (s a t : Stand) (hash : Scheme) (x : Entry) (old new : List Record)
     → field_at (want.Tag v) s ≡ Ok (field.Tag b, a) → eqb b pruned_tag ≡ false
     → Took hash z v (opened_piece z v) x a t old new → Took hash z v (item (region z) v) x s t old new
 opened_item z v b s a t hash x old new read is took =
@@ -346,7 +340,8 @@ opened_item z v b s a t hash x old new read is took =
       cut = took.cut;
       goes = λ e next. opened_goes z v b s a e next read is
           ∙ took.goes e next;
-      knows = took.knows;
+      says = took.says;
+      at_level = took.at_level;
       kept = took.kept;
     }
 
@@ -355,7 +350,7 @@ opened_stops : (z : Area) (v b : ℕ) (s a : Stand) (e : CheckErr) → field_at 
 opened_stops z v b s a (errors.Fault f) read is stops = λ e next. opened_goes z v b s a e next read is ∙ stops e next
 opened_stops z v b s a errors.NoMemory read is stops = tt
 
-pub leaf_item : (z : Area) (v b : ℕ) (s a t : Stand) (hash : List ℕ → List ℕ) (x : Entry) (old new : List Record)
+pub leaf_item : (z : Area) (v b : ℕ) (s a t : Stand) (hash : Scheme) (x : Entry) (old new : List Record)
     → v ≡ 0 → field_at (want.Tag v) s ≡ Ok (field.Tag b, a) → eqb b pruned_tag ≡ false
     → Took hash z 0 (leaf (region z)) x a t old new → Took hash z v (item (region z) v) x s t old new
 leaf_item z zero b s a t hash x old new flat read is took = opened_item z 0 b s a t hash x old new read is took
@@ -367,7 +362,7 @@ pub leaf_item_stops : (z : Area) (v b : ℕ) (s a : Stand) (e : CheckErr) → v 
 leaf_item_stops z zero b s a e flat read is stops = opened_stops z 0 b s a e read is stops
 leaf_item_stops z (suc w) b s a e flat read is stops = absurd (omega arith)
 
-pub inner_item : (z : Area) (v b : ℕ) (s a t : Stand) (hash : List ℕ → List ℕ) (x : Entry) (old new : List Record)
+pub inner_item : (z : Area) (v b : ℕ) (s a t : Stand) (hash : Scheme) (x : Entry) (old new : List Record)
     → 0 < v → field_at (want.Tag v) s ≡ Ok (field.Tag b, a) → eqb b pruned_tag ≡ false
     → Took hash z v (inner (region z) (item (region z) (v - 1))) x a t old new
     → Took hash z v (item (region z) v) x s t old new
@@ -387,7 +382,7 @@ inner_item_stops z (suc w) b s a e above read is stops =
     opened_stops z (suc w) b s a e read is (subst
     (λ (k : ℕ). StopsOr (inner (region z) (item (region z) k)) a e) below stops)
 
-pub leaf_item_or : (z : Area) (v b : ℕ) (s a : Stand) (hash : List ℕ → List ℕ) (result : Result Entry CheckErr)
+pub leaf_item_or : (z : Area) (v b : ℕ) (s a : Stand) (hash : Scheme) (result : Result Entry CheckErr)
     (after : Cursor) (old new : List Record) → v ≡ 0 → field_at (want.Tag v) s ≡ Ok (field.Tag b, a)
     → (b ≡ pruned_tag → ⊥)
     → TookOr hash z 0 (leaf (region z)) result a after old new
@@ -397,7 +392,7 @@ leaf_item_or z v b s a hash (Ok x) after old new flat read is took =
 leaf_item_or z v b s a hash (Err e) after old new flat read is stops =
     leaf_item_stops z v b s a e flat read (ne_eqb b pruned_tag is) stops
 
-pub inner_item_or : (z : Area) (v b : ℕ) (s a : Stand) (hash : List ℕ → List ℕ) (result : Result Entry CheckErr)
+pub inner_item_or : (z : Area) (v b : ℕ) (s a : Stand) (hash : Scheme) (result : Result Entry CheckErr)
     (after : Cursor) (old new : List Record) → 0 < v → field_at (want.Tag v) s ≡ Ok (field.Tag b, a)
     → (b ≡ pruned_tag → ⊥)
     → TookOr hash z v (inner (region z) (item (region z) (v - 1))) result a after old new

@@ -2,7 +2,8 @@
 -- contract cites it.
 use Rattle.std.specs.Prelude.{◌≡◌, ℕ, Bool, true, ◌++◌, List, filter, Option, Some, None, ⊤, Result, Ok, Err}
 use Rattle.mr_record.specs.declared.record.Record.{Record}
-use Rattle.mr_tree.specs.Digest.{Entry as NodeEntry, root_preimage}
+use Rattle.mr_tree.specs.Digest.{Scheme, by, root_preimage}
+use Rattle.mr_tree.specs.declared.entry.Entry.{Entry}
 use Rattle.mr_query.specs.declared.area.Area.{Area}
 use Rattle.mr_query.specs.declared.query.Query.{Query}
 use Rattle.mr_query.specs.Region.{reaches}
@@ -10,7 +11,7 @@ use Rattle.mr_proof.specs.declared.head.Head.{Head}
 use Rattle.mr_proof.specs.declared.rule.Fault.{Fault}
 use Rattle.mr_proof.specs.declared.field.Field.{Field}
 use Rattle.mr_proof.specs.Cut.{Cut, entry, records}
-use Rattle.mr_proof.specs.Spelling.{Said, said, opened_records}
+use Rattle.mr_proof.specs.Spelling.{Said, said, version_of, opened_records}
 use Rattle.mr_proof.specs.Tight.{Seen, asks}
 use Rattle.mr_proof.specs.Accepted.{root_bytes}
 use Rattle.mr_proof.specs.Grammar.{Grammar}
@@ -19,7 +20,6 @@ use Rattle.mr_proof.specs.Layout.{Stand}
 use Rattle.mr_proof.specs.Refused.{has_other_radius}
 use Rattle.mr_proof.specs.Reading.{walk, ending}
 use Rattle.mr_check.specs.declared.cursor.Cursor.{Cursor}
-use Rattle.mr_check.specs.declared.entry.Entry.{Entry}
 use Rattle.mr_check.specs.declared.error.CheckErr.{CheckErr}
 use Rattle.mr_check.specs.declared.error.CheckErr.TheVariants as errors
 
@@ -85,24 +85,21 @@ region a = (asks a.query).region a.radius
 abbrev pub asked : Area → Record → Bool
 asked a r = reaches a.query a.radius r.rect
 
--- what the parent of a node of this level knows of it
-abbrev pub known : ℕ → Entry → NodeEntry
-known level x = record { level = level; rect = x.rect; digest = x.digest }
-
--- a cut of a node of this level was read, of which this is known; its records in the area stand
+-- a cut of a node of this level was read, of which this is said; its records in the area stand
 -- behind those kept before
-pub record Took (hash : List ℕ → List ℕ) (a : Area) (level : ℕ) (piece : Piece Cut) (x : Entry)
+pub record Took (h : Scheme) (a : Area) (level : ℕ) (piece : Piece Cut) (x : Entry)
     (s t : Stand) (before after : List Record) : Type 0 where
   pub cut : Cut
   pub goes : Goes piece s cut t
-  pub knows : entry hash level cut ≡ known level x
+  pub says : entry h level cut ≡ x
+  pub at_level : x.level ≡ level
   pub kept : after ≡ before ++ filter (asked a) (records cut)
 
-abbrev pub TookOr : (List ℕ → List ℕ) → Area → ℕ → Piece Cut → Result Entry CheckErr → Stand
+abbrev pub TookOr : Scheme → Area → ℕ → Piece Cut → Result Entry CheckErr → Stand
     → Cursor → List Record → List Record → Type 0
-TookOr hash a level piece (Ok x) s after before kept =
-    Took hash a level piece x s (stand after) before kept
-TookOr hash a level piece (Err e) s after before kept = StopsOr piece s e
+TookOr h a level piece (Ok x) s after before kept =
+    Took h a level piece x s (stand after) before kept
+TookOr h a level piece (Err e) s after before kept = StopsOr piece s e
 
 -- ---- the whole
 
@@ -110,14 +107,14 @@ TookOr hash a level piece (Err e) s after before kept = StopsOr piece s e
 abbrev pub area_of : Query → Head → Area
 area_of q h = record { query = q; radius = h.radius }
 
--- The root node of a map with this head was read, if it has one, and what is known of it gives the
+-- The root node of a map with this head was read, if it has one, and what is said of it gives the
 -- bytes of the root digest; its records in the area of the query were kept.
 pub record TookRoot (hash : List ℕ → List ℕ) (q : Query) (h : Head) (x : Entry) (s t : Stand)
     (before after : List Record) : Type 0 where
   pub part : Option Cut
   pub goes : (e : Said → Stand → Result Said Fault)
       → walk true e (grammar.part (asks q).region h) s ≡ e (said h part) t
-  pub root : root_preimage h.batch h.count (known h.level x) ≡ root_bytes hash h part
+  pub root : root_preimage (version_of h) h.batch h.count x ≡ root_bytes hash h part
   pub kept : after ≡ before ++ filter (asked (area_of q h)) (opened_records part)
 
 abbrev pub TookRootOr : (List ℕ → List ℕ) → Query → Head → Result Entry CheckErr → Stand → Cursor
@@ -132,11 +129,11 @@ abbrev pub EndsAs : {X : Type 0} → Said → Result X Fault → Result Said Fau
 EndsAs x (Ok _) end = end ≡ Ok x
 EndsAs x (Err f) end = end ≡ Err f
 
--- so for each pair with this head whose root node is known so, and whose opened records break the
--- rule on the radius just where those that were kept do
+-- The same for each pair with this head of whose root node this is said, where the opened records
+-- break the rule on the radius just where those that were kept do.
 abbrev pub Ends : {X : Type 0} → (List ℕ → List ℕ) → List ℕ → Query → Head → Entry → List Record
     → Result X Fault → Stand → Type 0
 Ends hash root q h x kept result s =
-    (P : Option Cut) → root_preimage h.batch h.count (known h.level x) ≡ root_bytes hash h P
+    (P : Option Cut) → root_preimage (version_of h) h.batch h.count x ≡ root_bytes hash h P
     → has_other_radius q h.radius kept ≡ has_other_radius q h.radius (opened_records P)
     → EndsAs (said h P) result (ending hash root q (said h P) s)

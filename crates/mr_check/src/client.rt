@@ -1,6 +1,8 @@
 //! The check of a whole proof.
 
 ghost use Rattle.std.specs.Prelude.{◌≡◌, IfOk, Err};
+ghost use Rattle.mr_record.specs.declared.version.Version.{Version};
+ghost use Rattle.mr_tree.specs.Digest.{by};
 ghost use Rattle.mr_proof.specs.declared.rule.Fault.{Fault};
 ghost use Rattle.mr_query.specs.Word.{IsAskable};
 ghost use Rattle.mr_proof.specs.Tight.{asks};
@@ -15,17 +17,16 @@ ghost use Rattle.mr_check.specs.Steps.{TookRootOr, Ends, stand};
 
 use crate::CheckErr;
 use crate::cursor::{Cursor, fault_at, front};
-use crate::entry::Entry;
 use crate::head::read_head;
 use crate::item::read_item;
 use crate::radius::has_other_radius;
 use mr_proof::{Fault, Head, Rule, accepted_is_honest, honest_is_accepted};
 use mr_query::{Area, Query, answer};
 use mr_record::Record;
-use mr_tree::{Hash32, Hashes, root_digest};
+use mr_tree::{Entry, Hash32, Hashes, root_digest};
 use std::alloc::Global;
 
-// What is known of the root node, if there is one.
+// What is said of the root node, if there is one.
 fn root_node<H: Hashes>(
     alloc: Global,
     q: &Query,
@@ -37,10 +38,7 @@ fn root_node<H: Hashes>(
         (stand from.old) from.new kept.old.items kept.new.items }
 {
     if head.count == 0 {
-        return Ok(Entry {
-            rect: None,
-            digest: [0; 32],
-        });
+        return Ok(Entry::none());
     }
     let area = Area {
         query: *q,
@@ -64,7 +62,7 @@ fn end<H: Hashes>(
     if !behind.rest.is_empty() {
         return Err(fault_at(Rule::Trailing, behind.at));
     }
-    let found = root_digest::<H>(head.batch, head.count, head.level, node.rect, &node.digest);
+    let found = root_digest::<H>(head.version(), head.batch, head.count, node);
     if found.as_slice() != root.as_slice() {
         return Err(fault_at(Rule::WrongRoot { found }, behind.at));
     }
@@ -107,20 +105,27 @@ pub fn check<H: Hash32>(
     proof: &[u8],
 ) -> Result<Vec<Record>, CheckErr>
     requires { IsAskable q.now }
+    // What is answered: the verdict, which is an answer or a fault, for each string just one.
     ensures exact { Checks result (verdict H.of root.now q.now proof.now) }
-    ensures proved { IfOk result (λ v. Proves H.of root.now (asks q.now) proof.now v.items) }
-    ensures broken { (f : Fault) → result ≡ Err (errors.Fault f)
-        → IsRefused H.of root.now q.now proof.now f }
     ensures accepts { AcceptsJust H.of root.now q.now proof.now }
     ensures refuses { RefusesJust H.of root.now q.now proof.now }
     ensures one_half { OneHalf H.of root.now q.now proof.now }
+    // What an answer is worth: the bytes prove it; they are the honest proof of the map with this
+    // root, and it is the answer of a scan, or the hash function has a collision. The honest proof
+    // is accepted, and any other string is refused or shows a collision.
+    ensures proved { IfOk result (λ v. Proves H.of root.now (asks q.now) proof.now v.items) }
+    ensures complete { (v : Version) → AcceptsHonest (by v H.of) q.now }
+    ensures headline { (v : Version) → Headline (by v H.of) q.now proof.now }
+    ensures accepted { (v : Version) → AcceptedIsHonest (by v H.of) q.now proof.now }
+    ensures other_strings { (v : Version) → OthersFail (by v H.of) q.now proof.now }
+    // Why a proof is refused: the fault is the first rule that it breaks, and stays so behind
+    // whatever follows.
+    ensures broken { (f : Fault) → result ≡ Err (errors.Fault f)
+        → IsRefused H.of root.now q.now proof.now f }
+    ensures longer { StaysRefused H.of root.now q.now proof.now }
+    // What the bytes spell: one head and cut at most, which reading finds.
     ensures one_pair { SpellsOne proof.now }
     ensures pair { FindsPair proof.now }
-    ensures longer { StaysRefused H.of root.now q.now proof.now }
-    ensures complete { AcceptsHonest H.of q.now }
-    ensures headline { Headline H.of q.now proof.now }
-    ensures accepted { AcceptedIsHonest H.of q.now proof.now }
-    ensures other_strings { OthersFail H.of q.now proof.now }
 {
     honest_is_accepted::<H>(q);
     accepted_is_honest::<H>(q, proof);

@@ -1,3 +1,5 @@
+//! Where a reader of a proof stands.
+
 ghost use Rattle.std.specs.Prelude.{◌≡◌, IfOk};
 ghost use Rattle.mr_proof.specs.Fields.{FitsPayload, HasForm};
 ghost use Rattle.mr_proof.specs.Layout.{start, field_at};

@@ -1,6 +1,8 @@
 //! The items of a proof, one inside another.
 
 ghost use Rattle.std.specs.Prelude.{◌≡◌, ◌≤◌, ◌<◌, ◌++◌, ◌-◌, ℕ, List, OnOk, filter, option_map};
+ghost use Rattle.mr_record.specs.declared.version.Version.TheVariants.{One};
+ghost use Rattle.mr_tree.specs.Digest.{by};
 ghost use Rattle.mr_proof.specs.Cut.{Pruned};
 ghost use Rattle.mr_proof.specs.Tight.{met_by, seen_at};
 ghost use Rattle.mr_proof.specs.Grammar.{pruned, leaf, inner, item};
@@ -8,14 +10,12 @@ ghost use Rattle.mr_check.specs.Steps.{Takes, TookOr, stand, region, asked};
 
 use crate::CheckErr;
 use crate::cursor::{Cursor, fault_at};
-use crate::entry::Entry;
 use crate::fields::{digest, number, rect, tag};
 use crate::record::records;
-use mr_geom::joined;
 use mr_proof::{Fault, Rule, Shown, Want};
 use mr_query::Area;
 use mr_record::Record;
-use mr_tree::{Hashes, bounds_of, feed_entry, leaf_digest, open_inner};
+use mr_tree::{Entry, Gathering, Hashes, leaf_entry};
 use std::alloc::{AllocError, Global};
 
 // Whether the area meets the node.
@@ -59,15 +59,12 @@ fn opened_leaf<H: Hashes>(
     from: &mut Cursor<'_>,
     kept: &mut Vec<Record>,
 ) -> Result<Entry, CheckErr>
-    ensures { TookOr H.of area.now 0 (leaf (region area.now)) result
+    ensures { TookOr (by One H.of) area.now 0 (leaf (region area.now)) result
         (stand from.old) from.new kept.old.items kept.new.items }
 {
     let count = number(&Want::LeafCount, from)?;
     let records = records(alloc, count, from)?;
-    let leaf = Entry {
-        rect: bounds_of(&records),
-        digest: leaf_digest::<H>(&records),
-    };
+    let leaf = leaf_entry::<H>(&records);
     if !meets(area, &leaf) {
         return Err(CheckErr::Fault(fault_at(Rule::Needless, from.last)));
     }
@@ -84,29 +81,24 @@ fn opened_inner<H: Hashes>(
     kept: &mut Vec<Record>,
 ) -> Result<Entry, CheckErr>
     requires { 0 < level }
-    ensures { TookOr H.of area.now level
+    ensures { TookOr (by One H.of) area.now level
         (inner (region area.now) (item (region area.now) (level - 1))) result
         (stand from.old) from.new kept.old.items kept.new.items }
 {
     let count = number(&Want::InnerCount, from)?;
-    let mut hasher = open_inner::<H>(level, count as u8);
-    let mut rect = None;
+    let mut all = Gathering::<H>::inner(level, count as u8);
     for _ in 0..count {
         let child = read_item::<H>(alloc, area, level - 1, from, kept)?;
-        feed_entry(&mut hasher, child.rect, &child.digest);
-        rect = joined(rect, child.rect);
+        all.add_entry(&child);
     }
-    let node = Entry {
-        rect,
-        digest: hasher.finish(),
-    };
+    let node = all.close(level);
     if !meets(area, &node) {
         return Err(CheckErr::Fault(fault_at(Rule::Needless, from.last)));
     }
     Ok(node)
 }
 
-// An item of this level: what is known of its node. The records below it in the area are kept.
+// An item of this level: what is said of its node. The records below it in the area are kept.
 #[cycle(items)]
 pub(crate) fn read_item<H: Hashes>(
     alloc: Global,
@@ -115,15 +107,12 @@ pub(crate) fn read_item<H: Hashes>(
     from: &mut Cursor<'_>,
     kept: &mut Vec<Record>,
 ) -> Result<Entry, CheckErr>
-    ensures { TookOr H.of area.now level (item (region area.now) level) result
+    ensures { TookOr (by One H.of) area.now level (item (region area.now) level) result
         (stand from.old) from.new kept.old.items kept.new.items }
 {
     if tag(level, from)? == b'P' {
         let part = shown(area, from)?;
-        return Ok(Entry {
-            rect: Some(part.rect),
-            digest: part.digest,
-        });
+        return Ok(part.entry(level));
     }
     if level == 0 {
         opened_leaf::<H>(alloc, area, from, kept)

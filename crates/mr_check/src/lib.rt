@@ -3,7 +3,6 @@
 
 mod client;
 mod cursor;
-mod entry;
 mod error;
 mod fields;
 mod head;

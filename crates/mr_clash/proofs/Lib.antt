@@ -1,3 +1,4 @@
+pub mod Levels
 pub mod Taking
 pub mod Nodes
 pub mod Walks

@@ -7,17 +7,18 @@ use Rattle.mr_geom.specs.Rectangle.{Rectangle}
 use Rattle.mr_record.specs.Record.{record_bytes}
 use Rattle.mr_record.specs.declared.record.Record.{Record}
 use Rattle.mr_tree.specs.Tree.{union_of, first_level}
-use Rattle.mr_tree.specs.Digest.{Entry as NodeEntry, entry_bytes, level_over, node_preimage, inner_tag, leaf_tag}
+use Rattle.mr_tree.specs.Digest.{entry_bytes, entry_step, level_over, node_preimage, inner_tag, leaf_tag}
+use Rattle.mr_tree.specs.declared.entry.Entry.{Entry}
 use Rattle.mr_tree.specs.View.{Node, entry_of, level_of, preimage_of}
 use Rattle.mr_tree.specs.declared.child.Child.{Child}
 use Rattle.mr_tree.specs.declared.tree.Tree.TheOpen as node
-use Rattle.mr_proof.specs.Cut.{Cut, Cuts, Pruned, Leaf, Inner, count_of, entry, entries, preimage}
+use Rattle.mr_proof.specs.Cut.{Cut, Cuts, Pruned, Leaf, Inner, count_of, entries, preimage}
 use Rattle.mr_proof.specs.declared.shown.Shown.{Shown}
 use Rattle.mr_proof.specs.Fields.{pruned_tag}
-use Rattle.mr_proof.specs.Spelling.{cut_bytes, cuts_bytes, shown_bytes, FitsCut}
-use Rattle.mr_clash.specs.declared.entry.Entry.{Entry}
-use Rattle.mr_clash.specs.Steps.{known, rect_in, piece, held, Passed, PassedAll}
+use Rattle.mr_proof.specs.Spelling.{cut_bytes, cuts_bytes, shown_bytes, FitsCut, FitCuts}
+use Rattle.mr_clash.specs.Steps.{scheme, Passed, PassedAll}
 use Rattle.mr_clash.proofs.Taking.{length-entries, take_front}
+use Rattle.mr_clash.proofs.Levels.{first_at_level}
 
 -- one byte is taken
 abbrev Byte : (before after : List ℕ) → ℕ → Type 0
@@ -25,73 +26,40 @@ Byte before after b = (x : ℕ) (rest : List ℕ) → before ≡ x ∷ rest → 
 
 -- ---- entries
 
-rects_known : (w : ℕ) (xs : List Entry) → map (λ (e : NodeEntry). e.rect) (map (known w) xs) ≡ map rect_in xs
-rects_known w [] = refl
-rects_known w (x ∷ xs) = ap (λ rs. x.rect ∷ rs) (rects_known w xs)
+-- the level over the children of an inner node that was passed over
+level_over_all : (hash : List ℕ → List ℕ) (w v : ℕ) (Ps : Cuts) (xs : List Entry) → v ≡ w + 1 → 1 ≤ count_of Ps
+    → FitCuts w Ps → xs ≡ entries (scheme hash) w Ps → v ≡ level_over xs
+level_over_all hash w v Ps xs above some fits say =
+    above ∙ sym (ap level_over say ∙ first_at_level (scheme hash) w Ps some fits)
 
-pieces_known : (w : ℕ) (xs : List Entry) → flat_map entry_bytes (map (known w) xs) ≡ flat_map piece xs
-pieces_known w [] = refl
-pieces_known w (x ∷ xs) = ap (λ bytes. piece x ++ bytes) (pieces_known w xs)
-
-pub length-known : (w : ℕ) (xs : List Entry) → length (map (known w) xs) ≡ length xs
-length-known w [] = refl
-length-known w (x ∷ xs) = ap suc (length-known w xs)
-
-level_known : (w : ℕ) (xs : List Entry) → 1 ≤ length xs → level_over (map (known w) xs) ≡ w + 1
-level_known w [] some = absurd (omega arith)
-level_known w (x ∷ xs) some = refl
-
-pub pieces_held : (cs : List Child) → flat_map piece (map held cs) ≡ flat_map entry_bytes (map entry_of cs)
-pieces_held [] = refl
-pieces_held (c ∷ cs) = ap (λ bytes. piece (held c) ++ bytes) (pieces_held cs)
-
--- the string of an inner node, by what is known of its children
-pub inner_string : (w v : ℕ) (xs : List Entry) → v ≡ w + 1 → 1 ≤ length xs
-    → inner_tag ∷ v ∷ length xs ∷ flat_map piece xs ≡ node_preimage (node.Inner (map (known w) xs))
-inner_string w v xs above some = λ i. inner_tag ∷ (above ∙ sym (level_known w xs some)) i
-    ∷ sym (length-known w xs) i ∷ sym (pieces_known w xs) i
-
-pub inner_passed : (hash : List ℕ → List ℕ) (w v : ℕ) (Ps : Cuts) (rest : List ℕ) (xs : List Entry) (x : Entry)
-    (after : List ℕ) → v ≡ w + 1 → 1 ≤ count_of Ps → map (known w) xs ≡ entries hash w Ps
-    → x.rect ≡ union_of (map rect_in xs) → x.digest ≡ hash (inner_tag ∷ v ∷ length xs ∷ flat_map piece xs)
-    → after ≡ rest → Passed hash v (Inner Ps) rest x after
-inner_passed hash w v Ps rest xs x after above some knows place digest behind =
-    let below : entries hash (v - 1) Ps ≡ entries hash w Ps =
-    ap (λ k. entries hash k Ps) (omega arith) in
-    let count = ap length knows in
-    let long : 1 ≤ length xs = omega (arith, length-known w xs, length-entries hash w Ps, count) in
-    let es = map (known w) xs in
-    let same : es ≡ entries hash (v - 1) Ps = knows ∙ sym below in
-    record {
-      knows = (λ i. record {
-        level = (above ∙ sym (level_known w xs long)) i;
-        rect = (place ∙ ap union_of (sym (rects_known w xs))) i;
-        digest = (digest ∙ ap hash (inner_string w v xs above long)) i;
-      }) ∙ (λ i. record {
-        level = level_over (same i);
-        rect = union_of (map (λ (e : NodeEntry). e.rect) (same i));
-        digest = hash (node_preimage (node.Inner (same i)));
-      });
-      behind = behind;
-    }
-
+-- the string of an inner node, by what is said of its children
 pub inner_string_shown : (hash : List ℕ → List ℕ) (w v : ℕ) (Ps : Cuts) (xs : List Entry) → v ≡ w + 1
-    → 1 ≤ count_of Ps → map (known w) xs ≡ entries hash w Ps
-    → inner_tag ∷ v ∷ length xs ∷ flat_map piece xs ≡ node_preimage (node.Inner (entries hash (v - 1) Ps))
-inner_string_shown hash w v Ps xs above some knows =
-    let below : entries hash (v - 1) Ps ≡ entries hash w Ps =
-    ap (λ k. entries hash k Ps) (omega arith) in
-    let count = ap length knows in
-    let long : 1 ≤ length xs = omega (arith, length-known w xs, length-entries hash w Ps, count) in
-    inner_string w v xs above long ∙ ap (λ es. node_preimage (node.Inner es)) (knows ∙ sym below)
+    → 1 ≤ count_of Ps → FitCuts w Ps → xs ≡ entries (scheme hash) w Ps
+    → inner_tag ∷ v ∷ length xs ∷ flat_map entry_bytes xs
+    ≡ node_preimage (node.Inner (entries (scheme hash) (v - 1) Ps))
+inner_string_shown hash w v Ps xs above some fits say =
+    let below : entries (scheme hash) (v - 1) Ps ≡ entries (scheme hash) w Ps =
+    ap (λ k. entries (scheme hash) k Ps) (omega arith) in
+    (λ i. inner_tag ∷ level_over_all hash w v Ps xs above some fits say i ∷ length xs ∷ flat_map entry_bytes xs)
+    ∙ ap (λ es. node_preimage (node.Inner es)) (say ∙ sym below)
 
--- the same of a list that is those entries
-pub inner_passed_by : (hash : List ℕ → List ℕ) (w v : ℕ) (Ps : Cuts) (rest : List ℕ) (xs ys : List Entry) (x : Entry)
-    (after : List ℕ) → v ≡ w + 1 → 1 ≤ count_of Ps → map (known w) xs ≡ entries hash w Ps → ys ≡ xs
-    → x.rect ≡ union_of (map rect_in ys) → x.digest ≡ hash (inner_tag ∷ v ∷ length ys ∷ flat_map piece ys)
+pub inner_passed : (hash : List ℕ → List ℕ) (w v : ℕ) (Ps : Cuts) (rest : List ℕ) (xs ys : List Entry) (x : Entry)
+    (after : List ℕ) → v ≡ w + 1 → 1 ≤ count_of Ps → FitCuts w Ps → xs ≡ entries (scheme hash) w Ps → ys ≡ xs
+    → x.level ≡ v → x.rect ≡ union_of (map (λ (e : Entry). e.rect) ys)
+    → x.digest ≡ hash (inner_tag ∷ v ∷ length ys ∷ flat_map entry_bytes ys)
     → after ≡ rest → Passed hash v (Inner Ps) rest x after
-inner_passed_by hash w v Ps rest xs ys x after above some knows same place digest behind =
-    inner_passed hash w v Ps rest ys x after above some (ap (map (known w)) same ∙ knows) place digest behind
+inner_passed hash w v Ps rest xs ys x after above some fits say again level place digest behind =
+    let below : entries (scheme hash) (v - 1) Ps ≡ entries (scheme hash) w Ps =
+    ap (λ k. entries (scheme hash) k Ps) (omega arith) in
+    let own : ys ≡ entries (scheme hash) w Ps = again ∙ say in
+    let same : ys ≡ entries (scheme hash) (v - 1) Ps = own ∙ sym below in
+    let whole : x ≡ entry_step (scheme hash) (node.Inner ys) = λ i. record {
+      level = (level ∙ level_over_all hash w v Ps ys above some fits own) i;
+      rect = place i;
+      digest = (digest ∙ ap hash (λ j. inner_tag ∷ level_over_all hash w v Ps ys above some fits own j
+          ∷ length ys ∷ flat_map entry_bytes ys)) i;
+    } in
+    record { says = whole ∙ ap (λ es. entry_step (scheme hash) (node.Inner es)) same; behind = behind }
 
 pub leaf_few : (rs ys : List Record) (count : ℕ) → ys ≡ rs → length rs ≤ count → count ≤ 16 → length ys ≤ 16
 leaf_few rs ys count same few low = let long = ap length same in omega (arith, long, few, low)
@@ -104,13 +72,9 @@ ok_as (Ok v) a b e h = h ∙ e
 ok_as (Err f) a b e h = tt
 
 levels_of : (cs : List Child)
-    → map (λ (e : NodeEntry). e.level) (map entry_of cs) ≡ map (λ (c : Child). c.level) cs
+    → map (λ (e : Entry). e.level) (map entry_of cs) ≡ map (λ (c : Child). c.level) cs
 levels_of [] = refl
 levels_of (c ∷ cs) = ap (λ ns. c.level ∷ ns) (levels_of cs)
-
-length-held : (cs : List Child) → length (map held cs) ≡ length (map entry_of cs)
-length-held [] = refl
-length-held (c ∷ cs) = ap suc (length-held cs)
 
 pub above_zero : (n m : ℕ) → m ≡ n → (m ≡ 0 → ⊥) → 0 < n
 above_zero zero m e above = absurd (above e)
@@ -118,13 +82,12 @@ above_zero (suc n) m e above = omega arith
 
 -- that of a node of the map, by what it holds of its children
 pub owned_inner : (n : Node) (cs : List Child) (v : ℕ) (xs ys : List Entry) → n ≡ node.Inner cs → v ≡ level_of n
-    → xs ≡ map held cs → ys ≡ xs → inner_tag ∷ v ∷ length ys ∷ flat_map piece ys ≡ preimage_of n
+    → xs ≡ map entry_of cs → ys ≡ xs → inner_tag ∷ v ∷ length ys ∷ flat_map entry_bytes ys ≡ preimage_of n
 owned_inner n cs v xs ys is level same again =
-    let all : ys ≡ map held cs = again ∙ same in
+    let all : ys ≡ map entry_of cs = again ∙ same in
     let first : v ≡ level_over (map entry_of cs) =
     level ∙ ap level_of is ∙ ap (λ ns. first_level ns + 1) (sym (levels_of cs)) in
-    (λ i. inner_tag ∷ first i ∷ (ap length all ∙ length-held cs) i
-    ∷ (ap (flat_map piece) all ∙ pieces_held cs) i) ∙ ap preimage_of (sym is)
+    (λ i. inner_tag ∷ first i ∷ length (all i) ∷ flat_map entry_bytes (all i)) ∙ ap preimage_of (sym is)
 
 same_some : (a b : List ℕ) → ◌≡◌ {A = Option (List ℕ)} (Some a) (Some b) → a ≡ b
 same_some a b e = cc
@@ -132,22 +95,22 @@ same_some a b e = cc
 -- that of an opened inner node that stands next
 pub inner_shown : {E : Type 0} (hash : List ℕ → List ℕ) (v : ℕ) (P : Cut) (rest y before mid after : List ℕ) (b : ℕ)
     (xs ys : List Entry) (r : Result (Vec ℕ) E) → 0 < v → FitsCut v P → before ≡ cut_bytes P ++ rest
-    → preimage hash v P ≡ Some y → Byte before mid b
+    → preimage (scheme hash) v P ≡ Some y → Byte before mid b
     → ((Ps : Cuts) → FitsCut v (Inner Ps) → mid ≡ count_of Ps ∷ cuts_bytes Ps ++ rest
     → PassedAll hash (v - 1) Ps rest xs after)
-    → ys ≡ xs → IfOk r (λ s. s.items ≡ inner_tag ∷ v ∷ length ys ∷ flat_map piece ys) → IfOk r (λ s. s.items ≡ y)
+    → ys ≡ xs → IfOk r (λ s. s.items ≡ inner_tag ∷ v ∷ length ys ∷ flat_map entry_bytes ys) → IfOk r (λ s. s.items ≡ y)
 inner_shown hash v (Pruned part) rest y before mid after b xs ys r above fits is e byte passed same ok = absurd cc
 inner_shown hash v (Leaf rs) rest y before mid after b xs ys r above fits is e byte passed same ok =
     let flat = fits.at_leaf in absurd (omega (arith, above, flat))
 inner_shown hash v (Inner Ps) rest y before mid after b xs ys r above fits is e byte passed same ok =
     let p = passed Ps fits (byte inner_tag (count_of Ps ∷ cuts_bytes Ps ++ rest) is).1 in
-    ok_as r (inner_tag ∷ v ∷ length ys ∷ flat_map piece ys) y
-    (inner_string_shown hash (v - 1) v Ps ys (omega (arith, above)) fits.0.some (ap (map (known (v - 1))) same ∙ p.knows)
-    ∙ same_some (node_preimage (node.Inner (entries hash (v - 1) Ps))) y e) ok
+    ok_as r (inner_tag ∷ v ∷ length ys ∷ flat_map entry_bytes ys) y
+    (inner_string_shown hash (v - 1) v Ps ys (omega (arith, above)) fits.0.some fits.1 (same ∙ p.say)
+    ∙ same_some (node_preimage (node.Inner (entries (scheme hash) (v - 1) Ps))) y e) ok
 
 -- that of a leaf that stands next: its own bytes
 pub leaf_shown : (hash : List ℕ → List ℕ) (P : Cut) (rest y before after : List ℕ) (size : ℕ) → FitsCut 0 P
-    → before ≡ cut_bytes P ++ rest → preimage hash 0 P ≡ Some y → after ≡ rest
+    → before ≡ cut_bytes P ++ rest → preimage (scheme hash) 0 P ≡ Some y → after ≡ rest
     → size ≡ length before - length after → take size before ≡ y
 leaf_shown hash (Pruned part) rest y before after size fits is e behind long = absurd cc
 leaf_shown hash (Leaf rs) rest y before after size fits is e behind long =
@@ -159,12 +122,10 @@ leaf_shown hash (Leaf rs) rest y before after size fits is e behind long =
 leaf_shown hash (Inner Ps) rest y before after size fits is e behind long =
     let above = fits.0.above in absurd (omega (arith, above))
 
-pub leaf_passed : (hash : List ℕ → List ℕ) (rs : List Record) (rest : List ℕ) (x : Entry) (after : List ℕ)
-    → x.rect ≡ union_of (map (λ (r : Record). Some r.rect) rs)
-    → x.digest ≡ hash (leaf_tag ∷ length rs ∷ flat_map record_bytes rs) → after ≡ rest
-    → Passed hash 0 (Leaf rs) rest x after
-leaf_passed hash rs rest x after place digest behind = record {
-  knows = λ i. record { level = 0; rect = place i; digest = digest i };
+pub leaf_passed : (hash : List ℕ → List ℕ) (rs ys : List Record) (rest : List ℕ) (x : Entry) (after : List ℕ)
+    → x ≡ entry_step (scheme hash) (node.Leaf ys) → ys ≡ rs → after ≡ rest → Passed hash 0 (Leaf rs) rest x after
+leaf_passed hash rs ys rest x after says same behind = record {
+  says = says ∙ ap (λ (rs : List Record). entry_step (scheme hash) (node.Leaf rs)) same;
   behind = behind;
 }
 

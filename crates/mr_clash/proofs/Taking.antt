@@ -5,18 +5,16 @@ use Rattle.std.specs.Int.{w128, to_be_bytes}
 use Rattle.std.specs.List.{flat_map, AllByRecursion}
 use Rattle.std.proofs.lemmas.List.Elements.{recursion_from_All}
 use Rattle.std.proofs.Math.Seq.{take-append_seam, drop-append_seam}
-use Rattle.std.proofs.lemmas.List.{map-append}
 use Rattle.mr_record.specs.Record.{IsRecord, record_bytes}
 use Rattle.mr_record.specs.declared.record.Record.{Record}
 use Rattle.mr_record.specs.declared.record_fault.RecordFault.{RecordFault}
-use Rattle.mr_tree.specs.Digest.{Entry as NodeEntry}
+use Rattle.mr_tree.specs.declared.entry.Entry.{Entry}
 use Rattle.mr_proof.specs.declared.head.Kind.{Kind}
 use Rattle.mr_proof.specs.declared.head.Kind.TheVariants as kind
 use Rattle.mr_proof.specs.Fields.{kind_byte}
 use Rattle.mr_proof.specs.Cut.{Cut, Cuts, no_more, first, count_of, entry, entries}
 use Rattle.mr_proof.specs.Spelling.{cut_bytes, cuts_bytes, radius_bytes, FitsCut, FitCuts}
-use Rattle.mr_clash.specs.declared.entry.Entry.{Entry}
-use Rattle.mr_clash.specs.Steps.{known, Passed, PassedAll}
+use Rattle.mr_clash.specs.Steps.{scheme, Passed, PassedAll}
 
 pub take_front : (n : ℕ) (x rest : List ℕ) → length x ≡ n → take n (x ++ rest) ≡ x
 take_front n x rest e = subst (λ k. take k (x ++ rest) ≡ x) e (take-append_seam x rest)
@@ -142,7 +140,7 @@ pub record NextCut (hash : List ℕ → List ℕ) (w : ℕ) (Ps : Cuts) (i : ℕ
   pub cut : Cut
   pub fits : FitsCut w cut
   pub here : drop_cuts i Ps ≡ first cut (drop_cuts (suc i) Ps)
-  pub more : take (suc i) (entries hash w Ps) ≡ take i (entries hash w Ps) ++ entry hash w cut ∷ []
+  pub more : take (suc i) (entries (scheme hash) w Ps) ≡ take i (entries (scheme hash) w Ps) ++ entry (scheme hash) w cut ∷ []
 
 pub next_cut : (hash : List ℕ → List ℕ) (w : ℕ) (Ps : Cuts) (i : ℕ) → i < count_of Ps → FitCuts w Ps
     → NextCut hash w Ps i
@@ -150,16 +148,16 @@ next_cut hash w no_more i lt fits = absurd (omega arith)
 next_cut hash w (first P Ps) zero lt fits = record { cut = P; fits = fits.0; here = refl; more = refl }
 next_cut hash w (first P Ps) (suc i) lt fits =
     let n = next_cut hash w Ps i (omega arith) fits.1 in
-    record { cut = n.cut; fits = n.fits; here = n.here; more = ap (λ xs. entry hash w P ∷ xs) n.more }
+    record { cut = n.cut; fits = n.fits; here = n.here; more = ap (λ xs. entry (scheme hash) w P ∷ xs) n.more }
 
-pub length-entries : (hash : List ℕ → List ℕ) (w : ℕ) (Ps : Cuts) → length (entries hash w Ps) ≡ count_of Ps
+pub length-entries : (hash : List ℕ → List ℕ) (w : ℕ) (Ps : Cuts) → length (entries (scheme hash) w Ps) ≡ count_of Ps
 length-entries hash w no_more = refl
 length-entries hash w (first P Ps) = let rest = length-entries hash w Ps in omega arith
 
 -- so many of them were passed over
 pub record PassedSome (hash : List ℕ → List ℕ) (w : ℕ) (Ps : Cuts) (rest : List ℕ) (i : ℕ) (xs : List Entry)
     (bytes : List ℕ) : Type 0 where
-  pub knows : map (known w) xs ≡ take i (entries hash w Ps)
+  pub say : xs ≡ take i (entries (scheme hash) w Ps)
   pub left_is : bytes ≡ cuts_bytes (drop_cuts i Ps) ++ rest
 
 pub record NextItem (hash : List ℕ → List ℕ) (w : ℕ) (Ps : Cuts) (rest : List ℕ) (i : ℕ) (bytes : List ℕ)
@@ -167,7 +165,7 @@ pub record NextItem (hash : List ℕ → List ℕ) (w : ℕ) (Ps : Cuts) (rest :
   pub cut : Cut
   pub fits : FitsCut w cut
   pub here : bytes ≡ cut_bytes cut ++ (cuts_bytes (drop_cuts (i + 1) Ps) ++ rest)
-  pub more : take (i + 1) (entries hash w Ps) ≡ take i (entries hash w Ps) ++ entry hash w cut ∷ []
+  pub more : take (i + 1) (entries (scheme hash) w Ps) ≡ take i (entries (scheme hash) w Ps) ++ entry (scheme hash) w cut ∷ []
 
 pub next_item : (hash : List ℕ → List ℕ) (w : ℕ) (Ps : Cuts) (rest : List ℕ) (i : ℕ) (bytes : List ℕ)
     → i < count_of Ps → FitCuts w Ps → bytes ≡ cuts_bytes (drop_cuts i Ps) ++ rest
@@ -181,7 +179,7 @@ next_item hash w Ps rest i bytes lt fits e =
       here = e ∙ ap (λ Qs. cuts_bytes Qs ++ rest) n.here
           ∙ append_assoc (cut_bytes n.cut) (cuts_bytes (drop_cuts (suc i) Ps)) rest
           ∙ ap (λ k. cut_bytes n.cut ++ (cuts_bytes (drop_cuts k Ps) ++ rest)) plus;
-      more = ap (λ k. take k (entries hash w Ps)) (sym plus) ∙ n.more;
+      more = ap (λ k. take k (entries (scheme hash) w Ps)) (sym plus) ∙ n.more;
     }
 
 -- one more was passed over
@@ -191,8 +189,7 @@ pub passed_more : (hash : List ℕ → List ℕ) (w : ℕ) (Ps : Cuts) (rest : L
     → Passed hash w n.cut (cuts_bytes (drop_cuts (i + 1) Ps) ++ rest) x after → more ≡ xs ++ x ∷ []
     → PassedSome hash w Ps rest (i + 1) more after
 passed_more hash w Ps rest i xs more bytes after x so n one pushed = record {
-  knows = ap (map (known w)) pushed ∙ map-append (known w) xs (x ∷ [])
-      ∙ (λ j. so.knows j ++ one.knows j ∷ []) ∙ sym n.more;
+  say = pushed ∙ (λ j. so.say j ++ one.says j ∷ []) ∙ sym n.more;
   left_is = one.behind;
 }
 
@@ -206,6 +203,6 @@ drop_all (first P Ps) (suc i) le = drop_all Ps i (omega arith)
 pub all_passed : (hash : List ℕ → List ℕ) (w : ℕ) (Ps : Cuts) (rest : List ℕ) (i : ℕ) (xs : List Entry)
     (bytes : List ℕ) → count_of Ps ≤ i → PassedSome hash w Ps rest i xs bytes → PassedAll hash w Ps rest xs bytes
 all_passed hash w Ps rest i xs bytes le so = record {
-  knows = so.knows ∙ take-all i (entries hash w Ps) (omega (arith, le, length-entries hash w Ps));
+  say = so.say ∙ take-all i (entries (scheme hash) w Ps) (omega (arith, le, length-entries hash w Ps));
   behind = so.left_is ∙ ap (λ Qs. cuts_bytes Qs ++ rest) (drop_all Ps i le);
 }

@@ -1,5 +1,5 @@
 -- Why an audit came to no finding.
-use Rattle.std.specs.Prelude.{◌≡◌, ◌≢◌, ℕ, ◌≤◌, ⊤, Result, IfErr, OnOk}
+use Rattle.std.specs.Prelude.{◌≡◌, ◌≢◌, ℕ, ◌≤◌, ⊤, Option, Some, Result, IfErr, OnOk}
 use Rattle.mr_outside.specs.Faults.{Rose}
 use Rattle.mr_tree.specs.Nodes.{Standing, HasSomeCause}
 use Rattle.mr_tree.specs.declared.nodes.NodesErr.{NodesErr}
@@ -23,3 +23,8 @@ pub record AuditCauses {A : Type 0} (s : Standing) (before after : ℕ) (result 
   pub cause : IfErr result (HasCause s (Rose before after))
   pub faults : before ≤ after
   pub quiet : OnOk result (after ≡ before)
+
+-- a refusal of the nodes is handed on as the last that a fetch gave
+abbrev pub IsHandedOn : Option NodesErr → AuditErr → Type 0
+IsHandedOn last (errors.Nodes e) = last ≡ Some e
+IsHandedOn last errors.NoMemory = ⊤

@@ -2,7 +2,7 @@
 use Rattle.std.specs.Prelude.{◌≡◌, ◌↔◌, ℕ, List, Option, Some, None, Result, Ok, Err, ⊤}
 use Rattle.mr_record.specs.declared.record.Record.{Record}
 use Rattle.mr_tree.specs.Tree.{records}
-use Rattle.mr_tree.specs.Digest.{root}
+use Rattle.mr_tree.specs.Digest.{Scheme, root}
 use Rattle.mr_tree.specs.declared.tree.Tree.{Tree}
 use Rattle.mr_query.specs.Scan.{scan}
 use Rattle.mr_query.specs.declared.query.Query.{Query}
@@ -24,9 +24,9 @@ finding_of (Err f) pair = findings.Refused f
 finding_of (Ok answer) pair = finding_by answer pair
 
 -- of the map with this tree at this batch, a query, and bytes that are offered as a proof
-abbrev pub found : (List ℕ → List ℕ) → Tree → (batch : ℕ) → Query → List ℕ → Finding
-found hash t batch q bytes =
-    finding_of (verdict hash (root hash t batch) q bytes) (clash hash t batch bytes)
+abbrev pub found : Scheme → Tree → (batch : ℕ) → Query → List ℕ → Finding
+found s t batch q bytes =
+    finding_of (verdict s.of (root s t batch) q bytes) (clash s t batch bytes)
 
 -- it is said to be the honest proof, with this answer
 abbrev pub IsSound : Finding → Type 0
@@ -34,10 +34,9 @@ IsSound (findings.Sound answer) = ⊤
 IsSound _ = ⊥
 
 -- just the honest proof is found to be sound, and its answer is the scan of the map's records
-abbrev pub FindsHonest : (List ℕ → List ℕ) → Tree → (batch : ℕ) → Query → List ℕ → Finding
-    → Type 0
-FindsHonest hash t batch q bytes finding =
-    (IsSound finding ↔ (bytes ≡ proof hash t batch q))
+abbrev pub FindsHonest : Scheme → Tree → (batch : ℕ) → Query → List ℕ → Finding → Type 0
+FindsHonest s t batch q bytes finding =
+    (IsSound finding ↔ (bytes ≡ proof s t batch q))
     × ((answer : List Record) → finding ≡ findings.Sound answer → answer ≡ scan (records t) q)
 
 -- two strings that are shown differ and have one hash

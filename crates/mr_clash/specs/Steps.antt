@@ -1,25 +1,25 @@
 -- What the auditor's private functions do, one by one. Nothing of this has to be believed: no
 -- public contract cites it.
-use Rattle.std.specs.Prelude.{◌≡◌, ℕ, ◌+◌, ◌∷◌, ◌++◌, List, length, map, All, Option, Some, None, option_map, replicate, IfOk, IfSome, IsSome, Result, Ok, Err, Bool, true, false}
+use Rattle.std.specs.Prelude.{◌≡◌, ℕ, ◌++◌, List, length, map, All, Option, Some, None, option_map, IfOk, IfSome, IsSome, Result, Ok, Err, Bool, true, false}
 use Rattle.std.specs.Global.{Vec}
 use Rattle.std.specs.List.{flat_map}
-use Rattle.mr_geom.specs.Rectangle.{Rectangle}
 use Rattle.mr_record.specs.Record.{IsRecord, record_bytes}
 use Rattle.mr_record.specs.declared.record.Record.{Record}
-use Rattle.mr_tree.specs.Digest.{Entry as NodeEntry, rect_bytes, root_preimage}
-use Rattle.mr_tree.specs.Nodes.{Standing}
+use Rattle.mr_record.specs.declared.version.Version.TheVariants.{One}
+use Rattle.mr_tree.specs.Digest.{Scheme, by, root_preimage}
+use Rattle.mr_tree.specs.Nodes.{Standing, top_version, root_entry}
+use Rattle.mr_tree.specs.declared.entry.Entry.{Entry}
 use Rattle.mr_tree.specs.View.{Node, entry_of, preimage_of}
 use Rattle.mr_tree.specs.declared.child.Child.{Child}
 use Rattle.mr_tree.specs.declared.nodes.Top.{Top}
 use Rattle.mr_tree.specs.declared.tree.Tree.{Tree}
 use Rattle.mr_proof.specs.declared.head.Head.{Head}
 use Rattle.mr_proof.specs.Cut.{Cut, Cuts, Pruned, Leaf, Inner, count_of, entry, entries, preimage}
-use Rattle.mr_proof.specs.Spelling.{cut_bytes, cuts_bytes, part_bytes, FitsCut, FitCuts, FitsPart, IsSpelled}
+use Rattle.mr_proof.specs.Spelling.{version_of, cut_bytes, cuts_bytes, part_bytes, FitsCut, FitCuts, FitsPart, IsSpelled}
 use Rattle.mr_proof.specs.Accepted.{root_bytes, root_found}
 use Rattle.mr_proof.specs.Clash.{Pair, differ, node_clash, children_clash, clash, IsCollision}
 use Rattle.mr_check.specs.declared.error.CheckErr.{CheckErr}
 use Rattle.mr_check.specs.declared.error.CheckErr.TheVariants as errors
-use Rattle.mr_clash.specs.declared.entry.Entry.{Entry}
 use Rattle.mr_clash.specs.declared.error.AuditErr.{AuditErr}
 use Rattle.mr_clash.specs.declared.error.AuditErr.TheVariants as audits
 use Rattle.mr_clash.specs.declared.finding.Clash.{Clash}
@@ -37,20 +37,9 @@ left r = r.bytes.now
 abbrev pub pair_of : Clash → Pair
 pair_of c = record { owned = c.owned.items; shown = c.shown.items }
 
--- what the parent of a node of this level knows of it
-abbrev pub known : ℕ → Entry → NodeEntry
-known level x = record { level = level; rect = x.rect; digest = x.digest }
-
-abbrev pub rect_in : Entry → Option Rectangle
-rect_in x = x.rect
-
--- the bytes of it in the preimage of its parent
-abbrev pub piece : Entry → List ℕ
-piece x = rect_bytes x.rect ++ x.digest
-
--- what is held of a child
-abbrev pub held : Child → Entry
-held c = record { rect = Some c.rect; digest = c.digest }
+-- the hash function in the version of what is compared, of which there is one
+abbrev pub scheme : (List ℕ → List ℕ) → Scheme
+scheme hash = by One hash
 
 -- ---- the bytes of a proof, taken from the front
 
@@ -61,10 +50,10 @@ GivesRecords count before after result =
     → before ≡ flat_map record_bytes rs ++ rest
     → IfOk result (λ v. (v.items ≡ rs) × (after ≡ rest))
 
--- an item was passed over, and this is known of its node
+-- an item was passed over, and this is said of its node
 pub record Passed (hash : List ℕ → List ℕ) (level : ℕ) (P : Cut) (rest : List ℕ) (x : Entry)
     (after : List ℕ) : Type 0 where
-  pub knows : known level x ≡ entry hash level P
+  pub says : x ≡ entry (scheme hash) level P
   pub behind : after ≡ rest
 
 -- whatever cut of this level stands next, and whatever behind it
@@ -76,7 +65,7 @@ Passes hash level before after result =
 
 pub record PassedAll (hash : List ℕ → List ℕ) (level : ℕ) (Ps : Cuts) (rest : List ℕ)
     (xs : List Entry) (after : List ℕ) : Type 0 where
-  pub knows : map (known level) xs ≡ entries hash level Ps
+  pub say : xs ≡ entries (scheme hash) level Ps
   pub behind : after ≡ rest
 
 abbrev pub PassesAll : {E : Type 0} → (List ℕ → List ℕ) → (level count : ℕ)
@@ -90,7 +79,7 @@ PassesAll hash level count before after result =
 abbrev pub Strings : {E : Type 0} → (List ℕ → List ℕ) → ℕ → List ℕ → Result (Vec ℕ) E → Type 0
 Strings hash level before result =
     (P : Cut) (rest y : List ℕ) → FitsCut level P → before ≡ cut_bytes P ++ rest
-    → preimage hash level P ≡ Some y → IfOk result (λ v. v.items ≡ y)
+    → preimage (scheme hash) level P ≡ Some y → IfOk result (λ v. v.items ≡ y)
 
 -- ---- a node of the map and a cut of it
 
@@ -104,14 +93,14 @@ is_pruned (Inner cuts) = false
 pub record Compared (hash : List ℕ → List ℕ) (s : Standing) (id level : ℕ) (P : Cut)
     (pair : Option Pair) : Type 0 where
   pub collides : IfSome pair (IsCollision hash)
-  pub told : IsSome s.tree → IfSome (s.node id) (λ t. pair ≡ node_clash hash level t P)
+  pub told : IsSome s.tree → IfSome (s.node id) (λ t. pair ≡ node_clash (scheme hash) level t P)
 
 -- without a pair the item was passed over
 abbrev pub Compares : {E : Type 0} → (List ℕ → List ℕ) → Standing → Child
     → (before after : List ℕ) → Result (Option Clash) E → Type 0
 Compares hash s c before after result =
     (P : Cut) (rest : List ℕ) → FitsCut c.level P → before ≡ cut_bytes P ++ rest
-    → entry_of c ≡ entry hash c.level P
+    → entry_of c ≡ entry (scheme hash) c.level P
     → IfOk result (λ o. Compared hash s c.id c.level P (option_map pair_of o)
     × (o ≡ None → after ≡ rest))
 
@@ -120,14 +109,14 @@ pub record ComparedAll (hash : List ℕ → List ℕ) (s : Standing) (level : �
   pub collides : IfSome pair (IsCollision hash)
   pub told : IsSome s.tree → (ts : List Tree)
       → map (λ (c : Child). s.node c.id) cs ≡ map Some ts
-      → pair ≡ children_clash hash level ts Ps
+      → pair ≡ children_clash (scheme hash) level ts Ps
 
 -- the same of some nodes of this level, side by side
 abbrev pub ComparesAll : {E : Type 0} → (List ℕ → List ℕ) → Standing → ℕ → List Child
     → (before after : List ℕ) → Result (Option Clash) E → Type 0
 ComparesAll hash s level cs before after result =
     (Ps : Cuts) (rest : List ℕ) → FitCuts level Ps → before ≡ cuts_bytes Ps ++ rest
-    → map entry_of cs ≡ entries hash level Ps
+    → map entry_of cs ≡ entries (scheme hash) level Ps
     → IfOk result (λ o. ComparedAll hash s level cs Ps (option_map pair_of o)
     × (o ≡ None → after ≡ rest))
 
@@ -136,54 +125,43 @@ abbrev pub ComparesNode : {E : Type 0} → (List ℕ → List ℕ) → Child →
     → Result (Option Clash) E → Type 0
 ComparesNode hash c n before result =
     (P : Cut) (rest y : List ℕ) → FitsCut c.level P → before ≡ cut_bytes P ++ rest
-    → preimage hash c.level P ≡ Some y
+    → preimage (scheme hash) c.level P ≡ Some y
     → IfOk result (λ o. option_map pair_of o ≡ differ (preimage_of n) (Some y))
 
 -- ---- the whole
 
 -- what a head says was read
 pub record SaysOf (h : Head) (rest : List ℕ) (said : Said) (after : List ℕ) : Type 0 where
+  pub version : said.version ≡ version_of h
   pub batch : said.batch ≡ h.batch
   pub count : said.count ≡ h.count
   pub level : said.level ≡ h.level
   pub behind : after ≡ rest
 
--- the same of the map itself
-abbrev pub level_at : Option Child → ℕ
-level_at None = 0
-level_at (Some c) = c.level
-
-abbrev pub said_by : Top → Said
-said_by top = record { batch = top.batch; count = top.count; level = level_at top.root }
-
-abbrev pub entry_at : Option Child → Entry
-entry_at None = record { rect = None; digest = replicate 32 0 }
-entry_at (Some c) = held c
-
--- the string that its root digest is of
+-- the string that the root digest of a map is of
 abbrev pub root_at : Top → List ℕ
-root_at top = root_preimage top.batch top.count (known (level_at top.root) (entry_at top.root))
+root_at top = root_preimage (top_version top) top.batch top.count (root_entry top.root)
 
--- what is known of the root node of whatever cut stands next gives the string of its root
+-- what is said of the root node of whatever cut stands next gives the string of its root
 abbrev pub KnowsRoot : {E : Type 0} → (List ℕ → List ℕ) → Said → List ℕ → Result Entry E → Type 0
 KnowsRoot hash said before result =
     (h : Head) (P : Option Cut) → FitsPart h P → said.count ≡ h.count → said.level ≡ h.level
     → before ≡ part_bytes P
-    → IfOk result (λ x. root_preimage h.batch h.count (known h.level x) ≡ root_bytes hash h P)
+    → IfOk result (λ x. root_preimage (version_of h) h.batch h.count x ≡ root_bytes hash h P)
 
 -- the two strings of the roots alone
 abbrev pub ComparesRoots : {E : Type 0} → (List ℕ → List ℕ) → Top → Said → List ℕ
     → Result (Option Clash) E → Type 0
 ComparesRoots hash top said before result =
-    (h : Head) (P : Option Cut) → FitsPart h P → said.batch ≡ h.batch → said.count ≡ h.count
-    → said.level ≡ h.level → before ≡ part_bytes P
+    (h : Head) (P : Option Cut) → FitsPart h P → said.version ≡ version_of h
+    → said.batch ≡ h.batch → said.count ≡ h.count → said.level ≡ h.level → before ≡ part_bytes P
     → IfOk result (λ o. option_map pair_of o ≡ differ (root_at top) (Some (root_bytes hash h P)))
 
 -- what was found of the map and the head and cut that bytes spell
 pub record ComparedMap (hash : List ℕ → List ℕ) (s : Standing) (bytes : List ℕ)
     (pair : Option Pair) : Type 0 where
   pub collides : IfSome pair (IsCollision hash)
-  pub told : IfSome s.tree (λ t. pair ≡ clash hash t s.batch bytes)
+  pub told : IfSome s.tree (λ t. pair ≡ clash (by s.version hash) t s.batch bytes)
 
 abbrev pub ComparesMap : {E : Type 0} → (List ℕ → List ℕ) → Standing → Top → List ℕ
     → Result (Option Clash) E → Type 0

@@ -1,16 +1,16 @@
 //! The audit of a whole proof.
 
-ghost use Rattle.std.specs.Prelude.{◌≡◌, ◌<◌, ◌^◌, ℕ, List, Option, None, Some, IfOk, IfSome, option_map};
+ghost use Rattle.std.specs.Prelude.{◌≡◌, ◌<◌, ◌^◌, ℕ, List, Option, None, Some, IfOk, IfErr, IfSome, option_map};
 ghost use Rattle.mr_geom.specs.Rectangle.{IsOrdered, FitsMap};
+ghost use Rattle.mr_tree.specs.Digest.{by};
 ghost use Rattle.mr_tree.specs.Nodes.{IsTop};
 ghost use Rattle.mr_tree.specs.declared.nodes.Top as tops;
 ghost use Rattle.mr_tree.specs.declared.tree.Tree as trees;
 ghost use Rattle.mr_query.specs.Word.{IsAskable};
-ghost use Rattle.mr_clash.specs.Causes.{AuditCauses};
+ghost use Rattle.mr_clash.specs.Causes.{AuditCauses, IsHandedOn};
 ghost use Rattle.mr_clash.specs.Finding.{found, finding_by as by_pair, Collides, FindsHonest};
-ghost use Rattle.mr_clash.specs.Steps.{left, pair_of, ComparesMap, ComparesRoots, KnowsRoot, Refuses, root_at, said_by, entry_at};
+ghost use Rattle.mr_clash.specs.Steps.{left, pair_of, ComparesMap, ComparesRoots, KnowsRoot, Refuses, root_at};
 
-use crate::entry::Entry;
 use crate::finding::Clash;
 use crate::items::pass_item;
 use crate::rest::Rest;
@@ -23,53 +23,22 @@ use mr_outside::Items;
 use mr_proof::accepted_is_honest;
 use mr_query::Query;
 use mr_record::Record;
-use mr_tree::{Child, Hashes, Nodes, Top, root_digest};
+use mr_tree::{Entry, Hashes, Nodes, Top, root_digest};
 use std::alloc::{AllocError, Global};
-
-// What the map itself says.
-fn said_of(top: &Top) -> Said
-    ensures { result ≡ said_by top.now }
-{
-    Said {
-        batch: top.batch,
-        count: top.count,
-        level: match top.root {
-            None => 0,
-            Some(root) => root.level,
-        },
-    }
-}
-
-fn entry_of(root: &Option<Child>) -> Entry
-    ensures { result ≡ entry_at root.now }
-{
-    match root {
-        None => Entry {
-            rect: None,
-            digest: [0; 32],
-        },
-        Some(root) => Entry {
-            rect: Some(root.rect),
-            digest: root.digest,
-        },
-    }
-}
 
 // The root digest of the map.
 fn root_of<H: Hashes>(top: &Top) -> [u8; 32]
     ensures { result ≡ H.of (root_at top.now) }
 {
-    let said = said_of(top);
-    let node = entry_of(&top.root);
-    root_digest::<H>(said.batch, said.count, said.level, node.rect, &node.digest)
+    root_digest::<H>(top.version(), top.batch, top.count, &top.root_entry())
 }
 
-// What is known of the root node of the cut that stands next, if there is one.
+// What is said of the root node of the cut that stands next, if there is one.
 fn root_node<H: Hashes>(alloc: Global, said: &Said, from: &Rest<'_>) -> Result<Entry, AllocError>
     ensures { KnowsRoot H.of said.now (left from.now) result }
 {
     if said.count == 0 {
-        return Ok(entry_of(&None));
+        return Ok(Entry::none());
     }
     let mut ahead = *from;
     pass_item::<H>(alloc, said.level, &mut ahead)
@@ -84,9 +53,10 @@ fn compare_roots<H: Hashes>(
 ) -> Result<Option<Clash>, AllocError>
     ensures { ComparesRoots H.of top.now said.now (left from.now) result }
 {
-    let owned = root_string(alloc, &said_of(top), &entry_of(&top.root))?;
+    let root = top.root_entry();
+    let owned = root_string(alloc, top.version(), top.batch, top.count, &root)?;
     let node = root_node::<H>(alloc, said, from)?;
-    let shown = root_string(alloc, said, &node)?;
+    let shown = root_string(alloc, said.version, said.batch, said.count, &node)?;
     Ok(clash_of(owned, shown))
 }
 
@@ -114,6 +84,7 @@ fn compare_map<N: Nodes>(
     ensures kept { N.kept nodes.old nodes.new }
     ensures causes { AuditCauses (N.stands nodes.old) (N.faults nodes.old) (N.faults nodes.new)
         result }
+    ensures refused { IfErr result (IsHandedOn (N.refusal nodes.new)) }
     ensures compared { ComparesMap N.Hash.of (N.stands nodes.old) top.now proof.now result }
 {
     are_words(top.batch, top.count);
@@ -170,10 +141,13 @@ pub fn audit<N: Nodes>(
     ensures kept { N.kept nodes.old nodes.new }
     ensures causes { AuditCauses (N.stands nodes.old) (N.faults nodes.old) (N.faults nodes.new)
         result }
+    ensures refused { IfErr result (IsHandedOn (N.refusal nodes.new)) }
     ensures told { IfSome (N.stands nodes.old).tree (λ t. IfOk result (λ v. v
-        ≡ found N.Hash.of t (N.stands nodes.old).batch q.now proof.now)) }
+        ≡ found (by (N.stands nodes.old).version N.Hash.of) t (N.stands nodes.old).batch
+        q.now proof.now)) }
     ensures honest { IfSome (N.stands nodes.old).tree (λ t. IfOk result (λ v.
-        FindsHonest N.Hash.of t (N.stands nodes.old).batch q.now proof.now v)) }
+        FindsHonest (by (N.stands nodes.old).version N.Hash.of) t (N.stands nodes.old).batch
+        q.now proof.now v)) }
     ensures collides { IfOk result (λ v. Collides N.Hash.of v) }
 {
     accepted_is_honest::<N::Hash>(q, proof);

@@ -1,3 +1,5 @@
+//! Why an audit came to no finding.
+
 ghost use Rattle.std.specs.Prelude.{◌≡◌};
 ghost use Rattle.mr_clash.specs.Causes.{of_nodes};
 ghost use Rattle.mr_clash.specs.declared.error.AuditErr.TheVariants as errors;

@@ -1,3 +1,5 @@
+//! What an audit finds.
+
 use mr_outside::Items;
 use mr_proof::Fault;
 use mr_record::Record;

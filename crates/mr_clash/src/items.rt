@@ -1,4 +1,4 @@
-//! The items of a proof whose bytes are spelled, one inside another: what is known of their nodes.
+//! The items of a proof whose bytes are spelled, one inside another: what is said of their nodes.
 
 ghost use Rattle.std.specs.Prelude.{◌≡◌, ◌≤◌, ◌<◌, ◌-◌, ◌++◌, ◌∷◌, ℕ, List, IfOk, length};
 ghost use Rattle.mr_proof.specs.Cut.{Cut, Pruned, Leaf, Inner, Cuts, count_of};
@@ -9,20 +9,24 @@ ghost use Rattle.mr_record.specs.Record.{record_bytes};
 ghost use Rattle.std.specs.List.{flat_map};
 ghost use Rattle.mr_clash.specs.Steps.{left, Passes, PassesAll, Passed, PassedAll};
 
-use crate::entry::{Entry, inner_entry};
+use crate::entry::inner_entry;
 use crate::rest::{Rest, at_most, byte, digest, records, rect};
-use mr_tree::{Hashes, bounds_of, leaf_digest};
+use mr_tree::{Entry, Hashes, leaf_entry};
 use std::alloc::{AllocError, Global};
 
-// The pruned part that stands next, behind its tag.
-fn pass_pruned(from: &mut Rest<'_>) -> Entry
-    ensures { (hash : List ℕ → List ℕ) (level : ℕ) (part : shown.Shown) (rest : List ℕ)
+// The pruned part of this level that stands next, behind its tag.
+fn pass_pruned(level: u8, from: &mut Rest<'_>) -> Entry
+    ensures { (hash : List ℕ → List ℕ) (part : shown.Shown) (rest : List ℕ)
         → FitsCut level (Pruned part) → left from.old ≡ shown_bytes part ++ rest
         → Passed hash level (Pruned part) rest result (left from.new) }
 {
     let rect = rect(from);
     let digest = digest(from);
-    Entry { rect, digest }
+    Entry {
+        level,
+        rect,
+        digest,
+    }
 }
 
 // The leaf that stands next, behind its tag.
@@ -33,10 +37,7 @@ fn pass_leaf<H: Hashes>(alloc: Global, from: &mut Rest<'_>) -> Result<Entry, All
 {
     let count = at_most(byte(from), 16);
     let records = records(alloc, count, from)?;
-    Ok(Entry {
-        rect: bounds_of(&records),
-        digest: leaf_digest::<H>(&records),
-    })
+    Ok(leaf_entry::<H>(&records))
 }
 
 // The children of the inner node of this level that stands next, behind its tag.
@@ -97,7 +98,7 @@ pub(crate) fn pass_item<H: Hashes>(
     ensures { Passes H.of level (left from.old) (left from.new) result }
 {
     if byte(from) == b'P' {
-        return Ok(pass_pruned(from));
+        return Ok(pass_pruned(level, from));
     }
     if level == 0 {
         pass_leaf::<H>(alloc, from)

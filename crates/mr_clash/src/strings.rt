@@ -3,36 +3,30 @@
 ghost use Rattle.std.specs.Prelude.{◌≡◌, ◌≤◌, ◌<◌, ◌∷◌, ◌++◌, length, IfOk, OnOk};
 ghost use Rattle.std.specs.List.{flat_map};
 ghost use Rattle.mr_record.specs.Record.{record_bytes};
-ghost use Rattle.mr_tree.specs.Digest.{leaf_tag, inner_tag};
+ghost use Rattle.mr_tree.specs.Digest.{leaf_tag, inner_tag, entry_bytes};
 ghost use Rattle.mr_tree.specs.View.{preimage_of, size};
-ghost use Rattle.mr_clash.specs.Steps.{left, piece, Strings};
+ghost use Rattle.mr_clash.specs.Steps.{left, Strings};
 
-use crate::entry::{Entry, entries_of};
+use crate::entry::entries_of;
 use crate::items::{pass_children, pass_item};
 use crate::rest::{Rest, byte};
-use mr_record::{Record, rect_bytes};
-use mr_tree::{Hashes, NodeView};
+use mr_record::{Record, encoded};
+use mr_tree::{Entry, Hashes, NodeView};
 use std::alloc::{AllocError, Global};
 
 // Puts what a node holds of a child.
-pub(crate) fn put_entry(string: &mut Vec<u8>, child: &Entry) -> Result<(), AllocError>
-    ensures { OnOk result (string.new.items ≡ string.old.items ++ piece child.now) }
+fn put_entry(string: &mut Vec<u8>, child: &Entry) -> Result<(), AllocError>
+    ensures { OnOk result (string.new.items ≡ string.old.items ++ entry_bytes child.now) }
 {
-    if let Some(rect) = child.rect {
-        string.extend_from_slice(&rect_bytes(&rect))?;
-    }
-    string.extend_from_slice(&child.digest)
+    let bytes = child.encoded();
+    string.extend_from_slice(bytes.as_slice())
 }
 
 // The string of the inner node of this level with these children.
-pub(crate) fn inner_string(
-    alloc: Global,
-    level: u8,
-    children: &[Entry],
-) -> Result<Vec<u8>, AllocError>
+fn inner_string(alloc: Global, level: u8, children: &[Entry]) -> Result<Vec<u8>, AllocError>
     requires { length children.now ≤ 64 }
     ensures { IfOk result (λ v. v.items ≡ inner_tag ∷ level ∷ length children.now
-        ∷ flat_map piece children.now) }
+        ∷ flat_map entry_bytes children.now) }
 {
     let mut string = Vec::new(alloc);
     string.extend_from_slice(&[b'N', level, children.len() as u8])?;
@@ -46,12 +40,8 @@ pub(crate) fn inner_string(
 fn put_record(string: &mut Vec<u8>, one: &Record) -> Result<(), AllocError>
     ensures { OnOk result (string.new.items ≡ string.old.items ++ record_bytes one.now) }
 {
-    let payload = one.payload.bytes();
-    string.extend_from_slice(&one.number.to_be_bytes())?;
-    string.extend_from_slice(&rect_bytes(&one.rect))?;
-    string.push(payload.len() as u8)?;
-    string.extend_from_slice(payload)?;
-    Ok(())
+    let bytes = encoded(one);
+    string.extend_from_slice(bytes.as_slice())
 }
 
 // The string of the leaf with these records.

@@ -1,12 +1,12 @@
 //! The nodes of the map and the cut that a proof shows, one after the other.
 
-ghost use Rattle.std.specs.Prelude.{◌≡◌, ◌++◌, ℕ, List, length, All, OnOk, Some, option_map, bytes_eq};
+ghost use Rattle.std.specs.Prelude.{◌≡◌, ◌++◌, ℕ, List, length, All, OnOk, IfErr, Some, option_map, bytes_eq};
 ghost use Rattle.mr_tree.specs.Nodes.{MayFetch, Shows};
 ghost use Rattle.mr_tree.specs.declared.child.Child as types;
 ghost use Rattle.mr_proof.specs.Clash.{differ};
 ghost use Rattle.mr_proof.specs.Cut.{Cut, Cuts, Inner};
 ghost use Rattle.mr_proof.specs.Spelling.{cut_bytes, cuts_bytes};
-ghost use Rattle.mr_clash.specs.Causes.{AuditCauses};
+ghost use Rattle.mr_clash.specs.Causes.{AuditCauses, IsHandedOn};
 ghost use Rattle.mr_clash.specs.Steps.{left, pair_of, is_pruned as pruned, Compares, ComparesAll, ComparesNode};
 
 use crate::AuditErr;
@@ -59,6 +59,7 @@ fn compare<N: Nodes>(
     ensures kept { N.kept nodes.old nodes.new }
     ensures causes { AuditCauses (N.stands nodes.old) (N.faults nodes.old) (N.faults nodes.new)
         result }
+    ensures refused { IfErr result (IsHandedOn (N.refusal nodes.new)) }
     ensures shows { OnOk result (Shows N.Hash.of (N.stands nodes.old) child.now view.new) }
     ensures compared { ComparesNode N.Hash.of child.now view.new (left from.now) result }
 {
@@ -91,6 +92,7 @@ fn walk_all<N: Nodes>(
     ensures kept { N.kept nodes.old nodes.new }
     ensures causes { AuditCauses (N.stands nodes.old) (N.faults nodes.old) (N.faults nodes.new)
         result }
+    ensures refused { IfErr result (IsHandedOn (N.refusal nodes.new)) }
     ensures compared { ComparesAll N.Hash.of (N.stands nodes.old) level children.now
         (left from.old) (left from.new) result }
 {
@@ -115,6 +117,7 @@ pub(crate) fn walk<N: Nodes>(
     ensures kept { N.kept nodes.old nodes.new }
     ensures causes { AuditCauses (N.stands nodes.old) (N.faults nodes.old) (N.faults nodes.new)
         result }
+    ensures refused { IfErr result (IsHandedOn (N.refusal nodes.new)) }
     ensures compared { Compares N.Hash.of (N.stands nodes.old) child.now (left from.old)
         (left from.new) result }
 {

@@ -14,8 +14,8 @@ returns-in-Err-clause-told g c =
 pub returns-in-Err-clause-honest : goal.returns-in-Err-clause-honest
 returns-in-Err-clause-honest g c =
     honest_told g.N.Hash.Hashes.of c.args.q.now c.args.proof.now (g.N.Nodes.stands c.args.nodes.now) c.top-top.result
-    c.refusal.result c.top-top.ensures c.are_words.ensures.batch c.check.ensures.complete
-    c.accepted_is_honest.ensures.accepted c.accepted_is_honest.ensures.quiet
+    c.refusal.result c.top-top.ensures c.are_words.ensures.batch (c.check.ensures.complete _)
+    (c.accepted_is_honest.ensures.accepted _) (c.accepted_is_honest.ensures.quiet _)
     (g.met.N.Nodes.well_formed c.args.nodes.now) (returns-in-Err-clause-told g c)
 
 pub returns-in-Err-clause-causes : goal.returns-in-Err-clause-causes
@@ -34,8 +34,8 @@ returns-in_ok-pair-in-Ok-clause-honest g c =
     let x = c.in-Ok.ensures.proved in
     let pair = c.in_ok-pair-in-Ok.ensures.compared x.head x.part x.spelled (x.held ∙ c.root_of.ensures) in
     honest_told {E = AuditErr} hash c.args.q.now c.args.proof.now s c.top-top.result (Ok c.finding_by.result)
-    c.top-top.ensures c.are_words.ensures.batch c.check.ensures.complete c.accepted_is_honest.ensures.accepted
-    c.accepted_is_honest.ensures.quiet (g.met.N.Nodes.well_formed c.args.nodes.now)
+    c.top-top.ensures c.are_words.ensures.batch (c.check.ensures.complete _)
+    (c.accepted_is_honest.ensures.accepted _) (c.accepted_is_honest.ensures.quiet _) (g.met.N.Nodes.well_formed c.args.nodes.now)
     (told_accepted hash s c.top-top.result c.args.q.now c.args.proof.now c.root_of.result c.in-Ok.answer.items
     (option_map pair_of c.in_ok-pair-in-Ok.pair) c.finding_by.result c.top-top.ensures c.root_of.ensures
     c.in-Ok.ensures.exact pair.told c.finding_by.ensures)

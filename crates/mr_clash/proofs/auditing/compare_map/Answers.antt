@@ -9,7 +9,7 @@ use Rattle.mr_clash.proofs.auditing.compare_map.Goals as goal
 pub returns-in-Some-clause-compared : goal.returns-in-Some-clause-compared
 returns-in-Some-clause-compared g c = λ h P spelled held.
     let s = c.read_head-said.ensures h (part_bytes P) spelled.head spelled.whole in
-    let d = c.in_ok-clash.ensures h P spelled.part s.batch s.count s.level s.behind in
+    let d = c.in_ok-clash.ensures h P spelled.part s.version s.batch s.count s.level s.behind in
     roots_differ g.N.Hash.Hashes.of (g.N.Nodes.stands c.args.nodes.now) c.args.top.now h P c.args.proof.now
     (pair_of c.in-Some.clash) c.requires spelled held (sym (ap (option_map pair_of) c.in-Some.is) ∙ d)
 
@@ -17,7 +17,7 @@ pub returns-in-None-clause-compared : goal.returns-in-None-clause-compared
 returns-in-None-clause-compared g c = λ h P spelled held.
     let s = c.read_head-said.ensures h (part_bytes P) spelled.head spelled.whole in
     let d = sym (ap (option_map pair_of) c.in_default.is)
-    ∙ c.in_ok-clash.ensures h P spelled.part s.batch s.count s.level s.behind in
+    ∙ c.in_ok-clash.ensures h P spelled.part s.version s.batch s.count s.level s.behind in
     no_nodes g.N.Hash.Hashes.of (g.N.Nodes.stands c.args.nodes.now) c.args.top.now h P c.args.proof.now c.requires
     c.in-None.is spelled d (same_strings _ _ d)
 
@@ -25,7 +25,7 @@ pub returns-in-Some-root-clause-compared : goal.returns-in-Some-root-clause-comp
 returns-in-Some-root-clause-compared g c = λ h P spelled held.
     let s = c.read_head-said.ensures h (part_bytes P) spelled.head spelled.whole in
     let d = sym (ap (option_map pair_of) c.in_default.is)
-    ∙ c.in_ok-clash.ensures h P spelled.part s.batch s.count s.level s.behind in
+    ∙ c.in_ok-clash.ensures h P spelled.part s.version s.batch s.count s.level s.behind in
     root_walked g.N.Hash.Hashes.of c.digests_are_sized.ensures (g.N.Nodes.stands c.args.nodes.now) c.args.top.now
     c.in-Some-root.root h P c.args.proof.now _ _ c.walk.result c.requires c.in-Some-root.is c.are_words.ensures.batch
     c.are_words.ensures.count

@@ -2,7 +2,7 @@ use Rattle.std.proofs.Common.{arith, ap, length, length-append, [], ◌∷◌, �
 use Rattle.mr_proof.specs.Cut.{count_of}
 use Rattle.mr_proof.specs.Spelling.{cuts_bytes}
 use Rattle.mr_clash.proofs.Taking.{next_item, passed_more, all_passed}
-use Rattle.mr_clash.proofs.Nodes.{inner_passed_by, item_pruned, item_leaf, item_inner}
+use Rattle.mr_clash.proofs.Nodes.{inner_passed, item_pruned, item_leaf, item_inner}
 use Rattle.mr_clash.proofs.items.+items.Goals as goal
 
 pub pass_children-returns-clause-passed : goal.pass_children-returns-clause-passed
@@ -14,14 +14,14 @@ pass_children-returns-clause-passed g t c = λ Ps rest fits is.
 pub pass_inner-returns : goal.pass_inner-returns
 pass_inner-returns g t c = λ Ps rest fits is.
     let p = c.in_ok-children.ensures.passed Ps rest fits is in
-    inner_passed_by g.H.Hashes.of (c.args.level - 1) c.args.level Ps rest c.in_ok-children.children.items
-    c.deref.result.now c.inner_entry.result _ (omega (arith, c.requires)) fits.0.some p.knows c.deref.ensures.value
-    c.inner_entry.ensures.rect c.inner_entry.ensures.digest p.behind
+    inner_passed g.H.Hashes.of (c.args.level - 1) c.args.level Ps rest c.in_ok-children.children.items
+    c.deref.result.now c.inner_entry.result _ (omega (arith, c.requires)) fits.0.some fits.1 p.say
+    c.deref.ensures.value c.inner_entry.ensures.level c.inner_entry.ensures.rect c.inner_entry.ensures.digest p.behind
 
 pub pass_item-returns-then-byte-eq80 : goal.pass_item-returns-then-byte-eq80
 pass_item-returns-then-byte-eq80 g t c = λ P rest fits is.
     item_pruned g.H.Hashes.of c.args.level P rest _ _ c.byte.result _ c.pass_pruned.result c.byte.ensures
-    c.if-byte-eq80.true is fits (λ part here. c.pass_pruned.ensures g.H.Hashes.of c.args.level part rest here)
+    c.if-byte-eq80.true is fits (λ part here. c.pass_pruned.ensures g.H.Hashes.of part rest here)
 
 pub pass_item-returns-then-level-eq0 : goal.pass_item-returns-then-level-eq0
 pass_item-returns-then-level-eq0 g t c = λ P rest fits is.

@@ -17,4 +17,4 @@ returns c = λ h rest fits is.
     (n.1 ∙ append_assoc (radius_bytes h.kind h.radius) (level_bytes h.count h.level) rest) in
     let l = c.read_level-level.ensures h.level rest (λ z. fits.empty (sym n.0 ∙ z))
     (r ∙ ap (λ k. level_bytes k h.level ++ rest) (sym n.0)) in
-    record { batch = b.0; count = n.0; level = l.0; behind = l.1 }
+    record { version = refl; batch = b.0; count = n.0; level = l.0; behind = l.1 }

@@ -2,7 +2,7 @@ use Rattle.std.proofs.Common.{◌≡◌, ℕ, List, ◌++◌, ◌+◌, ◌*◌, 
 use Rattle.mr_tree.specs.View.{entry_of}
 use Rattle.mr_proof.specs.Cut.{Cuts, entries}
 use Rattle.mr_proof.specs.Spelling.{cuts_bytes, FitCuts}
-use Rattle.mr_clash.specs.Steps.{left}
+use Rattle.mr_clash.specs.Steps.{left, scheme}
 use Rattle.mr_clash.proofs.Walks.{NoneYet}
 use Rattle.mr_clash.proofs.walking.+walk.Given as goal
 
@@ -18,7 +18,7 @@ invariant-walk_all-loop-child g l = record {
   kept : g.N.Nodes.kept l.fn.nodes l.nodes;
   still : g.N.Nodes.faults l.nodes ≡ g.N.Nodes.faults l.fn.nodes;
   none : (Ps : Cuts) (rest : List ℕ) → FitCuts l.level Ps → left l.initial.from ≡ cuts_bytes Ps ++ rest
-      → map entry_of l.children ≡ entries g.N.Hash.Hashes.of l.level Ps
+      → map entry_of l.children ≡ entries (scheme g.N.Hash.Hashes.of) l.level Ps
       → NoneYet g.N.Hash.Hashes.of (g.N.Nodes.stands l.fn.nodes) l.level l.children Ps rest l.child-index
       (left l.from);
 }
