@@ -1,6 +1,6 @@
 -- What a command comes to behind a step of it.
-use Rattle.std.proofs.Common.{◌≡◌, ℕ, ◌≤◌, ◌<◌, ◌^◌, List, refl, sym, ap, subst, ◌∙◌, inl, inr, arith}
-use Rattle.std.specs.Prelude.{Option, Some, None, MatchOption, IsErrAnd, ◌⊎◌, Result, Ok, Err}
+use Rattle.std.proofs.Common.{◌≡◌, ℕ, ◌≤◌, ◌<◌, ◌^◌, List, length, refl, sym, ap, subst, ◌∙◌, inl, inr, arith}
+use Rattle.std.specs.Prelude.{Option, Some, None, MatchOption, IsErrAnd, ⊤, ◌⊎◌, Result, Ok, Err}
 use Rattle.std.specs.Global.{Vec}
 use Rattle.mr_outside.specs.Faults.{Rose}
 use Rattle.mr_outside.specs.Files.{Files, file, with_file}
@@ -11,24 +11,24 @@ use Rattle.mr_record.specs.Bytes.{AreBytes}
 use Rattle.mr_tree.specs.WellFormed.{WellFormed}
 use Rattle.mr_tree.specs.declared.tree.Tree.{Tree}
 use Rattle.mr_pages.specs.PageBytes.{first_form}
-use Rattle.mr_pages.specs.Law.{IsMap}
+use Rattle.mr_pages.specs.Law.{Agrees, IsMap}
 use Rattle.mr_pages.specs.Saved.{saved, MayStand, Leaves}
 use Rattle.mr_pages.specs.Opening.{Answers, Fails, MapCauses, OrFails, SomeBytes, Tells}
 use Rattle.mr_pages.specs.declared.error.MapErr.{MapErr}
 use Rattle.mr_pages.specs.declared.error.MapErr.TheVariants as errors
 use Rattle.mr_pages.specs.declared.rule.MapFault.{MapFault}
-use Rattle.mr_tool.specs.Ending.{Gives, GivesOrStops, Misses, Comes, Came, Stops, Ends, GivesUp, Blames, IsCalm, NoneFalls, IsTaken, FindsMap, IsWell, WasFound, Reads, HoldsMap, Opens, Saves, printed_of}
+use Rattle.mr_tool.specs.Ending.{Gives, GivesOrStops, Misses, Comes, Came, Stops, Ends, GivesUp, AreJudged, IsJudged, GoesOn, Blames, IsCalm, NoneFalls, IsWell, WasFound, Reads, HoldsMap, Opens, Saves, printed_of}
 use Rattle.mr_tool.specs.Found.{Found, Shows, bad_map_line}
 use Rattle.mr_tool.specs.Outcome.{Outcome, Content, Nothing, File, map_of, IsLaidOut, IsLeft, MayLeave}
-use Rattle.mr_tool.specs.Plan.{Plan, comes, reads, opens, Input, IsInput, IsAbsent, LacksInput}
+use Rattle.mr_tool.specs.Plan.{Plan, comes, opens, Input, IsInput, IsAbsent, LacksInput}
 use Rattle.mr_tool.specs.Say.{ends, needs, needs_map, given_map, says_missing}
 use Rattle.mr_tool.specs.declared.ending.Ending.{Ending}
 use Rattle.mr_tool.specs.declared.ending.Halt.{Halt}
 use Rattle.mr_tool.specs.declared.ending.Halt.TheVariants as halts
+use Rattle.mr_pages.specs.declared.opening.Opened.{Opened}
 use Rattle.mr_tool.specs.declared.status.Status.TheVariants.{BadMap, Outside}
 use Rattle.mr_pages.proofs.HeadLaws.{first_form_is}
 use Rattle.mr_pages.proofs.SavedStands.{saved_stands}
-use Rattle.mr_tool.proofs.Showing.{IsSized}
 
 -- a step that left the files and the count of faults as they were
 pub record IsStep (before between : Shelved) : Type 0 where
@@ -42,22 +42,36 @@ stops_after before between after halts.Words step stops = stops
 stops_after before between after halts.Shelf step stops = subst (λ n. Rose n after.faults) step.faults stops
 stops_after before between after halts.NoMemory step stops = stops
 
--- bytes that were read
-taken : (plan : Plan) (bytes : List ℕ) → AreBytes bytes → IsTaken plan (Some bytes)
-taken (comes said) bytes all = all
-taken (reads name next) bytes all = all
-taken (opens hash held next) bytes all = tt
+-- ---- what a plan opens
+
+pub judged_needs : (name : List ℕ) (said : List ℕ → Outcome) (told : Option Files)
+    → AreJudged (needs name (λ bytes. comes (said bytes))) told
+judged_needs name said told None is = tt
+judged_needs name said told (Some bytes) is = tt
+
+judged_given : (next : Opened → Plan) (told : Option Files) → GoesOn next told → (found : Found)
+    → AreJudged (given_map next found) told
+judged_given next told goes (Ok map) = goes map
+judged_given next told goes (Err fault) = tt
+
+judged_map : (hash : List ℕ → List ℕ) (name : List ℕ) (next : Opened → Plan) (told : Option Files)
+    → IsJudged hash told name → GoesOn next told → AreJudged (needs_map hash name next) told
+judged_map hash name next told judged goes None is = tt
+judged_map hash name next told judged goes (Some bytes) is =
+    (judged bytes is, λ found shown. judged_given next told goes found)
+
+-- ---- behind a file that was read
 
 -- what came of the rest came of the whole
 module _ (name : List ℕ) (next : List ℕ → Plan) (bytes : List ℕ) (before between after : Shelved)
-    (step : IsStep before between) (input : IsInput before.files name (Some bytes))
-    (is_taken : IsTaken (next bytes) (Some bytes)) where
+    (step : IsStep before between) (input : IsInput before.files name (Some bytes)) (are : AreBytes bytes)
+    (judged : AreJudged (needs name next) before.files) where
   came_on : (result : Result Ending Halt) → Came (next bytes) between after result
       → Came (needs name next) before after result
   came_on (Ok ending) came = (
     Some bytes,
     input,
-    is_taken,
+    are,
     subst (λ files. Ends (next bytes) files after.files ending.status (printed_of ending)) step.files came,
   )
   came_on (Err halt) came = (
@@ -84,27 +98,30 @@ module _ (name : List ℕ) (next : List ℕ → Plan) (bytes : List ℕ) (before
       faults = omega (arith, step.counts.faults, on.counts.faults);
       reads = omega (arith, step.counts.reads, on.counts.reads);
     };
+    judged = judged;
     came = came_on result on.came;
     outside = blames_on result on.outside;
     quiet = calm_on result on.quiet;
   }
 
--- behind a file that was read
-pub comes_behind : (name : List ℕ) (next : List ℕ → Plan) (before between after : Shelved) (bytes : Vec ℕ)
-    (read : Result (Option (Vec ℕ)) Halt) (result : Result Ending Halt) → read ≡ Ok (Some bytes)
-    → Reads name before between read → Comes (next bytes.items) between after result
-    → Comes (needs name next) before after result
-comes_behind name next before between after bytes read result was got on =
-    let was_read : Reads name before between (Ok (Some bytes)) = subst (Reads name before between) was got in
-    comes_on name next bytes.items before between after
+-- bytes that were read, and what came of them
+pub comes_read : (name : List ℕ) (said : List ℕ → Outcome) (before between after : Shelved) (bytes : Vec ℕ)
+    (read : Option (Vec ℕ)) (result : Result Ending Halt) → read ≡ Some bytes
+    → Reads name before between (Ok read) → Comes (comes (said bytes.items)) between after result
+    → Comes (needs name (λ b. comes (said b))) before after result
+comes_read name said before between after bytes read result was got on =
+    let was_read : Reads name before between (Ok (Some bytes)) =
+    subst (λ r. Reads name before between (Ok r)) was got in
+    comes_on name (λ b. comes (said b)) bytes.items before between after
     (record { counts = was_read.counts; files = was_read.files; faults = was_read.read.2 }) was_read.read.0
-    (taken (next bytes.items) bytes.items was_read.read.1) result on
+    was_read.read.1 (judged_needs name said before.files) result on
 
 -- an outcome that writes no file, at once
 pub comes_at_once : (said : Outcome) (at : Shelved) (ending : Ending) → said.written ≡ Nothing → Gives said ending
     → Comes (comes said) at at (Ok ending)
 comes_at_once said at ending writes gives = record {
   counts = record { faults = omega arith; reads = omega arith };
+  judged = tt;
   came = (
     gives.status,
     gives.printed,
@@ -120,6 +137,7 @@ pub comes_given : (said : Outcome) (at : Shelved) (result : Result Ending Halt) 
 comes_given said at (Ok ending) writes gives = comes_at_once said at ending writes gives
 comes_given said at (Err halt) writes is = record {
   counts = record { faults = omega arith; reads = omega arith };
+  judged = tt;
   came = (
     subst (Stops at at) (sym is) tt,
     subst (λ w. MayLeave w at.files at.files) (sym writes) refl,
@@ -134,53 +152,63 @@ pub out_of_memory : (said : Outcome) (result : Result Ending Halt) → IsErrAnd 
 out_of_memory said (Ok ending) is = absurd is
 out_of_memory said (Err halt) is = is
 
--- bytes that were read, and what came of them
-pub comes_read : (name : List ℕ) (next : List ℕ → Plan) (before between after : Shelved) (bytes : Vec ℕ)
-    (read : Option (Vec ℕ)) (result : Result Ending Halt) → read ≡ Some bytes
-    → Reads name before between (Ok read) → Comes (next bytes.items) between after result
-    → Comes (needs name next) before after result
-comes_read name next before between after bytes read result was =
-    comes_behind name next before between after bytes (Ok read) result (ap (λ r. Ok r) was)
-
 -- ---- behind a file that was read as a map
 
 -- what came of a map or a fault that was found came of the bytes
 comes_found : (hash : List ℕ → List ℕ) (bytes : List ℕ) (next : Found → Plan) (found : Found) (before after : Shelved)
-    (result : Result Ending Halt) → WasFound before.files hash bytes found → IsWell found
+    (result : Result Ending Halt) → AreJudged (opens hash bytes next) before.files
+    → WasFound before.files hash bytes found → IsWell found
     → Comes (next found) before after result → Comes (opens hash bytes next) before after result
-comes_found hash bytes next found before after (Ok ending) is well on = record {
+comes_found hash bytes next found before after (Ok ending) judged is well on = record {
   counts = on.counts;
+  judged = judged;
   came = (found, is, well, on.came);
   outside = λ outside. elim (on.outside outside) [ inl rose ↦ inl rose | inr lacks ↦ inr (found, is.0, lacks) ];
   quiet = on.quiet;
 }
-comes_found hash bytes next found before after (Err halt) is well on = record {
+comes_found hash bytes next found before after (Err halt) judged is well on = record {
   counts = on.counts;
-  came = (on.came.0, inr (found, is.0, on.came.1));
+  judged = judged;
+  came = (on.came.0, (found, is.0, on.came.1));
   outside = tt;
   quiet = tt;
 }
 
-pub comes_map : (hash : List ℕ → List ℕ) (name : List ℕ) (next : Tree → ℕ → Plan) (before between after : Shelved)
-    (tree : Tree) (batch : ℕ) (result : Result Ending Halt) → HoldsMap hash name before between tree batch
-    → Comes (next tree batch) between after result → Comes (needs_map hash name next) before after result
-comes_map hash name next before between after tree batch result holds on =
-    comes_on name (λ bytes. opens hash bytes (given_map next)) holds.bytes before between after
-    (record { counts = holds.counts; files = holds.files; faults = holds.quiet }) holds.input tt result
-    (comes_found hash holds.bytes (given_map next) (Ok (tree, batch)) between after result
-    (subst (λ files. WasFound files hash holds.bytes (Ok (tree, batch))) (sym holds.files) holds.found)
-    (holds.well, holds.low) on)
+-- the bytes of a file that was opened, and what was found in them
+record Holds (hash : List ℕ → List ℕ) (told : Option Files) (name : List ℕ) (found : Found) : Type 0 where
+  pub bytes : List ℕ
+  pub input : IsInput told name (Some bytes)
+  pub are : AreBytes bytes
+  pub is : WasFound told hash bytes found
+
+comes_opened : (hash : List ℕ → List ℕ) (name : List ℕ) (next : Opened → Plan) (before between after : Shelved)
+    (found : Found) (result : Result Ending Halt) → IsStep before between → IsJudged hash before.files name
+    → GoesOn next before.files → Holds hash before.files name found → IsWell found
+    → Comes (given_map next found) between after result → Comes (needs_map hash name next) before after result
+comes_opened hash name next before between after found result step judged goes holds well on =
+    comes_on name (λ bytes. opens hash bytes (given_map next)) holds.bytes before between after step holds.input
+    holds.are (judged_map hash name next before.files judged goes) result
+    (comes_found hash holds.bytes (given_map next) found between after result
+    (subst (AreJudged (opens hash holds.bytes (given_map next))) (sym step.files)
+    (judged_map hash name next before.files judged goes (Some holds.bytes) holds.input))
+    (subst (λ files. WasFound files hash holds.bytes found) (sym step.files) holds.is) well on)
+
+pub comes_map : (hash : List ℕ → List ℕ) (name : List ℕ) (next : Opened → Plan) (before between after : Shelved)
+    (map : Opened) (result : Result Ending Halt) → HoldsMap hash name before between map → GoesOn next before.files
+    → Comes (next map) between after result → Comes (needs_map hash name next) before after result
+comes_map hash name next before between after map result holds goes on =
+    comes_opened hash name next before between after (Ok map) result
+    (record { counts = holds.counts; files = holds.files; faults = holds.quiet }) holds.judged goes
+    (record { bytes = holds.bytes; input = holds.input; are = holds.are; is = holds.found }) (holds.well, holds.low) on
 
 -- the same where the file stands for no map
-comes_bad : (hash : List ℕ → List ℕ) (name : List ℕ) (next : Tree → ℕ → Plan) (before after : Shelved)
-    (fault : MapFault) (bytes : List ℕ) (ending : Ending) → IsStep before after → IsInput before.files name (Some bytes)
-    → WasFound before.files hash bytes (Err fault) → Gives (ends BadMap (bad_map_line fault)) ending
-    → Comes (needs_map hash name next) before after (Ok ending)
-comes_bad hash name next before after fault bytes ending step input found gives =
-    comes_on name (λ b. opens hash b (given_map next)) bytes before after after step input tt (Ok ending)
-    (comes_found hash bytes (given_map next) (Err fault) after after (Ok ending)
-    (subst (λ files. WasFound files hash bytes (Err fault)) (sym step.files) found) tt
-    (comes_at_once (ends BadMap (bad_map_line fault)) after ending refl gives))
+comes_bad : (hash : List ℕ → List ℕ) (name : List ℕ) (next : Opened → Plan) (before after : Shelved)
+    (fault : MapFault) (ending : Ending) → IsStep before after → IsJudged hash before.files name
+    → GoesOn next before.files → Holds hash before.files name (Err fault)
+    → Gives (ends BadMap (bad_map_line fault)) ending → Comes (needs_map hash name next) before after (Ok ending)
+comes_bad hash name next before after fault ending step judged goes holds gives =
+    comes_opened hash name next before after after (Err fault) (Ok ending) step judged goes holds tt
+    (comes_at_once (ends BadMap (bad_map_line fault)) after ending refl gives)
 
 -- where it is missing
 misses : (told : Option Files) (name : List ℕ) (before after : ℕ) → MayMiss told name before after
@@ -188,150 +216,153 @@ misses : (told : Option Files) (name : List ℕ) (before after : ℕ) → MayMis
 misses None name before after miss = (tt, inl miss)
 misses (Some files) name before after miss = (miss, inr miss)
 
-comes_missing : (hash : List ℕ → List ℕ) (name : List ℕ) (next : Tree → ℕ → Plan) (before after : Shelved)
-    (ending : Ending) → NoneFalls before after → after.files ≡ before.files
-    → MayMiss before.files name before.faults after.faults → ending.status ≡ Outside
-    → printed_of ending ≡ (says_missing name).printed
-    → Comes (needs_map hash name next) before after (Ok ending)
-comes_missing hash name next before after ending counts files miss status printed =
-    let misses = misses before.files name before.faults after.faults miss in
-    record {
-      counts = counts;
-      came = (None, misses.0, tt, (status, printed, files));
-      outside = λ e. elim misses.1 [ inl rose ↦ inl rose | inr absent ↦ inr (inl absent) ];
-      quiet = λ settled. absurd (settled.0 status);
-    }
-
--- where the one file that is read is missing
-pub comes_missed : (name : List ℕ) (next : List ℕ → Plan) (before after : Shelved) (read : Option (Vec ℕ))
-    (result : Result Ending Halt) → read ≡ None → Reads name before after (Ok read) → Misses name result
-    → Comes (needs name next) before after result
-comes_missed name next before after read (Ok ending) was got gives =
-    let missed : Reads name before after (Ok None) = subst (λ r. Reads name before after (Ok r)) was got in
-    record {
-      counts = missed.counts;
-      came = (None, missed.read.0, tt, (gives.0, gives.1, missed.files));
-      outside = λ e. elim missed.read.1 [ inl rose ↦ inl rose | inr absent ↦ inr (inl absent) ];
-      quiet = λ settled. absurd (settled.0 gives.0);
-    }
-comes_missed name next before after read (Err halt) was got is = record {
-  counts = got.counts;
-  came = (subst (Stops before after) (sym is) tt, inl got.files);
-  outside = tt;
-  quiet = tt;
+comes_missing : (name : List ℕ) (next : List ℕ → Plan) (before after : Shelved) (ending : Ending)
+    → NoneFalls before after → after.files ≡ before.files → AreJudged (needs name next) before.files
+    → IsInput before.files name None × (Rose before.faults after.faults ⊎ IsAbsent before.files name)
+    → ending.status ≡ Outside → printed_of ending ≡ (says_missing name).printed
+    → Comes (needs name next) before after (Ok ending)
+comes_missing name next before after ending counts files judged misses status printed = record {
+  counts = counts;
+  judged = judged;
+  came = (None, misses.0, tt, (status, printed, files));
+  outside = λ e. elim misses.1 [ inl rose ↦ inl rose | inr absent ↦ inr (inl absent) ];
+  quiet = λ settled. absurd (settled.0 status);
 }
 
 -- and where the command stopped
-pub comes_unread : (name : List ℕ) (next : List ℕ → Plan) (before after : Shelved) (halt : Halt)
-    → Reads name before after (Err halt) → Comes (needs name next) before after (Err halt)
-comes_unread name next before after halt got =
-    record { counts = got.counts; came = (got.read, inl got.files); outside = tt; quiet = tt }
+comes_halted : (name : List ℕ) (next : List ℕ → Plan) (before after : Shelved) (halt : Halt)
+    → NoneFalls before after → after.files ≡ before.files → AreJudged (needs name next) before.files
+    → Stops before after halt → Comes (needs name next) before after (Err halt)
+comes_halted name next before after halt counts files judged stops =
+    record { counts = counts; judged = judged; came = (stops, inl files); outside = tt; quiet = tt }
 
-pub comes_halted : (name : List ℕ) (next : List ℕ → Plan) (before after : Shelved) (halt : Halt)
-    → NoneFalls before after → after.files ≡ before.files → Stops before after halt
-    → Comes (needs name next) before after (Err halt)
-comes_halted name next before after halt counts files stops =
-    record { counts = counts; came = (stops, inl files); outside = tt; quiet = tt }
+-- where the one file that is read is missing
+pub comes_missed : (name : List ℕ) (said : List ℕ → Outcome) (before after : Shelved) (read : Option (Vec ℕ))
+    (result : Result Ending Halt) → read ≡ None → Reads name before after (Ok read) → Misses name result
+    → Comes (needs name (λ b. comes (said b))) before after result
+comes_missed name said before after read (Ok ending) was got gives =
+    let missed : Reads name before after (Ok None) = subst (λ r. Reads name before after (Ok r)) was got in
+    comes_missing name (λ b. comes (said b)) before after ending missed.counts missed.files
+    (judged_needs name said before.files) missed.read gives.0 gives.1
+comes_missed name said before after read (Err halt) was got is =
+    comes_halted name (λ b. comes (said b)) before after halt got.counts got.files (judged_needs name said before.files)
+    (subst (Stops before after) (sym is) tt)
+
+pub comes_unread : (name : List ℕ) (said : List ℕ → Outcome) (before after : Shelved) (halt : Halt)
+    → Reads name before after (Err halt) → Comes (needs name (λ b. comes (said b))) before after (Err halt)
+comes_unread name said before after halt got =
+    comes_halted name (λ b. comes (said b)) before after halt got.counts got.files (judged_needs name said before.files)
+    got.read
 
 -- ---- what opening a file answers
 
--- the bytes of the file, and what is found in them
-record Holds (hash : List ℕ → List ℕ) (told : Option Files) (name : List ℕ) (found : Found) : Type 0 where
-  pub bytes : List ℕ
-  pub input : IsInput told name (Some bytes)
-  pub is : WasFound told hash bytes found
-
-told_bytes : (hash : List ℕ → List ℕ) (files : Files) (name : List ℕ) (found : Found) (P : Type 0)
-    (Q : List ℕ → Type 0) → (P → ⊥)
-    → ((bytes : List ℕ) → Q bytes → Shows hash bytes found × FindsMap hash bytes found) → (input : Input)
-    → file files name ≡ input → MatchOption input P Q → Holds hash (Some files) name found
-told_bytes hash files name found P Q not shows None e is = absurd (not is)
-told_bytes hash files name found P Q not shows (Some bytes) e is =
-    let shown = shows bytes is in
-    record { bytes = bytes; input = e; is = ((λ all. shown.0), shown.1) }
-
-opened : (hash : List ℕ → List ℕ) (told : Option Files) (name : List ℕ) (found : Found)
-    (result : Result (Tree × ℕ) MapErr) → (Fails result → ⊥)
-    → ((bytes : List ℕ) → Answers first_form hash bytes result → Shows hash bytes found)
-    → ((map : Tree × ℕ) → OrFails result (Ok map) → found ≡ Ok map)
-    → OfFile told name (Fails result) (λ bytes. Tells first_form hash bytes result)
-    → SomeBytes first_form hash result → Holds hash told name found
-opened hash None name found result not shows only exact some = record
-    { bytes = some.0; input = some.1; is = ((λ all. shows some.0 some.2), tt) }
-opened hash (Some files) name found result not shows only exact some =
-    told_bytes hash files name found (Fails result) (λ bytes. Tells first_form hash bytes result) not
-    (λ bytes tells. (shows bytes tells.answers, λ tree batch is. only (tree, batch) (tells.map tree batch is)))
-    (file files name) refl exact
-
--- the one answer, as what is found
-found_only : (map other : Tree × ℕ) → OrFails (Ok map) (Ok other) → ◌≡◌ {A = Found} (Ok map) (Ok other)
-found_only map other (inl e) = cc
-found_only map other (inr fails) = absurd fails
-
-fault_only : (fault : MapFault) (map : Tree × ℕ) → OrFails (Err (errors.Map fault)) (Ok map)
-    → ◌≡◌ {A = Found} (Err fault) (Ok map)
-fault_only fault map (inl e) = absurd (cc)
-fault_only fault map (inr fails) = absurd fails
-
-no_fault_rose : (before after : Shelved) (name : List ℕ) (result : Result (Tree × ℕ) MapErr)
-    → (Fails result → ⊥) → MapCauses name before after result → after.faults ≡ before.faults
-no_fault_rose before after name result not causes = elim causes.quiet
-    [ inl same ↦ same | inr fails ↦ absurd (not fails) ]
-
 -- a clause of the call that opens a file, at what it answered
-abbrev pub Opened : (List ℕ → List ℕ) → List ℕ → Shelved → Shelved → Result (Tree × ℕ) MapErr → Type 0
-Opened hash name before after result =
+abbrev pub Answered : (List ℕ → List ℕ) → List ℕ → Shelved → Shelved → Result Opened MapErr → Type 0
+Answered hash name before after result =
     OfFile before.files name (Fails result) (λ bytes. Tells first_form hash bytes result)
     × SomeBytes first_form hash result
     × MapCauses name before after result
     × (after.files ≡ before.files)
     × (before.reads ≤ after.reads)
 
-counts_of : (hash : List ℕ → List ℕ) (name : List ℕ) (before after : Shelved) (result : Result (Tree × ℕ) MapErr)
-    → Opened hash name before after result → NoneFalls before after
-counts_of hash name before after result opened = record { faults = opened.2.faults; reads = opened.4 }
+told_bytes : (hash : List ℕ → List ℕ) (files : Files) (name : List ℕ) (found : Found) (result : Result Opened MapErr)
+    → (Fails result → ⊥)
+    → ((bytes : List ℕ) → Answers first_form hash bytes result → Shows hash bytes found)
+    → ((map : Opened) → OrFails result (Ok map) → found ≡ Ok map) → (input : Input)
+    → file files name ≡ input → MatchOption input (Fails result) (λ bytes. Tells first_form hash bytes result)
+    → Holds hash (Some files) name found
+told_bytes hash files name found result not shows only None e is = absurd (not is)
+told_bytes hash files name found result not shows only (Some bytes) e is = record {
+  bytes = bytes;
+  input = e;
+  are = is.are;
+  is = (shows bytes is.answers, λ map stands. only map (is.map map.tree map.batch stands));
+}
 
-pub opens_map : (hash : List ℕ → List ℕ) (name : List ℕ) (before after : Shelved) (map : Tree × ℕ)
-    → Opened hash name before after (Ok map) → WellFormed map.0 → map.1 < 2 ^ 64
-    → HoldsMap hash name before after map.0 map.1
-opens_map hash name before after map on well low =
-    let holds = opened hash before.files name (Ok map) (Ok map) (λ f. f) (λ bytes a. a) (found_only map) on.0 on.1 in
-    record {
-      counts = counts_of hash name before after (Ok map) on;
-      files = on.3;
-      quiet = no_fault_rose before after name (Ok map) (λ f. f) on.2;
-      bytes = holds.bytes;
-      input = holds.input;
-      found = holds.is;
-      well = well;
-      low = low;
-    }
+holds_found : (hash : List ℕ → List ℕ) (told : Option Files) (name : List ℕ) (found : Found)
+    (result : Result Opened MapErr) → (Fails result → ⊥)
+    → ((bytes : List ℕ) → Answers first_form hash bytes result → Shows hash bytes found)
+    → ((map : Opened) → OrFails result (Ok map) → found ≡ Ok map)
+    → OfFile told name (Fails result) (λ bytes. Tells first_form hash bytes result)
+    → SomeBytes first_form hash result → Holds hash told name found
+holds_found hash None name found result not shows only exact some = record
+    { bytes = some.0; input = some.1; are = some.1; is = (shows some.0 some.2, tt) }
+holds_found hash (Some files) name found result not shows only exact some =
+    told_bytes hash files name found result not shows only (file files name) refl exact
 
-pub opens_bad : (hash : List ℕ → List ℕ) (name : List ℕ) (before after : Shelved) (fault : MapFault) (ending : Ending)
-    → Opened hash name before after (Err (errors.Map fault)) → Gives (ends BadMap (bad_map_line fault)) ending
-    → Opens hash name before after (Ok (Err ending))
-opens_bad hash name before after fault ending on gives next =
-    let holds = opened hash before.files name (Err fault) (Err (errors.Map fault)) (λ f. f) (λ bytes a. a)
-    (fault_only fault) on.0 on.1 in
-    comes_bad hash name next before after fault holds.bytes ending
-    (record {
-      counts = counts_of hash name before after (Err (errors.Map fault)) on;
-      files = on.3;
-      faults = no_fault_rose before after name (Err (errors.Map fault)) (λ f. f) on.2;
-    }) holds.input holds.is gives
+-- the one answer, as what is found
+found_only : (map other : Opened) → OrFails (Ok map) (Ok other) → ◌≡◌ {A = Found} (Ok map) (Ok other)
+found_only map other (inl e) = cc
+found_only map other (inr fails) = absurd fails
 
-pub opens_missing : (hash : List ℕ → List ℕ) (name : List ℕ) (before after : Shelved) (ending : Ending)
-    → Opened hash name before after (Err errors.Missing) → ending.status ≡ Outside
-    → printed_of ending ≡ (says_missing name).printed → Opens hash name before after (Ok (Err ending))
-opens_missing hash name before after ending on status printed next =
-    comes_missing hash name next before after ending (counts_of hash name before after (Err errors.Missing) on) on.3
-    (on.2.missing refl) status printed
+fault_only : (fault : MapFault) (map : Opened) → OrFails (Err (errors.Map fault)) (Ok map)
+    → ◌≡◌ {A = Found} (Err fault) (Ok map)
+fault_only fault map (inl e) = absurd (cc)
+fault_only fault map (inr fails) = absurd fails
 
-pub opens_halted : (hash : List ℕ → List ℕ) (name : List ℕ) (before after : Shelved) (halt : Halt)
-    → NoneFalls before after → after.files ≡ before.files → Stops before after halt
-    → Opens hash name before after (Err halt)
-opens_halted hash name before after halt counts files stops next =
-    comes_halted name (λ bytes. opens hash bytes (given_map next)) before after halt counts files stops
+no_fault_rose : (before after : Shelved) (name : List ℕ) (result : Result Opened MapErr)
+    → (Fails result → ⊥) → MapCauses name before after result → after.faults ≡ before.faults
+no_fault_rose before after name result not causes = elim causes.quiet
+    [ inl same ↦ same | inr fails ↦ absurd (not fails) ]
+
+-- told or not
+pub is_judged : (hash : List ℕ → List ℕ) (told : Option Files) (name : List ℕ)
+    → OfFile told name ⊤ (Agrees first_form hash) → ((bytes : List ℕ) → AreBytes bytes → Agrees first_form hash bytes)
+    → IsJudged hash told name
+is_judged hash None name agrees law bytes is = law bytes is
+is_judged hash (Some files) name agrees law bytes is =
+    subst (λ input. MatchOption input ⊤ (Agrees first_form hash)) is agrees
+
+counts_of : (hash : List ℕ → List ℕ) (name : List ℕ) (before after : Shelved) (result : Result Opened MapErr)
+    → Answered hash name before after result → NoneFalls before after
+counts_of hash name before after result on = record { faults = on.2.faults; reads = on.4 }
+
+module _ (hash : List ℕ → List ℕ) (name : List ℕ) (before after : Shelved)
+    (judged : IsJudged hash before.files name) where
+  pub opens_map : (map : Opened) → Answered hash name before after (Ok map) → WellFormed map.tree
+      → map.batch < 2 ^ 64 → HoldsMap hash name before after map
+  opens_map map on well low =
+      let holds = holds_found hash before.files name (Ok map) (Ok map) (λ f. f) (λ bytes a. a) (found_only map) on.0
+      on.1 in
+      record {
+        counts = counts_of hash name before after (Ok map) on;
+        files = on.3;
+        quiet = no_fault_rose before after name (Ok map) (λ f. f) on.2;
+        bytes = holds.bytes;
+        input = holds.input;
+        are = holds.are;
+        judged = judged;
+        found = holds.is;
+        well = well;
+        low = low;
+      }
+
+  pub opens_bad : (fault : MapFault) (ending : Ending) → Answered hash name before after (Err (errors.Map fault))
+      → Gives (ends BadMap (bad_map_line fault)) ending → Opens hash name before after (Ok (Err ending))
+  opens_bad fault ending on gives next goes =
+      comes_bad hash name next before after fault ending
+      (record {
+        counts = counts_of hash name before after (Err (errors.Map fault)) on;
+        files = on.3;
+        faults = no_fault_rose before after name (Err (errors.Map fault)) (λ f. f) on.2;
+      }) judged goes
+      (holds_found hash before.files name (Err fault) (Err (errors.Map fault)) (λ f. f) (λ bytes a. a)
+      (fault_only fault) on.0 on.1) gives
+
+  pub opens_missing : (ending : Ending) → Answered hash name before after (Err errors.Missing)
+      → ending.status ≡ Outside → printed_of ending ≡ (says_missing name).printed
+      → Opens hash name before after (Ok (Err ending))
+  opens_missing ending on status printed next goes =
+      comes_missing name (λ bytes. opens hash bytes (given_map next)) before after ending
+      (counts_of hash name before after (Err errors.Missing) on) on.3
+      (judged_map hash name next before.files judged goes)
+      (misses before.files name before.faults after.faults (on.2.missing refl)) status printed
+
+  pub opens_halted : (halt : Halt) → NoneFalls before after → after.files ≡ before.files → Stops before after halt
+      → Opens hash name before after (Err halt)
+  opens_halted halt counts files stops next goes =
+      comes_halted name (λ bytes. opens hash bytes (given_map next)) before after halt counts files
+      (judged_map hash name next before.files judged goes) stops
 
 -- a refusal that is handed on
 pub halted_is : {A : Type 0} (result : Result A Halt) (halt : Halt) → IsErrAnd result (λ h. h ≡ halt)
@@ -346,6 +377,7 @@ pub comes_saved : (name : List ℕ) (content : Content) (said : Outcome) (before
     → Saves name content before after (Ok done) → Comes (comes said) before after (Ok ending)
 comes_saved name content said before after ending done writes gives saves = record {
   counts = saves.counts;
+  judged = tt;
   came = (
     gives.status,
     gives.printed,
@@ -360,10 +392,15 @@ pub comes_unsaved : (name : List ℕ) (content : Content) (said : Outcome) (befo
     → Comes (comes said) before after (Err halt)
 comes_unsaved name content said before after halt writes saves = record {
   counts = saves.counts;
+  judged = tt;
   came = (saves.saved.0, subst (λ w. MayLeave w before.files after.files) (sym writes) saves.saved.1);
   outside = tt;
   quiet = tt;
 }
+
+-- each digest has 32 bytes
+abbrev pub IsSized : (List ℕ → List ℕ) → Type 0
+IsSized hash = (xs : List ℕ) → length (hash xs) ≡ 32
 
 -- what a save leaves
 module _ (hash : List ℕ → List ℕ) (sized : IsSized hash) (name : List ℕ) (tree : Tree) (batch : ℕ)

@@ -7,7 +7,7 @@ pub mod Texts
 pub mod Numbered
 pub mod Digests
 pub mod Spelling
-pub mod Apart
 pub mod Batches
 pub mod Verdicts
 pub mod Promises
+pub mod WholeRuns

@@ -1,26 +1,13 @@
 -- What plans lead to.
-use Rattle.std.proofs.Common.{◌≡◌, ℕ, List, refl, sym, subst}
-use Rattle.std.specs.Prelude.{Option, Some, None, Ok, Err}
-use Rattle.std.proofs.Common.{inl, inr}
+use Rattle.std.proofs.Common.{◌≡◌, ℕ, List, refl, sym, subst, inl, inr}
+use Rattle.std.specs.Prelude.{Option, Some, None}
 use Rattle.mr_outside.specs.Files.{Files, file}
 use Rattle.mr_outside.specs.Told.{OfFiles}
-use Rattle.mr_tool.specs.Ending.{Ends, GivesUp}
-use Rattle.mr_tool.specs.Found.{Found}
+use Rattle.mr_tool.specs.Ending.{AreJudged, Ends, GivesUp}
 use Rattle.mr_tool.specs.Outcome.{Outcome, Written, Nothing, File, IsLeft, MayLeave}
 use Rattle.mr_tool.specs.Plan.{Plan, comes, reads, opens, Input, IsInput, Leads, IsOutcomeOver}
-use Rattle.mr_tool.proofs.Showing.{IsSized, found_in, one_found}
-use Rattle.mr_tree.specs.declared.tree.Tree.{Tree}
-use Rattle.mr_batch.specs.BatchText.{batch_of_text}
-use Rattle.mr_tool.specs.Say.{needs, given_map, say, say_list_of, say_apply_of, say_prove_of, say_audit_of}
 use Rattle.mr_tool.specs.declared.status.Status.{Status}
-use Rattle.mr_tool.specs.declared.words.Command.{Command}
-use Rattle.mr_tool.specs.declared.words.Command.TheVariants as commands
-
--- each hash function that a plan opens maps by has digests of 32 bytes
-abbrev pub AreSized : Plan → Type 0
-AreSized (comes said) = Unit {0}
-AreSized (reads name next) = (input : Input) → AreSized (next input)
-AreSized (opens hash bytes next) = IsSized hash × ((found : Found) → AreSized (next found))
+use Rattle.mr_tool.proofs.Showing.{found_in, one_found}
 
 -- what the file of this name holds, or any content
 input_of : (told : Option Files) (name : List ℕ) → (input : Input) × IsInput told name input
@@ -28,32 +15,32 @@ input_of None name = (None, tt)
 input_of (Some files) name = (file files name, refl)
 
 -- each plan leads to an outcome
-pub leads_on : (plan : Plan) → AreSized plan → (told : Option Files) → (said : Outcome) × Leads plan told said
-leads_on (comes said) sized told = (said, refl)
-leads_on (reads name next) sized told =
+pub leads_on : (plan : Plan) (told : Option Files) → AreJudged plan told → (said : Outcome) × Leads plan told said
+leads_on (comes said) told judged = (said, refl)
+leads_on (reads name next) told judged =
     let input = input_of told name in
-    let on = leads_on (next input.0) (sized input.0) told in
+    let on = leads_on (next input.0) told (judged input.0 input.1) in
     (on.0, (input.0, input.1, on.1))
-leads_on (opens hash bytes next) sized told =
-    let found = found_in hash sized.0 bytes in
-    let on = leads_on (next found.0) (sized.1 found.0) told in
+leads_on (opens hash bytes next) told judged =
+    let found = found_in hash bytes judged.0 in
+    let on = leads_on (next found.0) told (judged.1 found.0 found.1) in
     (on.0, (found.0, found.1, on.1))
 
 -- and over files that are told, to one
-one_outcome : (plan : Plan) → AreSized plan → (files : Files) (said : Outcome) → Leads plan (Some files) said
-    → IsOutcomeOver plan files said
-one_outcome (comes meant) sized files said leads = leads
-one_outcome (reads name next) sized files said leads =
-    subst (λ input. IsOutcomeOver (next input) files said) (sym leads.1)
-    (one_outcome (next leads.0) (sized leads.0) files said leads.2)
-one_outcome (opens hash bytes next) sized files said leads = λ found all shown.
-    subst (λ f. IsOutcomeOver (next f) files said) (one_found hash sized.0 bytes all leads.0 found (leads.1 all) shown)
-    (one_outcome (next leads.0) (sized.1 leads.0) files said leads.2)
+one_outcome : (plan : Plan) (files : Files) → AreJudged plan (Some files) → (said : Outcome)
+    → Leads plan (Some files) said → IsOutcomeOver plan files said
+one_outcome (comes meant) files judged said leads = leads
+one_outcome (reads name next) files judged said leads =
+    one_outcome (next (file files name)) files (judged (file files name) refl) said
+    (subst (λ input. Leads (next input) (Some files) said) (sym leads.1) leads.2)
+one_outcome (opens hash bytes next) files judged said leads = λ found shown.
+    one_outcome (next found) files (judged.1 found shown) said
+    (subst (λ f. Leads (next f) (Some files) said) (one_found hash bytes judged.0 leads.0 found leads.1 shown) leads.2)
 
-pub told_outcome : (plan : Plan) → AreSized plan → (told : Option Files) (said : Outcome) → Leads plan told said
-    → OfFiles told (λ files. IsOutcomeOver plan files said)
-told_outcome plan sized None said leads = tt
-told_outcome plan sized (Some files) said leads = one_outcome plan sized files said leads
+pub told_outcome : (plan : Plan) (told : Option Files) → AreJudged plan told → (said : Outcome)
+    → Leads plan told said → OfFiles told (λ files. IsOutcomeOver plan files said)
+told_outcome plan None judged said leads = tt
+told_outcome plan (Some files) judged said leads = one_outcome plan files judged said leads
 
 -- an outcome of this status and text, with the files left as it says
 pub record HasEnded (plan : Plan) (before after : Option Files) (status : Status) (text : List ℕ)
@@ -98,64 +85,15 @@ stays : (written : Written) (before after : Option Files) → after ≡ before
 stays Nothing before after same = same
 stays (File name content) before after same = inl same
 
-pub given_up : (plan : Plan) → AreSized plan → (before after : Option Files) → GivesUp plan before after
+pub given_up : (plan : Plan) (before after : Option Files) → AreJudged plan before → GivesUp plan before after
     → HasGivenUp plan before after
-given_up (comes said) sized before after up = record { said = said; leads = refl; files = up }
-given_up (reads name next) sized before after (inl same) =
-    let on = leads_on (reads name next) sized before in
+given_up (comes said) before after judged up = record { said = said; leads = refl; files = up }
+given_up (reads name next) before after judged (inl same) =
+    let on = leads_on (reads name next) before judged in
     record { said = on.0; leads = on.1; files = stays on.0.written before after same }
-given_up (reads name next) sized before after (inr up) =
-    let on = given_up (next up.0) (sized up.0) before after up.2 in
+given_up (reads name next) before after judged (inr up) =
+    let on = given_up (next up.0) before after (judged up.0 up.1) up.2 in
     record { said = on.said; leads = (up.0, up.1, on.leads); files = on.files }
-given_up (opens hash bytes next) sized before after (inl same) =
-    let on = leads_on (opens hash bytes next) sized before in
-    record { said = on.0; leads = on.1; files = stays on.0.written before after same }
-given_up (opens hash bytes next) sized before after (inr up) =
-    let on = given_up (next up.0) (sized.1 up.0) before after up.2 in
+given_up (opens hash bytes next) before after judged up =
+    let on = given_up (next up.0) before after (judged.1 up.0 up.1) up.2 in
     record { said = on.said; leads = (up.0, up.1, on.leads); files = on.files }
-
--- ---- what is said by a hash function whose digests have 32 bytes
-
-sized_needs : (name : List ℕ) (next : List ℕ → Plan) → ((bytes : List ℕ) → AreSized (next bytes))
-    → AreSized (needs name next)
-sized_needs name next sized None = tt
-sized_needs name next sized (Some bytes) = sized bytes
-
-sized_map : (next : Tree → ℕ → Plan) → ((t : Tree) (b : ℕ) → AreSized (next t b)) → (found : Found)
-    → AreSized (given_map next found)
-sized_map next sized (Ok map) = sized map.0 map.1
-sized_map next sized (Err fault) = tt
-
-pub say_sized : (hash : List ℕ → List ℕ) → IsSized hash → (command : Option Command) → AreSized (say hash command)
-say_sized hash sized None = tt
-say_sized hash sized (Some (commands.Root records)) = sized_needs _ _ (λ text. tt)
-say_sized hash sized (Some (commands.Build map records)) = sized_needs _ _ (λ text. tt)
-say_sized hash sized (Some (commands.List map)) =
-    sized_needs map.now (λ bytes. opens hash bytes (given_map (λ tree batch. comes (say_list_of tree))))
-    (λ bytes. (sized, sized_map (λ tree batch. comes (say_list_of tree)) (λ tree batch. tt)))
-say_sized hash sized (Some (commands.Apply old batch new)) =
-    let next : Tree → ℕ → Plan = λ tree held. needs batch.now
-    (λ text. comes (say_apply_of hash new.now tree held (batch_of_text text))) in
-    sized_needs old.now (λ bytes. opens hash bytes (given_map next))
-    (λ bytes. (
-      sized,
-      sized_map next (λ tree held.
-          sized_needs batch.now (λ text. comes (say_apply_of hash new.now tree held (batch_of_text text)))
-          (λ text. tt)),
-    ))
-say_sized hash sized (Some (commands.Prove map query proof)) =
-    let next : Tree → ℕ → Plan = λ tree batch. comes (say_prove_of hash query proof.now tree batch) in
-    sized_needs map.now (λ bytes. opens hash bytes (given_map next))
-    (λ bytes. (sized, sized_map next (λ tree batch. tt)))
-say_sized hash sized (Some (commands.Check root query proof)) = sized_needs _ _ (λ bytes. tt)
-say_sized hash sized (Some (commands.Audit map query proof)) =
-    let next : Tree → ℕ → Plan = λ tree batch. needs proof.now
-    (λ bytes. comes (say_audit_of hash query tree batch bytes)) in
-    sized_needs map.now (λ bytes. opens hash bytes (given_map next))
-    (λ bytes. (
-      sized,
-      sized_map next (λ tree batch.
-          sized_needs proof.now (λ bytes. comes (say_audit_of hash query tree batch bytes)) (λ bytes. tt)),
-    ))
-say_sized hash sized (Some (commands.Make count seed records)) = tt
-say_sized hash sized (Some (commands.Demo count seed)) = tt

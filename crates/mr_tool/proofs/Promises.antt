@@ -1,7 +1,7 @@
 -- What a run promises of inputs that are in order, of honest proofs and of accepted ones: by what its command came
 -- to, and how that was printed.
 use Rattle.std.proofs.Common.{◌≡◌, ℕ, ◌<◌, ◌^◌, List, ◌++◌, refl, sym, ap, subst, ◌∙◌, inl, inr}
-use Rattle.std.specs.Prelude.{◌⊎◌, Option, Some, None, Result, Ok, Err}
+use Rattle.std.specs.Prelude.{◌⊎◌, Option, Some, None, IfSome, Result, Ok, Err}
 use Rattle.std.specs.List.{AllByRecursion}
 use Rattle.mr_outside.specs.Faults.{Rose}
 use Rattle.mr_outside.specs.Files.{Files}
@@ -10,6 +10,8 @@ use Rattle.mr_record.specs.Bytes.{AreBytes}
 use Rattle.mr_record.specs.RecordText.{records_of_text, text_of}
 use Rattle.mr_record.specs.declared.record.Record.{Record}
 use Rattle.mr_record.specs.declared.text_fault.TextFault.{TextFault}
+use Rattle.mr_record.specs.declared.version.Version.{Version}
+use Rattle.mr_tree.specs.Digest.{by}
 use Rattle.mr_tree.specs.Digest as digests
 use Rattle.mr_tree.specs.Tree.{records}
 use Rattle.mr_tree.specs.WellFormed.{WellFormed}
@@ -36,7 +38,8 @@ use Rattle.mr_pages.specs.Law.{IsMap}
 use Rattle.mr_pages.proofs.PageLaws.{from_bytes}
 use Rattle.mr_batch.specs.BatchText.{batch_of_text}
 use Rattle.mr_tool.specs.Answer.{World, HasStopped, IsWhole}
-use Rattle.mr_tool.specs.Ending.{Comes, Ends, Finishes, FindsMap, IsTaken, IsWell, printed_of}
+use Rattle.mr_tool.specs.Ending.{Comes, Ends, Finishes, FindsMap, IsWell, printed_of}
+use Rattle.mr_tool.specs.First.{first}
 use Rattle.mr_tool.specs.Found.{Found}
 use Rattle.mr_tool.specs.Outcome.{Outcome}
 use Rattle.mr_tool.specs.Plan.{Plan, comes, opens, Input, IsInput}
@@ -47,6 +50,7 @@ use Rattle.mr_tool.specs.Words.{IsWord, words_of, Spells}
 use Rattle.mr_tool.specs.declared.ending.Ending.{Ending}
 use Rattle.mr_tool.specs.declared.ending.Halt.{Halt}
 use Rattle.mr_tool.specs.declared.ending.Halt.TheVariants as halts
+use Rattle.mr_pages.specs.declared.opening.Opened.{Opened}
 use Rattle.mr_tool.specs.declared.status.Status.{Status}
 use Rattle.mr_tool.specs.declared.status.Status.TheVariants.{Done, Refused, BadMap, Collision, Outside, NoMemory}
 use Rattle.mr_tool.specs.declared.words.Command.{Command}
@@ -103,8 +107,8 @@ of_told (Some files) name bytes P held of = of
 module _ (name bytes : List ℕ) (before after : Option Files) (status : Status) (text : List ℕ)
     (held : Holds before name bytes) where
   taken_on : (next : List ℕ → Plan) → Ends (needs name next) before after status text
-      → IsTaken (next bytes) (Some bytes)
-  taken_on next ends = subst (λ input. IsTaken (given name next input) input)
+      → AreBytes bytes
+  taken_on next ends = subst (λ input. IfSome input AreBytes)
       (input_is before name bytes ends.0 held ends.1) ends.2
 
   ends_on : (next : List ℕ → Plan) → Ends (needs name next) before after status text
@@ -112,42 +116,48 @@ module _ (name bytes : List ℕ) (before after : Option Files) (status : Status)
   ends_on next ends = subst (λ input. Ends (given name next input) before after status text)
       (input_is before name bytes ends.0 held ends.1) ends.3
 
+-- the map of this tree at this batch
+abbrev map_at : Tree → ℕ → Opened
+map_at t batch = record { tree = t; batch = batch }
+
 -- a command that opens this file came to its end by the map that it stands for
 map_on : (hash : List ℕ → List ℕ) (name held : List ℕ) (t : Tree) (batch : ℕ) (before after : Option Files)
     (status : Status) (text : List ℕ) → Holds before name held → IsMap first_form hash held t batch
-    → (next : Tree → ℕ → Plan) → Ends (needs_map hash name next) before after status text
-    → Ends (next t batch) before after status text
+    → (next : Opened → Plan) → Ends (needs_map hash name next) before after status text
+    → Ends (next (map_at t batch)) before after status text
 map_on hash name held t batch before after status text holds stands next ends =
     let on = ends_on name held before after status text holds (λ bytes. opens hash bytes (given_map next)) ends in
     let finds = of_told before name held (FindsMap hash held on.0) holds on.1.1 in
-    subst (λ found. Ends (given_map next found) before after status text) (finds t batch stands) on.3
+    subst (λ found. Ends (given_map next found) before after status text) (finds (map_at t batch) stands) on.3
 
 -- ---- a proof beside the map
 
 says_found : (hash : List ℕ → List ℕ) (q : Query) (t : Tree) (batch : ℕ) (bytes : List ℕ)
-    (r : Result (List Record) Fault) (o : Option Pair) → verdict hash (digests.root hash t batch) q bytes ≡ r
-    → clash hash t batch bytes ≡ o → say_audit_of hash q t batch bytes ≡ say_finding (finding_of r o)
+    (r : Result (List Record) Fault) (o : Option Pair) → verdict hash (digests.root (first hash) t batch) q bytes ≡ r
+    → clash (first hash) t batch bytes ≡ o → say_audit_of hash q (map_at t batch) bytes ≡ say_finding (finding_of r o)
 says_found hash q t batch bytes r o e d =
-    sym (says_finding hash q t batch bytes (finding_of r o) (λ i. finding_of (sym e i) (sym d i)))
+    sym (says_finding hash q (map_at t batch) bytes (finding_of r o) (λ i. finding_of (sym e i) (sym d i)))
 
 module _ (hash : List ℕ → List ℕ) (before after : Option Files) (status : Status) (text : List ℕ) (map : List ℕ)
     (q : Query) (name : List ℕ) (t : Tree) (batch : ℕ) (held bytes : List ℕ) (map_held : Holds before map held)
     (stands : IsMap first_form hash held t batch) (name_held : Holds before name bytes) where
   audited_ends : Ends (say_audit hash map q name) before after status text
-      → Ends (comes (say_audit_of hash q t batch bytes)) before after status text
+      → Ends (comes (say_audit_of hash q (map_at t batch) bytes)) before after status text
   audited_ends ends =
-      let next : Tree → ℕ → Plan = λ tree batch. needs name (λ bytes. comes (say_audit_of hash q tree batch bytes)) in
+      let next : Opened → Plan = λ m. needs name (λ bytes. comes (say_audit_of hash q m bytes)) in
       let mapped = map_on hash map held t batch before after status text map_held stands next ends in
-      ends_on name bytes before after status text name_held (λ bytes. comes (say_audit_of hash q t batch bytes)) mapped
+      ends_on name bytes before after status text name_held
+      (λ bytes. comes (say_audit_of hash q (map_at t batch) bytes)) mapped
 
-  audit_done : IsSized hash → IsQuery q → bytes ≡ proof hash t batch q
+  audit_done : IsSized hash → IsQuery q → bytes ≡ proof (first hash) t batch q
       → Ends (say_audit hash map q name) before after status text → status ≡ Done
   audit_done sized asked own ends =
       let low = stands.stands.batch_fits in
-      let accepted : verdict hash (digests.root hash t batch) q bytes ≡ Ok (scan (records t) q) =
-      ap (verdict hash (digests.root hash t batch) q) own ∙ accepts_honest hash sized q asked t batch stands.well low in
-      let quiet : clash hash t batch bytes ≡ None =
-      ap (clash hash t batch) own ∙ honest_quiet hash sized q asked t batch stands.well low in
+      let accepted : verdict hash (digests.root (first hash) t batch) q bytes ≡ Ok (scan (records t) q) =
+      ap (verdict hash (digests.root (first hash) t batch) q) own
+      ∙ accepts_honest (first hash) sized q asked t batch stands.well low in
+      let quiet : clash (first hash) t batch bytes ≡ None =
+      ap (clash (first hash) t batch) own ∙ honest_quiet (first hash) sized q asked t batch stands.well low in
       (audited_ends ends).0
       ∙ ap (λ (o : Outcome). o.status) (says_found hash q t batch bytes (Ok (scan (records t) q)) None accepted quiet)
 
@@ -164,19 +174,20 @@ module _ (hash : List ℕ → List ℕ) (before after : World) (status : Status)
     (q : Query) (name : List ℕ) (t : Tree) (batch : ℕ) (held bytes : List ℕ) (answer : List Record)
     (map_held : Holds before.shelf.files map held) (stands : IsMap first_form hash held t batch)
     (name_held : Holds before.shelf.files name bytes)
-    (accepted : verdict hash (digests.root hash t batch) q bytes ≡ Ok answer) where
-  delivered : (o : Option Pair) (other : Outcome) → clash hash t batch bytes ≡ o
+    (accepted : verdict hash (digests.root (first hash) t batch) q bytes ≡ Ok answer) where
+  delivered : (o : Option Pair) (other : Outcome) → clash (first hash) t batch bytes ≡ o
       → say_finding (finding_of (Ok answer) o) ≡ other
       → HasRun (say_audit hash map q name) before after status ⊎ HasStopped before after status
       → Delivers other before after status
   delivered o other d e (inr stop) = inr stop
   delivered o other d e (inl run) =
-      inl (whole_of (say_audit_of hash q t batch bytes) other before after status run.text
+      inl (whole_of (say_audit_of hash q (map_at t batch) bytes) other before after status run.text
       (says_found hash q t batch bytes (Ok answer) o accepted d ∙ e)
       (audited_ends hash before.shelf.files after.shelf.files status run.text map q name t batch held bytes map_held
       stands name_held run.ends) run.printed)
 
-  says_worth : (o : Option Pair) → clash hash t batch bytes ≡ o → NoneAnd hash o (IsHonest hash t batch q bytes answer)
+  says_worth : (o : Option Pair) → clash (first hash) t batch bytes ≡ o
+      → NoneAnd hash o (IsHonest (first hash) t batch q bytes answer)
       → HasRun (say_audit hash map q name) before after status ⊎ HasStopped before after status
       → SaysWorth hash t batch q bytes o before after status
   says_worth None d own run = (
@@ -199,47 +210,51 @@ record Shown (hash : List ℕ → List ℕ) (text : List ℕ) : Type 0 where
   is : text ≡ collision_lines pair.owned pair.shown
 
 module _ (hash : List ℕ → List ℕ) (sized : IsSized hash) (q : Query) (may : IsAskable q) (t : Tree) (batch : ℕ)
-    (bytes : List ℕ) (well : WellFormed t) (low : batch < 2 ^ 64) (all : AreBytes bytes) (before after : Option Files) (status : Status)
-    (text : List ℕ) where
+    (bytes : List ℕ) (well : WellFormed t) (low : batch < 2 ^ 64) (all : AreBytes bytes)
+    (before after : Option Files) (status : Status) (text : List ℕ) where
   shown_by : (r : Result (List Record) Fault) (o : Option Pair)
-      → verdict hash (digests.root hash t batch) q bytes ≡ r → clash hash t batch bytes ≡ o → status ≡ Collision
+      → verdict hash (digests.root (first hash) t batch) q bytes ≡ r → clash (first hash) t batch bytes ≡ o
+      → status ≡ Collision
       → Ends (comes (say_finding (finding_of r o))) before after status text → Shown hash text
   shown_by (Err f) o e d is ends = other_status status Refused is ends.0 (λ c. cc)
   shown_by (Ok answer) None e d is ends = other_status status Done is ends.0 (λ c. cc)
   shown_by (Ok answer) (Some p) e d is ends = record {
     pair = p;
-    collides = subst (λ o. NoneAnd hash o (IsHonest hash t batch q bytes answer)) d
-        (accepted_headline hash sized.long q bytes may (from_bytes bytes all) t batch answer well low e);
+    collides = subst (λ o. NoneAnd hash o (IsHonest (first hash) t batch q bytes answer)) d
+        (accepted_headline (first hash) sized.long q bytes may (from_bytes bytes all) t batch answer well low e);
     is = ends.1;
   }
 
-  shown_of : status ≡ Collision → Ends (comes (say_audit_of hash q t batch bytes)) before after status text
+  shown_of : status ≡ Collision → Ends (comes (say_audit_of hash q (map_at t batch) bytes)) before after status text
       → Shown hash text
   shown_of is ends =
-      let r = verdict hash (digests.root hash t batch) q bytes in
-      let o = clash hash t batch bytes in
+      let r = verdict hash (digests.root (first hash) t batch) q bytes in
+      let o = clash (first hash) t batch bytes in
       shown_by r o refl refl is
       (subst (λ said. Ends (comes said) before after status text) (says_found hash q t batch bytes r o refl refl) ends)
 
 module _ (hash : List ℕ → List ℕ) (sized : IsSized hash) (q : Query) (may : IsAskable q) (name : List ℕ)
     (before after : Option Files) (status : Status) (text : List ℕ) (is : status ≡ Collision) where
-  shown_with : (t : Tree) (batch : ℕ) → WellFormed t → batch < 2 ^ 64 → (input : Input)
-      → IsTaken (given name (λ bytes. comes (say_audit_of hash q t batch bytes)) input) input
-      → Ends (given name (λ bytes. comes (say_audit_of hash q t batch bytes)) input) before after status text
-      → Shown hash text
-  shown_with t batch well low None taken ends = other_status status Outside is ends.0 (λ c. cc)
-  shown_with t batch well low (Some bytes) taken ends =
-      shown_of hash sized q may t batch bytes well low taken before after status text is ends
+  -- what is said of the proof, by the map
+  abbrev proof_plan : Opened → Plan
+  proof_plan m = needs name (λ bytes. comes (say_audit_of hash q m bytes))
 
-  shown_found : (found : Found) → IsWell found
-      → Ends (given_map (λ tree batch. needs name (λ bytes. comes (say_audit_of hash q tree batch bytes))) found) before
-      after status text → Shown hash text
-  shown_found (Ok map) well ends = shown_with map.0 map.1 well.0 well.1 ends.0 ends.2 ends.3
+  shown_with : (m : Opened) → WellFormed m.tree → m.batch < 2 ^ 64 → (input : Input)
+      → IfSome input AreBytes
+      → Ends (given name (λ bytes. comes (say_audit_of hash q m bytes)) input) before after status text
+      → Shown hash text
+  shown_with m well low None taken ends = other_status status Outside is ends.0 (λ c. cc)
+  shown_with m well low (Some bytes) taken ends =
+      shown_of hash sized q may m.tree m.batch bytes well low taken before after status text is ends
+
+  shown_found : (found : Found) → IsWell found → Ends (given_map proof_plan found) before after status text
+      → Shown hash text
+  shown_found (Ok m) well ends = shown_with m well.0 well.1 ends.0 ends.2 ends.3
   shown_found (Err fault) well ends = other_status status BadMap is ends.0 (λ c. cc)
 
   shown_opened : (map : List ℕ) (input : Input)
-      → Ends (given map (λ bytes. opens hash bytes (given_map (λ tree batch. needs name
-      (λ bytes. comes (say_audit_of hash q tree batch bytes))))) input) before after status text → Shown hash text
+      → Ends (given map (λ bytes. opens hash bytes (given_map proof_plan)) input) before after status text
+      → Shown hash text
   shown_opened map None ends = other_status status Outside is ends.0 (λ c. cc)
   shown_opened map (Some bytes) ends = shown_found ends.0 ends.2 ends.3
 
@@ -254,10 +269,10 @@ not_collided before after status is (inr failed) = other_status status Outside i
 
 -- ---- inputs that are in order
 
-prove_done : (hash : List ℕ → List ℕ) (q : Query) (name : List ℕ) (tree : Tree) (batch : ℕ)
-    → (say_prove_of hash q name tree batch).status ≡ Done
+prove_done : (hash : List ℕ → List ℕ) (q : Query) (name : List ℕ) (map : Opened)
+    → (say_prove_of hash q name map).status ≡ Done
 unfolding say_prove_of
-prove_done hash q name tree batch = refl
+prove_done hash q name map = refl
 
 make_done : (count seed : ℕ) (records : List ℕ) → (say_make_of count seed records).status ≡ Done
 unfolding say_make_of
@@ -272,27 +287,25 @@ module _ (hash : List ℕ → List ℕ) (before after : Option Files) (status : 
       (λ bytes. comes (said (records_of_text bytes))) ends in
       on.0 ∙ ap (λ r. (said r).status) holds.right ∙ done holds.list
 
-  map_done : (name : List ℕ) (said : Tree → ℕ → Outcome)
-      → ((tree : Tree) (batch : ℕ) → (said tree batch).status ≡ Done) → HoldsMap hash before name
-      → Ends (needs_map hash name (λ tree batch. comes (said tree batch))) before after status text → status ≡ Done
+  map_done : (name : List ℕ) (said : Opened → Outcome) → ((map : Opened) → (said map).status ≡ Done)
+      → HoldsMap hash before name → Ends (needs_map hash name (λ map. comes (said map))) before after status text
+      → status ≡ Done
   map_done name said done holds ends =
-      let next : Tree → ℕ → Plan = λ tree batch. comes (said tree batch) in
+      let next : Opened → Plan = λ map. comes (said map) in
       let mapped = map_on hash name holds.bytes holds.tree holds.batch before after status text holds.held
       holds.stands next ends in
-      mapped.0 ∙ done holds.tree holds.batch
+      mapped.0 ∙ done (map_at holds.tree holds.batch)
 
   apply_done : (old name new : List ℕ) → HoldsBatch hash before old name
       → Ends (say_apply hash old name new) before after status text → status ≡ Done
   apply_done old name new holds ends =
-      let said : Tree → ℕ → List ℕ → Plan = λ tree held bytes. comes
-      (say_apply_of hash new tree held (batch_of_text bytes)) in
+      let map = map_at holds.tree holds.batch in
+      let said : Opened → List ℕ → Plan = λ m bytes. comes (say_apply_of hash new m (batch_of_text bytes)) in
       let mapped = map_on hash old holds.bytes holds.tree holds.batch before after status text holds.held
-      holds.stands (λ tree held. needs name (said tree held)) ends in
-      let last = ends_on name holds.text before after status text holds.beside
-      (said holds.tree holds.batch) mapped in
-      last.0 ∙ ap (λ r. (say_apply_of hash new holds.tree holds.batch r).status) holds.right
-      ∙ ap (λ (o : Outcome). o.status)
-      (says_applied hash new holds.tree holds.batch holds.changes holds.may)
+      holds.stands (λ m. needs name (said m)) ends in
+      let last = ends_on name holds.text before after status text holds.beside (said map) mapped in
+      last.0 ∙ ap (λ r. (say_apply_of hash new map r).status) holds.right
+      ∙ ap (λ (o : Outcome). o.status) (says_applied hash new map holds.changes holds.may)
 
   check_done : (root : List ℕ) (q : Query) (name : List ℕ) → IsAskable q → HoldsProof hash before root q name
       → Ends (say_check hash root q name) before after status text → status ≡ Done
@@ -308,7 +321,7 @@ module _ (hash : List ℕ → List ℕ) (before after : Option Files) (status : 
   done sized (commands.Build map name) each holds ends =
       text_done name.now (say_build_of hash map.now) (λ list. refl) holds ends
   done sized (commands.List map) each holds ends =
-      map_done map.now (λ tree batch. say_list_of tree) (λ tree batch. refl) holds ends
+      map_done map.now (λ held. say_list_of held.tree) (λ held. refl) holds ends
   done sized (commands.Apply old name new) each holds ends = apply_done old.now name.now new.now holds ends
   done sized (commands.Prove map q name) each holds ends =
       map_done map.now (say_prove_of hash q name.now) (prove_done hash q name.now) holds ends
@@ -316,7 +329,7 @@ module _ (hash : List ℕ → List ℕ) (before after : Option Files) (status : 
       check_done root q name.now (askable q each.1.1.0) holds ends
   done sized (commands.Audit map q name) each holds ends =
       audit_done hash before after status text map.now q name.now holds.tree holds.batch holds.bytes
-      (proof hash holds.tree holds.batch q) holds.held holds.stands holds.own sized each.1.1.0 refl ends
+      (proof (first hash) holds.tree holds.batch q) holds.held holds.stands holds.own sized each.1.1.0 refl ends
   done sized (commands.Make count seed records) each holds ends = ends.0 ∙ make_done count seed records.now
   done sized (commands.Demo count seed) each holds ends = ends.0
 
@@ -332,19 +345,19 @@ not_stopped before after status done (inr failed) =
 not_refused : {A : Type 0} (status : Status) → status ≡ Done → status ≡ Refused → A
 not_refused status done refused = absurd (cc)
 
-module _ (hash : List ℕ → List ℕ) (sized : IsSized hash) (before after : World) (status : Status) (t : Tree)
-    (batch : ℕ) (root : List ℕ) (q : Query) (name : List ℕ) (well : WellFormed t) (low : batch < 2 ^ 64)
-    (is_root : root ≡ digests.root hash t batch) (asked : IsQuery q)
+module _ (v : Version) (hash : List ℕ → List ℕ) (sized : IsSized hash) (before after : World) (status : Status)
+    (t : Tree) (batch : ℕ) (root : List ℕ) (q : Query) (name : List ℕ) (well : WellFormed t) (low : batch < 2 ^ 64)
+    (is_root : root ≡ digests.root (by v hash) t batch) (asked : IsQuery q)
     (run : HasRun (say_check hash root q name) before after status) where
-  says_honest : say_check_of hash root q (proof hash t batch q) ≡ prints (text_of (scan (records t) q))
-  says_honest = says_verdict hash root q (proof hash t batch q) (Ok (scan (records t) q))
-      (subst (λ held. verdict hash held q (proof hash t batch q) ≡ Ok (scan (records t) q)) (sym is_root)
-      (accepts_honest hash sized q asked t batch well low))
+  says_honest : say_check_of hash root q (proof (by v hash) t batch q) ≡ prints (text_of (scan (records t) q))
+  says_honest = says_verdict hash root q (proof (by v hash) t batch q) (Ok (scan (records t) q))
+      (subst (λ held. verdict hash held q (proof (by v hash) t batch q) ≡ Ok (scan (records t) q)) (sym is_root)
+      (accepts_honest (by v hash) sized q asked t batch well low))
 
-  whole_honest : Holds before.shelf.files name (proof hash t batch q)
+  whole_honest : Holds before.shelf.files name (proof (by v hash) t batch q)
       → IsWhole (prints (text_of (scan (records t) q))) before after status
   whole_honest held =
-      let on = ends_on name (proof hash t batch q) before.shelf.files after.shelf.files status run.text held
+      let on = ends_on name (proof (by v hash) t batch q) before.shelf.files after.shelf.files status run.text held
       (λ bytes. comes (say_check_of hash root q bytes)) run.ends in
       let said : Ends (comes (prints (text_of (scan (records t) q)))) before.shelf.files after.shelf.files status
       run.text =
@@ -358,22 +371,22 @@ module _ (hash : List ℕ → List ℕ) (sized : IsSized hash) (before after : W
   -- by the verdict on the bytes
   worth_by : (bytes : List ℕ) → AreBytes bytes → status ≡ Done
       → Ends (comes (say_check_of hash root q bytes)) before.shelf.files after.shelf.files status run.text
-      → (v : Result (List Record) Fault) → verdict hash root q bytes ≡ v
-      → IsWorth hash t batch q bytes before after
+      → (r : Result (List Record) Fault) → verdict hash root q bytes ≡ r
+      → IsWorth (by v hash) t batch q bytes before after
   worth_by bytes all done on (Err fault) e =
       not_refused status done (on.0 ∙ ap (λ (o : Outcome). o.status) (says_verdict hash root q bytes (Err fault) e))
   worth_by bytes all done on (Ok answer) e =
-      let accepted : verdict hash (digests.root hash t batch) q bytes ≡ Ok answer =
+      let accepted : verdict hash (digests.root (by v hash) t batch) q bytes ≡ Ok answer =
       subst (λ held. verdict hash held q bytes ≡ Ok answer) is_root e in
       let said = ap (λ (o : Outcome). o.printed) (says_verdict hash root q bytes (Ok answer) e) in
       record {
         answer = answer;
-        proves = (accepts_just hash (digests.root hash t batch) q bytes (askable q asked) (from_bytes bytes all) answer).0
-            accepted;
-        worth = none_more hash (clash hash t batch bytes) (IsHonest hash t batch q bytes answer)
-            (PrintsScan hash t batch q bytes before after)
-            (accepted_headline hash sized.long q bytes (askable q asked) (from_bytes bytes all) t batch answer well low
-            accepted)
+        proves = (accepts_just hash (digests.root (by v hash) t batch) q bytes (askable q asked) (from_bytes bytes all)
+            answer).0 accepted;
+        worth = none_more hash (clash (by v hash) t batch bytes) (IsHonest (by v hash) t batch q bytes answer)
+            (PrintsScan (by v hash) t batch q bytes before after)
+            (accepted_headline (by v hash) sized.long q bytes (askable q asked) (from_bytes bytes all) t batch answer
+            well low accepted)
             (λ own. record {
               own = own.own;
               printed = subst (Takes before.sink after.sink) (on.1 ∙ said ∙ ap text_of own.complete) run.printed;
@@ -381,7 +394,7 @@ module _ (hash : List ℕ → List ℕ) (sized : IsSized hash) (before after : W
       }
 
   worth : (bytes : List ℕ) → Holds before.shelf.files name bytes → status ≡ Done
-      → IsWorth hash t batch q bytes before after
+      → IsWorth (by v hash) t batch q bytes before after
   worth bytes held done =
       let next : List ℕ → Plan = λ bytes. comes (say_check_of hash root q bytes) in
       worth_by bytes
@@ -401,22 +414,23 @@ module _ (hash : List ℕ → List ℕ) (words : List (List ℕ)) (before after 
 
   pub completes : IsSized hash → CompletesWords hash words before after status
   completes sized command spells order = elim (ran_as command spells) [
-    | inl run ↦ inl (done hash before.shelf.files after.shelf.files status run.text sized command spells.each order run.ends)
+    | inl run ↦ inl (done hash before.shelf.files after.shelf.files status run.text sized command spells.each order
+        run.ends)
     | inr stop ↦ inr stop
   ]
 
   pub honest_answered : IsSized hash → AnswersHonest hash words before after status
-  honest_answered sized t batch root q name well low is_root spells held =
+  honest_answered sized v t batch root q name well low is_root spells held =
       elim (ran_as (commands.Check root q name) spells) [
-        | inl run ↦ inl (whole_honest hash sized before after status t batch root q name.now well low is_root
+        | inl run ↦ inl (whole_honest v hash sized before after status t batch root q name.now well low is_root
             spells.each.1.1.0 run held)
         | inr stop ↦ inr stop
       ]
 
   pub accepted_worth : IsSized hash → AcceptsHonestOrCollides hash words before after status
-  accepted_worth sized t batch root q name bytes well low is_root spells held done =
+  accepted_worth sized v t batch root q name bytes well low is_root spells held done =
       elim (ran_as (commands.Check root q name) spells) [
-        | inl run ↦ worth hash sized before after status t batch root q name.now well low is_root
+        | inl run ↦ worth v hash sized before after status t batch root q name.now well low is_root
             spells.each.1.1.0 run bytes held done
         | inr stop ↦ not_stopped before after status done stop
       ]
@@ -424,15 +438,17 @@ module _ (hash : List ℕ → List ℕ) (words : List (List ℕ)) (before after 
   pub accepted_audited : IsSized hash → AuditsAccepted hash words before after status
   accepted_audited sized t batch map q name held bytes answer spells map_held stands name_held proves =
       says_worth hash before after status map.now q name.now t batch held bytes answer map_held stands name_held
-      (verdict_from hash (digests.root hash t batch) q bytes answer (askable q spells.each.1.1.0) proves) (clash hash t batch bytes) refl
-      (headline hash sized.long q bytes (askable q spells.each.1.1.0) t batch answer stands.well stands.stands.batch_fits proves)
+      (verdict_from hash (digests.root (first hash) t batch) q bytes answer (askable q spells.each.1.1.0) proves)
+      (clash (first hash) t batch bytes) refl
+      (headline (first hash) sized.long q bytes (askable q spells.each.1.1.0) t batch answer stands.well
+      stands.stands.batch_fits proves)
       (ran_as (commands.Audit map q name) spells)
 
   pub collided_rightly : IsSized hash → CollidesRightly hash words before after status
   collided_rightly sized map q name spells is = elim (ran_as (commands.Audit map q name) spells) [
     | inl run ↦
-        let x = shown_audit hash sized q (askable q spells.each.1.1.0) name.now before.shelf.files after.shelf.files status run.text is map.now run.ends
-        in
+        let x = shown_audit hash sized q (askable q spells.each.1.1.0) name.now before.shelf.files after.shelf.files
+        status run.text is map.now run.ends in
         (x.pair, x.collides, subst (Takes before.sink after.sink) x.is run.printed)
     | inr stop ↦ not_collided before after status is stop
   ]

@@ -5,7 +5,7 @@ use Rattle.mr_outside.specs.Files.{Files}
 use Rattle.mr_outside.specs.Told.{Takes, TakesFront}
 use Rattle.mr_outside.proofs.Taking.{Takes-none}
 use Rattle.mr_tool.specs.Answer.{World, HasOutsideCause, IsAnswer, IsQuiet, IsSettled, IsStopped, IsWhole, ShelfFailed}
-use Rattle.mr_tool.specs.Ending.{Comes, Finishes, Prints, printed_of}
+use Rattle.mr_tool.specs.Ending.{AreJudged, Comes, Finishes, Prints, printed_of}
 use Rattle.mr_tool.specs.Lines.{bad_words_line, shelf_fault_line}
 use Rattle.mr_tool.specs.Outcome.{Outcome, Written, Nothing, File, IsLeft, MayLeave}
 use Rattle.mr_tool.specs.Plan.{Plan, Leads}
@@ -15,18 +15,18 @@ use Rattle.mr_tool.specs.declared.ending.Halt.{Halt}
 use Rattle.mr_tool.specs.declared.ending.Halt.TheVariants as halts
 use Rattle.mr_tool.specs.declared.status.Status.{Status}
 use Rattle.mr_tool.specs.declared.status.Status.TheVariants.{BadWords, Outside, NoMemory}
-use Rattle.mr_tool.proofs.Plans.{AreSized, told_outcome, ended_so, given_up}
+use Rattle.mr_tool.proofs.Plans.{told_outcome, ended_so, given_up}
 
 -- an outcome that the plan leads to is answered
-answers : (plan : Plan) → AreSized plan → (before after : World) (status : Status) (said : Outcome)
+answers : (plan : Plan) (before after : World) → AreJudged plan before.shelf.files → (status : Status) (said : Outcome)
     → Leads plan before.shelf.files said
     → IsWhole said before after status ⊎ IsStopped said before after status
     → IsAnswer plan before after status
-answers plan sized before after status said leads answer =
+answers plan before after judged status said leads answer =
     record {
       said = said;
       leads = leads;
-      told = told_outcome plan sized before.shelf.files said leads;
+      told = told_outcome plan before.shelf.files judged said leads;
       answer = answer;
     }
 
@@ -101,26 +101,26 @@ spent said before after status may none same = record {
   files = may;
 }
 
-pub answer_of : (plan : Plan) → AreSized plan → (before after : World) (status : Status) (came : Result Ending Halt)
+pub answer_of : (plan : Plan) (before after : World) (status : Status) (came : Result Ending Halt)
     → Comes plan before.shelf after.shelf came → Finishes came before.sink after.sink status
     → IsAnswer plan before after status
-answer_of plan sized before after status (Ok ending) comes ended =
+answer_of plan before after status (Ok ending) comes ended =
     let on = ended_so plan before.shelf.files after.shelf.files ending.status (printed_of ending)
     comes.came in
-    answers plan sized before after status on.said on.leads
+    answers plan before after comes.judged status on.said on.leads
     (printed on.said before after status ending.status (printed_of ending) on.status_is on.text_is
     on.files ended.printed)
-answer_of plan sized before after status (Err halts.Words) comes ended = absurd comes.came.0
-answer_of plan sized before after status (Err halts.Shelf) comes ended =
-    let on = given_up plan sized before.shelf.files after.shelf.files comes.came.1 in
-    answers plan sized before after status on.said on.leads
+answer_of plan before after status (Err halts.Words) comes ended = absurd comes.came.0
+answer_of plan before after status (Err halts.Shelf) comes ended =
+    let on = given_up plan before.shelf.files after.shelf.files comes.judged comes.came.1 in
+    answers plan before after comes.judged status on.said on.leads
     (inr (stopped on.said before after status comes.came.0 on.files ended.printed))
-answer_of plan sized before after status (Err halts.NoMemory) comes ended =
-    let on = given_up plan sized before.shelf.files after.shelf.files comes.came.1 in
-    answers plan sized before after status on.said on.leads
+answer_of plan before after status (Err halts.NoMemory) comes ended =
+    let on = given_up plan before.shelf.files after.shelf.files comes.judged comes.came.1 in
+    answers plan before after comes.judged status on.said on.leads
     (inr (spent on.said before after status on.files ended.printed.0 ended.printed.1))
 
-from_sink : (plan : Plan) (before after : World) (status meant : Status) (text : List ℕ)
+pub from_sink : (plan : Plan) (before after : World) (status meant : Status) (text : List ℕ)
     → Prints meant text before.sink after.sink status
     → (meant ≡ Outside → HasOutsideCause plan before after) → status ≡ Outside
     → HasOutsideCause plan before after
@@ -164,6 +164,6 @@ pub words_answered : (hash : List ℕ → List ℕ) (before after : World) (stat
     → IsAnswer (say hash None) before after status
 words_answered hash before after status same ended =
     let said = ends BadWords bad_words_line in
-    answers (say hash None) tt before after status said refl
+    answers (say hash None) before after tt status said refl
     (printed said before after status BadWords bad_words_line refl refl (ap (λ s. s.files) same)
     ended)

@@ -10,7 +10,7 @@ use Rattle.mr_query.specs.declared.query.Query.{Query}
 use Rattle.mr_query.specs.declared.query.QueryFault.{QueryFault}
 use Rattle.mr_query.proofs.Words.{query_read}
 use Rattle.mr_tool.specs.Say.{say_root, say_build, say_list, say_apply, say_prove, say_check, say_audit, say_make, say_demo}
-use Rattle.mr_tool.specs.Spelling.{IsSpelled, AsksAs, digest_of_word}
+use Rattle.mr_tool.specs.Spelling.{IsSpelled, AsksAs, IsAsked, IsBetween, digest_of_word}
 use Rattle.mr_tool.specs.Words.{IsDigest, Spells}
 use Rattle.mr_tool.specs.declared.words.Command.{Command}
 use Rattle.mr_tool.specs.declared.words.Command.TheVariants as commands
@@ -180,7 +180,8 @@ not_three name a b not_build not_demo (commands.Build map records) spells =
     let same : name ≡ codes "build" = cc in absurd (not_build same)
 not_three name a b not_build not_demo (commands.Demo count seed) spells =
     let same : name ≡ codes "demo" = cc in absurd (not_demo same)
-not_three name a b not_build not_demo command spells = let long = ap length spells.spelled in absurd (omega (arith, long))
+not_three name a b not_build not_demo command spells =
+    let long = ap length spells.spelled in absurd (omega (arith, long))
 
 pub not_four : (name a b c : List ℕ) → (name ≡ codes "apply" → ⊥) → (name ≡ codes "prove" → ⊥)
     → (name ≡ codes "check" → ⊥) → (name ≡ codes "audit" → ⊥) → (name ≡ codes "make" → ⊥)
@@ -234,31 +235,33 @@ is_apply old batch new a b c is_a is_b is_c some_old some_batch some_new apart =
   spelled = λ i. codes "apply" ∷ sym is_a i ∷ sym is_b i ∷ sym is_c i ∷ [];
 }
 
--- where it names a map, a query and the file of a proof, the two files have names, which differ
-pub no_prove : (map asked proof : List ℕ)
-    → ((q : Query) → IsQuery q → asked ≡ word_of q → 0 < length map → 0 < length proof → map ≢ proof
-    → ⊥)
+-- words of `prove` or `audit` have a query between two files
+between : (k l map asked proof : List ℕ) (m p : Bor (List ℕ)) (q : Query)
+    → k ∷ map ∷ asked ∷ proof ∷ [] ≡ l ∷ m.now ∷ word_of q ∷ p.now ∷ [] → 0 < length m.now → IsQuery q
+    → 0 < length p.now → m.now ≢ p.now → IsBetween map asked proof q
+between k l map asked proof m p q e map_named is proof_named apart =
+    let maps : map ≡ m.now = second_of _ _ _ _ _ _ _ _ e in
+    let proofs : proof ≡ p.now = fourth_of _ _ _ _ _ _ _ _ e in
+    record {
+      query = is;
+      spelled = third_of _ _ _ _ _ _ _ _ e;
+      map_named = subst (λ n. 0 < length n) (sym maps) map_named;
+      proof_named = subst (λ n. 0 < length n) (sym proofs) proof_named;
+      apart = λ same. apart (sym maps ∙ same ∙ proofs);
+    }
+
+pub no_prove : (map asked proof : List ℕ) → IsAsked map asked proof None
     → IsSpelled (codes "prove" ∷ map ∷ asked ∷ proof ∷ []) None
 no_prove map asked proof none (commands.Prove m q p) spells =
-    let maps : map ≡ m.now = second_of _ _ _ _ _ _ _ _ spells.spelled in
-    let proofs : proof ≡ p.now = fourth_of _ _ _ _ _ _ _ _ spells.spelled in
-    absurd (none q spells.each.1.1.0 (third_of _ _ _ _ _ _ _ _ spells.spelled)
-    (subst (λ n. 0 < length n) (sym maps) spells.each.1.0)
-    (subst (λ n. 0 < length n) (sym proofs) spells.each.1.1.1.0)
-    (λ same. spells.apart.0.0 (sym maps ∙ same ∙ proofs)))
+    none q (between _ _ map asked proof m p q spells.spelled spells.each.1.0 spells.each.1.1.0 spells.each.1.1.1.0
+    spells.apart.0.0)
 no_prove map asked proof none command spells = absurd (other_key _ _ _ _ refl spells.spelled)
 
-pub no_audit : (map asked proof : List ℕ)
-    → ((q : Query) → IsQuery q → asked ≡ word_of q → 0 < length map → 0 < length proof → map ≢ proof
-    → ⊥)
+pub no_audit : (map asked proof : List ℕ) → IsAsked map asked proof None
     → IsSpelled (codes "audit" ∷ map ∷ asked ∷ proof ∷ []) None
 no_audit map asked proof none (commands.Audit m q p) spells =
-    let maps : map ≡ m.now = second_of _ _ _ _ _ _ _ _ spells.spelled in
-    let proofs : proof ≡ p.now = fourth_of _ _ _ _ _ _ _ _ spells.spelled in
-    absurd (none q spells.each.1.1.0 (third_of _ _ _ _ _ _ _ _ spells.spelled)
-    (subst (λ n. 0 < length n) (sym maps) spells.each.1.0)
-    (subst (λ n. 0 < length n) (sym proofs) spells.each.1.1.1.0)
-    (λ same. spells.apart.0.0 (sym maps ∙ same ∙ proofs)))
+    none q (between _ _ map asked proof m p q spells.spelled spells.each.1.0 spells.each.1.1.0 spells.each.1.1.1.0
+    spells.apart.0.0)
 no_audit map asked proof none command spells = absurd (other_key _ _ _ _ refl spells.spelled)
 
 pub no_check : (root asked proof : List ℕ)

@@ -11,14 +11,15 @@ use Rattle.mr_outside.specs.declared.shelf.ShelfErr.{ShelfErr}
 use Rattle.mr_outside.specs.declared.shelf.ShelfErr.TheVariants as shelf
 use Rattle.mr_outside.proofs.Changes.{IsChanged-grown, OfFile-put}
 use Rattle.mr_tool.specs.Ending.{Saves, Stops, halt_of}
+use Rattle.mr_tool.specs.First.{first}
 use Rattle.mr_tool.specs.Outcome.{text}
 use Rattle.mr_record.specs.RecordText.{text_of}
 use Rattle.mr_batch.specs.Workload.{generated}
 use Rattle.mr_tool.specs.Lines.{made_line}
 use Rattle.mr_tool.specs.Say.{say_make_of, say_prove_of, say_text, say_written}
-use Rattle.mr_tree.specs.declared.tree.Tree.{Tree}
 use Rattle.mr_query.specs.declared.query.Query.{Query}
 use Rattle.mr_proof.specs.Honest.{proof}
+use Rattle.mr_pages.specs.declared.opening.Opened.{Opened}
 
 -- the call was refused, and so
 abbrev Refused : ShelfErr → ShelfErr → Type 0
@@ -110,10 +111,10 @@ module _ (name bytes : List ℕ) (before : Shelved) where
   }
 
 -- the honest proof is what was written
-pub says_proof : (hash : List ℕ → List ℕ) (q : Query) (name : List ℕ) (tree : Tree) (batch : ℕ) (bytes : List ℕ)
-    → bytes ≡ proof hash tree batch q → say_written name bytes ≡ say_prove_of hash q name tree batch
+pub says_proof : (hash : List ℕ → List ℕ) (q : Query) (name : List ℕ) (map : Opened) (bytes : List ℕ)
+    → bytes ≡ proof (first hash) map.tree map.batch q → say_written name bytes ≡ say_prove_of hash q name map
 unfolding say_prove_of
-says_proof hash q name tree batch bytes is = ap (say_written name) is
+says_proof hash q name map bytes is = ap (say_written name) is
 
 -- the text of generated records is what was written
 pub says_made : (count seed : ℕ) (line name bytes : List ℕ) → line ≡ made_line count

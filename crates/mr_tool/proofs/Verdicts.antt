@@ -19,10 +19,12 @@ use Rattle.mr_clash.specs.Finding.{found}
 use Rattle.mr_clash.specs.declared.finding.Finding.{Finding}
 use Rattle.mr_clash.specs.declared.finding.Finding.TheVariants as findings
 use Rattle.mr_tool.specs.Answer.{IsSettled}
+use Rattle.mr_tool.specs.First.{first}
 use Rattle.mr_tool.specs.Ending.{Gives, printed_of}
 use Rattle.mr_tool.specs.Outcome.{Outcome, Nothing}
 use Rattle.mr_tool.specs.Say.{say_verdict, say_check_of, say_finding, say_audit_of, say_root_of}
 use Rattle.mr_tool.specs.declared.ending.Ending.{Ending}
+use Rattle.mr_pages.specs.declared.opening.Opened.{Opened}
 
 -- the error that it answers, as one of these
 pub checks_as : (hash : List ℕ → List ℕ) (root : List ℕ) (q : Query) (bytes : List ℕ)
@@ -66,19 +68,20 @@ root_writes hash (Ok records) = refl
 root_writes hash (Err fault) = refl
 
 -- nor does the command `audit`
-pub audit_writes : (hash : List ℕ → List ℕ) (q : Query) (t : Tree) (batch : ℕ) (bytes : List ℕ)
-    → (say_audit_of hash q t batch bytes).written ≡ Nothing
+pub audit_writes : (hash : List ℕ → List ℕ) (q : Query) (map : Opened) (bytes : List ℕ)
+    → (say_audit_of hash q map bytes).written ≡ Nothing
 unfolding say_audit_of
-audit_writes hash q t batch bytes = finding_writes (found hash t batch q bytes)
+audit_writes hash q map bytes = finding_writes (found (first hash) map.tree map.batch q bytes)
 
-pub says_finding : (hash : List ℕ → List ℕ) (q : Query) (t : Tree) (batch : ℕ) (bytes : List ℕ) (f : Finding)
-    → f ≡ found hash t batch q bytes → say_finding f ≡ say_audit_of hash q t batch bytes
+pub says_finding : (hash : List ℕ → List ℕ) (q : Query) (map : Opened) (bytes : List ℕ) (f : Finding)
+    → f ≡ found (first hash) map.tree map.batch q bytes → say_finding f ≡ say_audit_of hash q map bytes
 unfolding say_audit_of
-says_finding hash q t batch bytes f is = ap say_finding is
+says_finding hash q map bytes f is = ap say_finding is
 
 -- the honest proof is accepted with the answer of a scan
-pub accepted_scan : (hash : List ℕ → List ℕ) (q : Query) (t : Tree) (root bytes : List ℕ) → AcceptsHonest hash q
-    → WellFormed t → root ≡ digests.root hash t 0 → bytes ≡ proof hash t 0 q
+pub accepted_scan : (hash : List ℕ → List ℕ) (q : Query) (t : Tree) (root bytes : List ℕ)
+    → AcceptsHonest (first hash) q → WellFormed t → root ≡ digests.root (first hash) t 0
+    → bytes ≡ proof (first hash) t 0 q
     → verdict hash root q bytes ≡ Ok (scan (records t) q)
 accepted_scan hash q t root bytes accepts well roots own =
     (λ i. verdict hash (roots i) q (own i)) ∙ accepts t 0 well (omega arith)

@@ -9,6 +9,7 @@ use Rattle.mr_batch.specs.Workload.{generated, generated_queries}
 use Rattle.mr_query.specs.Scan.{scan}
 use Rattle.mr_query.specs.declared.query.Query.{Query}
 use Rattle.mr_proof.specs.Honest.{proof}
+use Rattle.mr_tool.specs.First.{first}
 use Rattle.mr_tool.specs.Lines.{count_line, digest_line}
 
 -- how many queries there are
@@ -21,7 +22,7 @@ all_answers t queries = sum_by (λ q. length (scan (records t) q)) queries
 
 -- the lengths of their proofs, added
 abbrev pub all_bytes : (List ℕ → List ℕ) → Tree → List Query → ℕ
-all_bytes hash t queries = sum_by (λ q. length (proof hash t 0 q)) queries
+all_bytes hash t queries = sum_by (λ q. length (proof (first hash) t 0 q)) queries
 
 -- the map: how many records it has, the level of its root node, and its root digest
 abbrev pub map_lines : (count level : ℕ) → (root : List ℕ) → List ℕ
@@ -41,7 +42,7 @@ total_lines answers bytes = count_line (codes "answers") answers ++ count_line (
 -- what some queries give on a map
 unfoldable pub tried_lines : (List ℕ → List ℕ) → (count : ℕ) → Tree → List Query → List ℕ
 tried_lines hash count t queries =
-    map_lines count (level t) (root hash t 0) ++ query_lines (length queries)
+    map_lines count (level t) (root (first hash) t 0) ++ query_lines (length queries)
     ++ total_lines (all_answers t queries) (all_bytes hash t queries)
 
 -- what 64 generated queries give on the map of generated records

@@ -12,18 +12,18 @@ use Rattle.mr_outside.specs.declared.shelf.ShelfErr.TheVariants as shelf
 use Rattle.mr_record.specs.Bytes.{AreBytes}
 use Rattle.mr_record.specs.RecordText.{text_of}
 use Rattle.mr_pages.specs.PageBytes.{first_form}
-use Rattle.mr_pages.specs.Law.{IsMap}
+use Rattle.mr_pages.specs.Law.{Agrees, IsMap}
 use Rattle.mr_tool.specs.Answer.{IsSettled}
 use Rattle.mr_tree.specs.WellFormed.{WellFormed}
-use Rattle.mr_tree.specs.declared.tree.Tree.{Tree}
-use Rattle.mr_tool.specs.Found.{Found}
+use Rattle.mr_tool.specs.Found.{Found, Shows}
 use Rattle.mr_tool.specs.Lines.{bad_words_line, shelf_fault_line}
 use Rattle.mr_tool.specs.Outcome.{Outcome, Content, File, IsLeft, MayLeave}
-use Rattle.mr_tool.specs.Plan.{Plan, comes, reads, opens, Input, IsInput, IsFound, IsAbsent, LacksInput}
+use Rattle.mr_tool.specs.Plan.{Plan, comes, reads, opens, Input, IsInput, IsAbsent, LacksInput}
 use Rattle.mr_tool.specs.Say.{needs_map, says_missing}
 use Rattle.mr_tool.specs.declared.ending.Ending.{Ending}
 use Rattle.mr_tool.specs.declared.ending.Halt.{Halt}
 use Rattle.mr_tool.specs.declared.ending.Halt.TheVariants as halts
+use Rattle.mr_pages.specs.declared.opening.Opened.{Opened}
 use Rattle.mr_tool.specs.declared.status.Status.{Status}
 use Rattle.mr_tool.specs.declared.status.Status.TheVariants.{BadWords, Outside, NoMemory}
 
@@ -55,26 +55,19 @@ pub record NoneFalls (before after : Shelved) : Type 0 where
   pub faults : before.faults ≤ after.faults
   pub reads : before.reads ≤ after.reads
 
--- An input that was read is of bytes. Nothing is said of one that is opened as a map: its size
--- alone may be its fault.
-abbrev pub IsTaken : Plan → Input → Type 0
-IsTaken (comes said) input = IfSome input AreBytes
-IsTaken (reads name next) input = IfSome input AreBytes
-IsTaken (opens hash bytes next) input = ⊤
-
 -- a map that the bytes stand for is what is found
 abbrev pub FindsMap : (List ℕ → List ℕ) → List ℕ → Found → Type 0
 FindsMap hash bytes found =
-    (tree : Tree) (batch : ℕ) → IsMap first_form hash bytes tree batch → found ≡ Ok (tree, batch)
+    (map : Opened) → IsMap first_form hash bytes map.tree map.batch → found ≡ Ok map
 
 -- a map is of a well-formed tree at a batch of 64 bits
 abbrev pub IsWell : Found → Type 0
-IsWell (Ok map) = WellFormed map.0 × (map.1 < 2 ^ 64)
+IsWell (Ok map) = WellFormed map.tree × (map.batch < 2 ^ 64)
 IsWell (Err fault) = ⊤
 
 -- this was found in the bytes of a file
 abbrev pub WasFound : Option Files → (List ℕ → List ℕ) → List ℕ → Found → Type 0
-WasFound told hash bytes found = IsFound hash bytes found
+WasFound told hash bytes found = Shows hash bytes found
     × OfFiles told (λ files. FindsMap hash bytes found)
 
 -- the plan comes to this status and text, and the files are left as its outcome says
@@ -82,7 +75,7 @@ abbrev pub Ends : Plan → Option Files → Option Files → Status → List ℕ
 Ends (comes said) before after status text = (status ≡ said.status) × (text ≡ said.printed)
     × IsLeft said.written before after
 Ends (reads name next) before after status text = (input : Input) × IsInput before name input
-    × IsTaken (next input) input × Ends (next input) before after status text
+    × IfSome input AreBytes × Ends (next input) before after status text
 Ends (opens hash bytes next) before after status text = (found : Found)
     × WasFound before hash bytes found × IsWell found × Ends (next found) before after status text
 
@@ -91,8 +84,16 @@ abbrev pub GivesUp : Plan → Option Files → Option Files → Type 0
 GivesUp (comes said) before after = MayLeave said.written before after
 GivesUp (reads name next) before after = (after ≡ before)
     ⊎ ((input : Input) × IsInput before name input × GivesUp (next input) before after)
-GivesUp (opens hash bytes next) before after = (after ≡ before)
-    ⊎ ((found : Found) × IsFound hash bytes found × GivesUp (next found) before after)
+GivesUp (opens hash bytes next) before after = (found : Found) × Shows hash bytes found
+    × GivesUp (next found) before after
+
+-- the bytes that the plan opens stand for one map or have one fault, whichever
+abbrev pub AreJudged : Plan → Option Files → Type 0
+AreJudged (comes said) told = ⊤
+AreJudged (reads name next) told =
+    (input : Input) → IsInput told name input → AreJudged (next input) told
+AreJudged (opens hash bytes next) told = Agrees first_form hash bytes
+    × ((found : Found) → Shows hash bytes found → AreJudged (next found) told)
 
 -- why a command is not carried out to its end
 abbrev pub Stops : Shelved → Shelved → Halt → Type 0
@@ -119,6 +120,7 @@ IsCalm before after (Err halt) = ⊤
 -- a command comes to what is said
 pub record Comes (plan : Plan) (before after : Shelved) (result : Result Ending Halt) : Type 0 where
   pub counts : NoneFalls before after
+  pub judged : AreJudged plan before.files
   pub came : Came plan before after result
   pub outside : Blames plan before after result
   pub quiet : IsCalm before after result
@@ -137,26 +139,39 @@ pub record Reads (name : List ℕ) (before after : Shelved) (result : Result (Op
   pub files : after.files ≡ before.files
   pub read : Read name before after result
 
--- a file was read that stands for this tree at this batch
-pub record HoldsMap (hash : List ℕ → List ℕ) (name : List ℕ) (before after : Shelved) (tree : Tree)
-    (batch : ℕ) : Type 0 where
+-- whatever bytes may be there, they stand for one map or have one fault
+abbrev pub IsJudged : (List ℕ → List ℕ) → Option Files → List ℕ → Type 0
+IsJudged hash told name =
+    (bytes : List ℕ) → IsInput told name (Some bytes) → Agrees first_form hash bytes
+
+-- a file was read that stands for this map
+pub record HoldsMap (hash : List ℕ → List ℕ) (name : List ℕ) (before after : Shelved) (map : Opened)
+    : Type 0 where
   pub counts : NoneFalls before after
   pub files : after.files ≡ before.files
   pub quiet : after.faults ≡ before.faults
   pub bytes : List ℕ
   pub input : IsInput before.files name (Some bytes)
-  pub found : WasFound before.files hash bytes (Ok (tree, batch))
-  pub well : WellFormed tree
-  pub low : batch < 2 ^ 64
+  pub are : AreBytes bytes
+  pub judged : IsJudged hash before.files name
+  pub found : WasFound before.files hash bytes (Ok map)
+  pub well : WellFormed map.tree
+  pub low : map.batch < 2 ^ 64
+
+-- what follows on any map opens no bytes but such
+abbrev pub GoesOn : (Opened → Plan) → Option Files → Type 0
+GoesOn next told = (map : Opened) → AreJudged (next map) told
 
 -- a map was read, or what is said without it is settled
 abbrev pub Opens : (List ℕ → List ℕ) → List ℕ → Shelved → Shelved
-    → Result (Result (Tree × ℕ) Ending) Halt → Type 0
-Opens hash name before after (Ok (Ok map)) = HoldsMap hash name before after map.0 map.1
+    → Result (Result Opened Ending) Halt → Type 0
+Opens hash name before after (Ok (Ok map)) = HoldsMap hash name before after map
 Opens hash name before after (Ok (Err ending)) =
-    (next : Tree → ℕ → Plan) → Comes (needs_map hash name next) before after (Ok ending)
+    (next : Opened → Plan) → GoesOn next before.files
+    → Comes (needs_map hash name next) before after (Ok ending)
 Opens hash name before after (Err halt) =
-    (next : Tree → ℕ → Plan) → Comes (needs_map hash name next) before after (Err halt)
+    (next : Opened → Plan) → GoesOn next before.files
+    → Comes (needs_map hash name next) before after (Err halt)
 
 -- the halt over a refusal of the shelf
 abbrev pub halt_of : ShelfErr → Halt

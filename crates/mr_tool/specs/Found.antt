@@ -1,7 +1,6 @@
 -- What is found in the bytes of a file that is read as a map.
 use Rattle.std.specs.Prelude.{◌≡◌, ℕ, List, [], ◌∷◌, ◌++◌, Some, Result, Ok, Err, codes, decimal}
 use Rattle.hex.specs.Hex.{encode_lower}
-use Rattle.mr_tree.specs.declared.tree.Tree.{Tree}
 use Rattle.mr_pages.specs.PageBytes.{first_form}
 use Rattle.mr_pages.specs.File.{file_of}
 use Rattle.mr_pages.specs.Faults.{mapfault}
@@ -10,14 +9,15 @@ use Rattle.mr_pages.specs.Rules.{map_rule_name}
 use Rattle.mr_pages.specs.declared.rule.MapRule.{MapRule}
 use Rattle.mr_pages.specs.declared.rule.MapRule.TheVariants as rule
 use Rattle.mr_pages.specs.declared.rule.MapFault.{MapFault}
+use Rattle.mr_pages.specs.declared.opening.Opened.{Opened}
 
--- a tree and its batch, or the first rule that is broken
+-- a map, or the first rule that is broken
 abbrev pub Found : Type 0
-Found = Result (Tree × ℕ) MapFault
+Found = Result Opened MapFault
 
--- the bytes stand for this tree at this batch; or they stand for no map, and this is their fault
+-- the bytes stand for this map; or they stand for none, and this is their fault
 abbrev pub Shows : (List ℕ → List ℕ) → List ℕ → Found → Type 0
-Shows hash bytes (Ok map) = IsMap first_form hash bytes map.0 map.1
+Shows hash bytes (Ok map) = IsMap first_form hash bytes map.tree map.batch
 Shows hash bytes (Err fault) = mapfault hash (file_of first_form bytes) ≡ Some fault
 
 -- ---- the line on a fault

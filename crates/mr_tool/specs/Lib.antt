@@ -1,4 +1,5 @@
 pub mod Status
+pub mod First
 pub mod Words
 pub mod Found
 pub mod Outcome

@@ -23,26 +23,21 @@ abbrev pub IsInput : Option Files → List ℕ → Input → Type 0
 IsInput None name input = IfSome input AreBytes
 IsInput (Some files) name input = file files name ≡ input
 
--- this is found in the bytes of a file
-abbrev pub IsFound : (List ℕ → List ℕ) → List ℕ → Found → Type 0
-IsFound hash bytes found = AreBytes bytes → Shows hash bytes found
-
 -- the outcome, by what each file holds that is read; where the files are not told, each read has
 -- some content
 abbrev pub Leads : Plan → Option Files → Outcome → Type 0
 Leads (comes said) told outcome = outcome ≡ said
 Leads (reads name next) told outcome = (input : Input) × IsInput told name input
     × Leads (next input) told outcome
-Leads (opens hash bytes next) told outcome = (found : Found) × IsFound hash bytes found
+Leads (opens hash bytes next) told outcome = (found : Found) × Shows hash bytes found
     × Leads (next found) told outcome
 
--- the one outcome over files that are told, whatever map their bytes stand for
+-- the one outcome over files that are told, whatever map or fault their bytes show
 abbrev pub IsOutcomeOver : Plan → Files → Outcome → Type 0
 IsOutcomeOver (comes said) files outcome = outcome ≡ said
 IsOutcomeOver (reads name next) files outcome = IsOutcomeOver (next (file files name)) files outcome
 IsOutcomeOver (opens hash bytes next) files outcome =
-    (found : Found) → AreBytes bytes → Shows hash bytes found
-    → IsOutcomeOver (next found) files outcome
+    (found : Found) → Shows hash bytes found → IsOutcomeOver (next found) files outcome
 
 -- the named file is told to be absent
 abbrev pub IsAbsent : Option Files → List ℕ → Type 0
@@ -54,5 +49,5 @@ abbrev pub LacksInput : Plan → Option Files → Type 0
 LacksInput (comes said) told = ⊥
 LacksInput (reads name next) told = IsAbsent told name
     ⊎ ((input : Input) × IsInput told name input × LacksInput (next input) told)
-LacksInput (opens hash bytes next) told = (found : Found) × IsFound hash bytes found
+LacksInput (opens hash bytes next) told = (found : Found) × Shows hash bytes found
     × LacksInput (next found) told

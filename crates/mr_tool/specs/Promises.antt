@@ -7,6 +7,8 @@ use Rattle.mr_outside.specs.Files.{Files, file}
 use Rattle.mr_outside.specs.Told.{Takes}
 use Rattle.mr_record.specs.RecordText.{records_of_text, text_of}
 use Rattle.mr_record.specs.declared.record.Record.{Record}
+use Rattle.mr_record.specs.declared.version.Version.{Version}
+use Rattle.mr_tree.specs.Digest.{Scheme, by}
 use Rattle.mr_tree.specs.Digest as digests
 use Rattle.mr_tree.specs.Tree.{records}
 use Rattle.mr_tree.specs.WellFormed.{WellFormed}
@@ -23,6 +25,7 @@ use Rattle.mr_proof.specs.Clash.{Pair, clash, IsCollision, NoneAnd}
 use Rattle.mr_proof.specs.Honest as honest
 use Rattle.mr_proof.specs.Tight.{asks}
 use Rattle.mr_tool.specs.Answer.{World, IsWhole, HasStopped}
+use Rattle.mr_tool.specs.First.{first}
 use Rattle.mr_tool.specs.Outcome.{Outcome}
 use Rattle.mr_tool.specs.Lines.{sound_line, collision_lines}
 use Rattle.mr_tool.specs.Say.{ends, prints}
@@ -68,7 +71,7 @@ pub record HoldsHonest (hash : List ℕ → List ℕ) (told : Option Files) (map
   pub tree : Tree
   pub batch : ℕ
   pub stands : IsMap first_form hash bytes tree batch
-  pub own : Holds told name (honest.proof hash tree batch q)
+  pub own : Holds told name (honest.proof (first hash) tree batch q)
 
 -- a map, and a text of a batch without a fault, which may be applied to it
 pub record HoldsBatch (hash : List ℕ → List ℕ) (told : Option Files) (map : List ℕ)
@@ -109,47 +112,48 @@ Delivers said before after status = IsWhole said before after status
     ⊎ HasStopped before after status
 
 -- `check` of the proof that an honest server gives, against the root digest of its map, prints
--- what a scan of the map's records gives; for every map and query.
+-- what a scan of the map's records gives; for every map, version and query.
 abbrev pub AnswersHonest : (List ℕ → List ℕ) → List (List ℕ) → World → World → Status → Type 0
 AnswersHonest hash words before after status =
-    (t : Tree) (batch : ℕ) (root : List ℕ) (q : Query) (proof : Bor (List ℕ))
-    → WellFormed t → batch < 2 ^ 64 → root ≡ digests.root hash t batch
+    (v : Version) (t : Tree) (batch : ℕ) (root : List ℕ) (q : Query) (proof : Bor (List ℕ))
+    → WellFormed t → batch < 2 ^ 64 → root ≡ digests.root (by v hash) t batch
     → Spells words (commands.Check root q proof)
-    → Holds before.shelf.files proof.now (honest.proof hash t batch q)
+    → Holds before.shelf.files proof.now (honest.proof (by v hash) t batch q)
     → Delivers (prints (text_of (scan (records t) q))) before after status
 
 -- the bytes are those that an honest server gives, and what was printed is what a scan of the map's
 -- records gives
-pub record PrintsScan (hash : List ℕ → List ℕ) (t : Tree) (batch : ℕ) (q : Query)
+pub record PrintsScan (s : Scheme) (t : Tree) (batch : ℕ) (q : Query)
     (bytes : List ℕ) (before after : World) : Type 0 where
-  pub own : bytes ≡ honest.proof hash t batch q
+  pub own : bytes ≡ honest.proof s t batch q
   pub printed : Takes before.sink after.sink (text_of (scan (records t) q))
 
 -- the bytes prove an answer; and no two strings stand at one place of the map and of the bytes and
 -- differ, the bytes are the honest proof and what was printed is the scan, or the first two that do
 -- differ have one hash
-pub record IsWorth (hash : List ℕ → List ℕ) (t : Tree) (batch : ℕ) (q : Query)
+pub record IsWorth (s : Scheme) (t : Tree) (batch : ℕ) (q : Query)
     (bytes : List ℕ) (before after : World) : Type 0 where
   pub answer : List Record
-  pub proves : Proves hash (digests.root hash t batch) (asks q) bytes answer
-  pub worth : NoneAnd hash (clash hash t batch bytes) (PrintsScan hash t batch q bytes before after)
+  pub proves : Proves s.of (digests.root s t batch) (asks q) bytes answer
+  pub worth : NoneAnd s.of (clash s t batch bytes) (PrintsScan s t batch q bytes before after)
 
 -- What it is worth that `check` accepts bytes against the root digest of a map, for every map,
--- query and bytes.
+-- version, query and bytes.
 abbrev pub AcceptsHonestOrCollides : (List ℕ → List ℕ) → List (List ℕ) → World → World → Status
     → Type 0
 AcceptsHonestOrCollides hash words before after status =
-    (t : Tree) (batch : ℕ) (root : List ℕ) (q : Query) (proof : Bor (List ℕ)) (bytes : List ℕ)
-    → WellFormed t → batch < 2 ^ 64 → root ≡ digests.root hash t batch
+    (v : Version) (t : Tree) (batch : ℕ) (root : List ℕ) (q : Query) (proof : Bor (List ℕ))
+    (bytes : List ℕ)
+    → WellFormed t → batch < 2 ^ 64 → root ≡ digests.root (by v hash) t batch
     → Spells words (commands.Check root q proof) → Holds before.shelf.files proof.now bytes
-    → status ≡ Done → IsWorth hash t batch q bytes before after
+    → status ≡ Done → IsWorth (by v hash) t batch q bytes before after
 
 -- What `audit` says of accepted bytes, by the first two strings that differ: that they are the
 -- honest proof, and the scan; or the two strings, which have one hash.
 abbrev pub SaysWorth : (List ℕ → List ℕ) → Tree → (batch : ℕ) → Query → List ℕ → Option Pair
     → World → World → Status → Type 0
 SaysWorth hash t batch q bytes None before after status =
-    (bytes ≡ honest.proof hash t batch q)
+    (bytes ≡ honest.proof (first hash) t batch q)
     × Delivers (prints (sound_line ++ text_of (scan (records t) q))) before after status
 SaysWorth hash t batch q bytes (Some p) before after status =
     IsCollision hash p
@@ -163,8 +167,8 @@ AuditsAccepted hash words before after status =
     (held bytes : List ℕ) (answer : List Record)
     → Spells words (commands.Audit map q proof) → Holds before.shelf.files map.now held
     → IsMap first_form hash held t batch → Holds before.shelf.files proof.now bytes
-    → Proves hash (digests.root hash t batch) (asks q) bytes answer
-    → SaysWorth hash t batch q bytes (clash hash t batch bytes) before after status
+    → Proves hash (digests.root (first hash) t batch) (asks q) bytes answer
+    → SaysWorth hash t batch q bytes (clash (first hash) t batch bytes) before after status
 
 -- Two strings that `audit` shows as a collision differ and have one hash, whether files are told or
 -- not; that they are the printed ones is known where the sink tells what it takes.

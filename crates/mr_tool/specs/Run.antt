@@ -4,6 +4,7 @@ use Rattle.mr_tool.specs.Answer.{World, Counts, HasOutsideCause, IsAnswer, IsQui
 use Rattle.mr_tool.specs.Promises.{CompletesWords, AnswersHonest, AcceptsHonestOrCollides, AuditsAccepted, CollidesRightly}
 use Rattle.mr_tool.specs.Say.{say}
 use Rattle.mr_tool.specs.Spelling.{IsSpelled}
+use Rattle.mr_tool.specs.Status.{code_of}
 use Rattle.mr_tool.specs.declared.status.Status.{Status}
 use Rattle.mr_tool.specs.declared.status.Status.TheVariants.{Outside}
 use Rattle.mr_tool.specs.declared.words.Command.{Command}
@@ -31,3 +32,8 @@ pub record IsRun (hash : List ℕ → List ℕ) (words : List (List ℕ)) (befor
   pub worth : AcceptsHonestOrCollides hash words before after status
   pub audited : AuditsAccepted hash words before after status
   pub collides : CollidesRightly hash words before after status
+
+-- a run that ends with this exit status
+abbrev pub EndsWith : (List ℕ → List ℕ) → List (List ℕ) → World → World → (code : ℕ) → Type 0
+EndsWith hash words before after code =
+    (status : Status) × (code ≡ code_of status) × IsRun hash words before after status

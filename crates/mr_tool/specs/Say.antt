@@ -1,5 +1,5 @@
 -- What each command says. The hash function is any one.
-use Rattle.std.specs.Prelude.{ℕ, List, ◌++◌, length, Option, Some, None, Result, Ok, Err}
+use Rattle.std.specs.Prelude.{ℕ, List, [], ◌∷◌, ◌++◌, length, Option, Some, None, Result, Ok, Err}
 use Rattle.mr_record.specs.declared.record.Record.{Record}
 use Rattle.mr_record.specs.declared.text_fault.TextFault.{TextFault}
 use Rattle.mr_record.specs.RecordText.{records_of_text, text_of}
@@ -22,12 +22,14 @@ use Rattle.mr_clash.specs.Finding.{found}
 use Rattle.mr_clash.specs.declared.finding.Finding.{Finding}
 use Rattle.mr_clash.specs.declared.finding.Finding.TheVariants as findings
 use Rattle.mr_tool.specs.Demo.{demo_lines}
+use Rattle.mr_tool.specs.First.{first}
 use Rattle.mr_tool.specs.Found.{Found, bad_map_line}
 use Rattle.mr_tool.specs.Lines.{digest_line, bad_words_line, bad_text_line, bad_batch_line, missing_line, proof_line, made_line, sound_line, collision_lines}
 use Rattle.mr_tool.specs.Outcome.{Outcome, Nothing, File, map_of}
 use Rattle.mr_tool.specs.Outcome as content
 use Rattle.mr_tool.specs.Plan.{Input, Plan, comes, reads, opens}
 use Rattle.mr_tool.specs.Refusal.{refused_line}
+use Rattle.mr_pages.specs.declared.opening.Opened.{Opened}
 use Rattle.mr_tool.specs.declared.status.Status.{Status}
 use Rattle.mr_tool.specs.declared.status.Status.TheVariants.{Done, BadWords, Refused, BadText, BadMap, BadBatch, Collision, Outside}
 use Rattle.mr_tool.specs.declared.words.Command.{Command}
@@ -55,18 +57,18 @@ abbrev pub needs : List ℕ → (List ℕ → Plan) → Plan
 needs name next = reads name (given name next)
 
 -- what follows on a map, or the line on the fault of a file that stands for none
-abbrev pub given_map : (Tree → ℕ → Plan) → Found → Plan
-given_map next (Ok map) = next map.0 map.1
+abbrev pub given_map : (Opened → Plan) → Found → Plan
+given_map next (Ok map) = next map
 given_map next (Err fault) = comes (ends BadMap (bad_map_line fault))
 
 -- a file that has to be there and to stand for a map is read
-abbrev pub needs_map : (List ℕ → List ℕ) → List ℕ → (Tree → ℕ → Plan) → Plan
+abbrev pub needs_map : (List ℕ → List ℕ) → List ℕ → (Opened → Plan) → Plan
 needs_map hash name next = needs name (λ bytes. opens hash bytes (given_map next))
 
 -- the root of the tree of the records of a text at batch 0, or the text's first fault
 abbrev pub say_root_of : (List ℕ → List ℕ) → Result (List Record) TextFault → Outcome
 say_root_of hash (Err fault) = ends BadText (bad_text_line fault)
-say_root_of hash (Ok records) = prints (digest_line (root hash (pack records) 0))
+say_root_of hash (Ok records) = prints (digest_line (root (first hash) (pack records) 0))
 
 -- `root RECORDS`: the root of the records of a file
 abbrev pub say_root : (List ℕ → List ℕ) → List ℕ → Plan
@@ -77,7 +79,7 @@ say_root hash records = needs records (λ text. comes (say_root_of hash (records
 abbrev pub say_map : (List ℕ → List ℕ) → List ℕ → Tree → ℕ → Outcome
 say_map hash map tree batch = record {
   status = Done;
-  printed = digest_line (root hash tree batch);
+  printed = digest_line (root (first hash) tree batch);
   written = File map (map_of hash tree batch);
 }
 
@@ -97,28 +99,28 @@ say_list_of tree = prints (text_of (by_number (records tree)))
 
 -- `list MAP`: the records of the map in a file
 abbrev pub say_list : (List ℕ → List ℕ) → List ℕ → Plan
-say_list hash map = needs_map hash map (λ tree batch. comes (say_list_of tree))
+say_list hash name = needs_map hash name (λ map. comes (say_list_of map.tree))
 
 -- the map of the tree after a batch in a file, at the batch's number, and its root; or why the
 -- batch may not be applied
 abbrev pub say_admitted : (List ℕ → List ℕ) → List ℕ → Tree → Changes → Option BatchFault → Outcome
-say_admitted hash new tree batch None = say_map hash new (replay tree batch) batch.number
+say_admitted hash new tree batch None = say_map hash new (replay tree (batch ∷ [])) batch.number
 say_admitted hash new tree batch (Some fault) = ends BadBatch (bad_batch_line fault)
 
--- what is said of a batch for a tree at the held one
-abbrev pub say_batch : (List ℕ → List ℕ) → List ℕ → Tree → ℕ → Changes → Outcome
-say_batch hash new tree held batch =
-    say_admitted hash new tree batch (batch_fault (records tree) held batch)
+-- what is said of a batch for a map
+abbrev pub say_batch : (List ℕ → List ℕ) → List ℕ → Opened → Changes → Outcome
+say_batch hash new map batch =
+    say_admitted hash new map.tree batch (batch_fault (records map.tree) map.batch batch)
 
 -- what is said of the batch of a text, or the text's first fault
-abbrev pub say_apply_of : (List ℕ → List ℕ) → List ℕ → Tree → ℕ → Result Changes TextFault → Outcome
-say_apply_of hash new tree held (Err fault) = ends BadText (bad_text_line fault)
-say_apply_of hash new tree held (Ok batch) = say_batch hash new tree held batch
+abbrev pub say_apply_of : (List ℕ → List ℕ) → List ℕ → Opened → Result Changes TextFault → Outcome
+say_apply_of hash new map (Err fault) = ends BadText (bad_text_line fault)
+say_apply_of hash new map (Ok batch) = say_batch hash new map batch
 
 -- `apply OLD BATCH NEW`: the map after the batch in a file, written to another one
 abbrev pub say_apply : (List ℕ → List ℕ) → (old batch new : List ℕ) → Plan
-say_apply hash old batch new = needs_map hash old (λ tree held. needs batch
-    (λ text. comes (say_apply_of hash new tree held (batch_of_text text))))
+say_apply hash old batch new = needs_map hash old
+    (λ map. needs batch (λ text. comes (say_apply_of hash new map (batch_of_text text))))
 
 -- these bytes in a file, and a line on them
 abbrev pub say_text : (line name bytes : List ℕ) → Outcome
@@ -133,14 +135,14 @@ abbrev pub say_written : List ℕ → List ℕ → Outcome
 say_written proof bytes = say_text (proof_line (length bytes)) proof bytes
 
 -- the honest proof for a query on a map in a file, and its length
-unfoldable pub say_prove_of : (List ℕ → List ℕ) → Query → List ℕ → Tree → ℕ → Outcome
-say_prove_of hash query proof tree batch =
-    say_written proof (honest.proof hash tree batch query)
+unfoldable pub say_prove_of : (List ℕ → List ℕ) → Query → List ℕ → Opened → Outcome
+say_prove_of hash query proof map =
+    say_written proof (honest.proof (first hash) map.tree map.batch query)
 
 -- `prove MAP QUERY PROOF`: the proof for a query on the map in a file, written to another one
 abbrev pub say_prove : (List ℕ → List ℕ) → List ℕ → Query → List ℕ → Plan
-say_prove hash map query proof =
-    needs_map hash map (λ tree batch. comes (say_prove_of hash query proof tree batch))
+say_prove hash name query proof =
+    needs_map hash name (λ map. comes (say_prove_of hash query proof map))
 
 -- the answer that a proof proves, a line for each record, or its fault
 abbrev pub say_verdict : Result (List Record) Fault → Outcome
@@ -163,13 +165,13 @@ say_finding (findings.Sound answer) = prints (sound_line ++ text_of answer)
 say_finding (findings.Collision owned shown) = ends Collision (collision_lines owned shown)
 
 -- what is said of the bytes of a proof and of a map
-unfoldable pub say_audit_of : (List ℕ → List ℕ) → Query → Tree → ℕ → List ℕ → Outcome
-say_audit_of hash query tree batch bytes = say_finding (found hash tree batch query bytes)
+unfoldable pub say_audit_of : (List ℕ → List ℕ) → Query → Opened → List ℕ → Outcome
+say_audit_of hash query map bytes = say_finding (found (first hash) map.tree map.batch query bytes)
 
 -- `audit MAP QUERY PROOF`: what the proof in a file is worth against the map in another one
 abbrev pub say_audit : (List ℕ → List ℕ) → List ℕ → Query → List ℕ → Plan
-say_audit hash map query proof = needs_map hash map
-    (λ tree batch. needs proof (λ bytes. comes (say_audit_of hash query tree batch bytes)))
+say_audit hash name query proof = needs_map hash name
+    (λ map. needs proof (λ bytes. comes (say_audit_of hash query map bytes)))
 
 -- the text of generated records in a file, and how many they are
 unfoldable pub say_make_of : (count seed : ℕ) → List ℕ → Outcome

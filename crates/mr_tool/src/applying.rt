@@ -1,4 +1,7 @@
+//! The command `apply`.
+
 ghost use Rattle.mr_tree.specs.WellFormed.{WellFormed};
+ghost use Rattle.mr_batch.specs.Answer.{Answers};
 ghost use Rattle.mr_batch.specs.BatchText.{batch_of_text};
 ghost use Rattle.mr_tool.specs.Ending.{Comes, GivesOrStops};
 ghost use Rattle.mr_tool.specs.Lines.{bad_batch_line as line_of};
@@ -13,6 +16,7 @@ use crate::opening::open_map;
 use crate::saving::save_map;
 use mr_batch::{ApplyErr, Batch, BatchFault, apply_plain, read_batch};
 use mr_outside::Shelf;
+use mr_pages::Opened;
 use mr_record::TextErr;
 use mr_tree::{Hash32, Tree, root_of};
 use std::alloc::Global;
@@ -44,38 +48,43 @@ fn save_after<H: Hash32, S: Shelf>(
 // The map of a tree after a batch, in a file, and its root; or why the batch may not be applied.
 fn apply_batch<H: Hash32, S: Shelf>(
     alloc: Global,
-    tree: Tree,
-    held: u64,
+    map: Opened,
     batch: &Batch,
     new: &str,
     shelf: &mut S,
 ) -> Result<Ending, Halt>
-    requires { WellFormed tree }
-    ensures { Comes (comes (say_batch H.of new.now tree held batch.now)) (S.state shelf.old)
+    requires { WellFormed map.tree }
+    ensures { Comes (comes (say_batch H.of new.now map batch.now)) (S.state shelf.old)
         (S.state shelf.new) result }
 {
-    match apply_plain(alloc, tree, held, batch) {
+    match apply_plain(alloc, map.tree, map.batch, batch) {
         Ok(after) => save_after::<H, S>(alloc, new, &after, batch.number(), shelf),
         Err(ApplyErr::Batch(_tree, fault)) => bad_batch(alloc, &fault),
         Err(ApplyErr::NoMemory) => Err(Halt::NoMemory),
     }
 }
 
+// The batch of a text, which is given up for it.
+fn batch_in(alloc: Global, text: Vec<u8>) -> Result<Batch, TextErr>
+    ensures { Answers result (batch_of_text text.items) }
+{
+    read_batch(alloc, &text)
+}
+
 // The same for the batch of a text, or its fault.
 fn apply_text<H: Hash32, S: Shelf>(
     alloc: Global,
-    tree: Tree,
-    held: u64,
-    text: &[u8],
+    map: Opened,
+    text: Vec<u8>,
     new: &str,
     shelf: &mut S,
 ) -> Result<Ending, Halt>
-    requires { WellFormed tree }
-    ensures { Comes (comes (say_apply_of H.of new.now tree held (batch_of_text text.now)))
+    requires { WellFormed map.tree }
+    ensures { Comes (comes (say_apply_of H.of new.now map (batch_of_text text.items)))
         (S.state shelf.old) (S.state shelf.new) result }
 {
-    match read_batch(alloc, text) {
-        Ok(batch) => apply_batch::<H, S>(alloc, tree, held, &batch, new, shelf),
+    match batch_in(alloc, text) {
+        Ok(batch) => apply_batch::<H, S>(alloc, map, &batch, new, shelf),
         Err(TextErr::Text(fault)) => bad_text(alloc, &fault),
         Err(TextErr::NoMemory) => Err(Halt::NoMemory),
     }
@@ -84,25 +93,24 @@ fn apply_text<H: Hash32, S: Shelf>(
 // The same for the batch in a file.
 fn apply_file<H: Hash32, S: Shelf>(
     alloc: Global,
-    tree: Tree,
-    held: u64,
+    map: Opened,
     batch: &str,
     new: &str,
     shelf: &mut S,
 ) -> Result<Ending, Halt>
-    requires { WellFormed tree }
+    requires { WellFormed map.tree }
     ensures { Comes (needs batch.now
-        (λ text. comes (say_apply_of H.of new.now tree held (batch_of_text text))))
+        (λ text. comes (say_apply_of H.of new.now map (batch_of_text text))))
         (S.state shelf.old) (S.state shelf.new) result }
 {
     match read(alloc, batch, shelf) {
-        Ok(Some(text)) => apply_text::<H, S>(alloc, tree, held, &text, new, shelf),
+        Ok(Some(text)) => apply_text::<H, S>(alloc, map, text, new, shelf),
         Ok(None) => missing(alloc, batch),
         Err(halt) => Err(halt),
     }
 }
 
-/// The map in a file after the batch in another one, written to a third one.
+// The map in a file after the batch in another one, written to a third one.
 pub(crate) fn apply<H: Hash32, S: Shelf>(
     alloc: Global,
     old: &str,
@@ -114,7 +122,7 @@ pub(crate) fn apply<H: Hash32, S: Shelf>(
         (S.state shelf.new) result }
 {
     match open_map::<H, S>(alloc, old, shelf)? {
-        Ok((tree, held)) => apply_file::<H, S>(alloc, tree, held, batch, new, shelf),
+        Ok(map) => apply_file::<H, S>(alloc, map, batch, new, shelf),
         Err(ending) => Ok(ending),
     }
 }

@@ -1,3 +1,5 @@
+//! The command `build`.
+
 ghost use Rattle.std.specs.Prelude.{Ok};
 ghost use Rattle.mr_record.specs.RecordText.{IsRecordList, records_of_text};
 ghost use Rattle.mr_tool.specs.Ending.{Comes};
@@ -5,11 +7,11 @@ ghost use Rattle.mr_tool.specs.Plan.{comes};
 ghost use Rattle.mr_tool.specs.Say.{say_build, say_build_of};
 
 use crate::ending::{Ending, Halt};
-use crate::input::{bad_text, missing, read};
-use crate::root::packed;
+use crate::input::{bad_text, missing, read, records_in};
 use crate::saving::save_map;
 use mr_outside::{Gate, Shelf};
-use mr_record::{Record, TextErr, read_lines};
+use mr_pack::pack_joined_distinct;
+use mr_record::{Record, TextErr};
 use mr_tree::Hash32;
 use std::alloc::Global;
 use std::thread::Threads;
@@ -27,9 +29,7 @@ fn build_records<H: Hash32, S: Shelf, G: Gate, R: Threads + Sync>(
     ensures { Comes (comes (say_build_of H.of map.now (Ok records.items))) (S.state shelf.old)
         (S.state shelf.new) result }
 {
-    let Some(made) = packed::<H, G, R>(rt, alloc, records, gate) else {
-        return Err(Halt::NoMemory);
-    };
+    let made = pack_joined_distinct::<H, G, R>(rt, alloc, records, gate)?;
     save_map::<H, S>(alloc, map, &made.0, 0, &made.1, shelf)
 }
 
@@ -38,22 +38,22 @@ fn build_text<H: Hash32, S: Shelf, G: Gate, R: Threads + Sync>(
     rt: &R,
     alloc: Global,
     map: &str,
-    text: &[u8],
+    text: Vec<u8>,
     shelf: &mut S,
     gate: &G,
 ) -> Result<Ending, Halt>
-    ensures { Comes (comes (say_build_of H.of map.now (records_of_text text.now)))
+    ensures { Comes (comes (say_build_of H.of map.now (records_of_text text.items)))
         (S.state shelf.old) (S.state shelf.new) result }
 {
-    match read_lines(alloc, text) {
+    match records_in(alloc, text) {
         Ok(records) => build_records::<H, S, G, R>(rt, alloc, map, records, shelf, gate),
         Err(TextErr::Text(fault)) => bad_text(alloc, &fault),
         Err(TextErr::NoMemory) => Err(Halt::NoMemory),
     }
 }
 
-/// The map of the records of a file, written to another one: its nodes stand in preorder from page
-/// 1 on, and no page is free.
+// The map of the records of a file, written to another one: its nodes stand in preorder from page
+// 1 on, and no page is free.
 pub(crate) fn build<H: Hash32, S: Shelf, G: Gate, R: Threads + Sync>(
     rt: &R,
     alloc: Global,
@@ -66,7 +66,7 @@ pub(crate) fn build<H: Hash32, S: Shelf, G: Gate, R: Threads + Sync>(
         result }
 {
     match read(alloc, records, shelf) {
-        Ok(Some(text)) => build_text::<H, S, G, R>(rt, alloc, map, &text, shelf, gate),
+        Ok(Some(text)) => build_text::<H, S, G, R>(rt, alloc, map, text, shelf, gate),
         Ok(None) => missing(alloc, records),
         Err(halt) => Err(halt),
     }

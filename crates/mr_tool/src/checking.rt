@@ -1,3 +1,5 @@
+//! The command `check`.
+
 ghost use Rattle.mr_query.specs.Word.{IsAskable};
 ghost use Rattle.mr_tool.specs.Ending.{Comes, GivesOrStops};
 ghost use Rattle.mr_tool.specs.Refusal.{refused_line as line_of};
@@ -39,7 +41,7 @@ fn check_bytes<H: Hash32>(
     }
 }
 
-/// The answer that the proof in a file proves, against a root digest and for a query.
+// The answer that the proof in a file proves, against a root digest and for a query.
 pub(crate) fn check_proof<H: Hash32, S: Shelf>(
     alloc: Global,
     root: &[u8; 32],

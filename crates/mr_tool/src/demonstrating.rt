@@ -1,5 +1,8 @@
-ghost use Rattle.std.specs.Prelude.{◌≡◌, ◌<◌, ◌≤◌, ◌^◌, length, All, IfOk};
+//! The command `demo`.
+
+ghost use Rattle.std.specs.Prelude.{◌≡◌, ◌<◌, ◌≤◌, ◌^◌, length, All, None, IfOk};
 ghost use Rattle.std.specs.String.{string_bytes};
+ghost use Rattle.mr_record.specs.declared.version.Version.TheVariants.{One};
 ghost use Rattle.mr_tree.specs.Digest.{root as root_digest};
 ghost use Rattle.mr_tree.specs.Snapshot.{standing_of};
 ghost use Rattle.mr_tree.specs.Tree.{records};
@@ -9,22 +12,23 @@ ghost use Rattle.mr_query.specs.Word.{IsAskable};
 ghost use Rattle.mr_proof.specs.Honest.{proof};
 ghost use Rattle.mr_tool.specs.Demo.{all_answers, all_bytes, tried_lines, demo_lines as lines_of};
 ghost use Rattle.mr_tool.specs.Ending.{Gives};
+ghost use Rattle.mr_tool.specs.First.{first};
 ghost use Rattle.mr_tool.specs.Say.{prints};
 
 use crate::Status;
 use crate::ending::Ending;
 use crate::lines::{map_lines, push_queries, push_totals};
-use crate::proving::proof_of_nodes;
-use crate::root::packed;
+use crate::memory::proof_of_nodes;
 use mr_batch::{generate, generate_queries};
 use mr_check::{CheckErr, check};
 use mr_outside::Gate;
+use mr_pack::pack_joined_distinct;
 use mr_query::Query;
 use mr_tree::{Hash32, Nodes, Snapshot, Tree, level_of};
 use std::alloc::{AllocError, Global};
 use std::thread::Threads;
 
-/// How many queries a demonstration proves and checks.
+// How many queries a demonstration proves and checks.
 const DEMO_QUERIES: u32 = 64;
 
 // How many records the answers to some queries have, and how many bytes their proofs.
@@ -43,9 +47,9 @@ fn answer_size<H: Hash32>(
     bytes: &[u8],
 ) -> Result<usize, AllocError>
     requires well_formed { WellFormed tree.now }
-    requires root { root.now ≡ root_digest H.of tree.now 0 }
+    requires root { root.now ≡ root_digest (first H.of) tree.now 0 }
     requires askable { IsAskable query.now }
-    requires own { bytes.now ≡ proof H.of tree.now 0 query.now }
+    requires own { bytes.now ≡ proof (first H.of) tree.now 0 query.now }
     ensures { IfOk result (λ n. n ≡ length (scan (records tree.now) query.now)) }
 {
     match check::<H>(alloc, root, query, bytes) {
@@ -64,16 +68,16 @@ fn try_query<N: Nodes>(
     root: &[u8; 32],
     query: &Query,
 ) -> Result<Totals, AllocError>
-    requires stands { N.stands nodes.old ≡ standing_of 0 tree.now }
-    requires calm { (n : N) → N.faults n ≡ 0 }
+    requires stands { N.stands nodes.old ≡ standing_of One 0 tree.now }
+    requires calm { (n : N) → N.refusal n ≡ None }
     requires well_formed { WellFormed tree.now }
-    requires root { root.now ≡ root_digest N.Hash.of tree.now 0 }
+    requires root { root.now ≡ root_digest (first N.Hash.of) tree.now 0 }
     requires askable { IsAskable query.now }
-    ensures stands { N.stands nodes.new ≡ standing_of 0 tree.now }
+    ensures stands { N.stands nodes.new ≡ standing_of One 0 tree.now }
     ensures answers { IfOk result
         (λ all. all.answers ≡ length (scan (records tree.now) query.now)) }
     ensures bytes { IfOk result
-        (λ all. all.bytes ≡ length (proof N.Hash.of tree.now 0 query.now)) }
+        (λ all. all.bytes ≡ length (proof (first N.Hash.of) tree.now 0 query.now)) }
     ensures few_answers { IfOk result (λ all. all.answers < 2 ^ 64) }
     ensures few_bytes { IfOk result (λ all. all.bytes < 2 ^ 64) }
 {
@@ -93,10 +97,10 @@ fn try_queries<N: Nodes>(
     root: &[u8; 32],
     queries: &[Query],
 ) -> Result<Totals, AllocError>
-    requires stands { N.stands nodes.old ≡ standing_of 0 tree.now }
-    requires calm { (n : N) → N.faults n ≡ 0 }
+    requires stands { N.stands nodes.old ≡ standing_of One 0 tree.now }
+    requires calm { (n : N) → N.refusal n ≡ None }
     requires well_formed { WellFormed tree.now }
-    requires root { root.now ≡ root_digest N.Hash.of tree.now 0 }
+    requires root { root.now ≡ root_digest (first N.Hash.of) tree.now 0 }
     requires askable { All IsAskable queries.now }
     requires few { length queries.now ≤ 2 ^ 16 }
     ensures answers { IfOk result (λ all. all.answers ≡ all_answers tree.now queries.now) }
@@ -120,7 +124,7 @@ fn totals_of<H: Hash32>(
     queries: &[Query],
 ) -> Result<Totals, AllocError>
     requires well_formed { WellFormed tree.now }
-    requires root { root.now ≡ root_digest H.of tree.now 0 }
+    requires root { root.now ≡ root_digest (first H.of) tree.now 0 }
     requires askable { All IsAskable queries.now }
     requires few { length queries.now ≤ 2 ^ 16 }
     ensures answers { IfOk result (λ all. all.answers ≡ all_answers tree.now queries.now) }
@@ -140,7 +144,7 @@ fn tried<H: Hash32>(
     queries: &[Query],
 ) -> Result<String, AllocError>
     requires well_formed { WellFormed tree.now }
-    requires root { root.now ≡ root_digest H.of tree.now 0 }
+    requires root { root.now ≡ root_digest (first H.of) tree.now 0 }
     requires askable { All IsAskable queries.now }
     requires few { length queries.now ≤ 2 ^ 16 }
     ensures { IfOk result
@@ -166,14 +170,12 @@ fn demo_lines<H: Hash32, G: Gate, R: Threads + Sync>(
     ensures { IfOk result (λ lines. string_bytes lines ≡ lines_of H.of count seed) }
 {
     let records = generate(alloc, count, seed)?;
-    let Some(map) = packed::<H, G, R>(rt, alloc, records, gate) else {
-        return Err(AllocError);
-    };
+    let made = pack_joined_distinct::<H, G, R>(rt, alloc, records, gate)?;
     let queries = generate_queries(alloc, DEMO_QUERIES, seed)?;
-    tried::<H>(alloc, count, &map.0, &map.1, &queries)
+    tried::<H>(alloc, count, &made.0, &made.1, &queries)
 }
 
-/// What 64 generated queries give on the map of so many generated records, all in memory.
+// What 64 generated queries give on the map of so many generated records, all in memory.
 pub(crate) fn demo<H: Hash32, G: Gate, R: Threads + Sync>(
     rt: &R,
     alloc: Global,

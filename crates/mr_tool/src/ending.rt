@@ -1,3 +1,5 @@
+//! What a command comes to, and why it may be given up.
+
 ghost use Rattle.std.specs.Prelude.{◌≡◌, ◌++◌};
 ghost use Rattle.std.specs.String.{string_bytes};
 ghost use Rattle.mr_record.specs.RecordText.{text_of};

@@ -1,4 +1,9 @@
+//! Inputs, and what is said of one that is missing or is no text of its kind.
+
+ghost use Rattle.std.specs.Prelude.{IfOk};
+ghost use Rattle.mr_record.specs.Answer.{Answers};
 ghost use Rattle.mr_record.specs.Bytes.{AreBytes};
+ghost use Rattle.mr_record.specs.RecordText.{IsRecordList, records_of_text};
 ghost use Rattle.mr_tool.specs.Ending.{GivesOrStops, Misses, Reads};
 ghost use Rattle.mr_tool.specs.Lines.{bad_text_line as line_of};
 ghost use Rattle.mr_tool.specs.Say.{ends};
@@ -7,7 +12,7 @@ use crate::Status;
 use crate::ending::{Ending, Halt};
 use crate::lines::{bad_text_line, missing_line};
 use mr_outside::{Shelf, ShelfErr, read_all};
-use mr_record::TextFault;
+use mr_record::{Record, TextErr, TextFault, read_lines};
 use std::alloc::Global;
 
 // What the type tells of its values.
@@ -32,6 +37,14 @@ pub(crate) fn read<S: Shelf>(
         Err(ShelfErr::Fault) => Err(Halt::Shelf),
         Err(ShelfErr::NoMemory) => Err(Halt::NoMemory),
     }
+}
+
+// The records of a text, which is given up for them: both would be held while a tree is built.
+pub(crate) fn records_in(alloc: Global, text: Vec<u8>) -> Result<Vec<Record>, TextErr>
+    ensures exact { Answers result (records_of_text text.items) }
+    ensures list { IfOk result (λ v. IsRecordList v.items) }
+{
+    read_lines(alloc, &text)
 }
 
 // The ending over a file that is missing.

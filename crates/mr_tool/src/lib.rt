@@ -12,6 +12,7 @@ mod input;
 mod lines;
 mod listing;
 mod making;
+mod memory;
 mod opening;
 mod program;
 mod proving;

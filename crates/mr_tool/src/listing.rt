@@ -1,3 +1,5 @@
+//! The command `list`.
+
 ghost use Rattle.std.specs.Prelude.{◌≡◌, map, IfOk, OnOk};
 ghost use Rattle.mr_record.specs.Sorting.{sorted_by_key};
 ghost use Rattle.mr_query.specs.Scan.{by_number as in_order};
@@ -74,7 +76,7 @@ fn list_tree(alloc: Global, tree: Tree) -> Result<Ending, AllocError>
     Ok(Ending::records(alloc, Status::Done, by_number(alloc, &list)?))
 }
 
-/// The records of the map in a file, in rising number.
+// The records of the map in a file, in rising number.
 pub(crate) fn list<H: Hash32, S: Shelf>(
     alloc: Global,
     name: &str,
@@ -83,7 +85,7 @@ pub(crate) fn list<H: Hash32, S: Shelf>(
     ensures { Comes (say_list H.of name.now) (S.state shelf.old) (S.state shelf.new) result }
 {
     match open_map::<H, S>(alloc, name, shelf)? {
-        Ok((tree, _batch)) => Ok(list_tree(alloc, tree)?),
+        Ok(map) => Ok(list_tree(alloc, map.tree)?),
         Err(ending) => Ok(ending),
     }
 }

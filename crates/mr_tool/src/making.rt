@@ -1,3 +1,5 @@
+//! The command `make`.
+
 ghost use Rattle.std.specs.Prelude.{◌≡◌, ◌≤◌, ◌^◌, IfOk};
 ghost use Rattle.mr_record.specs.RecordText.{text_of};
 ghost use Rattle.mr_batch.specs.Workload.{generated};
@@ -6,24 +8,12 @@ ghost use Rattle.mr_tool.specs.Say.{say_make};
 
 use crate::ending::{Ending, Halt};
 use crate::lines::made_line;
+use crate::memory::text_of_records;
 use crate::saving::save_text;
 use crate::text::Text;
 use mr_batch::generate;
-use mr_outside::{Shelf, SinkErr};
-use mr_record::{Record, write_lines};
+use mr_outside::Shelf;
 use std::alloc::{AllocError, Global};
-
-// The text of some records.
-fn text_of_records(alloc: Global, list: &[Record]) -> Result<Text, AllocError>
-    ensures { IfOk result (λ t. t.bytes.items ≡ text_of list.now) }
-{
-    let mut out = Text::new(alloc);
-    match write_lines(&mut out, list) {
-        Ok(()) => Ok(out),
-        Err(SinkErr::Fault) => unreachable!(),
-        Err(SinkErr::NoMemory) => Err(AllocError),
-    }
-}
 
 // The text of so many generated records.
 fn made_text(alloc: Global, count: u32, seed: u64) -> Result<Text, AllocError>
@@ -34,7 +24,7 @@ fn made_text(alloc: Global, count: u32, seed: u64) -> Result<Text, AllocError>
     text_of_records(alloc, &list)
 }
 
-/// So many generated records, written to a file, and how many they are.
+// So many generated records, written to a file, and how many they are.
 pub(crate) fn make<S: Shelf>(
     alloc: Global,
     count: u32,

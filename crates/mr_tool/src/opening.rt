@@ -1,3 +1,5 @@
+//! A map file as an input.
+
 ghost use Rattle.std.specs.Prelude.{◌≡◌, ◌<◌, ◌^◌, IfOk};
 ghost use Rattle.mr_tool.specs.Ending.{Gives, Opens};
 ghost use Rattle.mr_tool.specs.Found.{bad_map_line as line_of};
@@ -8,8 +10,8 @@ use crate::ending::{Ending, Halt};
 use crate::input::missing;
 use crate::lines::bad_map_line;
 use mr_outside::Shelf;
-use mr_pages::{MapErr, MapFault, open_plain};
-use mr_tree::{Hash32, Tree};
+use mr_pages::{MapErr, MapFault, Opened, open_plain};
+use mr_tree::Hash32;
 use std::alloc::{AllocError, Global};
 
 // What the type tells of its values.
@@ -25,18 +27,18 @@ fn bad_map(alloc: Global, fault: &MapFault) -> Result<Ending, AllocError>
     Ok(Ending::line(alloc, Status::BadMap, line))
 }
 
-/// The map in a file, its tree and its batch, or what the command comes to without it.
+// The map in a file, or what the command comes to without it.
 pub(crate) fn open_map<H: Hash32, S: Shelf>(
     alloc: Global,
     name: &str,
     shelf: &mut S,
-) -> Result<Result<(Tree, u64), Ending>, Halt>
+) -> Result<Result<Opened, Ending>, Halt>
     ensures { Opens H.of name.now (S.state shelf.old) (S.state shelf.new) result }
 {
     match open_plain::<H, S>(alloc, shelf, name) {
-        Ok(map) => {
-            is_word(map.1);
-            Ok(Ok(map))
+        Ok((tree, batch)) => {
+            is_word(batch);
+            Ok(Ok(Opened { tree, batch }))
         }
         Err(MapErr::Map(fault)) => Ok(Err(bad_map(alloc, &fault)?)),
         Err(MapErr::Missing) => Ok(Err(missing(alloc, name)?)),

@@ -1,10 +1,12 @@
+//! A run of the program, from its words to its status.
+
 ghost use Rattle.std.specs.Prelude.{◌≡◌, ℕ, List, length, Some, None, map};
 ghost use Rattle.std.specs.String.{string_bytes};
 ghost use Rattle.mr_record.specs.Bytes.{AreBytes};
 ghost use Rattle.mr_tool.specs.Answer.{Counts, IsQuiet, world};
 ghost use Rattle.mr_tool.specs.Ending.{Comes};
 ghost use Rattle.mr_tool.specs.Promises.{CompletesWords, AnswersHonest, AcceptsHonestOrCollides, AuditsAccepted, CollidesRightly};
-ghost use Rattle.mr_tool.specs.Run.{AnswersWords, BlamesRightly};
+ghost use Rattle.mr_tool.specs.Run.{AnswersWords, BlamesRightly, IsRun};
 ghost use Rattle.mr_tool.specs.Say.{say};
 ghost use Rattle.mr_tool.specs.Spelling.{IsSpelled, MayBeAsked};
 
@@ -76,6 +78,29 @@ fn carry_out<H: Hash32, S: Shelf, G: Gate, R: Threads + Sync>(
     (came, shelf)
 }
 
+// Runs the program, with all that is promised of a run as one.
+fn answered<H: Hash32, S: Shelf, W: Sink, G: Gate, R: Threads + Sync>(
+    rt: &R,
+    alloc: Global,
+    words: &[String],
+    shelf: S,
+    out: &mut W,
+    gate: &G,
+) -> (Status, S)
+    ensures run { let before = world (S.state shelf) (W.state out.old) in
+        let after = world (S.state result.1) (W.state out.new) in
+        IsRun H.of (map string_bytes words.now) before after result.0 }
+    ensures unspoken { IsSpelled (map string_bytes words.now) None → result.1 ≡ shelf }
+{
+    match read_words(words) {
+        Some(command) => {
+            let (came, shelf) = carry_out::<H, S, G, R>(rt, alloc, &command, shelf, gate);
+            (finish(out, came), shelf)
+        }
+        None => (finish(out, Err(Halt::Words)), shelf),
+    }
+}
+
 /// Runs the program on the words after its name, and hands the shelf back beside the status.
 ///
 /// Inputs are read from the shelf by name, and all that is printed goes to the sink. Where a map is
@@ -129,11 +154,5 @@ pub fn run<H: Hash32, S: Shelf, W: Sink, G: Gate, R: Threads + Sync>(
         let after = world (S.state result.1) (W.state out.new) in
         CollidesRightly H.of (map string_bytes words.now) before after result.0 }
 {
-    match read_words(words) {
-        Some(command) => {
-            let (came, shelf) = carry_out::<H, S, G, R>(rt, alloc, &command, shelf, gate);
-            (finish(out, came), shelf)
-        }
-        None => (finish(out, Err(Halt::Words)), shelf),
-    }
+    answered::<H, S, W, G, R>(rt, alloc, words, shelf, out, gate)
 }

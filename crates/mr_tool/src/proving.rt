@@ -1,62 +1,35 @@
-ghost use Rattle.std.specs.Prelude.{◌≡◌, IfOk, IfSome, IsSome};
+//! The command `prove`.
+
+ghost use Rattle.std.specs.Prelude.{◌≡◌, IfOk};
 ghost use Rattle.mr_tree.specs.WellFormed.{WellFormed};
 ghost use Rattle.mr_query.specs.Word.{IsAskable};
 ghost use Rattle.mr_proof.specs.Honest.{proof as honest_proof};
 ghost use Rattle.mr_tool.specs.Ending.{Comes};
+ghost use Rattle.mr_tool.specs.First.{first};
 ghost use Rattle.mr_tool.specs.Plan.{comes};
 ghost use Rattle.mr_tool.specs.Say.{say_prove, say_prove_of, say_written};
 
 use crate::ending::{Ending, Halt};
 use crate::lines::proof_line;
+use crate::memory::proof_of_nodes;
 use crate::opening::open_map;
 use crate::saving::save_text;
 use crate::text::Text;
 use mr_outside::Shelf;
-use mr_prove::{ProveErr, prove};
+use mr_pages::Opened;
 use mr_query::Query;
-use mr_tree::{Hash32, Nodes, NodesErr, Snapshot, Tree};
+use mr_tree::{Hash32, Snapshot};
 use std::alloc::{AllocError, Global};
 
-// The proof for a query on the map of these nodes, which are told and never fail.
-pub(crate) fn proof_of_nodes<N: Nodes>(
-    alloc: Global,
-    nodes: &mut N,
-    query: &Query,
-) -> Result<Text, AllocError>
-    requires askable { IsAskable query.now }
-    requires told { IsSome (N.stands nodes.old).tree }
-    requires calm { (n : N) → N.faults n ≡ 0 }
-    ensures kept { N.kept nodes.old nodes.new }
-    ensures written { IfSome (N.stands nodes.old).tree (λ t. IfOk result (λ text. text.bytes.items
-        ≡ honest_proof N.Hash.of t (N.stands nodes.old).batch query.now)) }
-{
-    let mut out = Text::new(alloc);
-    match prove(alloc, nodes, query, &mut out) {
-        Ok(()) => Ok(out),
-        Err(ProveErr::NoMemory) => Err(AllocError),
-        Err(ProveErr::Sink) => unreachable!(),
-        Err(ProveErr::Nodes(NodesErr::Changed { .. })) => unreachable!(),
-        Err(ProveErr::Nodes(NodesErr::Page { .. })) => unreachable!(),
-        Err(ProveErr::Nodes(NodesErr::Outside { .. })) => unreachable!(),
-        Err(ProveErr::Nodes(NodesErr::Missing)) => unreachable!(),
-        Err(ProveErr::Nodes(NodesErr::Fault)) => unreachable!(),
-        Err(ProveErr::Nodes(NodesErr::NoMemory)) => unreachable!(),
-    }
-}
-
 // The proof for a query on a map.
-fn proof_of<H: Hash32>(
-    alloc: Global,
-    tree: &Tree,
-    batch: u64,
-    query: &Query,
-) -> Result<Text, AllocError>
-    requires well_formed { WellFormed tree.now }
+fn proof_of<H: Hash32>(alloc: Global, map: &Opened, query: &Query) -> Result<Text, AllocError>
+    requires well_formed { WellFormed map.now.tree }
     requires askable { IsAskable query.now }
     ensures { IfOk result
-        (λ text. text.bytes.items ≡ honest_proof H.of tree.now batch query.now) }
+        (λ text. text.bytes.items
+        ≡ honest_proof (first H.of) map.now.tree map.now.batch query.now) }
 {
-    let snapshot = Snapshot::<H>::of(alloc, tree, batch)?;
+    let snapshot = Snapshot::<H>::of(alloc, &map.tree, map.batch)?;
     proof_of_nodes(alloc, &mut snapshot.reader(), query)
 }
 
@@ -77,22 +50,21 @@ fn write_proof<S: Shelf>(
 // The proof for a query on a map, in a file.
 fn prove_map<H: Hash32, S: Shelf>(
     alloc: Global,
-    tree: &Tree,
-    batch: u64,
+    map: &Opened,
     query: &Query,
     name: &str,
     shelf: &mut S,
 ) -> Result<Ending, Halt>
-    requires well_formed { WellFormed tree.now }
+    requires well_formed { WellFormed map.now.tree }
     requires askable { IsAskable query.now }
-    ensures { Comes (comes (say_prove_of H.of query.now name.now tree.now batch))
-        (S.state shelf.old) (S.state shelf.new) result }
+    ensures { Comes (comes (say_prove_of H.of query.now name.now map.now)) (S.state shelf.old)
+        (S.state shelf.new) result }
 {
-    let out = proof_of::<H>(alloc, tree, batch, query)?;
+    let out = proof_of::<H>(alloc, map, query)?;
     write_proof(alloc, name, out.bytes(), shelf)
 }
 
-/// The proof for a query on the map in a file, written to another one.
+// The proof for a query on the map in a file, written to another one.
 pub(crate) fn prove_query<H: Hash32, S: Shelf>(
     alloc: Global,
     map: &str,
@@ -105,7 +77,7 @@ pub(crate) fn prove_query<H: Hash32, S: Shelf>(
         (S.state shelf.new) result }
 {
     match open_map::<H, S>(alloc, map, shelf)? {
-        Ok((tree, batch)) => prove_map::<H, S>(alloc, &tree, batch, query, proof, shelf),
+        Ok(map) => prove_map::<H, S>(alloc, &map, query, proof, shelf),
         Err(ending) => Ok(ending),
     }
 }

@@ -1,41 +1,23 @@
-ghost use Rattle.std.specs.Prelude.{◌≡◌, Some, IfSome};
+//! The command `root`.
+
 ghost use Rattle.mr_record.specs.RecordText.{IsRecordList, records_of_text};
 ghost use Rattle.mr_tree.specs.Digest.{root as root_digest};
-ghost use Rattle.mr_tree.specs.WellFormed.{WellFormed};
 ghost use Rattle.mr_pack.specs.Pack.{pack as tree_of};
 ghost use Rattle.mr_tool.specs.Ending.{Comes, GivesOrStops};
+ghost use Rattle.mr_tool.specs.First.{first};
 ghost use Rattle.mr_tool.specs.Lines.{digest_line as line_of};
 ghost use Rattle.mr_tool.specs.Say.{prints, say_root, say_root_of};
 
 use crate::Status;
 use crate::ending::{Ending, Halt};
-use crate::input::{bad_text, missing, read};
+use crate::input::{bad_text, missing, read, records_in};
 use crate::lines::digest_line;
 use mr_outside::{Gate, Shelf};
-use mr_pack::{PackErr, pack_joined};
-use mr_record::{Record, TextErr, read_lines};
-use mr_tree::{Hash32, Tree};
+use mr_pack::pack_joined_distinct;
+use mr_record::{Record, TextErr};
+use mr_tree::Hash32;
 use std::alloc::Global;
 use std::thread::Threads;
-
-// The tree of records whose numbers differ, and its root digest at batch 0, unless memory ran out.
-pub(crate) fn packed<H: Hash32, G: Gate, R: Threads + Sync>(
-    rt: &R,
-    alloc: Global,
-    records: Vec<Record>,
-    gate: &G,
-) -> Option<(Tree, [u8; 32])>
-    requires { IsRecordList records.items }
-    ensures tree { IfSome result (λ map. map.0 ≡ tree_of records.items) }
-    ensures well_formed { IfSome result (λ map. WellFormed map.0) }
-    ensures root { IfSome result (λ map. map.1 ≡ root_digest H.of map.0 0) }
-{
-    match pack_joined::<H, G, R>(rt, alloc, records, gate) {
-        Ok(map) => Some(map),
-        Err(PackErr::NumberTwice { number: _ }) => unreachable!(),
-        Err(PackErr::NoMemory) => None,
-    }
-}
 
 // The root of some records.
 fn root_of_records<H: Hash32, G: Gate, R: Threads + Sync>(
@@ -45,13 +27,11 @@ fn root_of_records<H: Hash32, G: Gate, R: Threads + Sync>(
     gate: &G,
 ) -> Result<Ending, Halt>
     requires { IsRecordList records.items }
-    ensures { let digest = root_digest H.of (tree_of records.items) 0 in
+    ensures { let digest = root_digest (first H.of) (tree_of records.items) 0 in
         GivesOrStops (prints (line_of digest)) result }
 {
-    let Some(map) = packed::<H, G, R>(rt, alloc, records, gate) else {
-        return Err(Halt::NoMemory);
-    };
-    let line = digest_line(alloc, &map.1)?;
+    let made = pack_joined_distinct::<H, G, R>(rt, alloc, records, gate)?;
+    let line = digest_line(alloc, &made.1)?;
     Ok(Ending::line(alloc, Status::Done, line))
 }
 
@@ -59,19 +39,19 @@ fn root_of_records<H: Hash32, G: Gate, R: Threads + Sync>(
 fn root_of_text<H: Hash32, G: Gate, R: Threads + Sync>(
     rt: &R,
     alloc: Global,
-    text: &[u8],
+    text: Vec<u8>,
     gate: &G,
 ) -> Result<Ending, Halt>
-    ensures { GivesOrStops (say_root_of H.of (records_of_text text.now)) result }
+    ensures { GivesOrStops (say_root_of H.of (records_of_text text.items)) result }
 {
-    match read_lines(alloc, text) {
+    match records_in(alloc, text) {
         Ok(records) => root_of_records::<H, G, R>(rt, alloc, records, gate),
         Err(TextErr::Text(fault)) => bad_text(alloc, &fault),
         Err(TextErr::NoMemory) => Err(Halt::NoMemory),
     }
 }
 
-/// The root digest of the records of a file.
+// The root digest of the records of a file.
 pub(crate) fn root<H: Hash32, S: Shelf, G: Gate, R: Threads + Sync>(
     rt: &R,
     alloc: Global,
@@ -82,7 +62,7 @@ pub(crate) fn root<H: Hash32, S: Shelf, G: Gate, R: Threads + Sync>(
     ensures { Comes (say_root H.of name.now) (S.state shelf.old) (S.state shelf.new) result }
 {
     match read(alloc, name, shelf) {
-        Ok(Some(text)) => root_of_text::<H, G, R>(rt, alloc, &text, gate),
+        Ok(Some(text)) => root_of_text::<H, G, R>(rt, alloc, text, gate),
         Ok(None) => missing(alloc, name),
         Err(halt) => Err(halt),
     }

@@ -1,8 +1,11 @@
+//! Outputs: a text, or a map file.
+
 ghost use Rattle.std.specs.Prelude.{◌≡◌};
 ghost use Rattle.std.specs.String.{string_bytes};
 ghost use Rattle.mr_tree.specs.Digest.{root as root_digest};
 ghost use Rattle.mr_tree.specs.WellFormed.{WellFormed};
 ghost use Rattle.mr_tool.specs.Ending.{Comes, Saves};
+ghost use Rattle.mr_tool.specs.First.{first};
 ghost use Rattle.mr_tool.specs.Outcome.{map_of, text};
 ghost use Rattle.mr_tool.specs.Plan.{comes};
 ghost use Rattle.mr_tool.specs.Say.{say_map, say_text};
@@ -25,7 +28,7 @@ fn save_bytes<S: Shelf>(name: &str, bytes: &[u8], shelf: &mut S) -> Result<(), H
     Ok(())
 }
 
-/// These bytes in a file, and the line on them.
+// These bytes in a file, and the line on them.
 pub(crate) fn save_text<S: Shelf>(
     alloc: Global,
     line: String,
@@ -60,7 +63,7 @@ fn save<H: Hash32, S: Shelf>(
     }
 }
 
-/// The map of a tree at a batch, written to a file, and its root.
+// The map of a tree at a batch, written to a file, and its root.
 pub(crate) fn save_map<H: Hash32, S: Shelf>(
     alloc: Global,
     name: &str,
@@ -70,7 +73,7 @@ pub(crate) fn save_map<H: Hash32, S: Shelf>(
     shelf: &mut S,
 ) -> Result<Ending, Halt>
     requires well_formed { WellFormed tree.now }
-    requires root { root.now ≡ root_digest H.of tree.now batch }
+    requires root { root.now ≡ root_digest (first H.of) tree.now batch }
     ensures { Comes (comes (say_map H.of name.now tree.now batch)) (S.state shelf.old)
         (S.state shelf.new) result }
 {

@@ -1,3 +1,5 @@
+//! How a run ended.
+
 ghost use Rattle.std.specs.Prelude.{◌≡◌};
 ghost use Rattle.mr_tool.specs.Status.{code_of};
 

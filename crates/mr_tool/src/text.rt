@@ -1,3 +1,5 @@
+//! A text in memory.
+
 ghost use Rattle.std.specs.Prelude.{◌≡◌, [], Some};
 ghost use Rattle.mr_outside.specs.State.{Sunk};
 

@@ -1,8 +1,10 @@
+//! The words of a command.
+
 ghost use Rattle.std.specs.Prelude.{◌≡◌, ◌≢◌, ◌↔◌, ◌∷◌, [], IsTrue, Option, codes, map};
 ghost use Rattle.std.specs.String.{string_bytes};
 ghost use Rattle.std.specs.List.{list_all};
 ghost use Rattle.mr_record.specs.RecordText.{is_lower_digit};
-ghost use Rattle.mr_tool.specs.Spelling.{IsSpelled, AsksAs, IsNumberOf, digest_of_word};
+ghost use Rattle.mr_tool.specs.Spelling.{IsSpelled, AsksAs, IsAsked, IsNumberOf, digest_of_word};
 ghost use Rattle.mr_tool.specs.declared.words.Command as types;
 
 use hex::FromHex;
@@ -128,9 +130,10 @@ fn check_words<'a>(root: &str, query: &str, proof: &'a str) -> Option<Command<'a
     Some(Command::Check(digest, asked, proof))
 }
 
-// The command `prove` on the file of a map, a query and the file of a proof.
-fn prove_words<'a>(map: &'a str, query: &str, proof: &'a str) -> Option<Command<'a>>
-    ensures { IsSpelled (codes "prove" ∷ map.now ∷ query.now ∷ proof.now ∷ []) result }
+// The query that a word spells, between the files of a map and of a proof, as `prove` and `audit`
+// have them.
+fn query_between(map: &str, query: &str, proof: &str) -> Option<Query>
+    ensures { IsAsked map.now query.now proof.now result }
 {
     let Ok(asked) = read_query(query) else {
         return None;
@@ -138,20 +141,7 @@ fn prove_words<'a>(map: &'a str, query: &str, proof: &'a str) -> Option<Command<
     if map.is_empty() || proof.is_empty() || map == proof {
         return None;
     }
-    Some(Command::Prove(map, asked, proof))
-}
-
-// The command `audit` on the file of a map, a query and the file of a proof.
-fn audit_words<'a>(map: &'a str, query: &str, proof: &'a str) -> Option<Command<'a>>
-    ensures { IsSpelled (codes "audit" ∷ map.now ∷ query.now ∷ proof.now ∷ []) result }
-{
-    let Ok(asked) = read_query(query) else {
-        return None;
-    };
-    if map.is_empty() || proof.is_empty() || proof == map {
-        return None;
-    }
-    Some(Command::Audit(map, asked, proof))
+    Some(asked)
 }
 
 // The number between two bounds that a word writes in decimal.
@@ -215,9 +205,9 @@ fn four_words<'a>(name: &str, a: &'a str, b: &'a str, c: &'a str) -> Option<Comm
 {
     match name {
         "apply" => apply_words(a, b, c),
-        "prove" => prove_words(a, b, c),
+        "prove" => Some(Command::Prove(a, query_between(a, b, c)?, c)),
         "check" => check_words(a, b, c),
-        "audit" => audit_words(a, b, c),
+        "audit" => Some(Command::Audit(a, query_between(a, b, c)?, c)),
         "make" => make_words(a, b, c),
         _ => None,
     }

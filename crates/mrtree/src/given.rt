@@ -1,10 +1,10 @@
+//! A run on the words that the system gave.
+
 ghost use Rattle.std.specs.Prelude.{◌≡◌, map, IfOk, IfErr};
 ghost use Rattle.std.specs.String.{string_bytes};
 ghost use Rattle.std.specs.IoError.{error_kind};
 ghost use Rattle.mr_tool.specs.Answer.{world};
-ghost use Rattle.mr_tool.specs.Run.{IsRun};
-ghost use Rattle.mr_tool.specs.Status.{code_of};
-ghost use Rattle.mr_tool.specs.declared.status.Status as statuses;
+ghost use Rattle.mr_tool.specs.Run.{EndsWith};
 
 use mr_outside::{NoGate, Shelf, Sink};
 use mr_tool::{Status, run};
@@ -23,10 +23,11 @@ pub(crate) fn run_given<H: Hash32, S: Shelf, W: Sink, R: Threads + Sync>(
 ) -> (u8, S)
     ensures given { let before = world (S.state shelf) (W.state out.old) in
         let after = world (S.state result.1) (W.state out.new) in
-        IfOk words (λ ws. (status : statuses.Status) × (result.0 ≡ code_of status) × IsRun H.of (map string_bytes ws.items) before after status) }
+        IfOk words (λ ws. EndsWith H.of (map string_bytes ws.items) before after result.0) }
     // Where the system gives no words, nothing is done.
     ensures no_memory { IfErr words (λ e. error_kind e ≡ ErrorKind.OutOfMemory → result.0 ≡ 8) }
-    ensures not_given { IfErr words (λ e. (error_kind e ≡ ErrorKind.OutOfMemory → ⊥) → result.0 ≡ 7) }
+    ensures not_given { IfErr words
+        (λ e. (error_kind e ≡ ErrorKind.OutOfMemory → ⊥) → result.0 ≡ 7) }
     ensures untouched { IfErr words (λ _. (result.1 ≡ shelf) × (out.new ≡ out.old)) }
 {
     match words {

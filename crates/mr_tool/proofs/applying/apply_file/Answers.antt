@@ -1,32 +1,26 @@
-use Rattle.std.proofs.Common.{subst}
 use Rattle.std.specs.Prelude.{ℕ, List}
 use Rattle.mr_batch.specs.BatchText.{batch_of_text}
 use Rattle.mr_tool.specs.Say.{say_apply_of}
-use Rattle.mr_tool.specs.Ending.{Comes}
-use Rattle.mr_tool.specs.Plan.{comes}
 use Rattle.mr_tool.proofs.Going.{comes_read, comes_missed, comes_unread}
 use Rattle.mr_tool.proofs.applying.apply_file.Goals as goal
 
 pub returns-in-Ok-Some : goal.returns-in-Ok-Some
 returns-in-Ok-Some g c =
-    let next = λ (text : List ℕ).
-    comes (say_apply_of g.H.Hashes.of c.args.new.now c.args.tree c.args.held (batch_of_text text)) in
+    let said = λ (text : List ℕ). say_apply_of g.H.Hashes.of c.args.new.now c.args.map (batch_of_text text) in
     let between = g.S.Shelf.state c.read.new.shelf in
     let after = g.S.Shelf.state c.apply_text.new.shelf in
-    comes_read c.args.batch.now next (g.S.Shelf.state c.args.shelf.now) between after c.in-Ok-Some.text
+    comes_read c.args.batch.now said (g.S.Shelf.state c.args.shelf.now) between after c.in-Ok-Some.text
     c.in-Ok-Some.field-0 c.apply_text.result c.in-Ok-Some.field-0-is c.in-Ok-Some.ensures
-    (subst (λ bytes. Comes (next bytes) between after c.apply_text.result) c.deref.ensures.value c.apply_text.ensures)
+    c.apply_text.ensures
 
 pub returns-in-Ok-None : goal.returns-in-Ok-None
 returns-in-Ok-None g c =
-    let next = λ (text : List ℕ).
-    comes (say_apply_of g.H.Hashes.of c.args.new.now c.args.tree c.args.held (batch_of_text text)) in
-    comes_missed c.args.batch.now next (g.S.Shelf.state c.args.shelf.now) (g.S.Shelf.state c.read.new.shelf)
+    let said = λ (text : List ℕ). say_apply_of g.H.Hashes.of c.args.new.now c.args.map (batch_of_text text) in
+    comes_missed c.args.batch.now said (g.S.Shelf.state c.args.shelf.now) (g.S.Shelf.state c.read.new.shelf)
     c.in-Ok-None.field-0 c.missing.result c.in-Ok-None.field-0-is c.in-Ok-None.ensures c.missing.ensures
 
 pub returns-in-Err : goal.returns-in-Err
 returns-in-Err g c =
-    let next = λ (text : List ℕ).
-    comes (say_apply_of g.H.Hashes.of c.args.new.now c.args.tree c.args.held (batch_of_text text)) in
-    comes_unread c.args.batch.now next (g.S.Shelf.state c.args.shelf.now) (g.S.Shelf.state c.read.new.shelf)
+    let said = λ (text : List ℕ). say_apply_of g.H.Hashes.of c.args.new.now c.args.map (batch_of_text text) in
+    comes_unread c.args.batch.now said (g.S.Shelf.state c.args.shelf.now) (g.S.Shelf.state c.read.new.shelf)
     c.in-Err.halt c.in-Err.ensures

@@ -1,31 +1,30 @@
 use Rattle.std.proofs.Common.{subst}
 use Rattle.mr_tool.specs.Say.{say_audit_of}
 use Rattle.mr_tool.specs.Ending.{GivesOrStops}
-use Rattle.mr_tool.specs.Plan.{comes}
 use Rattle.mr_tool.proofs.Going.{comes_given, comes_read, comes_missed, comes_unread}
 use Rattle.mr_tool.proofs.Verdicts.{audit_writes}
 use Rattle.mr_tool.proofs.auditing.audit_file.Goals as goal
 
 pub returns-in-Ok-Some : goal.returns-in-Ok-Some
 returns-in-Ok-Some g c =
-    let said = say_audit_of g.H.Hashes.of c.args.query.now c.args.tree.now c.args.batch in
+    let said = say_audit_of g.H.Hashes.of c.args.query.now c.args.map.now in
     let between = g.S.Shelf.state c.read.new.shelf in
     let bytes = c.in-Ok-Some.bytes.items in
-    comes_read c.args.name.now (λ b. comes (said b)) (g.S.Shelf.state c.args.shelf.now) between between
+    comes_read c.args.name.now said (g.S.Shelf.state c.args.shelf.now) between between
     c.in-Ok-Some.bytes c.in-Ok-Some.field-0 c.audit_bytes.result c.in-Ok-Some.field-0-is c.in-Ok-Some.ensures
     (comes_given (said bytes) between c.audit_bytes.result
-    (audit_writes g.H.Hashes.of c.args.query.now c.args.tree.now c.args.batch bytes)
+    (audit_writes g.H.Hashes.of c.args.query.now c.args.map.now bytes)
     (subst (λ b. GivesOrStops (said b) c.audit_bytes.result) c.deref.ensures.value c.audit_bytes.ensures))
 
 pub returns-in-Ok-None : goal.returns-in-Ok-None
 returns-in-Ok-None g c =
-    let said = say_audit_of g.H.Hashes.of c.args.query.now c.args.tree.now c.args.batch in
-    comes_missed c.args.name.now (λ b. comes (said b)) (g.S.Shelf.state c.args.shelf.now)
+    let said = say_audit_of g.H.Hashes.of c.args.query.now c.args.map.now in
+    comes_missed c.args.name.now said (g.S.Shelf.state c.args.shelf.now)
     (g.S.Shelf.state c.read.new.shelf) c.in-Ok-None.field-0 c.missing.result c.in-Ok-None.field-0-is
     c.in-Ok-None.ensures c.missing.ensures
 
 pub returns-in-Err : goal.returns-in-Err
 returns-in-Err g c =
-    let said = say_audit_of g.H.Hashes.of c.args.query.now c.args.tree.now c.args.batch in
-    comes_unread c.args.name.now (λ b. comes (said b)) (g.S.Shelf.state c.args.shelf.now)
+    let said = say_audit_of g.H.Hashes.of c.args.query.now c.args.map.now in
+    comes_unread c.args.name.now said (g.S.Shelf.state c.args.shelf.now)
     (g.S.Shelf.state c.read.new.shelf) c.in-Err.halt c.in-Err.ensures

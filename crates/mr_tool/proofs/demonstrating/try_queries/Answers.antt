@@ -4,12 +4,13 @@ use Rattle.std.proofs.lemmas.List.Sums.{sum_by_more}
 use Rattle.mr_tree.specs.Tree.{records}
 use Rattle.mr_query.specs.Scan.{scan}
 use Rattle.mr_proof.specs.Honest.{proof}
+use Rattle.mr_tool.specs.First.{first}
 use Rattle.mr_tool.proofs.demonstrating.try_queries.Goals as goal
 
 pub loop-query-preserved : goal.loop-query-preserved
 loop-query-preserved g c =
     let tree = c.args.tree.now in
-    let hash = g.N.Hash.Hashes.of in
+    let hash = first g.N.Hash.Hashes.of in
     let at = c.loop-query.query-index in
     let queries = c.args.queries.now in
     let on = c.loop-query.invariant in

@@ -6,26 +6,27 @@ use Rattle.mr_tool.specs.Say.{say_list, say_list_of}
 use Rattle.mr_tool.proofs.Going.{halted_is, comes_map, comes_at_once}
 use Rattle.mr_tool.proofs.listing.list.Goals as goal
 
-pub returns-in_err-tree : goal.returns-in_err-tree
-returns-in_err-tree g c =
+pub returns-in_err-map : goal.returns-in_err-map
+returns-in_err-map g c =
     subst (Comes (say_list g.H.Hashes.of c.args.name.now) (g.S.Shelf.state c.args.shelf.now)
     (g.S.Shelf.state c.open_map.new.shelf))
-    (sym (halted_is c.from_residual.result c.in_err-tree.field-0.0 c.from_residual.ensures.1))
-    (c.in_err-tree.ensures (λ tree batch. comes (say_list_of tree)))
+    (sym (halted_is c.from_residual.result c.in_err-map.field-0.0 c.from_residual.ensures.1))
+    (c.in_err-map.ensures (λ map. comes (say_list_of map.tree)) (λ map. tt))
 
 pub returns-in_ok-list_tree-in-Ok : goal.returns-in_ok-list_tree-in-Ok
 returns-in_ok-list_tree-in-Ok g c =
     let hash = g.H.Hashes.of in
     let before = g.S.Shelf.state c.args.shelf.now in
     let after = g.S.Shelf.state c.open_map.new.shelf in
-    comes_map hash c.args.name.now (λ tree batch. comes (say_list_of tree)) before after after c.in-Ok.tree
-    c.in-Ok._batch (Ok c.in_ok-list_tree-in-Ok.field-0)
-    (subst (λ opened. Opens hash c.args.name.now before after (Ok opened)) c.in-Ok.is c.in_ok-tree.ensures)
-    (comes_at_once (say_list_of c.in-Ok.tree) after c.in_ok-list_tree-in-Ok.field-0 refl
+    comes_map hash c.args.name.now (λ map. comes (say_list_of map.tree)) before after after c.in-Ok.map
+    (Ok c.in_ok-list_tree-in-Ok.field-0)
+    (subst (λ opened. Opens hash c.args.name.now before after (Ok opened)) c.in-Ok.is c.in_ok-map.ensures)
+    (λ map. tt)
+    (comes_at_once (say_list_of c.in-Ok.map.tree) after c.in_ok-list_tree-in-Ok.field-0 refl
     c.in_ok-list_tree-in-Ok.ensures)
 
 pub returns-in-Err : goal.returns-in-Err
 returns-in-Err g c =
     subst (λ opened. Opens g.H.Hashes.of c.args.name.now (g.S.Shelf.state c.args.shelf.now)
-    (g.S.Shelf.state c.open_map.new.shelf) (Ok opened)) c.in-Err.is c.in_ok-tree.ensures
-    (λ tree batch. comes (say_list_of tree))
+    (g.S.Shelf.state c.open_map.new.shelf) (Ok opened)) c.in-Err.is c.in_ok-map.ensures
+    (λ map. comes (say_list_of map.tree)) (λ map. tt)

@@ -1,6 +1,5 @@
 use Rattle.mr_tool.specs.declared.ending.Halt.TheVariants as halts
-use Rattle.mr_tool.proofs.Going.{saved_so, unsaved}
-use Rattle.mr_tool.proofs.Showing.{IsSized}
+use Rattle.mr_tool.proofs.Going.{IsSized, saved_so, unsaved}
 use Rattle.mr_tool.proofs.saving.save.Given
 use Rattle.mr_tool.proofs.saving.save.Goals as goal
 

@@ -1,10 +1,8 @@
-use Rattle.std.proofs.Common.{◌≡◌, sym, subst}
+use Rattle.std.proofs.Common.{sym, subst}
 use Rattle.std.specs.Prelude.{IfOk, map}
 use Rattle.std.specs.String.{string_bytes}
 use Rattle.mr_tool.specs.Answer.{world}
-use Rattle.mr_tool.specs.Run.{IsRun}
-use Rattle.mr_tool.specs.Status.{code_of}
-use Rattle.mr_tool.specs.declared.status.Status.{Status}
+use Rattle.mr_tool.specs.Run.{EndsWith, IsRun}
 use Rattle.mrtree.proofs.given.run_given.Goals as goal
 
 pub returns-in-Ok-clause-given : goal.returns-in-Ok-clause-given
@@ -24,8 +22,8 @@ returns-in-Ok-clause-given g c =
       audited = e.audited;
       collides = e.collides;
     } in
-    subst (λ given. IfOk given (λ ws. (status : Status) × (c.code.result ≡ code_of status)
-    × IsRun hash (map string_bytes ws.items) before after status)) (sym c.in-Ok.is) (
+    subst (λ given. IfOk given (λ ws. EndsWith hash (map string_bytes ws.items) before after c.code.result))
+    (sym c.in-Ok.is) (
       c.run-status.result.0,
       c.code.ensures,
       subst (λ ws. IsRun hash (map string_bytes ws) before after c.run-status.result.0) c.deref.ensures.value is,
