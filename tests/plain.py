@@ -8,7 +8,7 @@ usage: tests/plain.py RECORDS [BATCH ..]
 Prints the root digest of the map of the record text in the file RECORDS, and then that after each batch in turn, or
 the line on the first batch that may not be applied. It takes texts to be without a fault. `make` prints the text that
 the program's command of that name writes to a file, `demo` what the program's prints. With no words it prints the
-constants of the tests in crates/mr_tests. It is no part of the gate.
+roots in the stories of crates/mr_tests, by their names. It is no part of the gate.
 """
 import hashlib
 import math
@@ -309,7 +309,7 @@ def demo_lines(count, seed):
     yield "bytes %d" % sum(proof_length(tree, q) for q in queries)
 
 
-# ---- the constants of the tests
+# ---- the stories of the tests, by name
 
 
 def place(i):
@@ -335,22 +335,23 @@ def point(number, x, y):
     return number, (x, y, x, y), b""
 
 
-CONSTANTS = {
-    "ADDED": (places(1, 5000), [(1, places(5001, 7000))]),
-    "MIXED": (places(1, 3000), [mixed(b) for b in range(1, 5)]),
-    "RISING": (places(1, 300), removals(1, 3, 100)),
-    "FALLING": (places(1, 300), removals(299, 3, 100)),
-    "SCATTERED": (places(1, 300), removals(7, 3, 100)),
-    "THREE_LEVELS": (places(1, 1500), removals(11, 4, 375)),
-    "ROOT_SPLIT": ([point(i, i, 0) for i in range(1, 1025)], [(1, [point(2000, 5, 0), point(2001, 700, 1)])]),
-    "AGAIN": (places(1, 40), [(1, [7, place(7)] * 20)]),
+STORIES = {
+    "two thousand additions": (places(1, 5000), [(1, places(5001, 7000))]),
+    "batches of five hundred changes": (places(1, 3000), [mixed(b) for b in range(1, 5)]),
+    "a map is emptied in rising order": (places(1, 300), removals(1, 3, 100)),
+    "a map is emptied in falling order": (places(1, 300), removals(299, 3, 100)),
+    "a map is emptied in scattered order": (places(1, 300), removals(7, 3, 100)),
+    "a map of three levels is emptied: nodes leave at two levels at once": (places(1, 1500), removals(11, 4, 375)),
+    "a root of 64 nodes is split": ([point(i, i, 0) for i in range(1, 1025)], [(1, [point(2000, 5, 0), point(2001, 700, 1)])]),
+    "one record goes and comes, twenty times": (places(1, 40), [(1, [7, place(7)] * 20)]),
+    "a proof of more than 1 MiB": (places(1, 45000), []),
 }
 
 if len(sys.argv) == 1:
-    for name, (records, batches) in CONSTANTS.items():
+    for name, (records, batches) in STORIES.items():
         print(name, *lines_of(records, batches), sep="\n")
-    print("MADE", root(pack(list(generated(2000, 1))), 0), sep="\n")
-    print("DEMO", *demo_lines(1000, 1), sep="\n")
+    print("two thousand records that are made", root(pack(list(generated(2000, 1))), 0), sep="\n")
+    print("a demonstration", *demo_lines(1000, 1), sep="\n")
 elif sys.argv[1:2] == ["make"]:
     for record in generated(int(sys.argv[2]), int(sys.argv[3])):
         print(line_of(record))

@@ -1,62 +1,70 @@
-//! A row of a table of runs, and how it is run: over a shelf and a sink in memory.
+//! Rows and stories of runs, and how they are run: over a shelf and a sink in memory.
 
 use crate::listed::Listed;
+use crate::parts::{File, Part, bytes_of, edited, expanded};
 use mr_outside::{Gate, MemShelf, MemSink, NoGate, Shelf};
 use mr_tool::{Status, run};
 use mr_tree::Hash32;
+use sha2::{Digest, Sha256};
 use std::alloc::{AllocError, Global};
 use std::thread::Threads;
 
-/// A file by its name.
-pub type File<'a> = (&'a str, &'a [u8]);
-
-/// A run: its words, the files before, the numbers, from 1, of the calls of shelf and sink that
-/// fail; then its status, what it prints, and all the files that it leaves.
+/// A call that fails, by its number from 1 on.
 #[derive(Clone, Copy)]
-pub struct Row<'a>(
-    pub &'a [&'a str],
-    pub &'a [File<'a>],
-    pub &'a [u64],
-    pub &'a [u64],
-    pub Status,
-    pub &'a [u8],
-    pub &'a [File<'a>],
-);
-
-// Whether these files have one of that name, or else the shelf has none.
-fn is_listed(shelf: &Listed, name: &str, files: &[File<'_>]) -> bool {
-    for (other, _) in files {
-        if *other == name {
-            return true;
-        }
-    }
-    shelf.shelf.file(name).is_none()
+pub enum Call {
+    Shelf(u64),
+    Sink(u64),
 }
 
-// Whether the shelf holds these files.
-fn holds_each(shelf: &Listed, files: &[File<'_>]) -> bool {
-    for (name, bytes) in files {
-        if shelf.shelf.file(name) != Some(*bytes) {
-            return false;
-        }
-    }
-    true
+/// One command line, and what comes of it. All files that are not made are left as they were, and
+/// no other is made. Words stand one space apart; in words and in the text `..` stands for 62
+/// zeros.
+#[derive(Clone, Copy)]
+pub struct Row<'a> {
+    pub name: &'a str,
+    pub words: &'a str,
+    pub files: &'a [File<'a>],
+    pub fails: &'a [Call],
+    pub status: Status,
+    pub text: &'a str,
+    pub made: &'a [File<'a>],
 }
 
-// Whether the shelf holds none but these files, of those that stood there before and those that
-// were made.
-fn holds_no_more(shelf: &Listed, before: &[File<'_>], files: &[File<'_>]) -> bool {
-    for (name, _) in before {
-        if !is_listed(shelf, name, files) {
-            return false;
-        }
+/// Command lines over one shelf, step by step.
+#[derive(Clone, Copy)]
+pub struct Story<'a> {
+    pub name: &'a str,
+    pub files: &'a [File<'a>],
+    pub steps: &'a [Step<'a>],
+}
+
+#[derive(Clone, Copy)]
+pub enum Step<'a> {
+    /// A command line is run, as in a row.
+    Run {
+        words: &'a str,
+        status: Status,
+        text: &'a str,
+    },
+    /// A command line is done; what it prints is not looked at.
+    Do(&'a str),
+    /// A command line is done, and prints these parts.
+    Print(&'a str, &'a [Part<'a>]),
+    /// Bytes of a file are exchanged, by place and new value.
+    Change(&'a str, &'a [(usize, u8)]),
+    /// The file has these parts.
+    Holds(&'a str, &'a [Part<'a>]),
+    /// The file has so many bytes, and this SHA-256 digest.
+    Hashes(&'a str, usize, &'a str),
+}
+
+// The words of a command line.
+fn words(alloc: Global, line: &str) -> Result<Vec<String>, AllocError> {
+    let mut all = Vec::new(alloc);
+    for word in line.split(' ') {
+        all.push(expanded(alloc, word)?)?;
     }
-    for name in &shelf.made {
-        if !is_listed(shelf, name, files) {
-            return false;
-        }
-    }
-    true
+    Ok(all)
 }
 
 /// Runs one command line over a shelf: its status, what it prints where these calls of the sink
@@ -64,7 +72,7 @@ fn holds_no_more(shelf: &Listed, before: &[File<'_>], files: &[File<'_>]) -> boo
 pub fn ran<H: Hash32, S: Shelf + Drop, G: Gate, R: Threads + Sync>(
     rt: &R,
     alloc: Global,
-    line: &[&str],
+    line: &str,
     shelf: S,
     fail: &[u64],
     gate: &G,
@@ -79,7 +87,7 @@ pub fn ran<H: Hash32, S: Shelf + Drop, G: Gate, R: Threads + Sync>(
 pub fn ran_on<H: Hash32, R: Threads + Sync>(
     rt: &R,
     alloc: Global,
-    line: &[&str],
+    line: &str,
     shelf: MemShelf,
     printed: &mut Vec<u8>,
 ) -> Result<(Status, MemShelf), AllocError> {
@@ -99,43 +107,224 @@ pub fn file_of(alloc: Global, shelf: &MemShelf, name: &str) -> Result<Vec<u8>, A
 /// The shelf that holds these files, and of which these calls fail.
 pub fn shelf_of(alloc: Global, files: &[File<'_>], fail: &[u64]) -> Result<MemShelf, AllocError> {
     let mut shelf = MemShelf::new(alloc, fail.to_vec(alloc)?);
-    for (name, bytes) in files {
-        shelf.put(name, bytes)?;
+    for (name, parts) in files {
+        shelf.put(name, &bytes_of(alloc, parts)?)?;
     }
     Ok(shelf)
 }
 
+/// The shelf that holds one file of these bytes.
+pub fn shelf_with(alloc: Global, name: &str, bytes: &[u8]) -> Result<MemShelf, AllocError> {
+    let mut shelf = MemShelf::new(alloc, Vec::new(alloc));
+    shelf.put(name, bytes)?;
+    Ok(shelf)
+}
+
+// The calls of the shelf that fail, or those of the sink.
+fn failing(alloc: Global, fails: &[Call], of_shelf: bool) -> Result<Vec<u64>, AllocError> {
+    let mut numbers = Vec::new(alloc);
+    for call in fails {
+        match call {
+            Call::Shelf(number) if of_shelf => numbers.push(*number)?,
+            Call::Sink(number) if !of_shelf => numbers.push(*number)?,
+            _ => {}
+        }
+    }
+    Ok(numbers)
+}
+
+fn is_named(files: &[File<'_>], name: &str) -> bool {
+    for (other, _) in files {
+        if *other == name {
+            return true;
+        }
+    }
+    false
+}
+
+// Whether the shelf holds a file of these parts.
+fn holds(
+    alloc: Global,
+    shelf: &MemShelf,
+    name: &str,
+    parts: &[Part<'_>],
+) -> Result<bool, AllocError> {
+    Ok(shelf.file(name) == Some(bytes_of(alloc, parts)?.as_slice()))
+}
+
+// Whether the shelf holds these files, but for those of which others are made.
+fn holds_each(
+    alloc: Global,
+    shelf: &MemShelf,
+    files: &[File<'_>],
+    made: &[File<'_>],
+) -> Result<bool, AllocError> {
+    for (name, parts) in files {
+        if !is_named(made, name) && !holds(alloc, shelf, name, parts)? {
+            return Ok(false);
+        }
+    }
+    Ok(true)
+}
+
+// Whether a row names each file that was made.
+fn names_each(row: &Row<'_>, made: &[String]) -> bool {
+    for name in made {
+        if !is_named(row.made, name) && !is_named(row.files, name) {
+            return false;
+        }
+    }
+    true
+}
+
+// Whether the files are as the row says.
+fn is_left(alloc: Global, row: &Row<'_>, shelf: &Listed) -> Result<bool, AllocError> {
+    Ok(
+        holds_each(alloc, &shelf.shelf, row.files, row.made)?
+            && holds_each(alloc, &shelf.shelf, row.made, &[])?
+            && names_each(row, &shelf.made),
+    )
+}
+
 /// Whether the run is as the row says.
-pub fn holds<H: Hash32, R: Threads + Sync>(
+pub fn is_so<H: Hash32, R: Threads + Sync>(
     rt: &R,
     alloc: Global,
     row: &Row<'_>,
 ) -> Result<bool, AllocError> {
-    let shelf = Listed::new(alloc, shelf_of(alloc, row.1, row.2)?);
-    let (status, printed, shelf) = ran::<H, _, _, _>(rt, alloc, row.0, shelf, row.3, &NoGate)?;
-    let files = holds_each(&shelf, row.6) && holds_no_more(&shelf, row.1, row.6);
-    Ok(status == row.4 && printed.as_slice() == row.5 && files)
+    let shelf = shelf_of(alloc, row.files, &failing(alloc, row.fails, true)?)?;
+    let shelf = Listed::new(alloc, shelf);
+    let fail = failing(alloc, row.fails, false)?;
+    let (status, printed, shelf) = ran::<H, _, _, _>(rt, alloc, row.words, shelf, &fail, &NoGate)?;
+    let said = printed.as_slice() == expanded(alloc, row.text)?.as_bytes();
+    Ok(status == row.status && said && is_left(alloc, row, &shelf)?)
 }
 
-/// The place of the first row whose run is not as it says.
+/// The name of the first row whose run is not as it says.
 pub fn first_other<H: Hash32, R: Threads + Sync>(
     rt: &R,
     alloc: Global,
-    rows: &[Row<'_>],
-) -> Result<Option<usize>, AllocError> {
-    for (place, row) in rows.iter().enumerate() {
-        if !holds::<H, R>(rt, alloc, row)? {
-            return Ok(Some(place));
+    rows: &[Row<'static>],
+) -> Result<Option<&'static str>, AllocError> {
+    for row in rows {
+        if !is_so::<H, R>(rt, alloc, row)? {
+            return Ok(Some(row.name));
         }
     }
     Ok(None)
 }
 
-// The words of a command line.
-fn words(alloc: Global, words: &[&str]) -> Result<Vec<String>, AllocError> {
-    let mut all = Vec::new(alloc);
-    for word in words {
-        all.push(String::from_str(alloc, word)?)?;
+// Runs a command line: the shelf that it leaves, and whether it ends so and prints these bytes.
+fn is_printed<H: Hash32, R: Threads + Sync>(
+    rt: &R,
+    alloc: Global,
+    words: &str,
+    status: Status,
+    text: &[u8],
+    shelf: MemShelf,
+) -> Result<(MemShelf, bool), AllocError> {
+    let (ended, said, left) = ran::<H, _, _, _>(rt, alloc, words, shelf, &[], &NoGate)?;
+    Ok((left, ended == status && said.as_slice() == text))
+}
+
+fn is_done<H: Hash32, R: Threads + Sync>(
+    rt: &R,
+    alloc: Global,
+    words: &str,
+    shelf: MemShelf,
+) -> Result<(MemShelf, bool), AllocError> {
+    let (ended, _, left) = ran::<H, _, _, _>(rt, alloc, words, shelf, &[], &NoGate)?;
+    Ok((left, ended == Status::Done))
+}
+
+fn changed(
+    alloc: Global,
+    name: &str,
+    edits: &[(usize, u8)],
+    shelf: MemShelf,
+) -> Result<MemShelf, AllocError> {
+    let mut shelf = shelf;
+    let bytes = edited(alloc, &file_of(alloc, &shelf, name)?, edits)?;
+    shelf.put(name, &bytes)?;
+    Ok(shelf)
+}
+
+/// The SHA-256 digest of these bytes, in hexadecimal digits.
+pub fn digest(alloc: Global, bytes: &[u8]) -> Result<String, AllocError> {
+    hex::encode(alloc, &Sha256::digest(bytes))
+}
+
+fn hashes(
+    alloc: Global,
+    shelf: &MemShelf,
+    name: &str,
+    length: usize,
+    digits: &str,
+) -> Result<bool, AllocError> {
+    let bytes = file_of(alloc, shelf, name)?;
+    Ok(bytes.len() == length && digest(alloc, &bytes)?.as_str() == digits)
+}
+
+// Takes a step: the shelf that it leaves, and whether all is as the step says.
+fn taken<H: Hash32, R: Threads + Sync>(
+    rt: &R,
+    alloc: Global,
+    step: &Step<'_>,
+    shelf: MemShelf,
+) -> Result<(MemShelf, bool), AllocError> {
+    match step {
+        Step::Run {
+            words,
+            status,
+            text,
+        } => {
+            let text = expanded(alloc, text)?;
+            is_printed::<H, R>(rt, alloc, words, *status, text.as_bytes(), shelf)
+        }
+        Step::Do(words) => is_done::<H, R>(rt, alloc, words, shelf),
+        Step::Print(words, parts) => {
+            let text = bytes_of(alloc, parts)?;
+            is_printed::<H, R>(rt, alloc, words, Status::Done, &text, shelf)
+        }
+        Step::Change(name, edits) => Ok((changed(alloc, name, edits, shelf)?, true)),
+        Step::Holds(name, parts) => {
+            let held = holds(alloc, &shelf, name, parts)?;
+            Ok((shelf, held))
+        }
+        Step::Hashes(name, length, digits) => {
+            let held = hashes(alloc, &shelf, name, *length, digits)?;
+            Ok((shelf, held))
+        }
     }
-    Ok(all)
+}
+
+// The number of the first step of a story, from 1 on, that does not go as it says.
+fn first_missed<H: Hash32, R: Threads + Sync>(
+    rt: &R,
+    alloc: Global,
+    story: &Story<'_>,
+) -> Result<Option<usize>, AllocError> {
+    let mut shelf = shelf_of(alloc, story.files, &[])?;
+    for (place, step) in story.steps.iter().enumerate() {
+        let (left, done) = taken::<H, R>(rt, alloc, step, shelf)?;
+        if !done {
+            return Ok(Some(place.wrapping_add(1)));
+        }
+        shelf = left;
+    }
+    Ok(None)
+}
+
+/// The name of the first story that does not go as it says, and the number of the step.
+pub fn first_untrue<H: Hash32, R: Threads + Sync>(
+    rt: &R,
+    alloc: Global,
+    stories: &[Story<'static>],
+) -> Result<Option<(&'static str, usize)>, AllocError> {
+    for story in stories {
+        if let Some(step) = first_missed::<H, R>(rt, alloc, story)? {
+            return Ok(Some((story.name, step)));
+        }
+    }
+    Ok(None)
 }

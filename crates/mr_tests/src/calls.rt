@@ -4,7 +4,9 @@
 use crate::bench::{ran, shelf_of};
 use crate::gates::{each_once, fresh};
 use crate::listed::Listed;
-use crate::maps::{BUILD, CHECK, LIST, PROVE, SEVENTEEN};
+use crate::maps::SEVENTEEN;
+use crate::parts::File;
+use crate::parts::Part::{Places, Text};
 use mr_outside::MemShelf;
 use mr_tool::Status;
 use mr_tree::XorHash;
@@ -12,65 +14,153 @@ use std::alloc::{AllocError, Global};
 use std::test::Fail;
 use std::thread::Threads;
 
-const AUDIT: &[&str] = &["audit", "m", "window:2,0,3,0", "p"];
+// A command over the shelf that the one before left, the lines of its calls, and how many pieces
+// pass the gate: the leaves of a map that is made of a list of records.
+#[derive(Clone, Copy)]
+struct Made<'a> {
+    words: &'a str,
+    calls: &'a str,
+    pieces: usize,
+}
 
-const APPLY: &[&str] = &["apply", "m", "b", "n"];
+const SMALL: &[File<'static>] = &[("r", &[Text(SEVENTEEN)]), ("b", &[Text("batch 1\n- 7\n")])];
 
-// A command over the shelf that the one before left, its calls, and how many pieces pass the gate:
-// the leaves of a map that is made of a list of records. The pages of a map are synced before its
-// first page is written over the zeros that stand for it, and again after.
-const CALLS: &[(&[&str], &str, usize)] = &[
-    (&["root", "r"], "size r\nread_at r\n", 2),
-    (
-        BUILD,
-        "size r\nread_at r\ncreate m\nappend m\nsync m\nwrite_at m\nsync m\n",
-        2,
-    ),
-    (LIST, "size m\nread_at m\n", 0),
-    (PROVE, "size m\nread_at m\ncreate p\nappend p\nsync p\n", 0),
-    (CHECK, "size p\nread_at p\n", 0),
-    (AUDIT, "size m\nread_at m\nsize p\nread_at p\n", 0),
-    (
-        APPLY,
-        "size m\nread_at m\nsize b\nread_at b\ncreate n\nappend n\nsync n\nwrite_at n\nsync n\n",
-        0,
-    ),
-    (&["make", "33", "1", "s"], "create s\nappend s\nsync s\n", 0),
-    (&["demo", "33", "1"], "", 3),
+// The pages of a map are synced before its first page is written over the zeros that stand for it,
+// and again after.
+const CALLS: &[Made<'static>] = &[
+    Made {
+        words: "root r",
+        calls: "size r\nread_at r\n",
+        pieces: 2,
+    },
+    Made {
+        words: "build m r",
+        calls: "size r\nread_at r\ncreate m\nappend m\nsync m\nwrite_at m\nsync m\n",
+        pieces: 2,
+    },
+    Made {
+        words: "list m",
+        calls: "size m\nread_at m\n",
+        pieces: 0,
+    },
+    Made {
+        words: "prove m window:2,0,3,0 p",
+        calls: "size m\nread_at m\ncreate p\nappend p\nsync p\n",
+        pieces: 0,
+    },
+    Made {
+        words: "check ..0f window:2,0,3,0 p",
+        calls: "size p\nread_at p\n",
+        pieces: 0,
+    },
+    Made {
+        words: "audit m window:2,0,3,0 p",
+        calls: "size m\nread_at m\nsize p\nread_at p\n",
+        pieces: 0,
+    },
+    Made {
+        words: "apply m b n",
+        calls: "size m\nread_at m\nsize b\nread_at b\ncreate n\nappend n\nsync n\nwrite_at n\n\
+            sync n\n",
+        pieces: 0,
+    },
+    Made {
+        words: "make 33 1 s",
+        calls: "create s\nappend s\nsync s\n",
+        pieces: 0,
+    },
+    Made {
+        words: "demo 33 1",
+        calls: "",
+        pieces: 3,
+    },
 ];
+
+// The text, the map, the proof and the made text have more than 65,536 bytes each.
+const LARGE: &[File<'static>] = &[("r", &[Places(1, 5000)]), ("b", &[Text("batch 1\n- 7\n")])];
+
+// Of calls that are equal and stand behind one another the first one alone.
+const LARGE_CALLS: &[Made<'static>] = &[
+    Made {
+        words: "root r",
+        calls: "size r\nread_at r\n",
+        pieces: 313,
+    },
+    Made {
+        words: "build m r",
+        calls: "size r\nread_at r\ncreate m\nappend m\nsync m\nwrite_at m\nsync m\n",
+        pieces: 313,
+    },
+    Made {
+        words: "prove m window:0,0,30000,30000 p",
+        calls: "size m\nread_at m\ncreate p\nappend p\nsync p\n",
+        pieces: 0,
+    },
+    Made {
+        words: "apply m b n",
+        calls: "size m\nread_at m\nsize b\nread_at b\ncreate n\nappend n\nsync n\nwrite_at n\n\
+            sync n\n",
+        pieces: 0,
+    },
+    Made {
+        words: "make 5000 1 s",
+        calls: "create s\nappend s\nsync s\n",
+        pieces: 0,
+    },
+];
+
+// The lines, of equal ones behind one another the first alone.
+fn folded(alloc: Global, lines: &str) -> Result<String, AllocError> {
+    let mut all = String::new(alloc);
+    let mut last: &[u8] = b"";
+    for line in lines.lines() {
+        if line.as_bytes() != last {
+            all.push_str(line)?;
+            all.push_str("\n")?;
+        }
+        last = line.as_bytes();
+    }
+    Ok(all)
+}
 
 // The shelf that a command leaves, where it is done with these calls, each piece once through the
 // gate.
 fn called<R: Threads + Sync>(
     rt: &R,
     alloc: Global,
-    line: &[&str],
+    made: &Made<'_>,
+    is_large: bool,
     shelf: MemShelf,
-    calls: &str,
-    pieces: usize,
 ) -> Result<Option<MemShelf>, AllocError> {
-    let gate = fresh(alloc, pieces)?;
+    let gate = fresh(alloc, made.pieces)?;
     let shelf = Listed::new(alloc, shelf);
-    let (status, _, left) = ran::<XorHash, _, _, R>(rt, alloc, line, shelf, &[], &gate)?;
-    if status == Status::Done && left.calls.as_str() == calls && each_once(&gate) {
+    let (status, _, left) = ran::<XorHash, _, _, R>(rt, alloc, made.words, shelf, &[], &gate)?;
+    let lines = left.calls.as_str();
+    let is_so = if is_large {
+        folded(alloc, lines)?.as_str() == made.calls
+    } else {
+        lines == made.calls
+    };
+    if status == Status::Done && is_so && each_once(&gate) {
         Ok(Some(left.shelf))
     } else {
         Ok(None)
     }
 }
 
-// The place of the first command that makes other calls, each over the shelf that the one before
-// left.
+// The first command that makes other calls, each over the shelf that the one before left.
 fn first_miscalled<R: Threads + Sync>(
     rt: &R,
     alloc: Global,
-    shelf: MemShelf,
-) -> Result<Option<usize>, AllocError> {
-    let mut shelf = shelf;
-    for (place, (line, calls, pieces)) in CALLS.iter().enumerate() {
-        match called(rt, alloc, line, shelf, calls, *pieces)? {
+    files: &[File<'_>],
+    commands: &[Made<'static>],
+    is_large: bool,
+) -> Result<Option<&'static str>, AllocError> {
+    let mut shelf = shelf_of(alloc, files, &[])?;
+    for made in commands {
+        match called(rt, alloc, made, is_large, shelf)? {
             Some(left) => shelf = left,
-            None => return Ok(Some(place)),
+            None => return Ok(Some(made.words)),
         }
     }
     Ok(None)
@@ -79,8 +169,10 @@ fn first_miscalled<R: Threads + Sync>(
 #[test]
 fn the_calls_of_each_command(rt: HostRuntime) -> Result<(), Fail> {
     let alloc = rt.alloc();
-    let batch = b"batch 1\n- 7\n".as_slice();
-    let shelf = shelf_of(alloc, &[("r", SEVENTEEN), ("b", batch)], &[])?;
-    assert_eq!(rt; first_miscalled(&rt, alloc, shelf)?, None);
+    assert_eq!(rt; first_miscalled(&rt, alloc, SMALL, CALLS, false)?, None);
+    assert_eq!(rt;
+        first_miscalled(&rt, alloc, LARGE, LARGE_CALLS, true)?,
+        None
+    );
     Ok(())
 }

@@ -3,7 +3,8 @@
 
 use crate::bench::{ran, shelf_of};
 use crate::joined::{numbers, plain};
-use crate::maps::{BUILD, SEVENTEEN};
+use crate::maps::SEVENTEEN;
+use crate::parts::Part::Text;
 use mr_outside::Gate;
 use mr_record::read_lines;
 use mr_tool::Status;
@@ -84,7 +85,8 @@ pub fn is_passed(gate: &Passages, numbers: &[u64]) -> bool {
             == *number)
 }
 
-fn has_left(gate: &Passages, piece: usize) -> bool {
+/// Whether a piece came and went.
+pub fn has_left(gate: &Passages, piece: usize) -> bool {
     match gate.list.get(piece) {
         Some(passage) => passage.left.load(Ordering::SeqCst) > 0,
         None => false,
@@ -133,14 +135,14 @@ const ROOT: &[u8] = b"fca9bc9b6913b889be0ca77137347077fd3728352e16c0e58283d2175d
 
 // Whether the map of those records is built, through this gate.
 fn builds<G: Gate, R: Threads + Sync>(rt: &R, alloc: Global, gate: &G) -> Result<bool, AllocError> {
-    let shelf = shelf_of(alloc, &[("r", SEVENTEEN)], &[])?;
-    let (status, printed, _) = ran::<Sha, _, G, R>(rt, alloc, BUILD, shelf, &[], gate)?;
+    let shelf = shelf_of(alloc, &[("r", &[Text(SEVENTEEN)])], &[])?;
+    let (status, printed, _) = ran::<Sha, _, G, R>(rt, alloc, "build m r", shelf, &[], gate)?;
     Ok(status == Status::Done && printed.as_slice() == ROOT)
 }
 
 // The numbers of the leaves of those records, by one thread.
 fn expected(rt: &impl Abort, alloc: Global) -> Option<Vec<u64>> {
-    let records = read_lines(alloc, SEVENTEEN).ok()?;
+    let records = read_lines(alloc, SEVENTEEN.as_bytes()).ok()?;
     let (tree, _) = plain::<Sha>(rt, alloc, records).ok()?;
     let mut list = Vec::new(alloc);
     numbers::<Sha>(&tree, &mut list).ok()?;

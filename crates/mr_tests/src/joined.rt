@@ -1,14 +1,15 @@
 //! Bulk load in joined halves: the tree's root is that of one thread, and each leaf passes the gate
 //! once, with the number of its digest.
 
-use crate::gates::{fresh, is_passed};
+use crate::gates::{Passages, fresh, has_left, is_passed};
 use mr_geom::Rect;
 use mr_outside::{Gate, NoGate};
 use mr_pack::{PackErr, pack, pack_joined};
 use mr_record::{Payload, Record, u64_of_bytes};
-use mr_tree::{Hash32, Sha, Tree, XorHash, leaf_digest, root_of};
+use mr_tree::{Hash32, Sha, Tree, XorHash, leaf_entry, root_of};
 use std::alloc::{AllocError, Global};
 use std::process::Abort;
+use std::sync::atomic::{AtomicU64, Ordering};
 use std::test::Fail;
 use std::thread::Threads;
 
@@ -40,7 +41,7 @@ pub fn plain<H: Hash32>(
     alloc: Global,
     list: Vec<Record>,
 ) -> Result<(Tree, [u8; 32]), PackErr> {
-    assert!(rt; list.len() <= 1100);
+    assert!(rt; list.len() <= 1 << 20);
     let tree = pack(alloc, list)?;
     let root = root_of::<H>(&tree, 0);
     Ok((tree, root))
@@ -53,7 +54,7 @@ fn joined<H: Hash32, G: Gate, R: Threads + Abort + Sync>(
     list: Vec<Record>,
     gate: &G,
 ) -> Result<[u8; 32], PackErr> {
-    assert!(rt; list.len() <= 1100);
+    assert!(rt; list.len() <= 1 << 20);
     let (_tree, root) = pack_joined::<H, G, R>(rt, alloc, list, gate)?;
     Ok(root)
 }
@@ -63,7 +64,7 @@ fn number<H: Hash32>(leaf: &[Record]) -> u64 {
     if leaf.len() > 16 {
         return 0;
     }
-    let digest = leaf_digest::<H>(leaf);
+    let digest = leaf_entry::<H>(leaf).digest;
     let (_, last) = digest.split_at(24);
     u64_of_bytes(last)
 }
@@ -108,6 +109,57 @@ fn joined_halves_give_the_root(rt: HostRuntime) -> Result<(), Fail> {
         assert!(rt; agrees::<Sha, _>(&rt, alloc, count, leaves)?, "{count}");
     }
     assert!(rt; agrees::<XorHash, _>(&rt, alloc, 17, 2)?);
+    Ok(())
+}
+
+// Counts the pieces that come before the one in front of them has gone.
+#[derive(Drop)]
+struct Orderly {
+    passages: Passages,
+    hasty: AtomicU64,
+}
+
+impl Gate for Orderly {
+    fn enter(&self, piece: usize) {
+        if piece > 0 && !has_left(&self.passages, piece - 1) {
+            self.hasty.fetch_add(1, Ordering::SeqCst);
+        }
+        self.passages.enter(piece);
+    }
+
+    fn leave(&self, piece: usize, found: u64) {
+        self.passages.leave(piece, found);
+    }
+}
+
+// The leaves of twenty thousand records pass the gate in at most 16 parts, and in a part each leaf
+// goes before the next one comes: so no more than 15 come before the one in front has gone.
+fn is_orderly<R: Threads + Abort + Sync>(
+    rt: &R,
+    alloc: Global,
+    leaves: &[u64],
+) -> Result<bool, Fail> {
+    let gate = Orderly {
+        passages: fresh(alloc, leaves.len())?,
+        hasty: AtomicU64::new(0),
+    };
+    let list = records(alloc, 20_000)?;
+    joined::<XorHash, _, R>(rt, alloc, list, &gate)
+        .ok()
+        .ok_or("joined")?;
+    Ok(is_passed(&gate.passages, leaves) && gate.hasty.load(Ordering::SeqCst) <= 15)
+}
+
+#[test]
+fn a_leaf_goes_before_the_next_comes(rt: HostRuntime) -> Result<(), Fail> {
+    let alloc = rt.alloc();
+    let (tree, _) = plain::<XorHash>(&rt, alloc, records(alloc, 20_000)?)
+        .ok()
+        .ok_or("packed")?;
+    let mut leaves = Vec::new(alloc);
+    numbers::<XorHash>(&tree, &mut leaves)?;
+    assert_eq!(rt; leaves.len(), 1250);
+    assert!(rt; is_orderly(&rt, alloc, &leaves)?);
     Ok(())
 }
 

@@ -1,79 +1,74 @@
 //! Runs at sizes that matter, with ample memory. Roots come from a program of another language.
 
-use crate::bench::{Row, holds, ran};
+use crate::bench::{Row, first_other, is_so, ran, shelf_of};
+use crate::parts::Part::{Places, Raw, Row as InARow};
+use crate::parts::{File, bytes_of};
 use mr_outside::{NoGate, StdShelf};
-use mr_tool::Status;
-use mr_tree::{Hash32, Sha, XorHash};
+use mr_tool::Status::{self, Done, Outside};
+use mr_tree::{Sha, XorHash};
 use std::alloc::{AllocError, Global};
 use std::rt::Files;
 use std::test::Fail;
 use std::thread::Threads;
 
-/// A text of records at (I,0), from I = 1, without payloads.
-pub fn in_a_row(alloc: Global, records: u64) -> Result<String, AllocError> {
-    let mut text = String::new(alloc);
-    for i in 1..=records {
-        text.push_str(format!(in alloc; "{i} {i} 0 {i} 0 -\n")?.as_str())?;
-    }
-    Ok(text)
-}
+// Under the exclusive or of all bytes.
+const XOR_ROOTS: &[Row<'static>] = &[Row {
+    name: "two leaves",
+    words: "root r",
+    files: &[("r", &[InARow(17)])],
+    fails: &[],
+    status: Done,
+    text: "..0f\n",
+    made: &[],
+}];
 
-// A text of 20,000 records, scattered, with a byte of payload each.
-fn scattered(alloc: Global) -> Result<String, AllocError> {
-    let mut text = String::new(alloc);
-    for i in 1..=20_000u64 {
-        let x = i * 7_919 % 20_011;
-        let y = i * 104_729 % 19_997;
-        let (right, high, byte) = (x + i % 3, y + i % 5, i % 256);
-        text.push_str(format!(in alloc; "{i} {x} {y} {right} {high} {byte:02x}\n")?.as_str())?;
-    }
-    Ok(text)
-}
-
-// Whether the root of a text is printed so.
-fn has_root<H: Hash32, R: Threads + Sync>(
-    rt: &R,
-    alloc: Global,
-    text: &str,
-    line: &[u8],
-) -> Result<bool, AllocError> {
-    let files = [("r", text.as_bytes())];
-    let row = Row(&["root", "r"], &files, &[], &[], Status::Done, line, &files);
-    holds::<H, R>(rt, alloc, &row)
-}
-
-const XOR_ROOT: &[u8] = b"000000000000000000000000000000000000000000000000000000000000000f\n";
-
-// How many records stand in a row, and the line of their root.
-const ROOTS: &[(u64, &[u8])] = &[
-    (
-        17,
-        b"fca9bc9b6913b889be0ca77137347077fd3728352e16c0e58283d2175d1eb0bf\n",
-    ),
-    (
-        1024,
-        b"2b3c93efccf62f130f7b6a8da814b2d508ac00422f210f40e9d3f64c7166e2e1\n",
-    ),
-    (
-        1025,
-        b"0a1f58ba200fb9fbf1ec601962e66d4f61fca5ce3dd5b1fbc2a96141ab87d843\n",
-    ),
+// Under SHA-256.
+const ROOTS: &[Row<'static>] = &[
+    Row {
+        name: "two leaves",
+        words: "root r",
+        files: &[("r", &[InARow(17)])],
+        fails: &[],
+        status: Done,
+        text: "fca9bc9b6913b889be0ca77137347077fd3728352e16c0e58283d2175d1eb0bf\n",
+        made: &[],
+    },
+    Row {
+        name: "a root of level 1 that is full",
+        words: "root r",
+        files: &[("r", &[InARow(1024)])],
+        fails: &[],
+        status: Done,
+        text: "2b3c93efccf62f130f7b6a8da814b2d508ac00422f210f40e9d3f64c7166e2e1\n",
+        made: &[],
+    },
+    Row {
+        name: "a root of level 2",
+        words: "root r",
+        files: &[("r", &[InARow(1025)])],
+        fails: &[],
+        status: Done,
+        text: "0a1f58ba200fb9fbf1ec601962e66d4f61fca5ce3dd5b1fbc2a96141ab87d843\n",
+        made: &[],
+    },
+    Row {
+        name: "twenty thousand places",
+        words: "root r",
+        files: &[("r", &[Places(1, 20_000)])],
+        fails: &[],
+        status: Done,
+        text: "610ddb6c697f9d0fa6d36a91f329893cf48bd606e7a2aca7d32e12323dce213a\n",
+        made: &[],
+    },
 ];
-
-const SCATTERED: &[u8] = b"610ddb6c697f9d0fa6d36a91f329893cf48bd606e7a2aca7d32e12323dce213a\n";
 
 #[test]
 fn roots_of_many_records(rt: HostRuntime) -> Result<(), Fail> {
-    let alloc = rt.alloc();
-    assert!(rt; has_root::<XorHash, _>(&rt, alloc, in_a_row(alloc, 17)?.as_str(), XOR_ROOT)?);
-    for (count, line) in ROOTS {
-        let text = in_a_row(alloc, *count)?;
-        assert!(rt;
-            has_root::<Sha, _>(&rt, alloc, text.as_str(), line)?,
-            "{count}"
-        );
-    }
-    assert!(rt; has_root::<Sha, _>(&rt, alloc, scattered(alloc)?.as_str(), SCATTERED)?);
+    assert_eq!(rt;
+        first_other::<XorHash, _>(&rt, rt.alloc(), XOR_ROOTS)?,
+        None
+    );
+    assert_eq!(rt; first_other::<Sha, _>(&rt, rt.alloc(), ROOTS)?, None);
     Ok(())
 }
 
@@ -111,24 +106,81 @@ fn full_lines(alloc: Global) -> Result<String, AllocError> {
     Ok(lines)
 }
 
-const CHECK_ALL: &[&str] = &[
-    "check",
-    "becaebc526ef66483375ace805b3724b1ba615adb3e71e819e9acca1df98019d",
-    "window:0,0,20,20",
-    "p",
-];
+// Whether this command line over this file prints these lines, under SHA-256.
+fn prints<R: Threads + Sync>(
+    rt: &R,
+    alloc: Global,
+    words: &str,
+    name: &str,
+    bytes: &[u8],
+    lines: &str,
+) -> Result<bool, AllocError> {
+    let parts = [Raw(bytes)];
+    let files = [(name, parts.as_slice())];
+    let row = Row {
+        name: words,
+        words,
+        files: &files,
+        fails: &[],
+        status: Done,
+        text: lines,
+        made: &[],
+    };
+    is_so::<Sha, R>(rt, alloc, &row)
+}
 
-const ROOT_OF_ALL: &[u8] = b"becaebc526ef66483375ace805b3724b1ba615adb3e71e819e9acca1df98019d\n";
+const CHECK_ALL: &str = "check becaebc526ef66483375ace805b3724b1ba615adb3e71e819e9acca1df98019d \
+    window:0,0,20,20 p";
+
+const ROOT_OF_ALL: &str = "becaebc526ef66483375ace805b3724b1ba615adb3e71e819e9acca1df98019d\n";
 
 #[test]
 fn a_full_leaf_of_long_payloads_is_accepted(rt: HostRuntime) -> Result<(), Fail> {
     let alloc = rt.alloc();
     let (proof, lines) = (full_leaf(alloc)?, full_lines(alloc)?);
-    let files = [("p", proof.as_slice())];
-    let said = lines.as_bytes();
-    let row = Row(CHECK_ALL, &files, &[], &[], Status::Done, said, &files);
-    assert!(rt; holds::<Sha, _>(&rt, alloc, &row)?);
-    assert!(rt; has_root::<Sha, _>(&rt, alloc, lines.as_str(), ROOT_OF_ALL)?);
+    assert!(rt; prints(&rt, alloc, CHECK_ALL, "p", &proof, lines.as_str())?);
+    assert!(rt; prints(&rt, alloc, "root r", "r", lines.as_bytes(), ROOT_OF_ALL)?);
+    Ok(())
+}
+
+const PLACES: &[File<'static>] = &[("r", &[Places(1, 5000)])];
+
+// How a list of many lines ends where this call of the sink fails, and what it prints.
+fn listed<R: Threads + Sync>(
+    rt: &R,
+    alloc: Global,
+    call: u64,
+) -> Result<(Status, Vec<u8>), AllocError> {
+    let shelf = shelf_of(alloc, PLACES, &[])?;
+    let (_, _, shelf) = ran::<XorHash, _, _, R>(rt, alloc, "build m r", shelf, &[], &NoGate)?;
+    let (status, said, _) = ran::<XorHash, _, _, R>(rt, alloc, "list m", shelf, &[call], &NoGate)?;
+    Ok((status, said))
+}
+
+// Whether a list is stopped at this piece, behind pieces of whole lines that have up to 65,536
+// bytes each, and no room for one line more.
+fn stops_a_list<R: Threads + Sync>(
+    rt: &R,
+    alloc: Global,
+    lines: &[u8],
+    call: u64,
+) -> Result<bool, AllocError> {
+    let (status, said) = listed(rt, alloc, call)?;
+    let pieces = call.wrapping_sub(1) as usize;
+    let size = said.len();
+    let is_full = size <= pieces.wrapping_mul(65_536) && size >= pieces.wrapping_mul(65_000);
+    Ok(status == Outside && lines.starts_with(&said) && is_full)
+}
+
+#[test]
+fn a_list_goes_out_in_large_pieces(rt: HostRuntime) -> Result<(), Fail> {
+    let alloc = rt.alloc();
+    let lines = bytes_of(alloc, &[Places(1, 5000)])?;
+    for call in 1..=3u64 {
+        assert!(rt; stops_a_list(&rt, alloc, &lines, call)?, "call {call}");
+    }
+    let (status, said) = listed(&rt, alloc, 4)?;
+    assert!(rt; status == Done && said.as_slice() == lines.as_slice());
     Ok(())
 }
 
@@ -147,15 +199,16 @@ fn is_missed<R: Threads + Files + Sync>(
     said: &[u8],
 ) -> Result<bool, AllocError> {
     let shelf = StdShelf::new(rt, alloc);
+    let line = format!(in alloc; "root {name}")?;
     let (status, printed, _shelf) = ran::<Sha, _, _, R>(
         rt,
         alloc,
-        &["root", name],
+        line.as_str(),
         shelf,
         &[],
         &NoGate,
     )?;
-    Ok(status == Status::Outside && printed.as_slice() == said)
+    Ok(status == Outside && printed.as_slice() == said)
 }
 
 #[test]

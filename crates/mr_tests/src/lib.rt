@@ -1,10 +1,8 @@
-//! Tests by call and by whole runs of the program, with values from outside.
+//! Tests by whole runs of the program over files in memory, with values from outside.
 #![tactic(auto)]
 
 #[cfg(test)]
 mod audits;
-#[cfg(test)]
-mod batches;
 #[cfg(test)]
 mod bench;
 #[cfg(test)]
@@ -12,11 +10,7 @@ mod calls;
 #[cfg(test)]
 mod changes;
 #[cfg(test)]
-mod client;
-#[cfg(test)]
 mod gates;
-#[cfg(test)]
-mod grown;
 #[cfg(test)]
 mod joined;
 #[cfg(test)]
@@ -32,22 +26,8 @@ mod maps;
 #[cfg(test)]
 mod nearest;
 #[cfg(test)]
-mod outside;
-#[cfg(test)]
-mod packing;
+mod parts;
 #[cfg(test)]
 mod proofs;
 #[cfg(test)]
-mod queries;
-#[cfg(test)]
-mod rects;
-#[cfg(test)]
 mod rows;
-#[cfg(test)]
-mod splits;
-#[cfg(test)]
-mod texts;
-#[cfg(test)]
-mod tree;
-#[cfg(test)]
-mod workloads;

@@ -3,150 +3,182 @@
 
 ghost use Rattle.mr_query.specs.Word.{IsAskable};
 
-use crate::bench::{File, Row, file_of, first_other, holds, ran, shelf_of};
-use crate::levels::digest;
-use crate::maps::BUILD;
-use crate::proofs::answered;
+use crate::bench::Call::{Shelf, Sink};
+use crate::bench::Step::Run;
+use crate::bench::{Row, Story, digest, first_other, first_untrue, is_so, ran, shelf_of};
+use crate::maps::{Ending, ended, is_stopped};
+use crate::parts::File;
+use crate::parts::Part::Text;
 use crate::rows::first_good_line;
 use mr_batch::generate_queries;
 use mr_outside::{MemShelf, MemSink, NoGate};
 use mr_query::{Query, write_query};
 use mr_record::read_u64;
-use mr_tool::Status::{self, Done, Outside};
+use mr_tool::Status::{Done, Outside};
 use mr_tree::{Sha, XorHash};
 use std::alloc::{AllocError, Global};
 use std::test::Fail;
 use std::thread::Threads;
 
-const NO_FILES: &[File<'static>] = &[];
-
-const FIRST: &[File<'static>] = &[("r", b"1 791033 550767 791090 550814 e220a8397b1dcdaf\n")];
+const FIRST: &[File<'static>] = &[(
+    "r",
+    &[Text("1 791033 550767 791090 550814 e220a8397b1dcdaf\n")],
+)];
 
 // Of the greatest seed.
-const LAST: &[File<'static>] = &[("r", b"1 455607 615264 455662 615296 e4d971771b652c20\n")];
+const LAST: &[File<'static>] = &[(
+    "r",
+    &[Text("1 455607 615264 455662 615296 e4d971771b652c20\n")],
+)];
 
-const EMPTY: &[File<'static>] = &[("r", b"")];
-
-const DEMO: &[u8] =
-    b"records 1000\nlevel 1\nroot 3c63e6762943d4cb98f8db525ac0ce29923abcccfc44decc3eeb192c62c3eaf2\nqueries 64\naccepted 64\nanswers 356\nbytes 260172\n";
-
-const XOR_DEMO: &[u8] =
-    b"records 1000\nlevel 1\nroot 0000000000000000000000000000000000000000000000000000000000000049\nqueries 64\naccepted 64\nanswers 356\nbytes 260172\n";
-
-const LAST_DEMO: &[u8] =
-    b"records 1\nlevel 0\nroot fe2d75074ed20c162554cf5a81df27ef2c33669e21780471451bab3bb060325a\nqueries 64\naccepted 64\nanswers 33\nbytes 4178\n";
+const EMPTY: &[File<'static>] = &[("r", &[])];
 
 // Under SHA-256.
 const MADE: &[Row<'static>] = &[
-    Row(
-        &["make", "1", "0", "r"],
-        NO_FILES,
-        &[],
-        &[],
-        Done,
-        b"made 1\n",
-        FIRST,
-    ),
-    Row(
-        &["make", "1", "18446744073709551615", "r"],
-        FIRST,
-        &[],
-        &[],
-        Done,
-        b"made 1\n",
-        LAST,
-    ),
-    Row(
-        &["make", "0", "5", "r"],
-        FIRST,
-        &[],
-        &[],
-        Done,
-        b"made 0\n",
-        EMPTY,
-    ),
-    Row(
-        &["demo", "1000", "1"],
-        NO_FILES,
-        &[],
-        &[],
-        Done,
-        DEMO,
-        NO_FILES,
-    ),
-    Row(&["demo", "1000", "1"], EMPTY, &[1], &[], Done, DEMO, EMPTY),
-    Row(
-        &["demo", "1", "18446744073709551615"],
-        NO_FILES,
-        &[],
-        &[],
-        Done,
-        LAST_DEMO,
-        NO_FILES,
-    ),
-    Row(
-        &["demo", "1", "0"],
-        NO_FILES,
-        &[],
-        &[1],
-        Outside,
-        b"",
-        NO_FILES,
-    ),
+    Row {
+        name: "one record of the least seed",
+        words: "make 1 0 r",
+        files: &[],
+        fails: &[],
+        status: Done,
+        text: "made 1\n",
+        made: FIRST,
+    },
+    Row {
+        name: "one record of the greatest seed",
+        words: "make 1 18446744073709551615 r",
+        files: FIRST,
+        fails: &[],
+        status: Done,
+        text: "made 1\n",
+        made: LAST,
+    },
+    Row {
+        name: "no record",
+        words: "make 0 5 r",
+        files: FIRST,
+        fails: &[],
+        status: Done,
+        text: "made 0\n",
+        made: EMPTY,
+    },
+    Row {
+        name: "a demonstration",
+        words: "demo 1000 1",
+        files: &[],
+        fails: &[],
+        status: Done,
+        text: "records 1000\nlevel 1\n\
+            root 3c63e6762943d4cb98f8db525ac0ce29923abcccfc44decc3eeb192c62c3eaf2\nqueries 64\n\
+            accepted 64\nanswers 356\nbytes 260172\n",
+        made: &[],
+    },
+    Row {
+        name: "a demonstration makes no call of the shelf",
+        words: "demo 1000 1",
+        files: EMPTY,
+        fails: &[Shelf(1)],
+        status: Done,
+        text: "records 1000\nlevel 1\n\
+            root 3c63e6762943d4cb98f8db525ac0ce29923abcccfc44decc3eeb192c62c3eaf2\nqueries 64\n\
+            accepted 64\nanswers 356\nbytes 260172\n",
+        made: &[],
+    },
+    Row {
+        name: "a demonstration of one record",
+        words: "demo 1 18446744073709551615",
+        files: &[],
+        fails: &[],
+        status: Done,
+        text: "records 1\nlevel 0\n\
+            root fe2d75074ed20c162554cf5a81df27ef2c33669e21780471451bab3bb060325a\nqueries 64\n\
+            accepted 64\nanswers 33\nbytes 4178\n",
+        made: &[],
+    },
+    Row {
+        name: "a demonstration that is not printed",
+        words: "demo 1 0",
+        files: &[],
+        fails: &[Sink(1)],
+        status: Outside,
+        text: "",
+        made: &[],
+    },
 ];
 
-// Under the exclusive or of bytes, twice.
+// Under the exclusive or of all bytes, twice.
 const SHOWN: &[Row<'static>] = &[
-    Row(
-        &["demo", "1000", "1"],
-        NO_FILES,
-        &[],
-        &[],
-        Done,
-        XOR_DEMO,
-        NO_FILES,
-    ),
-    Row(
-        &["demo", "1000", "1"],
-        NO_FILES,
-        &[],
-        &[],
-        Done,
-        XOR_DEMO,
-        NO_FILES,
-    ),
+    Row {
+        name: "a demonstration",
+        words: "demo 1000 1",
+        files: &[],
+        fails: &[],
+        status: Done,
+        text: "records 1000\nlevel 1\nroot ..49\nqueries 64\naccepted 64\nanswers 356\n\
+            bytes 260172\n",
+        made: &[],
+    },
+    Row {
+        name: "the same again",
+        words: "demo 1000 1",
+        files: &[],
+        fails: &[],
+        status: Done,
+        text: "records 1000\nlevel 1\nroot ..49\nqueries 64\naccepted 64\nanswers 356\n\
+            bytes 260172\n",
+        made: &[],
+    },
 ];
+
+// Under SHA-256.
+const ROOTS: &[Story<'static>] = &[Story {
+    name: "the root of two thousand records that are made",
+    files: &[],
+    steps: &[
+        Run {
+            words: "make 2000 1 r",
+            status: Done,
+            text: "made 2000\n",
+        },
+        Run {
+            words: "root r",
+            status: Done,
+            text: "c3f4119a182884e0a39552186e3eeb5a952e200c3f1e0ae8c947f9d0d394d413\n",
+        },
+    ],
+}];
 
 #[test]
 fn what_is_made_and_shown(rt: HostRuntime) -> Result<(), Fail> {
     assert_eq!(rt; first_other::<Sha, _>(&rt, rt.alloc(), MADE)?, None);
     assert_eq!(rt; first_other::<XorHash, _>(&rt, rt.alloc(), SHOWN)?, None);
+    assert_eq!(rt; first_untrue::<Sha, _>(&rt, rt.alloc(), ROOTS)?, None);
     Ok(())
 }
 
-const WORDS: &[&[&str]] = &[
-    &["make"],
-    &["make", "1", "0"],
-    &["make", "1", "0", ""],
-    &["make", "1", "0", "r", "r"],
-    &["make", "1", "r"],
-    &["make", "", "0", "r"],
-    &["make", "1", "", "r"],
-    &["make", "1048577", "0", "r"],
-    &["make", "4294967297", "0", "r"],
-    &["make", "18446744073709551617", "0", "r"],
-    &["make", "-1", "0", "r"],
-    &["make", "+1", "0", "r"],
-    &["make", "01", "0", "r"],
-    &["make", "1", "00", "r"],
-    &["make", "1", "18446744073709551616", "r"],
-    &["Make", "1", "0", "r"],
-    &["demo", "1"],
-    &["demo", "1", "0", "r"],
-    &["demo", "0", "0"],
-    &["demo", "65537", "0"],
-    &["demo", "1", "18446744073709551616"],
-    &["demo", "1", "01"],
+const WORDS: &[&str] = &[
+    "make",
+    "make 1 0",
+    "make 1 0 ",
+    "make 1 0 r r",
+    "make 1 r",
+    "make  0 r",
+    "make 1  r",
+    "make 1048577 0 r",
+    "make 4294967297 0 r",
+    "make 18446744073709551617 0 r",
+    "make -1 0 r",
+    "make +1 0 r",
+    "make 01 0 r",
+    "make 1 00 r",
+    "make 1 18446744073709551616 r",
+    "Make 1 0 r",
+    "demo 1",
+    "demo 1 0 r",
+    "demo 0 0",
+    "demo 65537 0",
+    "demo 1 18446744073709551616",
+    "demo 1 01",
 ];
 
 #[test]
@@ -155,78 +187,50 @@ fn words_that_make_nothing(rt: HostRuntime) -> Result<(), Fail> {
     Ok(())
 }
 
-#[test]
-fn the_root_of_two_thousand_made_records(rt: HostRuntime) -> Result<(), Fail> {
-    let commands: &[&[&str]] = &[&["make", "2000", "1", "r"], &["root", "r"]];
-    let (said, _) = answered::<Sha, _>(&rt, rt.alloc(), b"", commands)?;
-    let printed = b"made 2000\nc3f4119a182884e0a39552186e3eeb5a952e200c3f1e0ae8c947f9d0d394d413\n";
-    assert!(rt; said.as_slice() == printed.as_slice());
-    Ok(())
-}
+const OLD: &[File<'static>] = &[("r", &[Text("another text\n")])];
 
-const OLD: &[u8] = b"another text\n";
-
-// How `make 20 3 r` ended over a file of that name, where these calls fail: its status, what it
-// printed, and the file that it left.
-fn made<R: Threads + Sync>(
-    rt: &R,
-    alloc: Global,
-    shelf_fails: u64,
-    sink_fails: u64,
-) -> Result<(Status, Vec<u8>, Vec<u8>), AllocError> {
-    let shelf = shelf_of(alloc, &[("r", OLD)], &[shelf_fails])?;
-    let line = &["make", "20", "3", "r"];
-    let (status, printed, shelf) = ran::<XorHash, _, _, R>(
-        rt,
-        alloc,
-        line,
-        shelf,
-        &[sink_fails],
-        &NoGate,
-    )?;
-    Ok((status, printed, file_of(alloc, &shelf, "r")?))
-}
-
-// Whether it is done with all that it has to print and to leave, where a call past the last fails.
-fn is_made<R: Threads + Sync>(rt: &R, alloc: Global, text: &[u8]) -> Result<bool, AllocError> {
-    let (status, printed, left) = made(rt, alloc, 4, 0)?;
-    Ok(status == Done && printed.as_slice() == b"made 20\n".as_slice() && left.as_slice() == text)
+// How `make 20 3 r` ends over a file of that name, where these calls of the shelf and of the sink
+// fail.
+fn made<R: Threads + Sync>(rt: &R, alloc: Global, fails: (u64, u64)) -> Result<Ending, AllocError> {
+    ended(rt, alloc, "make 20 3 r", OLD, fails, "r")
 }
 
 // Whether it stopped at this call of the shelf, with a front of the text or the file of before.
-fn is_stopped<R: Threads + Sync>(
+fn is_cut<R: Threads + Sync>(
     rt: &R,
     alloc: Global,
     text: &[u8],
     call: u64,
 ) -> Result<bool, AllocError> {
-    let (status, printed, left) = made(rt, alloc, call, 0)?;
-    let as_before = left.as_slice() == OLD;
-    Ok(
-        status == Outside
-            && printed.as_slice() == b"shelf fault\n".as_slice()
-            && as_before == (call == 1)
-            && (as_before || text.starts_with(&left)),
-    )
+    let ended = made(rt, alloc, (call, 0))?;
+    let as_before = ended.left.as_slice() == b"another text\n".as_slice();
+    let in_order = as_before || text.starts_with(&ended.left);
+    Ok(is_stopped(&ended) && as_before == (call == 1) && in_order)
+}
+
+// Whether it is done with all that it has to print and to leave, where a call past the last fails.
+fn is_made<R: Threads + Sync>(rt: &R, alloc: Global, text: &[u8]) -> Result<bool, AllocError> {
+    let ended = made(rt, alloc, (4, 0))?;
+    let said = ended.said.as_slice() == b"made 20\n".as_slice();
+    Ok(ended.status == Done && said && ended.left.as_slice() == text)
 }
 
 // Whether it stopped at its line, with the whole text.
 fn is_unprinted<R: Threads + Sync>(rt: &R, alloc: Global, text: &[u8]) -> Result<bool, AllocError> {
-    let (status, printed, left) = made(rt, alloc, 0, 1)?;
-    Ok(status == Outside && printed.is_empty() && left.as_slice() == text)
+    let ended = made(rt, alloc, (0, 1))?;
+    Ok(ended.status == Outside && ended.said.is_empty() && ended.left.as_slice() == text)
 }
+
+const TWENTY: &str = "5c5da43082743abe28354353307e4d0865ecb0f7f4c8ae44eda9c329d244bfb9";
 
 #[test]
 fn each_call_of_making_fails_in_turn(rt: HostRuntime) -> Result<(), Fail> {
     let alloc = rt.alloc();
-    let (_, _, text) = made(&rt, alloc, 0, 0)?;
-    assert!(rt;
-        digest(alloc, &text)?.as_str()
-            == "5c5da43082743abe28354353307e4d0865ecb0f7f4c8ae44eda9c329d244bfb9"
-    );
+    let text = made(&rt, alloc, (0, 0))?.left;
+    assert!(rt; digest(alloc, &text)?.as_str() == TWENTY);
     // The file is made, written and synced.
     for call in 1..4u64 {
-        assert!(rt; is_stopped(&rt, alloc, &text, call)?, "call {call}");
+        assert!(rt; is_cut(&rt, alloc, &text, call)?, "call {call}");
     }
     assert!(rt; is_made(&rt, alloc, &text)?);
     assert!(rt; is_unprinted(&rt, alloc, &text)?);
@@ -236,9 +240,8 @@ fn each_call_of_making_fails_in_turn(rt: HostRuntime) -> Result<(), Fail> {
 // The map in file `m` of the records that a demonstration makes, and its root.
 fn mapped<R: Threads + Sync>(rt: &R, alloc: Global) -> Result<(String, MemShelf), AllocError> {
     let shelf = shelf_of(alloc, &[], &[])?;
-    let line = &["make", "1000", "1", "r"];
-    let (_, _, shelf) = ran::<Sha, _, _, R>(rt, alloc, line, shelf, &[], &NoGate)?;
-    let (_, said, shelf) = ran::<Sha, _, _, R>(rt, alloc, BUILD, shelf, &[], &NoGate)?;
+    let (_, _, shelf) = ran::<Sha, _, _, R>(rt, alloc, "make 1000 1 r", shelf, &[], &NoGate)?;
+    let (_, said, shelf) = ran::<Sha, _, _, R>(rt, alloc, "build m r", shelf, &[], &NoGate)?;
     let root = str::from_utf8(&said).unwrap_or("");
     Ok((String::from_str(alloc, root.trim_end())?, shelf))
 }
@@ -258,7 +261,8 @@ fn proof_length(line: &[u8]) -> Option<u64> {
     read_u64(line.strip_prefix(b"proof ")?.strip_suffix(b"\n")?)
 }
 
-fn lines(text: &[u8]) -> u64 {
+/// How many lines a text has.
+pub fn lines(text: &[u8]) -> u64 {
     let mut count = 0u64;
     for byte in text {
         if *byte == b'\n' {
@@ -284,8 +288,8 @@ fn proved<R: Threads + Sync>(
     query: &str,
     shelf: MemShelf,
 ) -> Result<(u64, MemShelf), AllocError> {
-    let line = &["prove", "m", query, "p"];
-    let (_, said, shelf) = ran::<Sha, _, _, R>(rt, alloc, line, shelf, &[], &NoGate)?;
+    let line = format!(in alloc; "prove m {query} p")?;
+    let (_, said, shelf) = ran::<Sha, _, _, R>(rt, alloc, line.as_str(), shelf, &[], &NoGate)?;
     Ok((proof_length(&said).unwrap_or(0), shelf))
 }
 
@@ -299,8 +303,15 @@ fn tried<R: Threads + Sync>(
     so_far: &Figures,
 ) -> Result<(Figures, MemShelf), AllocError> {
     let (length, shelf) = proved(rt, alloc, query, shelf)?;
-    let line = &["check", root, query, "p"];
-    let (status, answer, shelf) = ran::<Sha, _, _, R>(rt, alloc, line, shelf, &[], &NoGate)?;
+    let line = format!(in alloc; "check {root} {query} p")?;
+    let (status, answer, shelf) = ran::<Sha, _, _, R>(
+        rt,
+        alloc,
+        line.as_str(),
+        shelf,
+        &[],
+        &NoGate,
+    )?;
     let figures = Figures {
         accepted: so_far.accepted.wrapping_add(u64::from(status == Done)),
         answers: so_far.answers.wrapping_add(lines(&answer)),
@@ -341,17 +352,18 @@ fn a_demonstration_adds_up(rt: HostRuntime) -> Result<(), Fail> {
         bytes,
     } = all_tried(&rt, alloc, root.as_str(), shelf)?;
     let printed = format!(in alloc;
-        "records 1000\nlevel 1\nroot {root}\nqueries 64\naccepted {accepted}\nanswers {answers}\nbytes {bytes}\n"
+        "records 1000\nlevel 1\nroot {root}\nqueries 64\naccepted {accepted}\nanswers {answers}\n\
+         bytes {bytes}\n"
     )?;
-    let row = Row(
-        &["demo", "1000", "1"],
-        NO_FILES,
-        &[],
-        &[],
-        Done,
-        printed.as_bytes(),
-        NO_FILES,
-    );
-    assert!(rt; holds::<Sha, _>(&rt, alloc, &row)?);
+    let row = Row {
+        name: "a demonstration adds up",
+        words: "demo 1000 1",
+        files: &[],
+        fails: &[],
+        status: Done,
+        text: printed.as_str(),
+        made: &[],
+    };
+    assert!(rt; is_so::<Sha, _>(&rt, alloc, &row)?);
     Ok(())
 }

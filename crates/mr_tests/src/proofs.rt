@@ -1,163 +1,229 @@
-//! Windows proved on a map that was built, and their proofs checked: three commands over one shelf.
+//! Windows proved on maps that were built, and their proofs checked: stories of three commands.
+//! Digests and lines come from a program of another language.
 
-use crate::bench::{Row, file_of, holds, ran_on, shelf_of};
-use crate::maps::BUILD;
-use crate::rows::{CHECK, EMPTY, FOUR_PLACES, NONE, ONE, OPENED, PROOF_OF_PLACES, PRUNED};
-use mr_tool::Status;
-use mr_tree::{Hash32, Sha, XorHash};
-use std::alloc::{AllocError, Global};
+use crate::bench::Step::{Do, Hashes, Holds, Print, Run};
+use crate::bench::{Story, first_untrue};
+use crate::parts::File;
+use crate::parts::Part::{Places, Row, Text};
+use crate::rows::{EMPTY, FOUR_PLACES, OPENED, PROOF_OF_PLACES, PRUNED, SEVEN};
+use mr_tool::Status::Done;
+use mr_tree::{Sha, XorHash};
 use std::test::Fail;
-use std::thread::Threads;
 
-/// All that these commands print, one after the other over a shelf whose file `r` has this text,
-/// and the file `p` that they leave.
-pub fn answered<H: Hash32, R: Threads + Sync>(
-    rt: &R,
-    alloc: Global,
-    text: &[u8],
-    commands: &[&[&str]],
-) -> Result<(Vec<u8>, Vec<u8>), AllocError> {
-    let mut shelf = shelf_of(alloc, &[("r", text)], &[])?;
-    let mut printed = Vec::new(alloc);
-    for command in commands {
-        let (_, left) = ran_on::<H, R>(rt, alloc, command, shelf, &mut printed)?;
-        shelf = left;
-    }
-    Ok((printed, file_of(alloc, &shelf, "p")?))
-}
-
-/// A text of records, the commands that build their map, prove the answer to a query on it and
-/// check the proof, all that is printed, and the proof.
-#[derive(Clone, Copy)]
-pub struct Answer<'a>(
-    pub &'a [u8],
-    pub &'a [&'a [&'a str]],
-    pub &'a [u8],
-    pub &'a [u8],
-);
-
-/// Whether all is printed and proved as is said.
-pub fn is_answered<H: Hash32, R: Threads + Sync>(
-    rt: &R,
-    alloc: Global,
-    answer: &Answer<'_>,
-) -> Result<bool, AllocError> {
-    let (said, left) = answered::<H, R>(rt, alloc, answer.0, answer.1)?;
-    Ok(said.as_slice() == answer.2 && left.as_slice() == answer.3)
-}
-
-/// The place of the first answer that is another than is said.
-pub fn first_other_answer<H: Hash32, R: Threads + Sync>(
-    rt: &R,
-    alloc: Global,
-    answers: &[Answer<'_>],
-) -> Result<Option<usize>, AllocError> {
-    for (place, answer) in answers.iter().enumerate() {
-        if !is_answered::<H, R>(rt, alloc, answer)? {
-            return Ok(Some(place));
-        }
-    }
-    Ok(None)
-}
-
-/// A root, a query and a proof, with the status of its check and what that prints.
-#[derive(Clone, Copy)]
-pub struct Check<'a>(
-    pub &'a str,
-    pub &'a str,
-    pub &'a [u8],
-    pub Status,
-    pub &'a [u8],
-);
-
-// Whether a check ends and prints as is said, and leaves the proof as it was.
-fn is_checked<R: Threads + Sync>(
-    rt: &R,
-    alloc: Global,
-    check: &Check<'static>,
-) -> Result<bool, AllocError> {
-    let words = ["check", check.0, check.1, "p"];
-    let files = [("p", check.2)];
-    let row = Row(&words, &files, &[], &[], check.3, check.4, &files);
-    holds::<XorHash, R>(rt, alloc, &row)
-}
-
-/// The place of the first check, under the exclusive or of all bytes, that ends otherwise.
-pub fn first_other_check<R: Threads + Sync>(
-    rt: &R,
-    alloc: Global,
-    checks: &[Check<'static>],
-) -> Result<Option<usize>, AllocError> {
-    for (place, check) in checks.iter().enumerate() {
-        if !is_checked(rt, alloc, check)? {
-            return Ok(Some(place));
-        }
-    }
-    Ok(None)
-}
+const TEXT_OF_SEVEN: &[File<'static>] = &[("r", &[Text(SEVEN)])];
 
 // Under the exclusive or of all bytes.
-const ANSWERS: &[Answer<'static>] = &[
-    Answer(
-        b"7 0 0 0 0 -\n",
-        &[
-            BUILD,
-            &["prove", "m", "window:0,0,0,0", "p"],
-            &["check", ONE, "window:0,0,0,0", "p"],
+const SMALL: &[Story<'static>] = &[
+    Story {
+        name: "the leaf is opened",
+        files: TEXT_OF_SEVEN,
+        steps: &[
+            Run {
+                words: "build m r",
+                status: Done,
+                text: "..18\n",
+            },
+            Run {
+                words: "prove m window:0,0,0,0 p",
+                status: Done,
+                text: "proof 50\n",
+            },
+            Run {
+                words: "check ..18 window:0,0,0,0 p",
+                status: Done,
+                text: "7 0 0 0 0 -\n",
+            },
+            Holds("p", OPENED),
         ],
-        b"0000000000000000000000000000000000000000000000000000000000000018\nproof 50\n7 0 0 0 0 -\n",
-        OPENED,
-    ),
-    Answer(
-        b"7 0 0 0 0 -\n",
-        &[
-            BUILD,
-            &["prove", "m", "window:1,1,2,2", "p"],
-            &["check", ONE, "window:1,1,2,2", "p"],
+    },
+    Story {
+        name: "the leaf is pruned",
+        files: TEXT_OF_SEVEN,
+        steps: &[
+            Run {
+                words: "build m r",
+                status: Done,
+                text: "..18\n",
+            },
+            Run {
+                words: "prove m window:1,1,2,2 p",
+                status: Done,
+                text: "proof 72\n",
+            },
+            Run {
+                words: "check ..18 window:1,1,2,2 p",
+                status: Done,
+                text: "",
+            },
+            Holds("p", PRUNED),
         ],
-        b"0000000000000000000000000000000000000000000000000000000000000018\nproof 72\n",
-        PRUNED,
-    ),
-    Answer(
-        b"",
-        &[
-            BUILD,
-            &["prove", "m", "window:0,0,0,0", "p"],
-            &["check", NONE, "window:0,0,0,0", "p"],
+    },
+    Story {
+        name: "the map is empty",
+        files: &[("r", &[])],
+        steps: &[
+            Run {
+                words: "build m r",
+                status: Done,
+                text: "..44\n",
+            },
+            Run {
+                words: "prove m window:0,0,0,0 p",
+                status: Done,
+                text: "proof 22\n",
+            },
+            Run {
+                words: "check ..44 window:0,0,0,0 p",
+                status: Done,
+                text: "",
+            },
+            Holds("p", EMPTY),
         ],
-        b"0000000000000000000000000000000000000000000000000000000000000044\nproof 22\n",
-        EMPTY,
-    ),
+    },
+];
+
+// The records I at (I,0): with one less the root would have level 1.
+const ROW: &[File<'static>] = &[("r", &[Row(1025)])];
+
+// Under SHA-256.
+const LARGE: &[Story<'static>] = &[
+    Story {
+        name: "four places",
+        files: &[("r", &[Text(FOUR_PLACES)])],
+        steps: &[
+            Run {
+                words: "build m r",
+                status: Done,
+                text: "b136e9ea66645cc4c87feaf0addfecbc0d52bd619bc06f05e004ff35cbfaff04\n",
+            },
+            Run {
+                words: "prove m window:133700000,525100000,133800000,525200000 p",
+                status: Done,
+                text: "proof 172\n",
+            },
+            Run {
+                words: "check b136e9ea66645cc4c87feaf0addfecbc0d52bd619bc06f05e004ff35cbfaff04 \
+                    window:133700000,525100000,133800000,525200000 p",
+                status: Done,
+                text: "101 133777000 525163000 133777000 525163000 4272616e64656e62757267657220546\
+                    f72\n102 133761000 525186000 133761000 525186000 526569636873746167\n",
+            },
+            Holds("p", PROOF_OF_PLACES),
+        ],
+    },
+    Story {
+        name: "nothing is opened on three levels",
+        files: ROW,
+        steps: &[
+            Run {
+                words: "build m r",
+                status: Done,
+                text: "0a1f58ba200fb9fbf1ec601962e66d4f61fca5ce3dd5b1fbc2a96141ab87d843\n",
+            },
+            Run {
+                words: "prove m window:0,1,2000,1 p",
+                status: Done,
+                text: "proof 72\n",
+            },
+            Run {
+                words: "check 0a1f58ba200fb9fbf1ec601962e66d4f61fca5ce3dd5b1fbc2a96141ab87d843 \
+                    window:0,1,2000,1 p",
+                status: Done,
+                text: "",
+            },
+            Hashes(
+                "p",
+                72,
+                "ae776d030ffeb5487bc8d6448f00c8208e1469471e10c50333dec5ecd7ea5eac",
+            ),
+        ],
+    },
+    Story {
+        name: "one path is",
+        files: ROW,
+        steps: &[
+            Run {
+                words: "build m r",
+                status: Done,
+                text: "0a1f58ba200fb9fbf1ec601962e66d4f61fca5ce3dd5b1fbc2a96141ab87d843\n",
+            },
+            Run {
+                words: "prove m window:700,0,702,0 p",
+                status: Done,
+                text: "proof 2046\n",
+            },
+            Run {
+                words: "check 0a1f58ba200fb9fbf1ec601962e66d4f61fca5ce3dd5b1fbc2a96141ab87d843 \
+                    window:700,0,702,0 p",
+                status: Done,
+                text: "700 700 0 700 0 -\n701 701 0 701 0 -\n702 702 0 702 0 -\n",
+            },
+            Hashes(
+                "p",
+                2046,
+                "1e0a8cb517908e395df1fffba701dad732dc738633cbfb2840b1958d60bf6622",
+            ),
+        ],
+    },
+    Story {
+        name: "all is",
+        files: ROW,
+        steps: &[
+            Run {
+                words: "build m r",
+                status: Done,
+                text: "0a1f58ba200fb9fbf1ec601962e66d4f61fca5ce3dd5b1fbc2a96141ab87d843\n",
+            },
+            Run {
+                words: "prove m window:1,0,1025,0 p",
+                status: Done,
+                text: "proof 25784\n",
+            },
+            Print(
+                "check 0a1f58ba200fb9fbf1ec601962e66d4f61fca5ce3dd5b1fbc2a96141ab87d843 \
+                    window:1,0,1025,0 p",
+                &[Row(1025)],
+            ),
+            Hashes(
+                "p",
+                25784,
+                "e312549be4ba82faa2c5d00108de961351a40b23f88576f3359aa01dbc7d70a4",
+            ),
+        ],
+    },
 ];
 
 #[test]
-fn windows_on_small_maps(rt: HostRuntime) -> Result<(), Fail> {
-    assert_eq!(rt;
-        first_other_answer::<XorHash, _>(&rt, rt.alloc(), ANSWERS)?,
-        None
-    );
+fn windows_that_are_proved(rt: HostRuntime) -> Result<(), Fail> {
+    assert_eq!(rt; first_untrue::<XorHash, _>(&rt, rt.alloc(), SMALL)?, None);
+    assert_eq!(rt; first_untrue::<Sha, _>(&rt, rt.alloc(), LARGE)?, None);
     Ok(())
 }
 
-// Under SHA-256.
-const PLACES: Answer<'static> = Answer(
-    FOUR_PLACES,
-    &[
-        BUILD,
-        &[
-            "prove",
-            "m",
-            "window:133700000,525100000,133800000,525200000",
-            "p",
-        ],
-        CHECK,
+const MUCH: &[Story<'static>] = &[Story {
+    name: "a proof of more than 1 MiB",
+    files: &[("r", &[Places(1, 45_000)])],
+    steps: &[
+        Run {
+            words: "build m r",
+            status: Done,
+            text: "8a0708a135044769a7b1f247a2d1c82765ef4bffbe007d6a28d323029c793681\n",
+        },
+        Do("prove m window:0,0,30000,30000 p"),
+        Print(
+            "check 8a0708a135044769a7b1f247a2d1c82765ef4bffbe007d6a28d323029c793681 \
+                window:0,0,30000,30000 p",
+            &[Places(1, 45_000)],
+        ),
+        Print(
+            "audit m window:0,0,30000,30000 p",
+            &[Text("sound\n"), Places(1, 45_000)],
+        ),
     ],
-    b"b136e9ea66645cc4c87feaf0addfecbc0d52bd619bc06f05e004ff35cbfaff04\nproof 172\n101 133777000 525163000 133777000 525163000 4272616e64656e62757267657220546f72\n102 133761000 525186000 133761000 525186000 526569636873746167\n",
-    PROOF_OF_PLACES,
-);
+}];
 
 #[test]
-fn a_window_on_four_places(rt: HostRuntime) -> Result<(), Fail> {
-    assert!(rt; is_answered::<Sha, _>(&rt, rt.alloc(), &PLACES)?);
+fn a_proof_of_more_than_a_mebibyte(rt: HostRuntime) -> Result<(), Fail> {
+    assert_eq!(rt; first_untrue::<Sha, _>(&rt, rt.alloc(), MUCH)?, None);
     Ok(())
 }

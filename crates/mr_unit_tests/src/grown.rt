@@ -5,12 +5,13 @@ use mr_geom::Rect;
 use mr_grow::{DropErr, GrowErr, delete, insert};
 use mr_pack::pack;
 use mr_record::{Record, read_line, read_lines};
-use mr_tree::{Tree, XorHash, records_of, root_of};
+use mr_tree::{COUNT_LIMIT, Tree, XorHash, count_of, records_of, root_of};
 use std::alloc::{AllocError, Global};
 use std::test::Fail;
 
-const SIXTEEN: &[u8] =
-    b"1 1 0 1 0 -\n2 2 0 2 0 -\n3 3 0 3 0 -\n4 4 0 4 0 -\n5 5 0 5 0 -\n6 6 0 6 0 -\n7 7 0 7 0 -\n8 8 0 8 0 -\n9 9 0 9 0 -\n10 10 0 10 0 -\n11 11 0 11 0 -\n12 12 0 12 0 -\n13 13 0 13 0 -\n14 14 0 14 0 -\n15 15 0 15 0 -\n16 16 0 16 0 -\n";
+const SIXTEEN: &[u8] = b"1 1 0 1 0 -\n2 2 0 2 0 -\n3 3 0 3 0 -\n4 4 0 4 0 -\n5 5 0 5 0 -\n\
+    6 6 0 6 0 -\n7 7 0 7 0 -\n8 8 0 8 0 -\n9 9 0 9 0 -\n10 10 0 10 0 -\n11 11 0 11 0 -\n\
+    12 12 0 12 0 -\n13 13 0 13 0 -\n14 14 0 14 0 -\n15 15 0 15 0 -\n16 16 0 16 0 -\n";
 
 // How many entries the first child of a root has, 0 where there is none.
 fn first_entries(tree: &Tree) -> usize {
@@ -103,6 +104,61 @@ fn trees_that_are_handed_back(rt: HostRuntime) -> Result<(), Fail> {
     let list = read_lines(alloc, SIXTEEN).map_err(|_| "no records")?;
     let one = read_line(b"18 0 0 0 0 -".as_slice()).map_err(|_| "no record")?;
     assert!(rt; handed_back(alloc, list, one)? == (0, 17));
+    Ok(())
+}
+
+// As many records as there may be, at one place.
+fn most(alloc: Global) -> Result<Vec<Record>, Fail> {
+    let one = read_line(b"0 0 0 0 0 -".as_slice()).map_err(|_| "no record")?;
+    let mut list = Vec::new(alloc);
+    for number in 0..COUNT_LIMIT {
+        list.push(Record { number, ..one })?;
+    }
+    Ok(list)
+}
+
+// How a record is inserted into the tree of this list: the records of the tree that is handed back
+// because it is full or has the number, each by a count of its own, and nothing else.
+#[derive(Clone, Copy, Debug, PartialEq)]
+enum Answer {
+    Full(u64),
+    Present(u64, u64),
+    Otherwise,
+}
+
+fn inserted(alloc: Global, list: Vec<Record>, one: Record) -> Answer {
+    if list.len() > 1 << 20 {
+        return Answer::Otherwise;
+    }
+    let Ok(tree) = pack(alloc, list) else {
+        return Answer::Otherwise;
+    };
+    match insert(alloc, tree, one) {
+        Err(GrowErr::Full(back)) => Answer::Full(count_of(&back)),
+        Err(GrowErr::Present(back, number)) => Answer::Present(count_of(&back), number),
+        _ => Answer::Otherwise,
+    }
+}
+
+#[test]
+fn a_full_tree_takes_no_record(rt: HostRuntime) -> Result<(), Fail> {
+    let alloc = rt.alloc();
+    let one = read_line(b"1048576 0 0 0 0 -".as_slice()).map_err(|_| "no record")?;
+    assert_eq!(rt; inserted(alloc, most(alloc)?, one), Answer::Full(1 << 20));
+    Ok(())
+}
+
+// A number that is there is named first, also where the tree is full.
+#[test]
+fn a_number_is_taken_once(rt: HostRuntime) -> Result<(), Fail> {
+    let alloc = rt.alloc();
+    let list = read_lines(alloc, SIXTEEN).map_err(|_| "no records")?;
+    let one = read_line(b"16 0 0 0 0 -".as_slice()).map_err(|_| "no record")?;
+    assert_eq!(rt; inserted(alloc, list, one), Answer::Present(16, 16));
+    assert_eq!(rt;
+        inserted(alloc, most(alloc)?, one),
+        Answer::Present(1 << 20, 16)
+    );
     Ok(())
 }
 

@@ -121,6 +121,28 @@ fn admissions(rt: HostRuntime) -> Result<(), Fail> {
     Ok(())
 }
 
+// A batch text that is read, the batch's number and that of its changes.
+const READ: [(&str, u64, usize); 3] = [
+    ("batch 18446744073709551615\n", u64::MAX, 0),
+    ("batch 0\n", 0, 0),
+    ("batch 1\n- 5\n+ 7 0 0 0 0 -\n", 1, 2),
+];
+
+fn is_read(alloc: Global, text: &str, number: u64, changes: usize) -> bool {
+    match read_batch(alloc, text.as_bytes()) {
+        Ok(batch) => batch.number() == number && batch.len() == changes,
+        Err(_) => false,
+    }
+}
+
+#[test]
+fn texts_that_are_read(rt: HostRuntime) -> Result<(), Fail> {
+    for (text, number, changes) in READ {
+        assert!(rt; is_read(rt.alloc(), text, number, changes), "{text}");
+    }
+    Ok(())
+}
+
 #[test]
 fn the_parts_of_a_batch(rt: HostRuntime) -> Result<(), Fail> {
     let alloc = rt.alloc();

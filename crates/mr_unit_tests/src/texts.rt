@@ -6,6 +6,7 @@ use mr_record::{
     Payload, Record, TextErr, TextFault, TextRule, read_i32, read_line, read_lines, read_u64,
     write_line,
 };
+use std::alloc::Global;
 use std::test::Fail;
 
 #[test]
@@ -68,26 +69,36 @@ fn seventeen_lines(rt: HostRuntime) -> Result<(), Fail> {
     Ok(())
 }
 
+// The fault of a text, none where it is read or there is no memory.
+fn fault(alloc: Global, text: &str) -> Option<TextFault> {
+    match read_lines(alloc, text.as_bytes()) {
+        Err(TextErr::Text(fault)) => Some(fault),
+        _ => None,
+    }
+}
+
+// A text, the line that breaks a rule, and the rule.
+const FAULTS: &[(&str, u64, TextRule)] = &[
+    ("+5 0 0 0 0 -\n", 1, TextRule::Number),
+    ("05 0 0 0 0 -\n", 1, TextRule::Number),
+    ("7 0 0 0 0 -", 1, TextRule::NoEnd),
+    ("7 1 0 0 0 -\n", 1, TextRule::Order),
+    ("7 0 0 0 0 -\n7 0 0 0 0 -\n", 2, TextRule::Repeat),
+    ("7 0 0 0 0 -\n\n7 0 0 0 0 -\n", 2, TextRule::Form),
+    ("7  0 0 0 -\n", 1, TextRule::Coordinate),
+    ("7 0 0 0 0 \n", 1, TextRule::Payload),
+    ("7 0 0 0 0 AB\n", 1, TextRule::Payload),
+    ("7 1 0 0 x abc\n", 1, TextRule::Coordinate),
+];
+
 #[test]
 fn first_faults(rt: HostRuntime) {
-    for (text, line, rule) in [
-        ("+5 0 0 0 0 -\n", 1, TextRule::Number),
-        ("05 0 0 0 0 -\n", 1, TextRule::Number),
-        ("7 0 0 0 0 -", 1, TextRule::NoEnd),
-        ("7 1 0 0 0 -\n", 1, TextRule::Order),
-        ("7 0 0 0 0 -\n7 0 0 0 0 -\n", 2, TextRule::Repeat),
-        ("7 0 0 0 0 -\n\n7 0 0 0 0 -\n", 2, TextRule::Form),
-        ("7  0 0 0 -\n", 1, TextRule::Coordinate),
-        ("7 0 0 0 0 \n", 1, TextRule::Payload),
-        ("7 0 0 0 0 AB\n", 1, TextRule::Payload),
-        ("7 1 0 0 x abc\n", 1, TextRule::Coordinate),
-    ] {
-        let want = Some(TextErr::Text(TextFault { line, rule }));
-        assert_eq!(rt;
-            read_lines(rt.alloc(), text.as_bytes()).err(),
-            want,
-            "at {text}"
-        );
+    for (text, line, rule) in FAULTS {
+        let want = Some(TextFault {
+            line: *line,
+            rule: *rule,
+        });
+        assert_eq!(rt; fault(rt.alloc(), text), want, "at {text}");
     }
 }
 
@@ -103,11 +114,11 @@ fn a_line_past_the_limit(rt: HostRuntime) -> Result<(), Fail> {
         .ok_or("2^20 records")?;
     assert_eq!(rt; records.len(), 1 << 20);
     text.push_str("7")?;
-    let want = Some(TextErr::Text(TextFault {
+    let want = Some(TextFault {
         line: (1 << 20) + 1,
         rule: TextRule::TooMany,
-    }));
-    assert_eq!(rt; read_lines(rt.alloc(), text.as_bytes()).err(), want);
+    });
+    assert_eq!(rt; fault(rt.alloc(), text.as_str()), want);
     Ok(())
 }
 

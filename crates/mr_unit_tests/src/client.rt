@@ -3,7 +3,6 @@
 ghost use Rattle.std.specs.Prelude.{IfOk};
 ghost use Rattle.mr_query.specs.Word.{IsAskable};
 
-use crate::rows::OPENED;
 use mr_check::{CheckErr, check};
 use mr_geom::Rect;
 use mr_proof::{Fault, Field, Rule, Want, read_field};
@@ -12,19 +11,24 @@ use mr_tree::{Sha, XorHash};
 use std::alloc::{AllocError, Global};
 use std::test::Fail;
 
+/// A window's proof on the map of record 7 that opens its leaf.
+pub const OPENED: &[u8] = b"MRVO\x01W\0\0\0\0\0\0\0\0\0\0\0\0\0\0\0\x01\0\
+    L\x01\0\0\0\0\0\0\0\x07\0\0\0\0\0\0\0\0\0\0\0\0\0\0\0\0\0";
+
 // A leaf with record 7 at (0, 0), without a payload.
 const LEAF: [u8; 27] = [
     0x4c, 1, 0, 0, 0, 0, 0, 0, 0, 7, 0, 0, 0, 0, 0, 0, 0, 0, 0, 0, 0, 0, 0, 0, 0, 0, 0,
 ];
 
-// A digest of 31 zero bytes and this last one.
-fn digest(last: u8) -> [u8; 32] {
+/// A digest of 31 zero bytes and this last one.
+pub fn digest(last: u8) -> [u8; 32] {
     let mut digest = [0; 32];
     digest[31] = last;
     digest
 }
 
-fn window(x0: i32, y0: i32, x1: i32, y1: i32) -> Result<Query, &'static str>
+/// A window's query.
+pub fn window(x0: i32, y0: i32, x1: i32, y1: i32) -> Result<Query, &'static str>
     ensures { IfOk result IsAskable }
 {
     match Rect::new(x0, y0, x1, y1) {

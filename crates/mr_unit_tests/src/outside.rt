@@ -1,5 +1,5 @@
-//! Files, outputs and gates by their calls: in memory with each call failing, over the real file system and output, and
-//! over runtimes that refuse or give little.
+//! Files, outputs and gates by their calls: in memory with each call failing, over the real file
+//! system and output, and over runtimes that refuse or give little.
 
 ghost use Rattle.std.specs.Prelude.{◌≤◌, ⊤, Some, IsTrue, length};
 ghost use Rattle.mr_outside.specs.Told.{OfFile};

@@ -1,0 +1,29 @@
+//! Tests of the libraries by their calls, with values from outside.
+#![tactic(auto)]
+
+#[cfg(test)]
+mod batches;
+#[cfg(test)]
+mod client;
+#[cfg(test)]
+mod grown;
+#[cfg(test)]
+mod opening;
+#[cfg(test)]
+mod outside;
+#[cfg(test)]
+mod packing;
+#[cfg(test)]
+mod queries;
+#[cfg(test)]
+mod rects;
+#[cfg(test)]
+mod refusals;
+#[cfg(test)]
+mod splits;
+#[cfg(test)]
+mod texts;
+#[cfg(test)]
+mod tree;
+#[cfg(test)]
+mod workloads;
