@@ -140,7 +140,8 @@ pub record NextCut (hash : List ℕ → List ℕ) (w : ℕ) (Ps : Cuts) (i : ℕ
   pub cut : Cut
   pub fits : FitsCut w cut
   pub here : drop_cuts i Ps ≡ first cut (drop_cuts (suc i) Ps)
-  pub more : take (suc i) (entries (scheme hash) w Ps) ≡ take i (entries (scheme hash) w Ps) ++ entry (scheme hash) w cut ∷ []
+  pub more : take (suc i) (entries (scheme hash) w Ps) ≡ take i (entries (scheme hash) w Ps)
+      ++ entry (scheme hash) w cut ∷ []
 
 pub next_cut : (hash : List ℕ → List ℕ) (w : ℕ) (Ps : Cuts) (i : ℕ) → i < count_of Ps → FitCuts w Ps
     → NextCut hash w Ps i
@@ -165,7 +166,8 @@ pub record NextItem (hash : List ℕ → List ℕ) (w : ℕ) (Ps : Cuts) (rest :
   pub cut : Cut
   pub fits : FitsCut w cut
   pub here : bytes ≡ cut_bytes cut ++ (cuts_bytes (drop_cuts (i + 1) Ps) ++ rest)
-  pub more : take (i + 1) (entries (scheme hash) w Ps) ≡ take i (entries (scheme hash) w Ps) ++ entry (scheme hash) w cut ∷ []
+  pub more : take (i + 1) (entries (scheme hash) w Ps) ≡ take i (entries (scheme hash) w Ps)
+      ++ entry (scheme hash) w cut ∷ []
 
 pub next_item : (hash : List ℕ → List ℕ) (w : ℕ) (Ps : Cuts) (rest : List ℕ) (i : ℕ) (bytes : List ℕ)
     → i < count_of Ps → FitCuts w Ps → bytes ≡ cuts_bytes (drop_cuts i Ps) ++ rest

@@ -43,7 +43,11 @@ named_children (c ∷ cs) all = (
 named_entries : (hash : List ℕ → List ℕ) → ((m : List ℕ) → length (hash m) ≡ 32) → (w : ℕ) (Ps : Cuts)
     → FitCuts w Ps → AllByRecursion IsNamed (entries (scheme hash) w Ps)
 named_entries hash sized w no_more fits = tt
-named_entries hash sized w (first P Ps) fits = (named_cut (scheme hash) sized w P fits.0, named_entries hash sized w Ps fits.1)
+named_entries hash sized w (first P Ps) fits = (
+  named_cut (scheme hash) sized w P fits.0,
+  named_entries hash sized w
+      Ps fits.1,
+)
 
 abbrev IsLevel : ℕ → Entry → Type 0
 IsLevel w e = e.level ≡ w
@@ -169,7 +173,8 @@ module _ (hash : List ℕ → List ℕ) (s : Standing) (c : Child) (P : Cut) whe
   pub pruned_compared : is_pruned P ≡ true → Compared hash s c.id c.level P None
   pruned_compared is = record { collides = tt; told = λ told. of_node (s.node c.id) P is }
     where
-      of_node : (o : Option Tree) (P : Cut) → is_pruned P ≡ true → IfSome o (λ t. None ≡ node_clash (scheme hash) c.level t P)
+      of_node : (o : Option Tree) (P : Cut) → is_pruned P ≡ true → IfSome o
+          (λ t. None ≡ node_clash (scheme hash) c.level t P)
       of_node None P is = tt
       of_node (Some t) (Pruned part) is = refl
       of_node (Some t) (Leaf rs) is = absurd cc
@@ -430,7 +435,8 @@ module _ (hash : List ℕ → List ℕ) (s : Standing) (c : Child) (n : Node) (s
       → option_map pair_of o ≡ differ (preimage_of n) (Some x.string) → IsView n → n ≡ node.Inner (children_in n)
       → cs ≡ children_in n
       → All (λ (d : Child). d.level + 1 ≡ level_of n) (children_in n)
-      → ((Ps : Cuts) → P ≡ Inner Ps → FitCuts (c.level - 1) Ps → map entry_of cs ≡ entries (scheme hash) (c.level - 1) Ps
+      → ((Ps : Cuts) → P ≡ Inner Ps → FitCuts (c.level - 1) Ps → map entry_of cs
+      ≡ entries (scheme hash) (c.level - 1) Ps
       → IfOk r (λ o. ComparedAll hash s (c.level - 1) cs Ps (option_map pair_of o) × (o ≡ None → after ≡ rest)))
       → IfOk r (λ o. Compared hash s c.id c.level P (option_map pair_of o) × (o ≡ None → after ≡ rest))
   walk_inner sized (Pruned part) x o cs rest after r fits above not_pruned is d view inner own alike walked = absurd cc
@@ -438,7 +444,8 @@ module _ (hash : List ℕ → List ℕ) (s : Standing) (c : Child) (n : Node) (s
       absurd (above fits.at_leaf)
   walk_inner sized (Inner Ps) x o cs rest after r fits above not_pruned is d view inner own alike walked =
       let w = c.level - 1 in
-      let string : x.string ≡ node_preimage (node.Inner (entries (scheme hash) w Ps)) = same_some x.string _ (sym x.is) in
+      let string : x.string ≡ node_preimage (node.Inner (entries (scheme hash) w Ps)) = same_some x.string _
+      (sym x.is) in
       let none : None ≡ differ (preimage_of n) (Some (node_preimage (node.Inner (entries (scheme hash) w Ps)))) =
       sym (ap (option_map pair_of) is) ∙ d ∙ ap (λ y. differ (preimage_of n) (Some y)) string in
       let is_inner : n ≡ node.Inner cs = inner ∙ ap node.Inner (sym own) in

@@ -96,7 +96,8 @@ root_told hash s top t is told =
         known_at : (o : Option Tree) → o ≡ Some t → IsSomeAnd o (λ t. entry_of c ≡ digests.entry (by s.version hash) t)
             → entry_of c ≡ digests.entry (by s.version hash) t
         known_at None e k = cc
-        known_at (Some u) e k = subst (λ (u : Tree). entry_of c ≡ digests.entry (by s.version hash) u) (same_some u t e) k
+        known_at (Some u) e k = subst (λ (u : Tree). entry_of c ≡ digests.entry (by s.version hash) u)
+            (same_some u t e) k
 
 -- ---- roots that are one
 
@@ -146,7 +147,8 @@ no_root_cut hash top h P none some e =
 pub root_no_cut : (hash : List ℕ → List ℕ) (top : Top) (h : Head) → 1 ≤ top.count
     → root_at top ≡ root_bytes hash h None → ⊥
 root_no_cut hash top h some e =
-    empty_filled (version_of h) (top_version top) h.batch top.batch top.count (record { level = 0; rect = None; digest = [] })
+    empty_filled (version_of h) (top_version top) h.batch top.batch top.count
+    (record { level = 0; rect = None; digest = [] })
     (root_entry top.root) some (sym e)
 
 some_records : (hash : List ℕ → List ℕ) (s : Standing) (top : Top) (c : Child) → IsTop hash s top
@@ -219,7 +221,8 @@ nodes_compared hash s top c h P bytes pair is root spelled d level so = record {
       subst (λ (o : Option Tree). IfSome o (λ t. tree_under s top.root ≡ Some t)) told is.tree in
       let at : s.node c.id ≡ Some t = sym (ap (tree_under s) root) ∙ under in
       let own : pair ≡ node_clash (scheme hash) c.level t P =
-      some_node (s.node c.id) t (λ t. pair ≡ node_clash (scheme hash) c.level t P) at (so.told (subst IsSome (sym told) refl)) in
+      some_node (s.node c.id) t (λ t. pair ≡ node_clash (scheme hash) c.level t P) at
+      (so.told (subst IsSome (sym told) refl)) in
       own ∙ ap (λ v. node_clash (scheme hash) v t P) (sym level)
       ∙ ap (λ o. or_else o (node_clash (scheme hash) h.level t P)) d);
 }
@@ -263,7 +266,8 @@ root_walked hash sized s top c h (Some P) bytes before after r is root batch cou
     walked_on : {E : Type 0} (r : Result (Option Clash) E)
         → IfOk r (λ o. Compared hash s c.id c.level P (option_map pair_of o) × (o ≡ None → after ≡ []))
         → h.level ≡ c.level → IfOk r (λ o. ComparedMap hash s bytes (option_map pair_of o))
-    walked_on (Ok o) so level = nodes_compared hash s top c h P bytes (option_map pair_of o) is root spelled d level so.0
+    walked_on (Ok o) so level = nodes_compared hash s top c h P bytes (option_map pair_of o) is root spelled d level
+        so.0
     walked_on (Err f) so level = tt
 
 -- ---- findings
@@ -271,7 +275,8 @@ root_walked hash sized s top c h (Some P) bytes before after r is root batch cou
 -- bytes that are not accepted
 module _ (hash : List ℕ → List ℕ) (s : Standing) (top : Top) (q : Query) (bytes root : List ℕ) (is : IsTop hash s top)
     (e : root ≡ hash (root_at top)) where
-  verdict_is : (t : Tree) → s.tree ≡ Some t → verdict hash (digests.root (by s.version hash) t s.batch) q bytes ≡ verdict hash root q bytes
+  verdict_is : (t : Tree) → s.tree ≡ Some t → verdict hash (digests.root (by s.version hash) t s.batch) q bytes
+      ≡ verdict hash root q bytes
   verdict_is t told =
       ap (λ r. verdict hash r q bytes) (sym (e ∙ ap hash (root_told hash s top t is told)))
 
@@ -283,10 +288,12 @@ module _ (hash : List ℕ → List ℕ) (s : Standing) (top : Top) (q : Query) (
           → Refuses error r → IfSome o (λ t. IfOk r (λ v. v ≡ found (by s.version hash) t s.batch q bytes))
       by_tree None told error exact refuses = tt
       by_tree (Some t) told (errors.Fault f) exact refuses =
-          subst (λ (r : Result Finding AuditErr). IfOk r (λ v. v ≡ found (by s.version hash) t s.batch q bytes)) (sym refuses)
+          subst (λ (r : Result Finding AuditErr). IfOk r (λ v. v ≡ found (by s.version hash) t s.batch q bytes))
+          (sym refuses)
           (sym (ap (λ r. finding_of r (clash (by s.version hash) t s.batch bytes)) (verdict_is t told ∙ exact)))
       by_tree (Some t) told errors.NoMemory exact refuses =
-          subst (λ (r : Result Finding AuditErr). IfOk r (λ v. v ≡ found (by s.version hash) t s.batch q bytes)) (sym refuses) tt
+          subst (λ (r : Result Finding AuditErr). IfOk r (λ v. v ≡ found (by s.version hash) t s.batch q bytes))
+          (sym refuses) tt
 
 pub refused_causes : (s : Standing) (n : ℕ) (error : CheckErr) (r : Result Finding AuditErr) → Refuses error r
     → AuditCauses s n n r
@@ -370,7 +377,8 @@ finds_prop h t b q bytes (findings.Collision owned shown) = hlevel (props, set r
 -- so of a finding by a told tree, which is well formed
 pub honest_told : {E : Type 0} (hash : List ℕ → List ℕ) (q : Query) (bytes : List ℕ) (s : Standing) (top : Top)
     (r : Result Finding E) → IsTop hash s top → top.batch < 2 ^ 64 → AcceptsHonest (by s.version hash) q
-    → AcceptedIsHonest (by s.version hash) q bytes → HonestIsQuiet (by s.version hash) q → IfSome s.tree (λ t. ∥ WellFormed t ∥₁)
+    → AcceptedIsHonest (by s.version hash) q bytes → HonestIsQuiet (by s.version hash) q
+    → IfSome s.tree (λ t. ∥ WellFormed t ∥₁)
     → IfSome s.tree (λ t. IfOk r (λ v. v ≡ found (by s.version hash) t s.batch q bytes))
     → IfSome s.tree (λ t. IfOk r (λ v. FindsHonest (by s.version hash) t s.batch q bytes v))
 honest_told hash q bytes s top r is low accepts worth quiet wells told = by_tree s.tree r wells told
@@ -381,4 +389,5 @@ honest_told hash q bytes s top r is low accepts worth quiet wells told = by_tree
     by_tree None r wells told = tt
     by_tree (Some t) (Err e) wells told = tt
     by_tree (Some t) (Ok v) wells told = ∥∥₁_elim wells (finds_prop (by s.version hash) t s.batch q bytes v) (λ well.
-        finds_honest (by s.version hash) q t s.batch bytes well (subst (λ n. n < 2 ^ 64) is.batch low) accepts worth quiet v told)
+        finds_honest (by s.version hash) q t s.batch bytes well (subst (λ n. n < 2 ^ 64) is.batch low) accepts worth
+        quiet v told)

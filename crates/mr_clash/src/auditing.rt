@@ -3,11 +3,11 @@
 ghost use Rattle.std.specs.Prelude.{◌≡◌, ◌<◌, ◌^◌, ℕ, List, Option, None, Some, IfOk, IfErr, IfSome, option_map};
 ghost use Rattle.mr_geom.specs.Rectangle.{IsOrdered, FitsMap};
 ghost use Rattle.mr_tree.specs.Digest.{by};
-ghost use Rattle.mr_tree.specs.Nodes.{IsTop};
+ghost use Rattle.mr_tree.specs.Nodes.{IsTop, TellsRefusal};
 ghost use Rattle.mr_tree.specs.declared.nodes.Top as tops;
 ghost use Rattle.mr_tree.specs.declared.tree.Tree as trees;
 ghost use Rattle.mr_query.specs.Word.{IsAskable};
-ghost use Rattle.mr_clash.specs.Causes.{AuditCauses, IsHandedOn};
+ghost use Rattle.mr_clash.specs.Causes.{AuditCauses, IsHandedOn, of_nodes};
 ghost use Rattle.mr_clash.specs.Finding.{found, finding_by as by_pair, Collides, FindsHonest};
 ghost use Rattle.mr_clash.specs.Steps.{left, pair_of, ComparesMap, ComparesRoots, KnowsRoot, Refuses, root_at};
 
@@ -85,6 +85,7 @@ fn compare_map<N: Nodes>(
     ensures causes { AuditCauses (N.stands nodes.old) (N.faults nodes.old) (N.faults nodes.new)
         result }
     ensures refused { IfErr result (IsHandedOn (N.refusal nodes.new)) }
+    ensures answered { TellsRefusal of_nodes (N.refusal nodes.old) (N.refusal nodes.new) result }
     ensures compared { ComparesMap N.Hash.of (N.stands nodes.old) top.now proof.now result }
 {
     are_words(top.batch, top.count);
@@ -142,6 +143,7 @@ pub fn audit<N: Nodes>(
     ensures causes { AuditCauses (N.stands nodes.old) (N.faults nodes.old) (N.faults nodes.new)
         result }
     ensures refused { IfErr result (IsHandedOn (N.refusal nodes.new)) }
+    ensures answered { TellsRefusal of_nodes (N.refusal nodes.old) (N.refusal nodes.new) result }
     ensures told { IfSome (N.stands nodes.old).tree (λ t. IfOk result (λ v. v
         ≡ found (by (N.stands nodes.old).version N.Hash.of) t (N.stands nodes.old).batch
         q.now proof.now)) }

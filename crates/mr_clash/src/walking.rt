@@ -1,12 +1,12 @@
 //! The nodes of the map and the cut that a proof shows, one after the other.
 
 ghost use Rattle.std.specs.Prelude.{◌≡◌, ◌++◌, ℕ, List, length, All, OnOk, IfErr, Some, option_map, bytes_eq};
-ghost use Rattle.mr_tree.specs.Nodes.{MayFetch, Shows};
+ghost use Rattle.mr_tree.specs.Nodes.{MayFetch, Shows, TellsRefusal};
 ghost use Rattle.mr_tree.specs.declared.child.Child as types;
 ghost use Rattle.mr_proof.specs.Clash.{differ};
 ghost use Rattle.mr_proof.specs.Cut.{Cut, Cuts, Inner};
 ghost use Rattle.mr_proof.specs.Spelling.{cut_bytes, cuts_bytes};
-ghost use Rattle.mr_clash.specs.Causes.{AuditCauses, IsHandedOn};
+ghost use Rattle.mr_clash.specs.Causes.{AuditCauses, IsHandedOn, of_nodes};
 ghost use Rattle.mr_clash.specs.Steps.{left, pair_of, is_pruned as pruned, Compares, ComparesAll, ComparesNode};
 
 use crate::AuditErr;
@@ -60,6 +60,7 @@ fn compare<N: Nodes>(
     ensures causes { AuditCauses (N.stands nodes.old) (N.faults nodes.old) (N.faults nodes.new)
         result }
     ensures refused { IfErr result (IsHandedOn (N.refusal nodes.new)) }
+    ensures answered { TellsRefusal of_nodes (N.refusal nodes.old) (N.refusal nodes.new) result }
     ensures shows { OnOk result (Shows N.Hash.of (N.stands nodes.old) child.now view.new) }
     ensures compared { ComparesNode N.Hash.of child.now view.new (left from.now) result }
 {
@@ -93,6 +94,7 @@ fn walk_all<N: Nodes>(
     ensures causes { AuditCauses (N.stands nodes.old) (N.faults nodes.old) (N.faults nodes.new)
         result }
     ensures refused { IfErr result (IsHandedOn (N.refusal nodes.new)) }
+    ensures answered { TellsRefusal of_nodes (N.refusal nodes.old) (N.refusal nodes.new) result }
     ensures compared { ComparesAll N.Hash.of (N.stands nodes.old) level children.now
         (left from.old) (left from.new) result }
 {
@@ -118,6 +120,7 @@ pub(crate) fn walk<N: Nodes>(
     ensures causes { AuditCauses (N.stands nodes.old) (N.faults nodes.old) (N.faults nodes.new)
         result }
     ensures refused { IfErr result (IsHandedOn (N.refusal nodes.new)) }
+    ensures answered { TellsRefusal of_nodes (N.refusal nodes.old) (N.refusal nodes.new) result }
     ensures compared { Compares N.Hash.of (N.stands nodes.old) child.now (left from.old)
         (left from.new) result }
 {

@@ -142,7 +142,8 @@ proof_of_empty hash s top q r is right root told =
     let own : r ≡ (asks q).radius (records x.0) =
     subst (λ (o : Option Tree). IfSome o (λ t. r ≡ (asks q).radius (records t))) x.1 right in
     let empty : x.0 ≡ tree.Empty = same_tree tree.Empty x.0 at in
-    let flat : (root_entry top.root).level ≡ level x.0 = ap (λ o. (root_entry o).level) root ∙ sym (ap level empty ∙ level-Empty) in
+    let flat : (root_entry top.root).level ≡ level x.0 = ap (λ o. (root_entry o).level) root
+    ∙ sym (ap level empty ∙ level-Empty) in
     ap (proof_at (by s.version hash) s.batch q) x.1
     ∙ proof_by (by s.version hash) s x.0 top q r None (head_with s x.0 top q r is.batch count own flat) (no_part (by
     s.version hash) q x.0 empty)

@@ -2,8 +2,8 @@
 
 ghost use Rattle.std.specs.Prelude.{◌≡◌, OnOk, IfErr};
 ghost use Rattle.mr_outside.specs.Faults.{next_count};
-ghost use Rattle.mr_tree.specs.Nodes.{MayFetch, Shows};
-ghost use Rattle.mr_prove.specs.Causes.{IsHandedOn};
+ghost use Rattle.mr_tree.specs.Nodes.{MayFetch, Shows, TellsRefusal};
+ghost use Rattle.mr_prove.specs.Causes.{IsHandedOn, of_nodes};
 ghost use Rattle.mr_prove.specs.Search.{SearchCauses};
 
 use crate::ProveErr;
@@ -22,6 +22,7 @@ pub(crate) fn fetched<N: Nodes>(
     ensures causes { SearchCauses (N.stands nodes.old) (N.faults nodes.old) (N.faults nodes.new)
         result }
     ensures refused { IfErr result (IsHandedOn (N.refusal nodes.new)) }
+    ensures answered { TellsRefusal of_nodes (N.refusal nodes.old) (N.refusal nodes.new) result }
 {
     match nodes.fetch(child, into) {
         Ok(()) => Ok(()),

@@ -5,12 +5,12 @@ ghost use Rattle.mr_outside.specs.Causes.{SinkCauses};
 ghost use Rattle.mr_outside.specs.Told.{Takes, TakesFront};
 ghost use Rattle.mr_outside.specs.Faults.{next_count};
 ghost use Rattle.mr_tree.specs.View.{size, entry_of};
-ghost use Rattle.mr_tree.specs.Nodes.{Standing, MayFetch, Shows};
+ghost use Rattle.mr_tree.specs.Nodes.{Standing, MayFetch, Shows, TellsRefusal};
 ghost use Rattle.mr_tree.specs.declared.nodes.NodesErr as error;
 ghost use Rattle.mr_proof.specs.Cut.{pruned_cut};
 ghost use Rattle.mr_proof.specs.Spelling.{cut_bytes};
 ghost use Rattle.mr_proof.specs.Tight.{Seen, seen_at};
-ghost use Rattle.mr_prove.specs.Causes.{ProveCauses, IsHandedOn};
+ghost use Rattle.mr_prove.specs.Causes.{ProveCauses, IsHandedOn, of_nodes};
 ghost use Rattle.mr_prove.specs.Parts.{region_in, node_bytes, part_under, opened_under};
 
 use crate::ProveErr;
@@ -53,6 +53,7 @@ fn open_node<N: Nodes, W: Sink>(
     ensures causes { ProveCauses (N.stands nodes.old) (N.faults nodes.old) (N.faults nodes.new)
         (W.state out.old) (W.state out.new) result }
     ensures refused { IfErr result (IsHandedOn (N.refusal nodes.new)) }
+    ensures answered { TellsRefusal of_nodes (N.refusal nodes.old) (N.refusal nodes.new) result }
 {
     fetched(nodes, child, view)?;
     write_node(view, out)?;
@@ -68,6 +69,7 @@ fn write_pruned<W: Sink>(child: &Child, out: &mut W) -> Result<(), ProveErr>
     ensures causes { (s : Standing) (faults : ℕ) →
         ProveCauses s faults faults (W.state out.old) (W.state out.new) result }
     ensures refused { (last : Option error.NodesErr) → IfErr result (IsHandedOn last) }
+    ensures answered { (last : Option error.NodesErr) → TellsRefusal of_nodes last last result }
 {
     match write_item(out, &Item::Pruned(child)) {
         Ok(()) => Ok(()),
@@ -96,6 +98,7 @@ pub(crate) fn write_part<N: Nodes, W: Sink>(
     ensures causes { ProveCauses (N.stands nodes.old) (N.faults nodes.old) (N.faults nodes.new)
         (W.state out.old) (W.state out.new) result }
     ensures refused { IfErr result (IsHandedOn (N.refusal nodes.new)) }
+    ensures answered { TellsRefusal of_nodes (N.refusal nodes.old) (N.refusal nodes.new) result }
 {
     if !area.meets(&child.rect) {
         return write_pruned(child, out);

@@ -4,13 +4,14 @@ ghost use Rattle.std.specs.Prelude.{◌≡◌, ◌+◌, ◌*◌, ◌≤◌, OnOk
 ghost use Rattle.mr_outside.specs.Told.{Takes, TakesFront};
 ghost use Rattle.mr_record.specs.declared.version.Version.{Version};
 ghost use Rattle.mr_tree.specs.Digest.{by};
+ghost use Rattle.mr_tree.specs.Nodes.{TellsRefusal};
 ghost use Rattle.mr_query.specs.Word.{IsAskable};
 ghost use Rattle.mr_query.specs.declared.query.Query.TheVariants as queries;
 ghost use Rattle.mr_proof.specs.Spelling.{FitsRadius};
 ghost use Rattle.mr_proof.specs.Tight.{kind_of};
 ghost use Rattle.mr_proof.specs.Honest.{proof, opened};
 ghost use Rattle.mr_proof.specs.Halves.{AcceptsHonest};
-ghost use Rattle.mr_prove.specs.Causes.{ProveCauses, IsHandedOn, rounds};
+ghost use Rattle.mr_prove.specs.Causes.{ProveCauses, IsHandedOn, rounds, of_nodes};
 ghost use Rattle.mr_prove.specs.Parts.{head_by, proof_of, opened_by, IsRight};
 
 use crate::ProveErr;
@@ -56,6 +57,7 @@ fn write_proof<N: Nodes, W: Sink>(
     ensures causes { ProveCauses (N.stands nodes.old) (N.faults nodes.old) (N.faults nodes.new)
         (W.state out.old) (W.state out.new) result }
     ensures refused { IfErr result (IsHandedOn (N.refusal nodes.new)) }
+    ensures answered { TellsRefusal of_nodes (N.refusal nodes.old) (N.refusal nodes.new) result }
 {
     let top = nodes.top();
     write_head(out, &head_of(&top, q, radius))?;
@@ -91,6 +93,7 @@ fn prove_nearest<N: Nodes, W: Sink>(
     ensures causes { ProveCauses (N.stands nodes.old) (N.faults nodes.old) (N.faults nodes.new)
         (W.state out.old) (W.state out.new) result }
     ensures refused { IfErr result (IsHandedOn (N.refusal nodes.new)) }
+    ensures answered { TellsRefusal of_nodes (N.refusal nodes.old) (N.refusal nodes.new) result }
 {
     let radius = kth_distance(alloc, nodes, center, k)?;
     let q = Query::Nearest { center: *center, k };
@@ -121,6 +124,7 @@ pub fn prove_window<N: Nodes, W: Sink>(
     ensures causes { ProveCauses (N.stands nodes.old) (N.faults nodes.old) (N.faults nodes.new)
         (W.state out.old) (W.state out.new) result }
     ensures refused { IfErr result (IsHandedOn (N.refusal nodes.new)) }
+    ensures answered { TellsRefusal of_nodes (N.refusal nodes.old) (N.refusal nodes.new) result }
 {
     write_proof(nodes, &Query::Window(*window), None, out)
 }
@@ -153,6 +157,7 @@ pub fn prove<N: Nodes, W: Sink>(
     ensures causes { ProveCauses (N.stands nodes.old) (N.faults nodes.old) (N.faults nodes.new)
         (W.state out.old) (W.state out.new) result }
     ensures refused { IfErr result (IsHandedOn (N.refusal nodes.new)) }
+    ensures answered { TellsRefusal of_nodes (N.refusal nodes.old) (N.refusal nodes.new) result }
     ensures accepted { (v : Version) → AcceptsHonest (by v N.Hash.of) q.now }
 {
     honest_is_accepted::<N::Hash>(q);

@@ -7,11 +7,11 @@ ghost use Rattle.std.specs.List.Sorted.{IsPermutation};
 ghost use Rattle.mr_outside.specs.Faults.{next_count};
 ghost use Rattle.mr_tree.specs.Tree.{records};
 ghost use Rattle.mr_tree.specs.Digest.{by};
-ghost use Rattle.mr_tree.specs.Nodes.{MayFetch};
+ghost use Rattle.mr_tree.specs.Nodes.{MayFetch, TellsRefusal};
 ghost use Rattle.mr_tree.specs.declared.tree.Tree.{Tree};
 ghost use Rattle.mr_query.specs.Nearest.{distances, kth_least, is_within};
 ghost use Rattle.mr_query.specs.Radius.{IsRadius};
-ghost use Rattle.mr_prove.specs.Causes.{IsHandedOn};
+ghost use Rattle.mr_prove.specs.Causes.{IsHandedOn, of_nodes};
 ghost use Rattle.mr_prove.specs.Search.{nearest_first, waiting, farthest, near_opened, Best, Searching, Bounded, IsStart, Visited, SearchCauses};
 
 use crate::ProveErr;
@@ -83,6 +83,7 @@ fn visit<N: Nodes>(
     ensures causes { SearchCauses (N.stands nodes.old) (N.faults nodes.old) (N.faults nodes.new)
         result }
     ensures refused { IfErr result (IsHandedOn (N.refusal nodes.new)) }
+    ensures answered { TellsRefusal of_nodes (N.refusal nodes.old) (N.refusal nodes.new) result }
 {
     let mut view = NodeView::new();
     fetched(nodes, child, &mut view)?;
@@ -116,6 +117,7 @@ fn best_first<N: Nodes>(
     ensures causes { SearchCauses (N.stands nodes.old) (N.faults nodes.old) (N.faults nodes.new)
         result }
     ensures refused { IfErr result (IsHandedOn (N.refusal nodes.new)) }
+    ensures answered { TellsRefusal of_nodes (N.refusal nodes.old) (N.refusal nodes.new) result }
 {
     while let Some(next) = queue.pop() {
         let radius = radius_of(best, k);
@@ -169,6 +171,7 @@ pub(crate) fn kth_distance<N: Nodes>(
     ensures causes { SearchCauses (N.stands nodes.old) (N.faults nodes.old) (N.faults nodes.new)
         result }
     ensures refused { IfErr result (IsHandedOn (N.refusal nodes.new)) }
+    ensures answered { TellsRefusal of_nodes (N.refusal nodes.old) (N.refusal nodes.new) result }
 {
     let mut queue = start(alloc, nodes, center)?;
     let mut best = BinaryHeap::new(alloc);

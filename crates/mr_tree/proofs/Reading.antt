@@ -44,7 +44,8 @@ abbrev stood : Version → ℕ → Tree → List Tree → Standing
 stood v batch t ts = record { version = v; batch = batch; span = length ts + 1; tree = Some t; node = with_id ts }
 
 module _ (hash : Scheme) (batch : ℕ) (whole : Tree) (ts : List Tree) where
-  pub may_fetch : (c : Child) → IsLinked hash ts c → c.level ≤ 7 → MayFetch hash.of (stood hash.version batch whole ts) c
+  pub may_fetch : (c : Child) → IsLinked hash ts c → c.level ≤ 7 → MayFetch hash.of
+      (stood hash.version batch whole ts) c
   may_fetch c link low = record {
     positive = link.positive;
     within = omega (arith, link.within);
@@ -54,7 +55,8 @@ module _ (hash : Scheme) (batch : ℕ) (whole : Tree) (ts : List Tree) where
   }
 
   below : (n : ℕ) (cs : List Child) → n ≤ 7 → AllByRecursion (IsLinked hash ts) cs →
-      AllByRecursion (λ (c : Child). c.level + 1 ≡ n) cs → AllByRecursion (MayFetch hash.of (stood hash.version batch whole ts)) cs
+      AllByRecursion (λ (c : Child). c.level + 1 ≡ n) cs → AllByRecursion
+      (MayFetch hash.of (stood hash.version batch whole ts)) cs
   below n [] low links alike = tt
   below n (c ∷ cs) low links alike =
       (may_fetch c links.0 (omega (arith, alike.0, low)), below n cs low links.1 alike.1)

@@ -1,5 +1,5 @@
 -- What an object stands for that hands out the nodes of a map one by one, and what a fetch shows.
-use Rattle.std.specs.Prelude.{◌≡◌, ◌≢◌, ℕ, ◌<◌, ◌≤◌, ◌↔◌, ⊤, List, [], ◌∷◌, ◌++◌, map, length, All, Option, Some, None, IfSome, IsSome, IsSomeAnd, IsNone, slice_get}
+use Rattle.std.specs.Prelude.{◌≡◌, ◌≢◌, ℕ, ◌<◌, ◌≤◌, ◌↔◌, ⊤, List, [], ◌∷◌, ◌++◌, map, length, All, Option, Some, None, IfSome, IsSome, IsSomeAnd, IsNone, Result, Err, OnOk, slice_get}
 use Rattle.std.specs.List.{flat_map}
 use Rattle.mr_tree.specs.Limits.{count_limit, level_limit}
 use Rattle.mr_tree.specs.Tree.{records}
@@ -106,8 +106,16 @@ pub record IsTop (hash : List ℕ → List ℕ) (s : Standing) (top : Top) : Typ
 abbrev pub IsId : Standing → ℕ → Type 0
 IsId s id = (1 ≤ id) × (id < s.span)
 
+-- What a fetch refused is what is answered: where the last refusal is another one than before, it
+-- is the answer, in the words of the call; and where the call succeeds it is the one of before.
+pub record TellsRefusal {A E : Type 0} (in_words : NodesErr → E) (before after : Option NodesErr)
+    (result : Result A E) : Type 0 where
+  pub last : (e : NodesErr) → after ≡ Some e → before ≢ Some e → result ≡ Err (in_words e)
+  pub none : OnOk result (after ≡ before)
+
 -- Why this child may be refused; `rose` says that the count of faults rose in the call. What was
--- read is blamed only where the tree is not told, and by the child's own page.
+-- read is blamed only where the tree is not told: by the child's own page, or by a page that is not
+-- in the file.
 abbrev pub HasCause : Standing → Child → (rose : Type 0) → NodesErr → Type 0
 HasCause s c rose (Changed page held found) =
     IsNone s.tree × (page ≡ c.id) × (held ≡ c.digest) × (held ≢ found)

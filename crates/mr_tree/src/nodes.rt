@@ -95,7 +95,8 @@ pub trait Nodes {
         ensures cause { IfErr result
             (HasCause (stands self.old) child.now (Rose (faults self.old) (faults self.new))) }
         ensures quiet { OnOk result (faults self.new ≡ faults self.old) }
-        ensures refused { IfErr result (λ e. refusal self.new ≡ Some e) };
+        ensures refused { IfErr result (λ e. refusal self.new ≡ Some e) }
+        ensures unrefused { OnOk result (refusal self.new ≡ refusal self.old) };
 
     ghost kept_self: { (s : Self) → kept s s };
 

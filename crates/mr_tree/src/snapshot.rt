@@ -1,6 +1,6 @@
 //! A whole tree that is kept in memory, and readers of it.
 
-ghost use Rattle.std.specs.Prelude.{ℕ, ◌≡◌, ◌+◌, ◌<◌, ◌≤◌, length, map, slice_get, All, IsOk, IfOk, IfErr, OnOk, Some, None};
+ghost use Rattle.std.specs.Prelude.{ℕ, ◌≡◌, ◌+◌, ◌<◌, ◌≤◌, length, map, slice_get, All, IsOk, IfOk, IfErr, OnOk, Option, Some, None};
 ghost use Rattle.std.proofs.Props.{props};
 ghost use Rattle.std.specs.Coded.{Coded-set as set};
 ghost use Rattle.mr_outside.specs.Faults.{Rose, next_count};
@@ -8,6 +8,7 @@ ghost use Rattle.mr_tree.specs.Tree.{nodes};
 ghost use Rattle.mr_tree.specs.WellFormed.{WellFormed};
 ghost use Rattle.mr_record.specs.declared.version.Version.TheVariants.{One};
 ghost use Rattle.mr_tree.specs.Nodes.{MayFetch, Shows, HasCause};
+ghost use Rattle.mr_tree.specs.declared.nodes.NodesErr as error;
 ghost use Rattle.mr_tree.specs.Snapshot.{standing, standing_of, tree_of, node_of, HasShape, IsSnapshot};
 ghost use Rattle.mr_tree.specs.contracts.tree.Tree.{the_row as row};
 ghost use Rattle.std.proofs.Common.{rules};
@@ -122,6 +123,7 @@ impl<'a, H: Hash32> Nodes for Reader<'a, H> {
             (Rose 0 0)) }
         ensures quiet { let none : ℕ = 0 in OnOk result (none ≡ none) }
         ensures refused { IfErr result (λ e. None ≡ Some e) }
+        ensures unrefused { let none : Option error.NodesErr = None in OnOk result (none ≡ none) }
         ensures always { IsOk result }
     {
         self.fetches = self.fetches.saturating_add(1);

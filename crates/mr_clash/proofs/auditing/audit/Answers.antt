@@ -35,7 +35,8 @@ returns-in_ok-pair-in-Ok-clause-honest g c =
     let pair = c.in_ok-pair-in-Ok.ensures.compared x.head x.part x.spelled (x.held ∙ c.root_of.ensures) in
     honest_told {E = AuditErr} hash c.args.q.now c.args.proof.now s c.top-top.result (Ok c.finding_by.result)
     c.top-top.ensures c.are_words.ensures.batch (c.check.ensures.complete _)
-    (c.accepted_is_honest.ensures.accepted _) (c.accepted_is_honest.ensures.quiet _) (g.met.N.Nodes.well_formed c.args.nodes.now)
+    (c.accepted_is_honest.ensures.accepted _) (c.accepted_is_honest.ensures.quiet _)
+    (g.met.N.Nodes.well_formed c.args.nodes.now)
     (told_accepted hash s c.top-top.result c.args.q.now c.args.proof.now c.root_of.result c.in-Ok.answer.items
     (option_map pair_of c.in_ok-pair-in-Ok.pair) c.finding_by.result c.top-top.ensures c.root_of.ensures
     c.in-Ok.ensures.exact pair.told c.finding_by.ensures)

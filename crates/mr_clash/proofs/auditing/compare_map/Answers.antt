@@ -29,5 +29,11 @@ returns-in-Some-root-clause-compared g c = λ h P spelled held.
     root_walked g.N.Hash.Hashes.of c.digests_are_sized.ensures (g.N.Nodes.stands c.args.nodes.now) c.args.top.now
     c.in-Some-root.root h P c.args.proof.now _ _ c.walk.result c.requires c.in-Some-root.is c.are_words.ensures.batch
     c.are_words.ensures.count
-    (record { at = c.in-Some-root.root.rect; is = refl; ordered = c.is_rect.ensures.ordered; fits = c.is_rect.ensures.fits })
+    (record {
+      at = c.in-Some-root.root.rect;
+      is = refl;
+      ordered = c.is_rect.ensures.ordered;
+      fits =
+          c.is_rect.ensures.fits;
+    })
     spelled d s.behind c.walk.ensures.compared

@@ -37,7 +37,8 @@ pub pass_items-loop-preserved : goal.pass_items-loop-preserved
 pass_items-loop-preserved g t c = record {
   passed = λ Ps rest fits count is.
       let so = c.loop.invariant.passed Ps rest fits count is in
-      let n = next_item g.H.Hashes.of c.args.level Ps rest c.loop.counter _ (omega (arith, count, c.loop-test.true)) fits
+      let n = next_item g.H.Hashes.of c.args.level Ps rest c.loop.counter _ (omega (arith, count, c.loop-test.true))
+      fits
       so.left_is in
       passed_more g.H.Hashes.of c.args.level Ps rest c.loop.counter c.loop.list.items c.push.new.self.items _ _
       c.in_ok-one.one so n (c.in_ok-one.ensures n.cut _ n.fits n.here) c.in_ok-push.ensures.items;

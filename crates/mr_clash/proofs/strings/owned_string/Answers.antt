@@ -9,4 +9,5 @@ returns-in_ok-children c =
     ok_as c.inner_string.result _ _
     (owned_inner c.args.view.now _ c.level-else-level-eq0.result c.in_ok-children.children.items c.deref.result.now
     (c.children.ensures.inner above) c.level-else-level-eq0.ensures.value
-    (c.in_ok-children.ensures ∙ ap (map entry_of) c.children.ensures.value) c.deref.ensures.value) c.inner_string.ensures
+    (c.in_ok-children.ensures ∙ ap (map entry_of) c.children.ensures.value) c.deref.ensures.value)
+    c.inner_string.ensures

@@ -76,6 +76,7 @@ walk_all-loop-child-preserved g t c =
       kept = g.met.N.Nodes.kept_on c.args.nodes.now c.loop-child.nodes c.walk.new.nodes c.loop-child.invariant.kept
           c.in_ok-clash.ensures.kept;
       still = c.in_ok-clash.ensures.causes.quiet ∙ c.loop-child.invariant.still;
+      unrefused = c.in_ok-clash.ensures.answered.none ∙ c.loop-child.invariant.unrefused;
       none = λ Ps rest fits is same.
           none_found hash s c.args.level c.args.children.now Ps rest c.loop-child.child-index child
           (left c.loop-child.from) (left c.walk.new.from) c.in_ok-clash.field-0 c.loop-child-test.true c.child-item.is

@@ -17,6 +17,7 @@ abbrev pub invariant-walk_all-loop-child : goal.invariant-walk_all-loop-child
 invariant-walk_all-loop-child g l = record {
   kept : g.N.Nodes.kept l.fn.nodes l.nodes;
   still : g.N.Nodes.faults l.nodes ≡ g.N.Nodes.faults l.fn.nodes;
+  unrefused : g.N.Nodes.refusal l.nodes ≡ g.N.Nodes.refusal l.fn.nodes;
   none : (Ps : Cuts) (rest : List ℕ) → FitCuts l.level Ps → left l.initial.from ≡ cuts_bytes Ps ++ rest
       → map entry_of l.children ≡ entries (scheme g.N.Hash.Hashes.of) l.level Ps
       → NoneYet g.N.Hash.Hashes.of (g.N.Nodes.stands l.fn.nodes) l.level l.children Ps rest l.child-index

@@ -42,6 +42,9 @@ returns-then-not-meets-clause-causes g t c =
 pub returns-then-not-meets-clause-refused : goal.returns-then-not-meets-clause-refused
 returns-then-not-meets-clause-refused g t c = c.write_pruned.ensures.refused (g.N.Nodes.refusal c.args.nodes.now)
 
+pub returns-then-not-meets-clause-answered : goal.returns-then-not-meets-clause-answered
+returns-then-not-meets-clause-answered g t c = c.write_pruned.ensures.answered (g.N.Nodes.refusal c.args.nodes.now)
+
 pub returns-in_err-open_node-clause-fetched : goal.returns-in_err-open_node-clause-fetched
 returns-in_err-open_node-clause-fetched g t c =
     λ told. one_fetch g.N.Hash.Hashes.of (region_in c.args.area.now) (g.N.Nodes.stands c.args.nodes.now)
@@ -110,6 +113,7 @@ loop-next-preserved g t c =
           (g.N.Nodes.fetches c.write_part.new.nodes) c.next-item.is c.loop-next-test.true
           (c.loop-next.invariant.fetched told) (few told);
       still = c.in_ok-write_part.ensures.causes.still ∙ c.loop-next.invariant.still;
+      unrefused = c.in_ok-write_part.ensures.answered.none ∙ c.loop-next.invariant.unrefused;
       quiet = c.in_ok-write_part.ensures.causes.quiet ∙ c.loop-next.invariant.quiet;
     }
 

@@ -21,5 +21,6 @@ invariant-loop-next g l = record {
       l.fn.nodes).version g.N.Hash.Hashes.of)
       (region_in l.fn.area) (g.N.Nodes.stands l.fn.nodes) (take l.next-index l.next-items);
   still : g.N.Nodes.faults l.nodes ≡ g.N.Nodes.faults l.initial.nodes;
+  unrefused : g.N.Nodes.refusal l.nodes ≡ g.N.Nodes.refusal l.initial.nodes;
   quiet : (g.W.Sink.state l.out).faults ≡ (g.W.Sink.state l.initial.out).faults;
 }

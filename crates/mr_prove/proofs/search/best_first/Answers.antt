@@ -106,6 +106,7 @@ loop-next-preserved g c =
           (g.N.Nodes.fetches c.loop-next.nodes) (g.N.Nodes.fetches c.visit.new.nodes) seen.shows seen.queued
           c.visit.ensures.counted bounded;
       still = c.in_ok-visit.ensures.causes.still ∙ c.loop-next.invariant.still;
+      unrefused = c.in_ok-visit.ensures.answered.none ∙ c.loop-next.invariant.unrefused;
     }
 
 pub returns-in_err-visit-clause-fetched : goal.returns-in_err-visit-clause-fetched

@@ -14,6 +14,7 @@ invariant-loop-next g l = record {
   bounded : Bounded g.N.Hash.Hashes.of l.k l.center (g.N.Nodes.stands l.initial.nodes) (heap_items l.queue)
       (g.N.Nodes.fetches l.initial.nodes) (g.N.Nodes.fetches l.nodes);
   still : g.N.Nodes.faults l.nodes ≡ g.N.Nodes.faults l.initial.nodes;
+  unrefused : g.N.Nodes.refusal l.nodes ≡ g.N.Nodes.refusal l.initial.nodes;
 }
 
 abbrev pub decreases-loop-next : goal.decreases-loop-next

@@ -72,7 +72,8 @@ place_inner-requires-clause-shape g t c =
 
 pub returns-in-Leaf : goal.returns-in-Leaf
 returns-in-Leaf g t c =
-    leaf_on (by One g.H.Hashes.of) c.args.nodes.now.items c.place_leaf.new.nodes.items c.place_leaf.result c.args.tree.now
+    leaf_on (by One g.H.Hashes.of) c.args.nodes.now.items c.place_leaf.new.nodes.items c.place_leaf.result
+    c.args.tree.now
     c.as_slice.result.now c.place_leaf.ensures (c.in-Leaf.is ∙ ap variants.Leaf (sym c.as_slice.ensures))
 
 pub returns-after-loop-child : goal.returns-after-loop-child
