@@ -127,7 +127,8 @@ record IsNext {A : Type 0} (reader : Reader A) (Holds : List A → Type 0) (earl
   held : Holds (earlier ++ one ∷ [])
 
 module _ {A : Type 0} (reader : Reader A) (Holds : List A → Type 0) (is : IsSpelling reader Holds) where
-  value_after-ok : (earlier : List A) (line : Line) (one : A) → Holds earlier → value_after reader earlier line ≡ Ok one →
+  value_after-ok : (earlier : List A) (line : Line) (one : A) → Holds earlier → value_after reader earlier line
+      ≡ Ok one →
       IsNext reader Holds earlier line one
   unfolding value_after
   value_after-ok earlier line one held e =

@@ -6,6 +6,7 @@ mod cutting;
 mod decimal;
 mod encoding;
 mod line;
+mod numbers;
 mod payload;
 mod print;
 mod reader;

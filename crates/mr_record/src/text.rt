@@ -6,15 +6,15 @@ ghost use Rattle.mr_record.specs.RecordText.{IsRecordList, new_record, text_of, 
 ghost use Rattle.mr_record.specs.Answer.{Answers, IsRefusal};
 ghost use Rattle.mr_record.specs.Numbers.{Knows};
 
+use crate::numbers::Numbers;
 use crate::reader::{LineReader, read_values};
 use crate::{Record, TextErr, TextRule, read_line};
 use std::alloc::{AllocError, Global};
-use std::collections::BTreeSet;
 
 // Reads records, and keeps the numbers of the earlier ones.
 #[derive(Drop)]
 struct ReadsRecords {
-    numbers: BTreeSet<u64>,
+    numbers: Numbers,
 }
 
 impl LineReader for ReadsRecords {
@@ -39,17 +39,16 @@ impl LineReader for ReadsRecords {
         b"0 0 0 0 0 -\n".len()
     }
 
-    fn read(&self, _earlier: &[Record], line: &[u8]) -> Result<Record, TextRule> {
+    fn read(&self, earlier: &[Record], line: &[u8]) -> Result<Record, TextRule> {
         let one = read_line(line)?;
-        if self.numbers.contains(&one.number) {
+        if self.numbers.contains(earlier, one.number) {
             return Err(TextRule::Repeat);
         }
         Ok(one)
     }
 
-    fn keep(&mut self, _earlier: &[Record], one: &Record) -> Result<(), AllocError> {
-        self.numbers.insert(one.number)?;
-        Ok(())
+    fn keep(&mut self, earlier: &[Record], one: &Record) -> Result<(), AllocError> {
+        self.numbers.keep(earlier, one)
     }
 }
 
@@ -62,7 +61,7 @@ pub fn read_lines(alloc: Global, text: &[u8]) -> Result<Vec<Record>, TextErr>
     ensures refused { IfErr result (λ e. IsRefusal text.now e) }
 {
     let records = ReadsRecords {
-        numbers: BTreeSet::new(alloc),
+        numbers: Numbers::new(alloc),
     };
     read_values(alloc, records, text)
 }

@@ -4,7 +4,8 @@ use Rattle.mr_record.proofs.WrittenLines.{none_gathered, gathered_more, front_ga
 use Rattle.mr_record.proofs.print.write_lines.Goals as goal
 
 pub loop-one-init : goal.loop-one-init
-loop-one-init g c = none_gathered (g.W.Sink.state c.args.out.now) c.args.records.now c.new-piece.result c.new-piece.ensures
+loop-one-init g c = none_gathered (g.W.Sink.state c.args.out.now) c.args.records.now c.new-piece.result
+    c.new-piece.ensures
 
 pub returns-in_err-make_room-clause-front : goal.returns-in_err-make_room-clause-front
 returns-in_err-make_room-clause-front g c =
