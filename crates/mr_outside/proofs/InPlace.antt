@@ -17,7 +17,7 @@ take-put_mid_within a k n xs ys within fits =
     ∙ ap (take (a + n)) (take-put_mid a k xs ys (a + length ys) refl within)
     ∙ after_front (take a xs) ys a n (length-take-le a xs within)
 
-after_part : (a k n : ℕ) (xs ys : List ℕ) → a ≤ length xs → n ≤ length ys
+pub after_part : (a k n : ℕ) (xs ys : List ℕ) → a ≤ length xs → n ≤ length ys
     → drop (a + n) (put_mid a k xs ys) ≡ drop n ys ++ post_of a k xs
 after_part a k n xs ys within fits =
     sym (drop-drop n a (put_mid a k xs ys))

@@ -19,7 +19,7 @@ pub use gate::{Gate, NoGate};
 pub use items::Items;
 pub use mem_shelf::MemShelf;
 pub use mem_sink::MemSink;
-pub use reading::read_all;
+pub use reading::{PIECE, read_all};
 pub use shelf::{Shelf, ShelfErr};
 pub use sink::{Sink, SinkErr, write_all};
 pub use std_shelf::StdShelf;

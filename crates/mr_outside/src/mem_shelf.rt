@@ -64,6 +64,13 @@ impl MemShelf {
     {
         bytes_of(&self.files, name)
     }
+
+    /// How many reads were answered.
+    pub fn reads(&self) -> u64
+        ensures { result ≡ self.now.reads }
+    {
+        self.reads
+    }
 }
 
 impl Shelf for MemShelf {

@@ -8,8 +8,8 @@ ghost use Rattle.mr_outside.specs.Reading.{piece_count};
 use crate::{Shelf, ShelfErr};
 use std::alloc::{AllocError, Global};
 
-// The most bytes that are asked for at once.
-pub(crate) const PIECE: usize = 65_536;
+/// The most bytes of a file that are asked for at once.
+pub const PIECE: usize = 65_536;
 
 /// The bytes of a file, read in pieces up to the length that `size` answers.
 ///

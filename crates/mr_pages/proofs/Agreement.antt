@@ -71,20 +71,20 @@ are_whole_pages size n p some e low high =
 -- ---- what is read is what is spelled
 
 module _ (form : Form) (is : IsForm form) (bytes : List ℕ) where
-  abbrev file : File
+  abbrev pub file : File
   file = file_of form bytes
 
-  record HeadRead (h : Head) : Type 0 where
-    whole : IsWhole form.size (length bytes)
-    same : h.pages ≡ length bytes / form.size
-    fits_head : IsHead h
-    spelled : form.head_page h ≡ page_at form bytes 0
+  pub record HeadRead (h : Head) : Type 0 where
+    pub whole : IsWhole form.size (length bytes)
+    pub same : h.pages ≡ length bytes / form.size
+    pub fits_head : IsHead h
+    pub spelled : form.head_page h ≡ page_at form bytes 0
 
   page_bytes : AreBytes bytes → (p : ℕ) → AreBytes (page_at form bytes p)
   page_bytes all p = All-take (λ b. b < 2 ^ 8) form.size (drop (p * form.size) bytes)
       (All-drop (λ b. b < 2 ^ 8) (p * form.size) bytes all)
 
-  head_read : AreBytes bytes → (h : Head) → file.head ≡ Ok h → HeadRead h
+  pub head_read : AreBytes bytes → (h : Head) → file.head ≡ Ok h → HeadRead h
   head_read all h e = at (is_odd_size form.size (length bytes)) refl e
     where
       at : (b : Bool) → is_odd_size form.size (length bytes) ≡ b →

@@ -68,13 +68,6 @@ module _ (form : Form) (is : IsForm form) (hash : List ℕ → List ℕ) (bytes 
   answered all (Err errors.Fault) o = tt
   answered all (Err errors.NoMemory) o = tt
 
-  pub finds_out : (r : Result Opened MapErr) → Opens hash (file_of form bytes) r → FindsOut r
-  finds_out (Ok r) o = tt
-  finds_out (Err (errors.Map f)) o = tt
-  finds_out (Err errors.Missing) o = o
-  finds_out (Err errors.Fault) o = o
-  finds_out (Err errors.NoMemory) o = tt
-
 -- what a slice of bytes has
 pub cells_are_bytes : (xs : List ℕ) → ((i : ℕ) → Fits w8 (get_or xs i 0)) → AreBytes xs
 cells_are_bytes xs fits = λ k d within.

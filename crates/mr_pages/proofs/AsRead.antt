@@ -138,7 +138,7 @@ pub record ReadsWell (hash : List ℕ → List ℕ) (file : File) : Type 0 where
   pub well : WellFormed t
   pub stands : StandsRead hash file t b
 
-within_pages : (hash : Scheme) (pages : ℕ) (vs : List Visit) → AllByRecursion (IsSound hash pages) vs →
+pub within_pages : (hash : Scheme) (pages : ℕ) (vs : List Visit) → AllByRecursion (IsSound hash pages) vs →
     AllByRecursion (λ p. (0 < p) × (p < pages)) (reached vs)
 within_pages hash pages [] all = tt
 within_pages hash pages (v ∷ vs) all = ((all.0.low, all.0.inside), within_pages hash pages vs all.1)
@@ -148,10 +148,19 @@ pub record ReadsWellAt (hash : List ℕ → List ℕ) (file : File) (t : Tree) (
   pub well : WellFormed t
   pub stands : StandsRead hash file t b
 
-pub stands_at : (hash : List ℕ → List ℕ) (file : File) → IsFile file →
+-- the tree that its pages spell, node by node
+pub record ReadsAt (hash : List ℕ → List ℕ) (file : File) (h : Head) (po : Option Placed) : Type 0 where
+  pub well : WellFormed (whole_tree po)
+  pub count : h.count ≡ length (records (whole_tree po))
+  pub root : h.root ≡ option_map (link_of (by file.version hash)) po
+  pub lies : LiesRead hash file po h.free
+  pub on : whole_pages po ≡ reached (walk file.node h.root)
+  pub each : AllByRecursion (IsSound (by file.version hash) file.pages) (walk file.node h.root)
+
+pub reads_at : (hash : List ℕ → List ℕ) (file : File) → IsFile file →
     (h : Head) → file.head ≡ Ok h → head_faults hash file h (walk file.node h.root) ≡ [] →
-    ReadsWellAt hash file (whole_tree (placed_at file.node h.root)) h.batch
-stands_at hash file is h sealed e =
+    ReadsAt hash file h (placed_at file.node h.root)
+reads_at hash file is h sealed e =
     let vs = walk file.node h.root in
     let ps = chain file.free file.pages h.free in
     let ok = is.head_fits h sealed in
@@ -167,7 +176,6 @@ stands_at hash file is h sealed e =
     (nil_left (chain_faults file.free file.pages (reached vs) ps) (lost_faults file.pages (reached vs ++ ps)) e2)
     (nil_right (chain_faults file.free file.pages (reached vs) ps) (lost_faults file.pages (reached vs ++ ps)) e2) in
     let b = whole_built hash file is h ok h.root refl w.each in
-    let po = placed_at file.node h.root in
     record {
       well = record {
         one_level = b.one_level;
@@ -178,20 +186,34 @@ stands_at hash file is h sealed e =
         each = b.each;
         few = omega (arith, ok.count, count, ap length b.lists);
       };
+      count = count ∙ ap length (sym b.lists);
+      root = b.root;
+      lies = record {
+        written = b.written;
+        chain = ps;
+        linked = f.chain;
+        all = subst (λ qs. AreAllPages file.pages (qs ++ ps)) (sym b.on) f.all;
+      };
+      on = b.on;
+      each = w.each;
+    }
+
+pub stands_at : (hash : List ℕ → List ℕ) (file : File) → IsFile file →
+    (h : Head) → file.head ≡ Ok h → head_faults hash file h (walk file.node h.root) ≡ [] →
+    ReadsWellAt hash file (whole_tree (placed_at file.node h.root)) h.batch
+stands_at hash file is h sealed e =
+    let r = reads_at hash file is h sealed e in
+    record {
+      well = r.well;
       stands = record {
         head = h;
         sealed = sealed;
         at_batch = refl;
-        count = count ∙ ap length (sym b.lists);
-        placed = po;
+        count = r.count;
+        placed = placed_at file.node h.root;
         tree = refl;
-        root = b.root;
-        lies = record {
-          written = b.written;
-          chain = ps;
-          linked = f.chain;
-          all = subst (λ qs. AreAllPages file.pages (qs ++ ps)) (sym b.on) f.all;
-        };
+        root = r.root;
+        lies = r.lies;
       };
     }
 
@@ -207,6 +229,13 @@ pub stands_there : (hash : List ℕ → List ℕ) (file : File) → IsFile file 
     (h : Head) → file.head ≡ Ok h → ReadsWellAt hash file (whole_tree (placed_at file.node h.root)) h.batch
 stands_there hash file is none h sealed =
     stands_at hash file is h sealed (subst (λ o. file_faults hash file o ≡ []) sealed
+    (none_left (faults hash file) none))
+
+-- the same of its nodes
+pub reads_there : (hash : List ℕ → List ℕ) (file : File) → IsFile file → mapfault hash file ≡ None →
+    (h : Head) → file.head ≡ Ok h → ReadsAt hash file h (placed_at file.node h.root)
+reads_there hash file is none h sealed =
+    reads_at hash file is h sealed (subst (λ o. file_faults hash file o ≡ []) sealed
     (none_left (faults hash file) none))
 
 pub stands_without_fault : (hash : List ℕ → List ℕ) (file : File) → IsFile file → mapfault hash file ≡ None →

@@ -103,7 +103,7 @@ levels_all : (ls : List Link) → map (λ (e : Entry). e.level) (map (λ (l : Li
 levels_all [] = refl
 levels_all (l ∷ ls) = ap (λ ns. l.entry.level ∷ ns) (levels_all ls)
 
-level_is : (hash : Scheme) (node : Node) → (entry_of hash node).level ≡ level_of node
+pub level_is : (hash : Scheme) (node : Node) → (entry_of hash node).level ≡ level_of node
 level_is hash Empty = refl
 level_is hash (Leaf rs) = refl
 level_is hash (Inner ls) = ap (λ ns. first_level ns + 1) (levels_all ls)

@@ -1,7 +1,7 @@
 -- A file that is read whole, piece by piece.
 use Rattle.std.proofs.Common.{◌≡◌, ℕ, ◌+◌, ◌-◌, ◌≤◌, List, [], ◌++◌, length, take, drop, replicate, Option, refl, sym, ap, subst, ◌∙◌, arith, length-take-le, length-drop, take_all}
 use Rattle.std.proofs.Math.Seq.{take-add}
-use Rattle.std.proofs.lemmas.List.{append-nil, drop_all, drop_at, drop-drop, drop-replicate}
+use Rattle.std.proofs.lemmas.List.{append-nil, drop_all, drop-replicate}
 use borrow.Rule.Slice.PartMut.{put_mid}
 use Rattle.mr_outside.specs.Files.{Files}
 use Rattle.std.specs.Prelude.{Result, Ok, Err, IfOk}
@@ -10,23 +10,26 @@ use Rattle.mr_outside.specs.State.{Shelved}
 use Rattle.mr_outside.specs.Causes.{ShelfCauses}
 use Rattle.mr_outside.specs.declared.shelf.ShelfErr.{ShelfErr}
 use Rattle.mr_outside.specs.declared.shelf.ShelfErr.TheVariants as shelf
+use Rattle.mr_pages.specs.PageBytes.{filled}
 use Rattle.mr_outside.specs.Reading.{FillsFront, GivesFrom}
 use Rattle.mr_outside.proofs.Pieces.{OfFile-map, OfFile-both, ShelfCauses-later}
-use Rattle.mr_outside.proofs.InPlace.{take-put_mid_within, drop-put_mid_within}
+use Rattle.mr_outside.proofs.InPlace.{take-put_mid_within, after_part}
+
+-- a piece from a place on was read whole, where the file goes so far
+abbrev pub IsPiece : (at : ℕ) → (before after bytes : List ℕ) → Type 0
+IsPiece at before after bytes =
+    at + length before ≤ length bytes → after ≡ take (length before) (drop at bytes)
 
 -- what stands there once the piece from a place on was read
-piece_fills : (at k n : ℕ) (old new bytes : List ℕ) → k ≡ length old - at → at ≤ length old →
-    GivesFrom at (take k (drop at old)) new n bytes → length old ≤ length bytes → take at old ≡ take at bytes →
+piece_fills : (at k : ℕ) (old new bytes : List ℕ) → k ≡ length old - at → at ≤ length old →
+    IsPiece at (take k (drop at old)) new bytes → length old ≤ length bytes → take at old ≡ take at bytes →
     length (put_mid at k old new) ≡ length old → put_mid at k old new ≡ take (length old) bytes
-piece_fills at k n old new bytes k_is inside gives room front whole =
+piece_fills at k old new bytes k_is inside gives room front whole =
     let m : ℕ = length old - at in
     let sized : length (take k (drop at old)) ≡ m =
     length-take-le k (drop at old) (omega (arith, k_is, length-drop at old)) ∙ k_is in
-    let all : n ≡ m = omega (arith, gives.count_is, sized, room) in
-    let piece : take n (drop at bytes) ≡ take m (drop at bytes) = ap (λ j. take j (drop at bytes)) all in
-    let none : drop n (take k (drop at old)) ≡ [] = drop_all n (take k (drop at old)) (omega (arith, sized, all)) in
     let new_is : new ≡ take m (drop at bytes) =
-    gives.bytes_are ∙ (λ i. piece i ++ none i) ∙ append-nil (take m (drop at bytes)) in
+    gives (omega (arith, sized, room, inside)) ∙ ap (λ j. take j (drop at bytes)) sized in
     let size : length (take m (drop at bytes)) ≡ m =
     length-take-le m (drop at bytes) (omega (arith, room, length-drop at bytes)) in
     let fits : m ≤ length new = omega (arith, ap length new_is, size) in
@@ -39,14 +42,40 @@ piece_fills at k n old new bytes k_is inside gives room front whole =
     ∙ sym (take-add at m bytes)
     ∙ ap (λ j. take j bytes) end
 
-pub OfFile-fills : (told : Option Files) (name : List ℕ) (at k n : ℕ) (old new : List ℕ) → k ≡ length old - at →
+pub OfFile-fills : (told : Option Files) (name : List ℕ) (at k : ℕ) (old new : List ℕ) → k ≡ length old - at →
     at ≤ length old → length (put_mid at k old new) ≡ length old →
-    OfFile told name ⊥ (GivesFrom at (take k (drop at old)) new n) →
+    OfFile told name ⊥ (IsPiece at (take k (drop at old)) new) →
     OfFile told name ⊥ (λ bytes. length old ≤ length bytes → take at old ≡ take at bytes →
     put_mid at k old new ≡ take (length old) bytes)
-OfFile-fills told name at k n old new k_is inside whole =
+OfFile-fills told name at k old new k_is inside whole =
     OfFile-map told name _ _
-    (λ bytes gives room front. piece_fills at k n old new bytes k_is inside gives room front whole)
+    (λ bytes gives room front. piece_fills at k old new bytes k_is inside gives room front whole)
+
+-- what a read gives over zeros
+pub ok_piece : {E : Type 0} (r : Result ℕ E) (told : Option Files) (name : List ℕ) (at : ℕ)
+    (old before after : List ℕ) → length before ≡ length old →
+    IfOk r (λ n. OfFile told name ⊥ (GivesFrom at before after n)) →
+    IfOk r (λ n. OfFile told name ⊥ (IsPiece at old after))
+ok_piece (Err e) told name at old before after long gives = tt
+ok_piece (Ok n) told name at old before after long gives =
+    OfFile-map told name _ _
+    (λ bytes g room.
+    let all : n ≡ length old = omega (arith, g.count_is, long, room) in
+    g.bytes_are ∙ (λ i. take (all i) (drop at bytes) ++ drop_all n before (omega (arith, long, all)) i)
+    ∙ append-nil (take (length old) (drop at bytes))) gives
+
+pub ok_zeros_there : {E : Type 0} (r : Result ℕ E) (old before after : List ℕ) →
+    before ≡ filled (length old) [] → IfOk r (λ n. FillsFront before after n) →
+    IfOk r (λ n. drop n after ≡ replicate (length old - n) 0)
+ok_zeros_there (Err e) old before after is fills = tt
+ok_zeros_there (Ok n) old before after is fills =
+    let none : length old - 0 ≡ length old = omega arith in
+    fills.rest ∙ ap (drop n) (is ∙ ap (λ k. replicate k 0) none) ∙ drop-replicate {X = ℕ} n (length old) 0
+
+pub ok_within : {E : Type 0} (r : Result ℕ E) (before after : List ℕ) → length after ≡ length before →
+    IfOk r (λ n. FillsFront before after n) → IfOk r (λ n. n ≤ length after)
+ok_within (Err e) before after same fills = tt
+ok_within (Ok n) before after same fills = omega (arith, fills.within, same)
 
 -- the file has this length, and what was read so far is its front
 pub record IsFront (size : ℕ) (so_far bytes : List ℕ) : Type 0 where
@@ -76,33 +105,29 @@ pub OfFile-none : (told : Option Files) (name : List ℕ) (size : ℕ) → OfFil
     OfFile told name ⊥ (IsFront size [])
 OfFile-none told name size = OfFile-map told name _ _ (λ bytes e. record { size_is = e; front_is = refl })
 
--- what stands behind the bytes that came, where zeros were put for them
-pub zeros_behind : (end place n : ℕ) (old padded new : List ℕ) → length old ≡ place →
-    padded ≡ old ++ replicate (end - place) 0 → drop (place + n) new ≡ drop (place + n) padded →
-    drop (place + n) new ≡ replicate (end - (place + n)) 0
-zeros_behind end place n old padded new long is same =
-    same ∙ ap (drop (place + n)) is ∙ sym (drop-drop n place (old ++ replicate (end - place) 0))
-    ∙ ap (drop n) (drop_at old (replicate (end - place) 0) place long)
-    ∙ drop-replicate {X = ℕ} n (end - place) 0
-    ∙ ap (λ k. replicate k 0) (let less : end - place - n ≡ end - (place + n) = omega arith in less)
-
 -- ---- a call's answer, handed on
 
 pub ok_fills : {E : Type 0} (r : Result ℕ E) (told : Option Files) (name : List ℕ) (at k : ℕ) (old new : List ℕ) →
     k ≡ length old - at → at ≤ length old → length (put_mid at k old new) ≡ length old →
-    IfOk r (λ n. OfFile told name ⊥ (GivesFrom at (take k (drop at old)) new n)) →
+    IfOk r (λ n. OfFile told name ⊥ (IsPiece at (take k (drop at old)) new)) →
     IfOk r (λ n. OfFile told name ⊥ (λ bytes. length old ≤ length bytes → take at old ≡ take at bytes →
     put_mid at k old new ≡ take (length old) bytes))
 ok_fills (Ok n) told name at k old new k_is inside whole gives =
-    OfFile-fills told name at k n old new k_is inside whole gives
+    OfFile-fills told name at k old new k_is inside whole gives
 ok_fills (Err e) told name at k old new k_is inside whole gives = tt
 
-pub ok_rest : {E : Type 0} (r : Result ℕ E) (at k : ℕ) (old new : List ℕ) → at ≤ length old →
-    length new ≡ length (take k (drop at old)) → IfOk r (λ n. FillsFront (take k (drop at old)) new n) →
-    IfOk r (λ n. drop (at + n) (put_mid at k old new) ≡ drop (at + n) old)
-ok_rest (Ok n) at k old new inside long fills =
-    drop-put_mid_within at k n old new inside (omega (arith, fills.within, long)) long fills.rest
-ok_rest (Err e) at k old new inside long fills = tt
+pub ok_rest : {E : Type 0} (r : Result ℕ E) (at k : ℕ) (old new : List ℕ) → k ≡ length old - at → at ≤ length old →
+    IfOk r (λ n. n ≤ length new) →
+    IfOk r (λ n. drop n new ≡ replicate (length (take k (drop at old)) - n) 0) →
+    IfOk r (λ n. drop (at + n) (put_mid at k old new) ≡ replicate (length old - (at + n)) 0)
+ok_rest (Ok n) at k old new k_is inside fits rest =
+    let sized : length (take k (drop at old)) ≡ length old - at =
+    length-take-le k (drop at old) (omega (arith, k_is, length-drop at old)) ∙ k_is in
+    let left : length (take k (drop at old)) - n ≡ length old - (at + n) = omega (arith, sized) in
+    after_part at k n old new inside fits
+    ∙ (λ i. rest i ++ drop_all k (drop at old) (omega (arith, k_is, length-drop at old)) i)
+    ∙ append-nil (replicate (length (take k (drop at old)) - n) 0) ∙ ap (λ j. replicate j 0) left
+ok_rest (Err e) at k old new k_is inside fits rest = tt
 
 pub ok_read : {E : Type 0} (r : Result ℕ E) (told : Option Files) (name : List ℕ) (at place end : ℕ)
     (old padded new items : List ℕ) → at ≡ place → length padded ≡ end → take at padded ≡ old → items ≡ new →
@@ -116,14 +141,15 @@ ok_read (Ok n) told name at place end old padded new items here long front same 
     ∙ ap (λ j. take j bytes) long) reads
 ok_read (Err e) told name at place end old padded new items here long front same reads = tt
 
-pub ok_zeros : {E : Type 0} (r : Result ℕ E) (end at place : ℕ) (old padded new items : List ℕ) → at ≡ place →
-    length old ≡ place → padded ≡ old ++ replicate (end - place) 0 → items ≡ new →
-    IfOk r (λ n. drop (at + n) new ≡ drop (at + n) padded) →
+pub ok_zeros : {E : Type 0} (r : Result ℕ E) (end at place : ℕ) (padded new items : List ℕ) → at ≡ place →
+    length padded ≡ end → items ≡ new →
+    IfOk r (λ n. drop (at + n) new ≡ replicate (length padded - (at + n)) 0) →
     IfOk r (λ n. drop (place + n) items ≡ replicate (end - (place + n)) 0)
-ok_zeros (Ok n) end at place old padded new items here long is same rest =
-    ap (drop (place + n)) same ∙ zeros_behind end place n old padded new long is
-    (subst (λ k. drop (k + n) new ≡ drop (k + n) padded) here rest)
-ok_zeros (Err e) end at place old padded new items here long is same rest = tt
+ok_zeros (Ok n) end at place padded new items here long same rest =
+    ap (drop (place + n)) same
+    ∙ (subst (λ k. drop (k + n) new ≡ replicate (length padded - (k + n)) 0) here rest)
+    ∙ ap (λ m. replicate (m - (place + n)) 0) long
+ok_zeros (Err e) end at place padded new items here long same rest = tt
 
 -- ---- the causes of a refusal
 

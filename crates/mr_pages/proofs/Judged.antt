@@ -1,5 +1,5 @@
 -- A node that a view shows, and what is judged of it.
-use Rattle.std.proofs.Common.{◌≡◌, ◌≤◌, List, [], ◌∷◌, map, refl, sym, ap, arith}
+use Rattle.std.proofs.Common.{◌≡◌, ◌+◌, ◌≤◌, List, [], ◌∷◌, map, refl, sym, ap, arith}
 use Rattle.mr_record.specs.declared.version.Version.TheVariants.{One}
 use Rattle.mr_record.specs.declared.version.Version.{Version}
 use Rattle.mr_tree.specs.declared.entry.Entry.{Entry}
@@ -10,7 +10,8 @@ use Rattle.mr_tree.specs.Digest.{Scheme, entry_step}
 use Rattle.mr_tree.specs.View as view
 use Rattle.mr_tree.specs.declared.child.Child.{Child}
 use Rattle.mr_tree.specs.declared.tree.Tree.TheOpen.{Empty, Leaf, Inner}
-use Rattle.mr_pages.specs.Page.{Link, entry_of}
+use Rattle.mr_tree.specs.Tree.{first_level}
+use Rattle.mr_pages.specs.Page.{Link, level_of, entry_of}
 use Rattle.mr_pages.specs.Walking.{child_link, page_node}
 
 entries : (cs : List Child) → map (λ (l : Link). l.entry) (map child_link cs) ≡ map view.entry_of cs
@@ -26,6 +27,16 @@ pub entry_same : (hash : Scheme) (n : view.Node) → view.entry_over hash n ≡ 
 entry_same hash Empty = refl
 entry_same hash (Leaf rs) = refl
 entry_same hash (Inner cs) = ap (λ es. entry_step hash (Inner es)) (sym (entries cs))
+
+levels : (cs : List Child) → map (λ (c : Child). c.level) cs ≡ map (λ (l : Link). l.entry.level) (map child_link cs)
+levels [] = refl
+levels (c ∷ cs) = ap (λ ns. c.level ∷ ns) (levels cs)
+
+-- its level
+pub level_same : (n : view.Node) → view.level_of n ≡ level_of (page_node n)
+level_same Empty = refl
+level_same (Leaf rs) = refl
+level_same (Inner cs) = ap (λ ns. first_level ns + 1) (levels cs)
 
 joined_there : (a : Rectangle) (xs : List (Option Rectangle)) → fold join (Some a) xs ≡ None → ⊥
 joined_there a [] e = cc

@@ -3,23 +3,26 @@ pub mod HeadLaws
 pub mod ManyReads
 pub mod ViewPages
 pub mod BothWays
-mod Lists
-mod Rules
-mod Chains
-mod Building
-mod AsRead
+pub mod Lists
+pub mod Rules
+pub mod Chains
+pub mod Building
+pub mod AsRead
 mod Fitting
 pub mod Agreement
 mod Numbered
 pub mod SavedStands
 mod Walks
+pub mod Visits
 mod Links
 mod Placing
 mod Meeting
+mod Steps
 mod Stops
-mod Judged
+mod Outcomes
+pub mod Judged
 mod Short
-mod Filled
+pub mod Filled
 mod Put
 pub mod Answered
 mod Written

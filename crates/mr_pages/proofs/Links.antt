@@ -1,13 +1,14 @@
 -- The free chain followed step by step, and the least page that was never reached.
 use Rattle.std.proofs.Common.{◌≡◌, ◌≢◌, ℕ, zero, suc, ◌+◌, ◌-◌, ◌<◌, ◌≤◌, true, false, cond, List, [], ◌∷◌, ◌++◌, take, drop, refl, sym, ap, subst, ◌∙◌, append_assoc, ⊎_elim, arith}
-use Rattle.std.specs.Prelude.{◌==◌, ◌||◌, not, nat_le, is_none, unwrap_or, Option, Some, None}
+use Rattle.std.specs.Prelude.{◌==◌, ◌||◌, not, nat_le, is_none, unwrap_or, Option, Some, Ok}
 use Rattle.std.specs.List.{flat_map}
 use Rattle.std.proofs.lemmas.Bool.{cases_eq, ne_eqb, not_from_true, not_from_false}
 use Rattle.std.proofs.lemmas.List.{append-nil, take-append-drop}
 use Rattle.mr_pages.specs.declared.rule.MapRule.TheVariants as rule
 use Rattle.mr_pages.specs.declared.seen.Seen.{Seen}
 use Rattle.mr_pages.specs.Faults.{fault_if, has, chain, chain_faults, count_from, first_of}
-use Rattle.mr_pages.specs.Walking.{Saw, Steps, Follows, Loses}
+use Rattle.mr_pages.specs.Walking.{Saw, Loses}
+use Rattle.mr_pages.specs.Source.{Steps}
 use Rattle.mr_pages.proofs.Lists.{nil_both, no_fault}
 use Rattle.mr_pages.proofs.Walks.{first_front, first_behind}
 
@@ -67,7 +68,7 @@ next_on_chain free pages f i next low some on =
 
 pub follow_more : (free : ℕ → Option ℕ) (pages f i next after : ℕ) (ps ns : List ℕ) (s r : Seen) → i < pages →
     next ≢ 0 → Followed free pages f i next ps ns s →
-    Steps free pages next (ps ++ take i (chain free pages f)) ns (Some after) r →
+    Steps free pages next (ps ++ take i (chain free pages f)) ns (Ok after) r →
     Followed free pages f (i + 1) after ps ns r
 follow_more free pages f i next after ps ns s r low some d step =
     let ch = chain free pages f in
@@ -86,7 +87,8 @@ follow_more free pages f i next after ps ns s r low some d step =
     }
 
 pub follow_ends : (free : ℕ → Option ℕ) (pages f i next : ℕ) (ps ns : List ℕ) (s : Seen) →
-    Followed free pages f i next ps ns s → chain free (pages - i) next ≡ [] → Follows free pages f ps ns None s
+    Followed free pages f i next ps ns s → chain free (pages - i) next ≡ [] →
+    (chain_faults free pages ps (chain free pages f) ≡ []) × Saw pages s (ps ++ chain free pages f) ns
 follow_ends free pages f i next ps ns s d e =
     let ch = chain free pages f in
     let all : take i ch ≡ ch = take_whole ch i (d.on ∙ e) in
@@ -99,11 +101,11 @@ chain_of_none free (suc n) f e = ap (λ g. cond (g == 0) [] (f ∷ chain free n 
 pub chain_far : (free : ℕ → Option ℕ) (pages i next : ℕ) → i ≡ pages → chain free (pages - i) next ≡ []
 chain_far free pages i next e = let none : pages - i ≡ 0 = omega (arith, e) in ap (λ n. chain free n next) none
 
-pub follow_fails : (free : ℕ → Option ℕ) (pages f i next : ℕ) (ps ns : List ℕ) (s r : Seen) → i < pages → next ≢ 0 →
+pub follow_fails : (free : ℕ → Option ℕ) (pages f i next : ℕ) (ps ns : List ℕ) (s : Seen) → i < pages → next ≢ 0 →
     Followed free pages f i next ps ns s →
-    Steps free pages next (ps ++ take i (chain free pages f)) ns None r →
+    (nat_le pages next || (has next (ps ++ take i (chain free pages f)) || is_none (free next))) ≡ true →
     first_of (chain_faults free pages ps (chain free pages f)) ≡ Some (record { page = next; rule = rule.Free })
-follow_fails free pages f i next ps ns s r low some d step =
+follow_fails free pages f i next ps ns s low some d step =
     let ch = chain free pages f in
     let rest = chain free (pages - (i + 1)) (unwrap_or (free next) 0) in
     let whole : ch ≡ take i ch ++ next ∷ rest = sym (take-append-drop i ch)

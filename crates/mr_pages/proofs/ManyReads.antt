@@ -89,7 +89,8 @@ mapped_more {A = A} f read i bytes places rest x behind within e g =
 pub link_short : (level : ℕ) (rest : List ℕ) → length rest < link_size → link_field level rest ≡ None
 link_short level rest short = elim (leb_tells link_size (length rest)) [
   | inl long ↦ absurd (omega (arith, long.1))
-  | inr is ↦ ap (λ (b : Bool). cond b (option_map (λ (l : Link). (l, drop link_size rest)) (link_in level (take link_size rest)))
+  | inr is ↦ ap (λ (b : Bool). cond b (option_map (λ (l : Link). (l, drop link_size rest))
+      (link_in level (take link_size rest)))
       None) is.0
 ]
 

@@ -57,12 +57,12 @@ pub record IsSound (hash : Scheme) (pages : ℕ) (v : Visit) : Type 0 where
   pub rect : (entry_of hash node).rect ≡ v.link.entry.rect
   pub full : least v.root node ≤ size node
 
-record NodeIsSound (hash : Scheme) (root : Bool) (link : Link) (node : Node) : Type 0 where
-  digest : (entry_of hash node).digest ≡ link.entry.digest
-  rect : (entry_of hash node).rect ≡ link.entry.rect
-  full : least root node ≤ size node
+pub record NodeIsSound (hash : Scheme) (root : Bool) (link : Link) (node : Node) : Type 0 where
+  pub digest : (entry_of hash node).digest ≡ link.entry.digest
+  pub rect : (entry_of hash node).rect ≡ link.entry.rect
+  pub full : least root node ≤ size node
 
-node_sound : (hash : Scheme) (root : Bool) (link : Link) (node : Node) →
+pub node_sound : (hash : Scheme) (root : Bool) (link : Link) (node : Node) →
     node_faults hash root link (Some node) ≡ [] → NodeIsSound hash root link node
 node_sound hash root link node e =
     let e1 = nil_right (fault_if (not (bytes_eq (entry_of hash node).digest link.entry.digest)) link.page

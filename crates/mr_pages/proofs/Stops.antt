@@ -1,23 +1,22 @@
 -- What opening a file comes to, rule by rule.
 use Rattle.std.proofs.Common.{◌≡◌, ◌≢◌, ℕ, List, [], ◌∷◌, ◌++◌, length, refl, sym, ap, subst, ◌∙◌}
 use Rattle.mr_tree.specs.Digest.{by}
-use Rattle.std.specs.Prelude.{◌==◌, not, Option, Some, None, Ok, Err}
+use Rattle.std.specs.Prelude.{◌==◌, not, Option, Some, None, Ok}
 use Rattle.std.proofs.lemmas.Bool.{eq-eqb, ne_eqb, not_from_true}
 use Rattle.std.proofs.lemmas.List.{length-map}
 use Rattle.mr_record.specs.declared.record.Record.{Record}
 use Rattle.mr_tree.specs.declared.tree.Tree.{Tree}
 use Rattle.mr_pages.specs.declared.rule.MapRule.TheVariants as rule
 use Rattle.mr_pages.specs.declared.rule.MapFault.{MapFault}
-use Rattle.mr_pages.specs.declared.error.MapErr.{MapErr}
 use Rattle.mr_pages.specs.declared.seen.Seen.{Seen}
-use Rattle.mr_pages.specs.Walking.{Saw, Loses, Opens, Refuses}
+use Rattle.mr_pages.specs.Walking.{Saw, Loses, Opens}
 use Rattle.mr_pages.specs.Page.{Head}
 use Rattle.mr_pages.specs.File.{File}
 use Rattle.mr_pages.specs.Stands.{whole_tree}
 use Rattle.mr_pages.specs.Spelled.{placed_at}
 use Rattle.mr_pages.specs.Faults.{fault_if, Visit, walk, reached, all_records, numbers_of, walk_faults, chain, chain_faults, lost_faults, free_faults, head_faults, file_faults, first_of, mapfault}
 use Rattle.mr_pages.proofs.Lists.{nil_both, no_fault}
-use Rattle.mr_pages.proofs.Walks.{first_front, first_behind, refuses_as}
+use Rattle.mr_pages.proofs.Walks.{first_front, first_behind}
 
 module _ (hash : List ℕ → List ℕ) (file : File) (h : Head) (sealed : file.head ≡ Ok h) where
   abbrev met : List Visit
@@ -36,13 +35,6 @@ module _ (hash : List ℕ → List ℕ) (file : File) (h : Head) (sealed : file.
       mapfault hash file ≡ Some f
   walk_stops f e = by_head f (first_front (walk_faults (by file.version hash) file.pages [] met)
       (count_fault ++ free_faults file (reached met) followed) f e)
-
-  pub walk_refused : (e : MapErr) →
-      Refuses (λ f. first_of (walk_faults (by file.version hash) file.pages [] met) ≡ Some f) e →
-      Opens hash file (Err e)
-  walk_refused e =
-      refuses_as (λ f. first_of (walk_faults (by file.version hash) file.pages [] met) ≡ Some f)
-      (λ f. mapfault hash file ≡ Some f) walk_stops e
 
   pub count_stops : (found : ℕ) → walk_faults (by file.version hash) file.pages [] met ≡ [] →
       found ≡ length (numbers_of (all_records met)) → h.count ≢ found →

@@ -1,29 +1,22 @@
 -- The fault of a walk, piece by piece.
 use Rattle.std.proofs.Common.{◌≡◌, ℕ, zero, suc, ◌+◌, ◌-◌, ◌<◌, length, get_or, take, drop, Bool, true, false, List, [], ◌∷◌, ◌++◌, map, refl, sym, ap, subst, ◌∙◌, append_assoc, arith}
 use Rattle.mr_tree.specs.Digest.{Scheme}
-use Rattle.std.specs.Prelude.{◌==◌, ◌||◌, nat_le, Option, Some, Result, Ok, Err}
+use Rattle.std.specs.Prelude.{◌==◌, ◌||◌, nat_le, Option, Some}
 use Rattle.std.specs.List.{flat_map, AllByRecursion}
 use Rattle.std.proofs.lemmas.List.{append-nil, flat_map_more, take_more, map_more}
-use Rattle.std.proofs.lemmas.Bool.{OnFalse_at}
 use Rattle.mr_record.specs.declared.record.Record.{Record}
-use Rattle.mr_tree.specs.Tree.{first_level}
-use Rattle.mr_tree.specs.declared.tree.Tree.{Tree}
-use Rattle.mr_tree.specs.declared.tree.Tree.TheVariants as tree
 use Rattle.mr_tree.specs.declared.tree.Tree.TheOpen.{Leaf, Inner}
 use Rattle.mr_pages.specs.declared.rule.MapFault.{MapFault}
 use Rattle.mr_pages.specs.declared.rule.MapRule.TheVariants as rule
 use Rattle.mr_pages.specs.declared.seen.Seen.{Seen}
 use Rattle.mr_tree.specs.declared.child.Child.{Child}
-use Rattle.mr_pages.specs.declared.error.MapErr.{MapErr}
-use Rattle.mr_pages.specs.declared.error.MapErr.TheVariants as errors
 use Rattle.mr_pages.specs.Page.{Link, Node}
 use Rattle.mr_pages.specs.Stands as placed
 use Rattle.mr_pages.specs.Stands.{Placed, Row, tree_of, trees_of}
 use Rattle.mr_pages.specs.Spelled.{row, place}
-use Rattle.mr_pages.specs.Page.{IsNode}
 use Rattle.mr_pages.specs.Faults.{fault_if, has, repeats, found, children, Visit, records_in, visit, visits, reached, all_records, numbers_of, node_faults, visit_faults, walk_faults, first_of}
-use Rattle.mr_pages.specs.Walking.{child_link, enter_faults, Saw, Counts, Looks, Passed, Walks, Roots, Refuses}
-use Rattle.mr_pages.proofs.Lists.{nil_both, no_fault, all_weaker}
+use Rattle.mr_pages.specs.Walking.{child_link, enter_faults, Saw, Passed}
+use Rattle.mr_pages.proofs.Lists.{nil_both, no_fault}
 use Rattle.mr_pages.proofs.Rules.{reached_more, numbers_more}
 use Rattle.mr_pages.proofs.Building.{what_is_found}
 
@@ -90,24 +83,6 @@ pub record AtInner (at : ℕ → Option Node) (root : Bool) (link : Link) (ls : 
       (visits at (link.entry.level - 1) false) ls
   pub spelled : place at link.entry.level link ≡ placed.Inner link.page (row (place at (link.entry.level - 1)) ls)
   pub levels : AllByRecursion (λ (l : Link). l.entry.level ≡ link.entry.level - 1) ls
-
-pub at_inner : (at : ℕ → Option Node) → ((p : ℕ) (node : Node) → at p ≡ Some node → IsNode node) →
-    (root : Bool) (link : Link) (ls : List Link) → found at link ≡ Some (Inner ls) → AtInner at root link ls
-at_inner at good root link ls is =
-    let f = what_is_found at link (Inner ls) is in
-    let high : first_level (map (λ (k : Link). k.entry.level) ls) + 1 ≡ link.entry.level = f.level in
-    let next : suc (link.entry.level - 1) ≡ link.entry.level = omega (arith, high) in
-    let one : first_level (map (λ (k : Link). k.entry.level) ls) ≡ link.entry.level - 1 = omega (arith, high) in
-    record {
-      next = next;
-      met = ap (λ n. visits at n root link) (sym next) ∙ ap
-          (λ o. visit at root link ∷ flat_map (visits at (link.entry.level - 1) false) (children o)) is;
-      spelled = ap (λ n. place at n link) (sym next) ∙ ap
-          (λ o. placed.Inner link.page (row (place at (link.entry.level - 1)) (children o))) is;
-      levels = all_weaker (λ (l : Link). l.entry.level ≡ first_level (map (λ (k : Link). k.entry.level) ls))
-          (λ (l : Link). l.entry.level ≡ link.entry.level - 1) (λ l q. q ∙ one) ls
-          (good link.page (Inner ls) f.there).3;
-    }
 
 -- ---- the first fault, step by step
 
@@ -214,20 +189,6 @@ repeats_append b (x ∷ xs) ys =
 
 -- ---- what the code finds at each step, as it answers
 
-pub refuses_as : (P Q : MapFault → Type 0) → ((f : MapFault) → P f → Q f) → (e : MapErr) → Refuses P e → Refuses Q e
-refuses_as P Q as' (errors.Map f) r = as' f r
-refuses_as P Q as' errors.NoMemory r = tt
-refuses_as P Q as' errors.Missing r = r
-refuses_as P Q as' errors.Fault r = r
-
-pub look_refuses : (hash : Scheme) (pages : ℕ) (at : ℕ → Option Node) (before : List Visit) (root : Bool)
-    (link : Link) (e : MapErr) (s : Seen) → enter_faults pages (reached before) link.page ≡ [] →
-    Looks hash at root link (Err e) → Walks hash pages at before root link (Err e) s
-look_refuses hash pages at before root link e s none =
-    refuses_as (λ f. first_of (node_faults hash root link (found at link)) ≡ Some f)
-    (λ f. first_of (walk_faults hash pages before (visits at link.entry.level root link)) ≡ Some f)
-    (λ f. refused_by_look hash pages at before root link f none) e
-
 pub number_refused : (hash : Scheme) (pages : ℕ) (at : ℕ → Option Node) (before : List Visit) (root : Bool)
     (link : Link) (rs news : List Record) (twice : Bool) →
     enter_faults pages (reached before) link.page ≡ [] → node_faults hash root link (found at link) ≡ [] →
@@ -239,30 +200,6 @@ number_refused hash pages at before root link rs news twice none sound is same t
     refused_by_number hash pages at before root link none sound
     (ap (λ o. repeats (numbers_of (all_records before)) (numbers_of (records_in o))) is
     ∙ ap (λ xs. repeats (numbers_of (all_records before)) (numbers_of xs)) (sym same) ∙ sym test ∙ yes')
-
-pub leaf_passes : (hash : Scheme) (pages : ℕ) (at : ℕ → Option Node) (before : List Visit) (root : Bool)
-    (link : Link) (rs news items : List Record) (twice : Bool) (s : Seen) →
-    enter_faults pages (reached before) link.page ≡ [] → node_faults hash root link (found at link) ≡ [] →
-    found at link ≡ Some (Leaf rs) → news ≡ rs → items ≡ rs →
-    Counts pages (reached before ++ link.page ∷ []) (numbers_of (all_records before)) (numbers_of news) twice s →
-    twice ≡ false → Walks hash pages at before root link (Ok (tree.Leaf items)) s
-leaf_passes hash pages at before root link rs news items twice s none sound is same made count no' =
-    let l = at_leaf at root link rs is in
-    let once : repeats (numbers_of (all_records before)) (numbers_of (records_in (found at link))) ≡ false =
-    ap (λ o. repeats (numbers_of (all_records before)) (numbers_of (records_in o))) is
-    ∙ ap (λ xs. repeats (numbers_of (all_records before)) (numbers_of xs)) (sym same) ∙ sym count.0 ∙ no' in
-    let saw : Saw pages s (reached before ++ link.page ∷ [])
-    (numbers_of (all_records before) ++ numbers_of (records_in (found at link))) =
-    subst (λ o. Saw pages s (reached before ++ link.page ∷ [])
-    (numbers_of (all_records before) ++ numbers_of (records_in o))) (sym is)
-    (subst (λ xs. Saw pages s (reached before ++ link.page ∷ []) (numbers_of (all_records before) ++ numbers_of xs))
-    same (OnFalse_at no' count.1)) in (
-      ap tree.Leaf made ∙ ap tree_of (sym l.spelled),
-      subst (λ vs. Passed hash pages before vs s) (sym l.met) (record {
-        none = visit_passes hash pages at before root link none sound once;
-        saw = saw_visit pages s before (visit at root link) saw;
-      }),
-    )
 
 pub inner_starts : (hash : Scheme) (pages : ℕ) (at : ℕ → Option Node) (before : List Visit) (root : Bool)
     (link : Link) (ls : List Link) (s : Seen) →
@@ -280,20 +217,13 @@ inner_starts hash pages at before root link ls s none saw sound is = record {
       (sym (append-nil (numbers_of (all_records before)))) saw));
 }
 
--- the walk is below this many children, and has built their trees
-pub record PassedBelow (hash : Scheme) (pages : ℕ) (at : ℕ → Option Node) (before : List Visit) (root : Bool)
-    (link : Link) (items : List Child) (trees : List Tree) (s : Seen) : Type 0 where
-  pub passed : Passed hash pages before (visit at root link ∷ flat_map
-      (λ (c : Child). visits at (link.entry.level - 1) false (child_link c)) items) s
-  pub built : trees ≡ map (λ (c : Child). tree_of (place at (link.entry.level - 1) (child_link c))) items
-
 pub child_level : (m : ℕ) (items : List Child) → AllByRecursion (λ (l : Link). l.entry.level ≡ m)
     (map child_link items) → (i : ℕ) (one : Child) → i < length items → one ≡ get_or items i one → one.level ≡ m
 child_level m [] all i one within is = absurd (omega (arith, within))
 child_level m (c ∷ cs) all zero one within is = ap (λ (k : Child). k.level) is ∙ all.0
 child_level m (c ∷ cs) all (suc i) one within is = child_level m cs all.1 i one (omega (arith, within)) is
 
-split_at : {A B : Type 0} (f : A → List B) (xs : List A) (i : ℕ) (x : A) → i < length xs → x ≡ get_or xs i x →
+pub split_at : {A B : Type 0} (f : A → List B) (xs : List A) (i : ℕ) (x : A) → i < length xs → x ≡ get_or xs i x →
     flat_map f xs ≡ flat_map f (take i xs) ++ (f x ++ flat_map f (drop (suc i) xs))
 split_at f [] i x within is = absurd (omega (arith, within))
 split_at f (y ∷ ys) zero x within is = ap (λ z. f z ++ flat_map f ys) (sym is)
@@ -301,92 +231,16 @@ split_at f (y ∷ ys) (suc i) x within is =
     ap (λ zs. f y ++ zs) (split_at f ys i x (omega (arith, within)) is)
     ∙ sym (append_assoc (f y) (flat_map f (take i ys)) (f x ++ flat_map f (drop (suc i) ys)))
 
-of_links : {B : Type 0} (f : Link → List B) (cs : List Child) →
+pub of_links : {B : Type 0} (f : Link → List B) (cs : List Child) →
     flat_map f (map child_link cs) ≡ flat_map (λ (c : Child). f (child_link c)) cs
 of_links f [] = refl
 of_links f (c ∷ cs) = ap (λ xs. f (child_link c) ++ xs) (of_links f cs)
 
-pub child_refuses : (hash : Scheme) (pages : ℕ) (at : ℕ → Option Node) (before : List Visit) (root : Bool)
-    (link : Link) (cs items : List Child) (trees : List Tree) (s r : Seen) (i : ℕ) (one : Child) (e : MapErr) →
-    AtInner at root link (map child_link cs) → items ≡ cs → i < length items → one ≡ get_or items i one →
-    PassedBelow hash pages at before root link (take i items) trees s →
-    Walks hash pages at (before ++ (visit at root link ∷ flat_map
-    (λ (c : Child). visits at (link.entry.level - 1) false (child_link c)) (take i items))) false (child_link one)
-    (Err e) r →
-    Walks hash pages at before root link (Err e) r
-child_refuses hash pages at before root link cs items trees s r i one e inner same within is p =
-    let m = link.entry.level - 1 in
-    let g : Child → List Visit = λ c. visits at m false (child_link c) in
-    let high : one.level ≡ m = child_level m items (subst
-    (λ xs. AllByRecursion (λ (l : Link). l.entry.level ≡ m) (map child_link xs)) (sym same) inner.levels) i one
-    within is in
-    let all : visits at link.entry.level root link ≡ (visit at root link ∷ flat_map g (take i items))
-    ++ (g one ++ flat_map g (drop (suc i) items)) =
-    inner.met ∙ ap (λ xs. visit at root link ∷ xs) (of_links (visits at m false) cs ∙ ap (flat_map g) (sym same)
-    ∙ split_at g items i one within is) in
-    let behind : List Visit = before ++ (visit at root link ∷ flat_map g (take i items)) in
-    refuses_as (λ f. first_of (walk_faults hash pages behind (visits at one.level false (child_link one))) ≡ Some f)
-    (λ f. first_of (walk_faults hash pages before (visits at link.entry.level root link)) ≡ Some f)
-    (λ f w. refused_below hash pages before (visit at root link ∷ flat_map g (take i items)) (g one)
-    (flat_map g (drop (suc i) items)) (visits at link.entry.level root link) f all p.passed.none
-    (subst (λ n. first_of (walk_faults hash pages behind (visits at n false (child_link one))) ≡ Some f) high w)) e
-
-one_more : {A B : Type 0} (f : A → List B) (xs : List A) (i : ℕ) (x : A) → i < length xs → x ≡ get_or xs i x →
+pub one_more : {A B : Type 0} (f : A → List B) (xs : List A) (i : ℕ) (x : A) → i < length xs → x ≡ get_or xs i x →
     flat_map f (take i xs) ++ f x ≡ flat_map f (take (i + 1) xs)
 one_more f xs i x within is = flat_map_more f [] (take i xs) x
     ∙ ap (flat_map f) (ap (λ y. take i xs ++ y ∷ []) is ∙ sym (take_more xs i x within))
 
-map_one_more : {A B : Type 0} (f : A → B) (xs : List A) (i : ℕ) (x : A) → i < length xs → x ≡ get_or xs i x →
+pub map_one_more : {A B : Type 0} (f : A → B) (xs : List A) (i : ℕ) (x : A) → i < length xs → x ≡ get_or xs i x →
     map f (take i xs) ++ f x ∷ [] ≡ map f (take (i + 1) xs)
 map_one_more f xs i x within is = ap (λ y. map f (take i xs) ++ f y ∷ []) is ∙ sym (map_more f xs i x within)
-
-pub child_passes : (hash : Scheme) (pages : ℕ) (at : ℕ → Option Node) (before : List Visit) (root : Bool)
-    (link : Link) (cs items : List Child) (trees more : List Tree) (t : Tree) (s r : Seen) (i : ℕ) (one : Child) →
-    AtInner at root link (map child_link cs) → items ≡ cs → i < length items → one ≡ get_or items i one →
-    PassedBelow hash pages at before root link (take i items) trees s →
-    Walks hash pages at (before ++ (visit at root link ∷ flat_map
-    (λ (c : Child). visits at (link.entry.level - 1) false (child_link c)) (take i items))) false (child_link one)
-    (Ok t) r →
-    more ≡ trees ++ t ∷ [] → PassedBelow hash pages at before root link (take (i + 1) items) more r
-child_passes hash pages at before root link cs items trees more t s r i one inner same within is p w push =
-    let m = link.entry.level - 1 in
-    let g : Child → List Visit = λ c. visits at m false (child_link c) in
-    let high : one.level ≡ m = child_level m items (subst
-    (λ xs. AllByRecursion (λ (l : Link). l.entry.level ≡ m) (map child_link xs)) (sym same) inner.levels) i one
-    within is in
-    let next : Passed hash pages (before ++ (visit at root link ∷ flat_map g (take i items))) (g one) r =
-    subst (λ n. Passed hash pages (before ++ (visit at root link ∷ flat_map g (take i items)))
-    (visits at n false (child_link one)) r) high w.1 in
-    record {
-      passed = subst (λ vs. Passed hash pages before vs r)
-          (ap (λ xs. visit at root link ∷ xs) (one_more g items i one within is))
-          (passed_more hash pages before (visit at root link ∷ flat_map g (take i items)) (g one) s r p.passed next);
-      built = push
-          ∙ (λ k. p.built k ++ (w.0 ∙ ap (λ n. tree_of (place at n (child_link one))) high) k ∷ [])
-          ∙ map_one_more (λ (c : Child). tree_of (place at m (child_link c))) items i one within is;
-    }
-
-pub inner_passes : (hash : Scheme) (pages : ℕ) (at : ℕ → Option Node) (before : List Visit) (root : Bool)
-    (link : Link) (cs items : List Child) (trees made : List Tree) (s : Seen) (n : ℕ) →
-    AtInner at root link (map child_link cs) → items ≡ cs → take n items ≡ items →
-    PassedBelow hash pages at before root link (take n items) trees s → made ≡ trees →
-    Walks hash pages at before root link (Ok (tree.Inner made)) s
-inner_passes hash pages at before root link cs items trees made s n inner same all p made_of =
-    let m = link.entry.level - 1 in
-    let g : Child → List Visit = λ c. visits at m false (child_link c) in (
-      ap tree.Inner (made_of ∙ p.built ∙ ap (map (λ (c : Child). tree_of (place at m (child_link c)))) (all ∙ same)
-          ∙ images cs ∙ sym (trees_of_row (place at m) (map child_link cs)))
-          ∙ ap tree_of (sym inner.spelled),
-      subst (λ vs. Passed hash pages before vs s) (ap (λ xs. visit at root link ∷ flat_map g xs) (all ∙ same)
-          ∙ ap (λ xs. visit at root link ∷ xs) (sym (of_links (visits at m false) cs)) ∙ sym inner.met) p.passed,
-    )
-  where
-    images : (xs : List Child) → map (λ (c : Child). tree_of (place at (link.entry.level - 1) (child_link c))) xs
-        ≡ map (λ l. tree_of (place at (link.entry.level - 1) l)) (map child_link xs)
-    images [] = refl
-    images (x ∷ xs) = ap (λ ts. tree_of (place at (link.entry.level - 1) (child_link x)) ∷ ts) (images xs)
-
-pub root_walks : (hash : Scheme) (pages : ℕ) (at : ℕ → Option Node) (link : Link) (r : Result Tree MapErr)
-    (s : Seen) → Walks hash pages at [] true link r s → Roots hash pages at (Some link) r s
-root_walks hash pages at link (Ok t) s w = (w.0, w.1)
-root_walks hash pages at link (Err e) s w = w

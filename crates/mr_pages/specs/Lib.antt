@@ -12,4 +12,5 @@ pub mod Numbers
 pub mod Walking
 pub mod Judging
 pub mod Opening
+pub mod Source
 pub mod Putting

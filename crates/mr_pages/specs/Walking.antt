@@ -1,9 +1,8 @@
 -- What the walk keeps, and what it answers.
-use Rattle.std.specs.Prelude.{◌≡◌, ⊤, ℕ, ◌<◌, ◌==◌, ◌||◌, nat_le, is_none, Bool, true, List, [], ◌∷◌, ◌++◌, map, length, slice_index_or, false, Option, Some, None, option_map, Result, Ok, Err}
+use Rattle.std.specs.Prelude.{◌≡◌, ⊤, ℕ, ◌<◌, ◌==◌, ◌||◌, nat_le, Bool, true, List, [], ◌∷◌, ◌++◌, map, length, slice_index_or, false, Option, Some, None, option_map, Result, Ok, Err}
 use Rattle.std.specs.Bool.{OnFalse}
 use Rattle.mr_tree.specs.Digest.{Scheme}
 use Rattle.mr_tree.specs.declared.child.Child.{Child}
-use Rattle.mr_tree.specs.declared.tree.Tree.{Tree}
 use Rattle.mr_tree.specs.declared.tree.Tree.TheOpen.{Empty, Leaf, Inner}
 use Rattle.mr_tree.specs.View as view
 use Rattle.mr_pages.specs.declared.rule.MapRule.{MapRule}
@@ -18,9 +17,9 @@ use Rattle.mr_pages.specs.declared.opening.Opened.{Opened}
 use Rattle.mr_pages.specs.declared.seen.Seen.{Seen}
 use Rattle.mr_pages.specs.Page.{Link, Node, Head}
 use Rattle.mr_pages.specs.File.{File}
-use Rattle.mr_pages.specs.Stands.{tree_of, whole_tree}
-use Rattle.mr_pages.specs.Faults.{fault_if, has, repeats, found, Visit, visits, reached, all_records, numbers_of, node_faults, walk_faults, walk, chain, chain_faults, lost_faults, mapfault, first_of}
-use Rattle.mr_pages.specs.Spelled.{place, placed_at}
+use Rattle.mr_pages.specs.Stands.{whole_tree}
+use Rattle.mr_pages.specs.Faults.{fault_if, has, repeats, Visit, reached, all_records, numbers_of, walk_faults, lost_faults, mapfault, first_of}
+use Rattle.mr_pages.specs.Spelled.{placed_at}
 use Rattle.mr_pages.specs.Numbers.{Met}
 
 -- what is said of a node, and a node, as the definitions have them
@@ -69,34 +68,11 @@ Counts pages ps ns new twice after =
 
 -- ---- what is answered
 
--- why a call over pages refuses: it met this fault, or memory ran out. It asks no shelf.
-abbrev pub Refuses : (MapFault → Type 0) → MapErr → Type 0
-Refuses P (errors.Map f) = P f
-Refuses P errors.NoMemory = ⊤
-Refuses P _ = ⊥
-
--- the node, of which nothing is broken, or the first rule that is
-abbrev pub Looks : Scheme → (ℕ → Option Node) → Bool → Link →
-    Result owned_type.Node MapErr → Type 0
-Looks s at root link (Ok n) =
-    (node_faults s root link (found at link) ≡ []) × (found at link ≡ Some (page_node (owned n)))
-Looks s at root link (Err e) =
-    Refuses (λ f. first_of (node_faults s root link (found at link)) ≡ Some f) e
-
 -- a walk behind these visits met no fault among these, and this is what it keeps then
 pub record Passed (s : Scheme) (pages : ℕ) (before vs : List Visit) (after : Seen)
     : Type 0 where
   pub none : walk_faults s pages before vs ≡ []
   pub saw : Saw pages after (reached (before ++ vs)) (numbers_of (all_records (before ++ vs)))
-
--- the tree that the pages below a link spell, or the first fault of the walk there
-abbrev pub Walks : Scheme → ℕ → (ℕ → Option Node) → (before : List Visit) → Bool → Link
-    → Result Tree MapErr → Seen → Type 0
-Walks s pages at before root link (Ok t) after =
-    (t ≡ tree_of (place at link.entry.level link))
-    × Passed s pages before (visits at link.entry.level root link) after
-Walks s pages at before root link (Err e) after = Refuses
-    (λ f. first_of (walk_faults s pages before (visits at link.entry.level root link)) ≡ Some f) e
 
 -- page 0
 abbrev pub head_of : MapHead → Head
@@ -112,31 +88,6 @@ abbrev pub Heads : Result MapHead MapRule → Result Head MapRule → Type 0
 Heads (Ok h) head = head ≡ Ok (head_of h)
 Heads (Err r) head = head ≡ Err r
 
--- the same from the root on
-abbrev pub Roots : Scheme → ℕ → (ℕ → Option Node) → Option Link → Result Tree MapErr →
-    Seen → Type 0
-Roots s pages at root (Ok t) after =
-    (t ≡ whole_tree (placed_at at root)) × Passed s pages [] (walk at root) after
-Roots s pages at root (Err e) after =
-    Refuses (λ f. first_of (walk_faults s pages [] (walk at root)) ≡ Some f) e
-
--- the chain of free pages was followed, or met this fault
-abbrev pub Follows : (ℕ → Option ℕ) → ℕ → ℕ → List ℕ → List ℕ → Option MapFault → Seen → Type 0
-Follows free pages f ps ns None after =
-    (chain_faults free pages ps (chain free pages f) ≡ [])
-    × Saw pages after (ps ++ chain free pages f) ns
-Follows free pages f ps ns (Some e) after =
-    first_of (chain_faults free pages ps (chain free pages f)) ≡ Some e
-
--- one step on the chain
-abbrev pub Steps : (ℕ → Option ℕ) → ℕ → ℕ → List ℕ → List ℕ → Option ℕ → Seen → Type 0
-Steps free pages p ps ns None after =
-    (nat_le pages p || (has p ps || is_none (free p))) ≡ true
-Steps free pages p ps ns (Some g) after =
-    ((nat_le pages p || (has p ps || is_none (free p))) ≡ false)
-    × (free p ≡ Some g)
-    × Saw pages after (ps ++ p ∷ []) ns
-
 -- the least page that was never reached
 abbrev pub Loses : ℕ → List ℕ → Option MapFault → Type 0
 Loses pages ps r = first_of (lost_faults pages ps) ≡ r
@@ -148,4 +99,5 @@ Opens hash file (Ok map) =
     × (h : Head) × (file.head ≡ Ok h)
     × (map.tree ≡ whole_tree (placed_at file.node h.root))
     × (map.batch ≡ h.batch)
-Opens hash file (Err e) = Refuses (λ f. mapfault hash file ≡ Some f) e
+Opens hash file (Err (errors.Map f)) = mapfault hash file ≡ Some f
+Opens hash file (Err _) = ⊤

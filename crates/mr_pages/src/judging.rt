@@ -1,12 +1,13 @@
 //! The judge of one node.
 
-ghost use Rattle.std.specs.Prelude.{◌≡◌, Some};
+ghost use Rattle.std.specs.Prelude.{◌≡◌, Some, IfSome};
 ghost use Rattle.mr_record.specs.declared.version.Version.TheVariants.{One};
 ghost use Rattle.mr_tree.specs.Digest.{by};
 ghost use Rattle.mr_pages.specs.Page.{entry_of};
 ghost use Rattle.mr_pages.specs.Faults.{same_rect, least as fewest};
 ghost use Rattle.mr_pages.specs.Walking.{child_link, page_node};
 ghost use Rattle.mr_pages.specs.Judging.{Fills, Judges};
+ghost use Rattle.mr_pages.specs.Source.{IsOfOneRead};
 
 use crate::MapRule;
 use mr_geom::Rect;
@@ -53,7 +54,8 @@ fn is_full(view: &NodeView, root: bool) -> bool
 
 /// The first rule that a node breaks against what is said of it.
 pub fn judge<H: Hashes>(view: &NodeView, child: &Child, root: bool) -> Option<MapRule>
-    ensures { Judges (by One H.of) root (child_link child.now) (page_node view.now) result }
+    ensures told { Judges (by One H.of) root (child_link child.now) (page_node view.now) result }
+    ensures once { IfSome result IsOfOneRead }
 {
     let found = entry_on::<H>(view);
     if found.digest.as_slice() != child.digest.as_slice() {

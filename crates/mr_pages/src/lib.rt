@@ -2,8 +2,9 @@
 #![tactic(auto)]
 
 mod bytes;
+mod chaining;
+mod checking;
 mod error;
-mod following;
 mod head;
 mod judging;
 mod layout;
@@ -11,21 +12,26 @@ mod node;
 mod numbers;
 mod opening;
 mod page;
-mod pages;
 mod putting;
 mod reading;
 mod rule;
 mod saving;
 mod seen;
+mod source;
 mod table;
-mod walking;
+mod visiting;
 
+pub use bytes::page_count;
+pub use checking::{Checked, check};
 pub use error::MapErr;
 pub use head::MapHead;
-pub use layout::PAGE_SIZE;
+pub use layout::{FIRST, Layout, PAGE_SIZE};
+pub use node::Node;
 pub use opening::{Opened, open_plain};
 pub use page::{
     read_free_page, read_head, read_page, write_free_page, write_head_page, write_page,
 };
+pub use reading::read_filled;
 pub use rule::{MapFault, MapRule};
 pub use saving::save_plain;
+pub use source::Source;

@@ -1,32 +1,28 @@
 //! Opening a map.
 
-ghost use Rattle.std.specs.Prelude.{◌≡◌, ◌≤◌, ⊤, ℕ, List, [], Some, Ok, Err, option_map, IfOk};
+ghost use Rattle.std.specs.Prelude.{◌≡◌, ◌≤◌, ⊤, ℕ, List, Some, Err, IfOk};
 ghost use Rattle.mr_outside.specs.Told.{OfFile};
 ghost use Rattle.mr_record.specs.Bytes.{AreBytes};
 ghost use Rattle.mr_pages.specs.PageBytes.{form_of, first_form, IsLayout};
-ghost use Rattle.mr_tree.specs.Digest.{by};
 ghost use Rattle.mr_tree.specs.WellFormed.{WellFormed};
 ghost use Rattle.mr_pages.specs.declared.rule.MapFault.{MapFault};
-ghost use Rattle.mr_pages.specs.File.{file_of};
+ghost use Rattle.mr_pages.specs.File.{pages_of, file_of};
+ghost use Rattle.mr_pages.specs.Page.{page_limit};
 ghost use Rattle.mr_pages.specs.Stands.{Stands};
 ghost use Rattle.mr_pages.specs.Faults.{mapfault};
 ghost use Rattle.mr_pages.specs.Law.{IsOnlyMap, Agrees};
 ghost use Rattle.mr_pages.specs.Opening.{opened, Fails, FindsOut, Answers, SomeBytes, Tells, MapCauses};
-ghost use Rattle.mr_pages.specs.File.{IsFile};
-ghost use Rattle.mr_pages.specs.Walking.{child_link, head_of, Saw, Roots, Opens};
+ghost use Rattle.mr_pages.specs.Walking.{Opens};
 
 use crate::bytes::{MapBytes, page_count};
-use crate::following::follow;
-use crate::head::MapHead;
+use crate::checking::{Checked, check};
 use crate::layout::{FIRST, Layout};
-use crate::pages::Pages;
 use crate::reading::read_whole;
-use crate::seen::Seen;
-use crate::walking::walk;
 use crate::{MapErr, MapFault, MapRule};
 use mr_outside::Shelf;
-use mr_tree::{Child, Hash32, Hashes, NodeView, Tree};
+use mr_tree::{Hash32, Hashes, Tree};
 use std::alloc::Global;
+use std::marker::PhantomData;
 
 /// A map that was opened.
 #[derive(Drop)]
@@ -35,63 +31,31 @@ pub struct Opened {
     pub batch: u64,
 }
 
-// The tree below the root, or the first fault of the walk.
-fn root_tree<H: Hashes, P: Pages>(
+// The map that so many pages stand for, or their first fault.
+fn open_pages<H: Hashes>(
     alloc: Global,
-    pages: &P,
-    root: &Option<Child>,
-    seen: &mut Seen,
-) -> Result<Tree, MapErr>
-    requires good { IsFile (P.file pages.now) }
-    requires none_seen { Saw (P.file pages.now).pages seen.old [] [] }
-    ensures { Roots (by (P.file pages.now).version H.of) (P.file pages.now).pages
-        (P.file pages.now).node (option_map child_link root.now) result seen.new }
+    layout: Layout,
+    bytes: &[u8],
+    pages: u32,
+) -> Result<Opened, MapErr>
+    requires layout { IsLayout layout }
+    requires some { 1 ≤ pages }
+    requires few { pages ≤ page_limit }
+    ensures opens { Opens H.of (pages_of (form_of layout) pages bytes.now) result }
+    ensures found { FindsOut result }
 {
-    match root {
-        None => Ok(Tree::Empty),
-        Some(child) => walk::<H, P>(alloc, pages, child, true, &mut NodeView::new(), seen),
-    }
-}
-
-// The map behind page 0, or the first fault.
-fn open_at<H: Hashes, P: Pages>(alloc: Global, pages: &P, head: &MapHead) -> Result<Opened, MapErr>
-    requires good { IsFile (P.file pages.now) }
-    requires sealed { (P.file pages.now).head ≡ Ok (head_of head.now) }
-    ensures { Opens H.of (P.file pages.now) result }
-{
-    let mut seen = Seen::new(alloc, pages.count())?;
-    let tree = root_tree::<H, P>(alloc, pages, &head.root, &mut seen)?;
-    let found = seen.numbers.count();
-    if head.count != found {
-        return Err(MapErr::Map(MapFault {
-            page: 0,
-            rule: MapRule::Count {
-                held: head.count,
-                found,
-            },
-        }));
-    }
-    if let Some(fault) = follow(pages, head.free, &mut seen) {
-        return Err(MapErr::Map(fault));
-    }
-    if let Some(fault) = seen.lost(pages.count()) {
-        return Err(MapErr::Map(fault));
-    }
+    let mut source = MapBytes::<'_, H> {
+        layout,
+        bytes,
+        pages,
+        hash: PhantomData,
+    };
+    let checked = check::<MapBytes<'_, H>>(alloc, &mut source)?;
+    let Checked { head, made } = checked;
     Ok(Opened {
-        tree,
+        tree: made,
         batch: head.batch,
     })
-}
-
-// The map that these pages stand for, or their first fault.
-fn open<H: Hashes, P: Pages>(alloc: Global, pages: &P) -> Result<Opened, MapErr>
-    requires good { IsFile (P.file pages.now) }
-    ensures { Opens H.of (P.file pages.now) result }
-{
-    match pages.head() {
-        Err(rule) => Err(MapErr::Map(MapFault { page: 0, rule })),
-        Ok(head) => open_at::<H, P>(alloc, pages, &head),
-    }
 }
 
 // The map that a file of these bytes stands for, or its fault.
@@ -103,14 +67,7 @@ fn open_bytes<H: Hashes>(alloc: Global, layout: Layout, bytes: &[u8]) -> Result<
 {
     match page_count(layout, bytes.len() as u64) {
         None => Err(SIZE_FAULT),
-        Some(pages) => open::<H, MapBytes<'_>>(
-            alloc,
-            &MapBytes {
-                layout,
-                bytes,
-                pages,
-            },
-        ),
+        Some(pages) => open_pages::<H>(alloc, layout, bytes, pages),
     }
 }
 

@@ -8,3 +8,4 @@ mod put;
 pub use free::{free_on, read_free_page, write_free_page};
 pub use head::{head_on, level_of_root, put_head, read_head, write_head_page};
 pub use node::{node_on, put_node, read_page, write_page};
+pub use put::fill;

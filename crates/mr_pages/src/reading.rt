@@ -2,8 +2,9 @@
 
 ghost use Rattle.std.specs.Prelude.{◌≡◌, ◌+◌, ◌-◌, ◌≤◌, ◌<◌, length, take, drop, replicate, IfOk};
 ghost use Rattle.mr_outside.specs.Told.{OfFile};
-ghost use Rattle.mr_outside.specs.Causes.{ShelfCauses};
+ghost use Rattle.mr_outside.specs.Causes.{ShelfCauses, CountsRead};
 
+use crate::page::fill;
 use mr_outside::{Shelf, ShelfErr};
 use std::alloc::Global;
 
@@ -58,7 +59,7 @@ fn read_on<S: Shelf>(
     read_into(shelf, name, at, bytes.as_mut_slice())
 }
 
-// Reads from this place on, and answers how many bytes came. All others are as before.
+// Reads from this place on, and answers how many bytes came. What stands before it is as before.
 fn read_into<S: Shelf>(
     shelf: &mut S,
     name: &str,
@@ -69,10 +70,32 @@ fn read_into<S: Shelf>(
     ensures bytes { IfOk result (λ n. OfFile (S.state shelf.old).files name.now ⊥
         (λ file. length into.old ≤ length file → take at into.old ≡ take at file →
         into.new ≡ take (length into.old) file)) }
-    ensures rest { IfOk result (λ n. drop (at + n) into.new ≡ drop (at + n) into.old) }
+    ensures rest { IfOk result (λ n. drop (at + n) into.new
+        ≡ replicate (length into.old - (at + n)) 0) }
     ensures causes { ShelfCauses name.now (S.state shelf.old) (S.state shelf.new) result }
     ensures files { (S.state shelf.new).files ≡ (S.state shelf.old).files }
     ensures reads { (S.state shelf.old).reads ≤ (S.state shelf.new).reads }
 {
-    shelf.read_at(name, at as u64, &mut into[at..])
+    read_filled(shelf, name, at as u64, &mut into[at..])
+}
+
+/// Reads from a place of the file on, and answers how many bytes came. What a read gives short
+/// counts as zeros.
+pub fn read_filled<S: Shelf>(
+    shelf: &mut S,
+    name: &str,
+    at: u64,
+    into: &mut [u8],
+) -> Result<usize, ShelfErr>
+    ensures within { IfOk result (λ n. n ≤ length into.new) }
+    ensures bytes { IfOk result (λ n. OfFile (S.state shelf.old).files name.now ⊥
+        (λ file. at + length into.old ≤ length file →
+        into.new ≡ take (length into.old) (drop at file))) }
+    ensures rest { IfOk result (λ n. drop n into.new ≡ replicate (length into.old - n) 0) }
+    ensures causes { ShelfCauses name.now (S.state shelf.old) (S.state shelf.new) result }
+    ensures files { (S.state shelf.new).files ≡ (S.state shelf.old).files }
+    ensures reads { CountsRead (S.state shelf.old) (S.state shelf.new) result }
+{
+    fill(into, &[]);
+    shelf.read_at(name, at, into)
 }

@@ -116,7 +116,7 @@ fn save_named<H: Hashes, S: Shelf>(
 /// Makes a file that stands for the map with this tree at this batch.
 ///
 /// The nodes stand in preorder from page 1 on, and no page is free. Page 0 is zeros until all
-/// others are synced, so that a file that was cut off is no map.
+/// others are synced, so that a file whose writing was refused half way is no map.
 pub fn save_plain<H: Hash32, S: Shelf>(
     alloc: Global,
     shelf: &mut S,

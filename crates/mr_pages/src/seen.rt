@@ -1,8 +1,9 @@
 //! What a walk has seen.
 
-ghost use Rattle.std.specs.Prelude.{◌≡◌, ◌≤◌, ℕ, List, [], length, IfOk};
+ghost use Rattle.std.specs.Prelude.{◌≡◌, ◌≤◌, ◌-◌, ℕ, List, [], length, IfOk, IfSome};
 ghost use Rattle.mr_pages.specs.Faults.{numbers_of};
 ghost use Rattle.mr_pages.specs.Walking.{Saw, Enters, Counts, Loses};
+ghost use Rattle.mr_pages.specs.Source.{Reaches, IsOfOneRead, left};
 
 use crate::numbers::Numbers;
 use crate::{MapFault, MapRule};
@@ -20,7 +21,8 @@ pub struct Seen {
 impl Seen {
     /// Before a walk over a file of this many pages.
     pub fn new(alloc: Global, pages: u32) -> Result<Seen, AllocError>
-        ensures { IfOk result (λ s. Saw pages s [] []) }
+        ensures told { IfOk result (λ s. Saw pages s [] []) }
+        ensures left { IfOk result (λ s. left s ≤ pages - 1) }
     {
         Ok(Seen {
             reached: vec![in alloc; false; pages as usize]?,
@@ -30,8 +32,10 @@ impl Seen {
 
     /// Comes to the page of a node.
     pub fn enter(&mut self, page: u32) -> Option<MapRule>
-        ensures { (pages : ℕ) (ps ns : List ℕ) → Saw pages self.old ps ns →
+        ensures told { (pages : ℕ) (ps ns : List ℕ) → Saw pages self.old ps ns →
             Enters pages ps ns page result self.new }
+        ensures step { Reaches self.old page result self.new }
+        ensures once { IfSome result IsOfOneRead }
     {
         let at = page as usize;
         if page == 0 || at >= self.reached.len() {
@@ -46,8 +50,10 @@ impl Seen {
 
     /// Meets the numbers of some records; whether one of them was met before.
     pub fn meet(&mut self, records: &[Record]) -> Result<bool, AllocError>
-        ensures { IfOk result (λ twice. (pages : ℕ) (ps ns : List ℕ) → Saw pages self.old ps ns →
+        ensures told { IfOk result (λ twice. (pages : ℕ) (ps ns : List ℕ) →
+            Saw pages self.old ps ns →
             Counts pages ps ns (numbers_of records.now) twice self.new) }
+        ensures same { self.new.reached ≡ self.old.reached }
     {
         for record in records {
             if self.numbers.meet(record.number)? {
@@ -60,7 +66,8 @@ impl Seen {
     /// The least page that was never reached.
     pub fn lost(&self, pages: u32) -> Option<MapFault>
         requires { length self.now.reached.items ≡ pages }
-        ensures { (ps ns : List ℕ) → Saw pages self.now ps ns → Loses pages ps result }
+        ensures told { (ps ns : List ℕ) → Saw pages self.now ps ns → Loses pages ps result }
+        ensures once { IfSome result (λ f. IsOfOneRead f.rule) }
     {
         for page in 1..pages {
             if !self.reached[page as usize] {

@@ -1,12 +1,13 @@
 //! Page 0.
 
-ghost use Rattle.std.specs.Prelude.{◌≡◌, ◌≤◌, ◌+◌, ◌++◌, ◌∷◌, true, length, option_map, bytes_eq, IfOk, MatchResult};
+ghost use Rattle.std.specs.Prelude.{◌≡◌, ◌≤◌, ◌+◌, ◌++◌, ◌∷◌, true, length, option_map, bytes_eq, IfOk, IfErr, MatchResult};
 ghost use Rattle.std.specs.Int.{w32, w64, to_be_bytes};
 ghost use Rattle.mr_record.specs.Version.{version_byte};
 ghost use Rattle.mr_pages.specs.Page.{page_limit};
 ghost use Rattle.mr_pages.specs.Page as types;
 ghost use Rattle.mr_pages.specs.PageBytes.{magic, root_place, link_size, head_size, root_level, root_bytes, head_bytes, head_page, root_in, fields_in, is_root, is_head, is_sealed, form_of, first_form, IsLayout, SpellsHead};
 ghost use Rattle.mr_pages.specs.Walking.{child_link, head_of, Heads};
+ghost use Rattle.mr_pages.specs.Source.{IsOfOneRead};
 
 use crate::layout::{FIRST, LINK_SIZE, Layout, PAGE_SIZE};
 use crate::page::node::{encoded_link, read_child};
@@ -161,6 +162,7 @@ pub fn head_on(layout: Layout, page: &[u8], pages: u32) -> Result<MapHead, MapRu
     requires { IsLayout layout }
     ensures exact { Heads result ((form_of layout).head_in pages page.now) }
     ensures level { IfOk result (λ h. h.level ≡ root_level (option_map child_link h.root)) }
+    ensures once { IfErr result IsOfOneRead }
     ensures written { 1 ≤ pages → pages ≤ page_limit
         → IfOk result (λ h. SpellsHead (form_of layout) pages page.now (head_of h)) }
     ensures read { (h : types.Head) → SpellsHead (form_of layout) pages page.now h
@@ -173,6 +175,7 @@ fn judged_head(layout: Layout, page: &[u8], pages: u32) -> Result<MapHead, MapRu
     requires { IsLayout layout }
     ensures exact { Heads result ((form_of layout).head_in pages page.now) }
     ensures level { IfOk result (λ h. h.level ≡ root_level (option_map child_link h.root)) }
+    ensures once { IfErr result IsOfOneRead }
 {
     if !has_seal(layout, page) {
         return Err(MapRule::Unsealed);
@@ -192,6 +195,7 @@ fn judged_head(layout: Layout, page: &[u8], pages: u32) -> Result<MapHead, MapRu
 pub fn read_head(page: &[u8; PAGE_SIZE], pages: u32) -> Result<MapHead, MapRule>
     ensures exact { Heads result (first_form.head_in pages page.now) }
     ensures level { IfOk result (λ h. h.level ≡ root_level (option_map child_link h.root)) }
+    ensures once { IfErr result IsOfOneRead }
     ensures written { 1 ≤ pages → pages ≤ page_limit
         → IfOk result (λ h. SpellsHead first_form pages page.now (head_of h)) }
     ensures read { (h : types.Head) → SpellsHead first_form pages page.now h

@@ -1,0 +1,87 @@
+-- What checking a file comes to, rule by rule.
+use Rattle.std.proofs.Common.{◌≡◌, ℕ, ◌<◌, true, false, List, [], length, sym, subst, ◌∙◌, ⊎_elim}
+use Rattle.std.specs.Prelude.{Option, Some, Result, Ok, Err, OnOk}
+use Rattle.mr_record.specs.declared.version.Version.{Version}
+use Rattle.mr_record.specs.declared.version.Version.TheVariants.{One}
+use Rattle.mr_tree.specs.Digest.{Scheme, by}
+use Rattle.mr_pages.specs.declared.error.MapErr.{MapErr}
+use Rattle.mr_pages.specs.declared.error.MapErr.TheVariants as errors
+use Rattle.mr_pages.specs.declared.seen.Seen.{Seen}
+use Rattle.mr_pages.specs.Page.{Link, Node, Head}
+use Rattle.mr_pages.specs.File.{File}
+use Rattle.mr_pages.specs.Faults.{has, Visit, walk, reached, all_records, numbers_of, chain, mapfault, first_of}
+use Rattle.mr_pages.specs.Walking.{Saw, Passed}
+use Rattle.mr_pages.specs.Source.{Walks, Visits, Chains, ChecksBehind, AreKept, AllKept}
+use Rattle.mr_pages.proofs.Lists.{all_has}
+use Rattle.mr_pages.proofs.Rules.{walk_sound}
+use Rattle.mr_pages.proofs.AsRead.{within_pages}
+use Rattle.mr_pages.proofs.Stops.{walk_stops, chain_stops}
+use Rattle.mr_pages.proofs.Judged.{only_version}
+
+pub root_visits : (A : Type 0) (v : Version) (hash : List ℕ → List ℕ) (pages : ℕ) (at : ℕ → Option Node)
+    (link : Link) (r : Result A MapErr) (s : Seen) → Walks {A = A} (by One hash) pages at [] true link r s →
+    Visits {A = A} (by v hash) pages at (Some link) r s
+root_visits A v hash pages at link r s w =
+    subst (λ u. Visits {A = A} (by u hash) pages at (Some link) r s) (sym (only_version v)) (same r w)
+  where
+    same : (q : Result A MapErr) → Walks {A = A} (by One hash) pages at [] true link q s →
+        Visits {A = A} (by One hash) pages at (Some link) q s
+    same (Ok t) w = w
+    same (Err (errors.Map f)) w = w
+    same (Err errors.NoMemory) w = tt
+    same (Err errors.Missing) w = tt
+    same (Err errors.Fault) w = tt
+
+-- what was reached is kept
+pub kept_all : (A : Type 0) (hash : Scheme) (n : ℕ) (file : File) (root : Option Link) (r : Result A MapErr)
+    (old new' : Seen) (keeps : ℕ → Type 0) → Saw n old [] [] → Visits {A = A} hash n file.node root r new' →
+    OnOk r (AreKept old new' keeps) → OnOk r (AllKept file root keeps)
+kept_all A hash n file root (Err e) old new' keeps none v k = tt
+kept_all A hash n file root (Ok a) old new' keeps none v k = λ page on.
+    let w = walk_sound hash n [] (walk file.node root) v.none in
+    let inside = all_has (λ p. (0 < p) × (p < n)) (reached (walk file.node root))
+    (within_pages hash n (walk file.node root) w.each) page on in
+    ⊎_elim
+    (λ before. absurd (no (sym before ∙ none.reached page inside.1)))
+    (λ kept. kept)
+    (k page (v.saw.reached page inside.1 ∙ on))
+  where
+    no : ◌≡◌ true false → ⊥
+    no h = cc
+
+pub same_pages : (hash : Scheme) (m n : ℕ) (vs : List Visit) (s : Seen) → m ≡ n → Passed hash m [] vs s →
+    Passed hash n [] vs s
+same_pages hash m n vs s e p = subst (λ k. Passed hash k [] vs s) e p
+
+module _ (hash : List ℕ → List ℕ) (file : File) (h : Head) (sealed : file.head ≡ Ok h) where
+  pub visits_stop : {A : Type 0} (r : Result A MapErr) (n : ℕ) (e : MapErr) (s : Seen) → n ≡ file.pages →
+      Visits {A = A} (by file.version hash) n file.node h.root (Err e) s → ChecksBehind {A = A} hash file (Err e)
+  visits_stop r n (errors.Map f) s same v = walk_stops hash file h sealed f
+      (subst (λ k. first_of (Rattle.mr_pages.specs.Faults.walk_faults (by file.version hash) k [] (walk file.node
+      h.root)) ≡ Some f)
+      same v)
+  visits_stop r n errors.NoMemory s same v = tt
+  visits_stop r n errors.Missing s same v = tt
+  visits_stop r n errors.Fault s same v = tt
+
+  pub chain_refused : (A : Type 0) {B : Type 0} (b : Result B MapErr) (n found : ℕ) (e : MapErr) (s r : Seen) →
+      n ≡ file.pages →
+      Passed (by file.version hash) file.pages [] (walk file.node h.root) s →
+      found ≡ length (numbers_of (all_records (walk file.node h.root))) →
+      h.count ≡ found → (ns : List ℕ) →
+      Chains {A = A} file.free n h.free (reached (walk file.node h.root)) ns (Err e) r →
+      ChecksBehind {A = B} hash file (Err e)
+  chain_refused A b n found (errors.Map f) s r same p is held ns c =
+      chain_stops hash file h sealed f found p.none is held
+      (subst (λ k. first_of (Rattle.mr_pages.specs.Faults.chain_faults file.free k (reached (walk file.node h.root))
+      (chain file.free k h.free)) ≡ Some f) same c)
+  chain_refused A b n found errors.NoMemory s r same p is held ns c = tt
+  chain_refused A b n found errors.Missing s r same p is held ns c = tt
+  chain_refused A b n found errors.Fault s r same p is held ns c = tt
+
+pub chained : (A : Type 0) (a : A) (free : ℕ → Option ℕ) (m n f : ℕ) (ps ns : List ℕ) (s : Seen) → m ≡ n →
+    Chains {A = A} free m f ps ns (Ok a) s → Chains {A = A} free n f ps ns (Ok a) s
+chained A a free m n f ps ns s e c = subst (λ k. Chains {A = A} free k f ps ns (Ok a) s) e c
+
+pub saw_as : (m n : ℕ) (s : Seen) (ps ns : List ℕ) → m ≡ n → Saw m s ps ns → Saw n s ps ns
+saw_as m n s ps ns e saw = subst (λ k. Saw k s ps ns) e saw

@@ -1,0 +1,111 @@
+//! Whether a file stands for a map: page 0, the walk, the count of records, the chain of free
+//! pages.
+
+ghost use Rattle.std.specs.Prelude.{◌≡◌, ◌≤◌, ◌-◌, length, [], Some, Ok, IfOk, IfErr, IfSome, OnOk, option_map};
+ghost use Rattle.mr_tree.specs.Digest.{by};
+ghost use Rattle.mr_pages.specs.File.{File};
+ghost use Rattle.mr_pages.specs.Stands.{whole_tree};
+ghost use Rattle.mr_pages.specs.Spelled.{placed_at};
+ghost use Rattle.mr_pages.specs.Source.{Goes, Stay, AllKept, SaysHead, IsRootIn, Checks, ChecksBehind, Visits, SaysOnce, left};
+ghost use Rattle.mr_pages.specs.Walking.{child_link, head_of, Saw};
+
+use crate::chaining::chain;
+use crate::head::MapHead;
+use crate::seen::Seen;
+use crate::source::Source;
+use crate::visiting::visit;
+use crate::{MapErr, MapFault, MapRule};
+use mr_tree::{Child, NodeView};
+use std::alloc::Global;
+
+/// A map without a fault: what page 0 says, and what was made of the nodes.
+#[derive(Drop)]
+pub struct Checked<M: Drop> {
+    pub head: MapHead,
+    pub made: M,
+}
+
+// The walk from the root on.
+fn visit_all<P: Source>(
+    alloc: Global,
+    pages: &mut P,
+    root: &Option<Child>,
+    seen: &mut Seen,
+) -> Result<P::Made, MapErr>
+    requires none { Saw (P.state pages.old).pages seen.old [] [] }
+    ensures told { (file : File) → (P.state pages.old).file ≡ Some file →
+        Visits (by file.version P.Hash.of) (P.state pages.old).pages file.node
+        (option_map child_link root.now) result seen.new }
+    ensures made { (file : File) → (P.state pages.old).file ≡ Some file → IfOk result
+        (λ m. P.makes m (whole_tree (placed_at file.node (option_map child_link root.now)))) }
+    ensures once { IfErr result SaysOnce }
+    ensures kept { (file : File) → (P.state pages.old).file ≡ Some file → OnOk result
+        (AllKept file (option_map child_link root.now) (P.keeps pages.new)) }
+    ensures inside { OnOk result (IfSome root.now (IsRootIn (P.state pages.old).pages)) }
+    ensures room { length seen.new.reached.items ≡ length seen.old.reached.items }
+    ensures goes { Goes (P.state pages.old) (P.state pages.new) (left seen.old) (left seen.new)
+        result }
+{
+    match root {
+        None => Ok(pages.none()),
+        Some(child) => visit::<P>(alloc, pages, child, true, &mut NodeView::new(), seen),
+    }
+}
+
+// What is behind page 0.
+fn check_behind<P: Source>(alloc: Global, pages: &mut P, head: &MapHead) -> Result<P::Made, MapErr>
+    ensures told { (file : File) → (P.state pages.old).file ≡ Some file →
+        file.pages ≡ (P.state pages.old).pages → file.head ≡ Ok (head_of head.now) →
+        ChecksBehind P.Hash.of file result }
+    ensures made { (file : File) → (P.state pages.old).file ≡ Some file → IfOk result
+        (λ m. P.makes m (whole_tree (placed_at file.node (option_map child_link head.now.root)))) }
+    ensures once { IfErr result SaysOnce }
+    ensures kept { (file : File) → (P.state pages.old).file ≡ Some file → OnOk result
+        (AllKept file (option_map child_link head.now.root) (P.keeps pages.new)) }
+    ensures inside { OnOk result (IfSome head.now.root (IsRootIn (P.state pages.old).pages)) }
+    ensures goes { Goes (P.state pages.old) (P.state pages.new) ((P.state pages.old).pages - 1) 0
+        result }
+{
+    let mut seen = Seen::new(alloc, pages.count())?;
+    let made = visit_all::<P>(alloc, pages, &head.root, &mut seen)?;
+    let found = seen.numbers.count();
+    if head.count != found {
+        return Err(MapErr::Map(MapFault {
+            page: 0,
+            rule: MapRule::Count {
+                held: head.count,
+                found,
+            },
+        }));
+    }
+    chain::<P>(pages, head.free, &mut seen)?;
+    if let Some(fault) = seen.lost(pages.count()) {
+        return Err(MapErr::Map(fault));
+    }
+    Ok(made)
+}
+
+/// What page 0 of a map without a fault says, and what was made of its nodes, or the first fault.
+///
+/// Each page is read at most once.
+pub fn check<P: Source>(alloc: Global, pages: &mut P) -> Result<Checked<P::Made>, MapErr>
+    requires { 1 ≤ (P.state pages.old).pages }
+    ensures told { (file : File) → (P.state pages.old).file ≡ Some file →
+        file.pages ≡ (P.state pages.old).pages → Checks P.Hash.of file result }
+    ensures made { (file : File) → (P.state pages.old).file ≡ Some file → IfOk result (λ c.
+        P.makes c.made (whole_tree (placed_at file.node (option_map child_link c.head.root)))) }
+    ensures once { IfErr result SaysOnce }
+    ensures kept { (file : File) → (P.state pages.old).file ≡ Some file → IfOk result (λ c.
+        AllKept file (option_map child_link c.head.root) (P.keeps pages.new)) }
+    ensures says { IfOk result (λ c. SaysHead (P.state pages.old).pages c.head) }
+    ensures inside { IfOk result (λ c. IfSome c.head.root (IsRootIn (P.state pages.old).pages)) }
+    ensures goes { Goes (P.state pages.old) (P.state pages.new) (P.state pages.old).pages 0 result }
+{
+    match pages.head()? {
+        Err(rule) => Err(MapErr::Map(MapFault { page: 0, rule })),
+        Ok(head) => {
+            let made = check_behind::<P>(alloc, pages, &head)?;
+            Ok(Checked { head, made })
+        }
+    }
+}

@@ -1,0 +1,82 @@
+//! The pages of a file, as a walk over them sees them.
+
+ghost use Rattle.std.specs.Prelude.{◌≡◌, ◌<◌, ◌≤◌, ℕ, List, IfOk, IfErr, IfSome, OnOk, true};
+ghost use Rattle.mr_tree.specs.declared.tree.Tree as trees;
+ghost use Rattle.mr_tree.specs.declared.tree.Tree.TheVariants as tree;
+ghost use Rattle.mr_pages.specs.Faults.{of_level};
+ghost use Rattle.mr_pages.specs.Page.{IsNode, level_of};
+ghost use Rattle.mr_pages.specs.Source.{Sourced, ReadsPage, IsOfOneRead, SaysHead, MayKeep, Stay, AreMade, tree_over};
+ghost use Rattle.mr_pages.specs.Walking.{page_node, Shows, Heads};
+
+use crate::head::MapHead;
+use crate::node::Node;
+use crate::rule::MapRule;
+use mr_outside::ShelfErr;
+use mr_tree::{Child, Hashes, NodeView};
+use std::alloc::AllocError;
+
+/// The pages of a file, each read by itself, and what is made of their nodes.
+pub trait Source {
+    type Hash: Hashes;
+
+    // what is made of a node, and of what was made of its children
+    type Made: Drop;
+
+    // what the pages are read as, where that is told, and what was counted
+    ghost state: { Self → Sourced };
+
+    // the node of this page is kept
+    ghost keeps: { Self → ℕ → Type 0 };
+
+    // what was made stands for this tree
+    ghost makes: { Self.Made → trees.Tree → Type 0 };
+
+    /// How many pages there are.
+    fn count(&self) -> u32
+        ensures { result ≡ (state self.now).pages };
+
+    /// Page 0, or the first rule that it breaks.
+    fn head(&mut self) -> Result<Result<MapHead, MapRule>, ShelfErr>
+        requires { 1 ≤ (state self.old).pages }
+        ensures shows { IfOk result (λ r. IfSome (state self.old).file (λ f. Heads r f.head)) }
+        ensures once { IfOk result (λ r. IfErr r IsOfOneRead) }
+        ensures says { IfOk result (λ r. IfOk r (SaysHead (state self.old).pages)) }
+        ensures reads { ReadsPage (state self.old) (state self.new) result }
+        ensures stay { Stay (keeps self.old) (keeps self.new) };
+
+    /// Shows the node of this level that the page spells, and answers whether it spells one.
+    fn node(&mut self, page: u32, level: u8, into: &mut NodeView) -> Result<bool, ShelfErr>
+        requires { page < (state self.old).pages }
+        ensures shows { IfOk result (λ shown. IfSome (state self.old).file
+            (λ f. Shows shown into.new (of_level level (f.node page)))) }
+        ensures spelled { IfOk result (λ shown. shown ≡ true →
+            IsNode (page_node into.new) × (level_of (page_node into.new) ≡ level)) }
+        ensures reads { ReadsPage (state self.old) (state self.new) result }
+        ensures stay { Stay (keeps self.old) (keeps self.new) };
+
+    /// The page that a free page names, if this is one.
+    fn free(&mut self, page: u32) -> Result<Option<u32>, ShelfErr>
+        requires { page < (state self.old).pages }
+        ensures next { IfOk result (λ o. IfSome (state self.old).file (λ f. o ≡ f.free page)) }
+        ensures reads { ReadsPage (state self.old) (state self.new) result }
+        ensures stay { Stay (keeps self.old) (keeps self.new) };
+
+    /// What is made of a map without a node.
+    fn none(&self) -> Self::Made
+        ensures { makes result tree.Empty };
+
+    /// What is made of the node of a page, which was judged and whose children are in the file, and
+    /// of what was made of these children. The node is kept, if this source keeps any.
+    fn make(
+        &mut self,
+        child: &Child,
+        node: Node,
+        below: Vec<Self::Made>,
+    ) -> Result<Self::Made, AllocError>
+        requires { MayKeep Self.Hash.of (state self.old) child.now node }
+        ensures same { state self.new ≡ state self.old }
+        ensures made { IfOk result (λ m. (ts : List trees.Tree) → AreMade makes below.items ts →
+            makes m (tree_over node ts)) }
+        ensures kept { OnOk result (keeps self.new child.now.id) }
+        ensures stay { Stay (keeps self.old) (keeps self.new) };
+}

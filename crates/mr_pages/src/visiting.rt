@@ -1,0 +1,105 @@
+//! The walk over the nodes of a file, page by page.
+
+ghost use Rattle.std.specs.Prelude.{◌≡◌, ◌≤◌, ◌<◌, List, length, OnOk, IfOk, IfErr, Some};
+ghost use Rattle.mr_record.specs.declared.version.Version.TheVariants.{One};
+ghost use Rattle.mr_tree.specs.Digest.{by};
+ghost use Rattle.mr_pages.specs.File.{File};
+ghost use Rattle.mr_pages.specs.Stands.{tree_of};
+ghost use Rattle.mr_pages.specs.Spelled.{place};
+ghost use Rattle.mr_pages.specs.Faults.{Visit, reached, all_records, numbers_of};
+ghost use Rattle.mr_pages.specs.Source.{Goes, Stay, AreKept, Knows, Looks, Walks, SaysOnce, left};
+ghost use Rattle.mr_pages.specs.Walking.{child_link, Saw};
+
+use crate::judging::judge;
+use crate::node::Node;
+use crate::seen::Seen;
+use crate::source::Source;
+use crate::{MapErr, MapFault, MapRule};
+use mr_tree::{Child, NodeView, is_view};
+use std::alloc::Global;
+
+// The node that is said to stand on a page, or the first rule that it breaks against what is said
+// of it. The view is only worked with.
+fn look<P: Source>(
+    alloc: Global,
+    pages: &mut P,
+    child: &Child,
+    root: bool,
+    view: &mut NodeView,
+) -> Result<Node, MapErr>
+    requires { child.now.id < (P.state pages.old).pages }
+    ensures told { (file : File) → (P.state pages.old).file ≡ Some file →
+        Looks (by One P.Hash.of) file.node root (child_link child.now) result }
+    ensures known { IfOk result (Knows P.Hash.of child.now) }
+    ensures once { IfErr result SaysOnce }
+    ensures goes { Goes (P.state pages.old) (P.state pages.new) 1 0 result }
+    ensures stay { Stay (P.keeps pages.old) (P.keeps pages.new) }
+{
+    if !pages.node(child.id, child.level, view)? {
+        return Err(MapErr::Map(MapFault {
+            page: child.id,
+            rule: MapRule::Page,
+        }));
+    }
+    if let Some(rule) = judge::<P::Hash>(view, child, root) {
+        return Err(MapErr::Map(MapFault {
+            page: child.id,
+            rule,
+        }));
+    }
+    is_view(view);
+    Ok(Node::of(alloc, view)?)
+}
+
+/// Walks over the nodes below a link, up to the first fault there. What is made of them is made of
+/// each after those below it.
+pub fn visit<P: Source>(
+    alloc: Global,
+    pages: &mut P,
+    child: &Child,
+    root: bool,
+    view: &mut NodeView,
+    seen: &mut Seen,
+) -> Result<P::Made, MapErr>
+    requires { length seen.old.reached.items ≡ (P.state pages.old).pages }
+    ensures told { (file : File) → (P.state pages.old).file ≡ Some file → (before : List Visit) →
+        Saw (P.state pages.old).pages seen.old (reached before) (numbers_of (all_records before)) →
+        Walks (by One P.Hash.of) (P.state pages.old).pages file.node before root
+        (child_link child.now) result seen.new }
+    ensures made { (file : File) → (P.state pages.old).file ≡ Some file → IfOk result
+        (λ m. P.makes m (tree_of (place file.node child.now.level (child_link child.now)))) }
+    ensures once { IfErr result SaysOnce }
+    ensures inside { OnOk result
+        ((1 ≤ child.now.id) × (child.now.id < (P.state pages.old).pages)) }
+    ensures room { length seen.new.reached.items ≡ length seen.old.reached.items }
+    ensures goes { Goes (P.state pages.old) (P.state pages.new) (left seen.old) (left seen.new)
+        result }
+    ensures kept { OnOk result (AreKept seen.old seen.new (P.keeps pages.new)) }
+    ensures stay { Stay (P.keeps pages.old) (P.keeps pages.new) }
+{
+    if let Some(rule) = seen.enter(child.id) {
+        return Err(MapErr::Map(MapFault {
+            page: child.id,
+            rule,
+        }));
+    }
+    match look::<P>(alloc, pages, child, root, view)? {
+        Node::Leaf(records) => {
+            if seen.meet(&records)? {
+                return Err(MapErr::Map(MapFault {
+                    page: child.id,
+                    rule: MapRule::Number,
+                }));
+            }
+            Ok(pages.make(child, Node::Leaf(records), Vec::new(alloc))?)
+        }
+        Node::Inner(children) => {
+            let mut below = Vec::new(alloc);
+            for one in &children {
+                let made = visit::<P>(alloc, pages, one, false, view, seen)?;
+                below.push(made)?;
+            }
+            Ok(pages.make(child, Node::Inner(children), below)?)
+        }
+    }
+}

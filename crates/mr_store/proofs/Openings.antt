@@ -1,0 +1,264 @@
+-- A map whose pages were checked is a store.
+use Rattle.std.proofs.Common.{◌≡◌, ℕ, ◌+◌, ◌/◌, ◌≤◌, true, false, List, length, inl, inr, refl, sym, ap, subst, ◌∙◌, arith}
+use Rattle.std.specs.Prelude.{◌↔◌, ◌⊎◌, ⊤, Option, Some, None, option_map, Result, Ok, Err, IfSome, IsSome, IsNone, MatchOption, MatchResult}
+use Rattle.mr_outside.specs.Files.{Files, file}
+use Rattle.mr_outside.specs.State.{Shelved}
+use Rattle.mr_tree.specs.declared.child.Child.{Child}
+use Rattle.mr_pages.specs.declared.head.MapHead.{MapHead}
+use Rattle.mr_pages.specs.declared.checking.Checked.{Checked}
+use Rattle.mr_pages.specs.Page.{IsRoot}
+use Rattle.mr_pages.specs.PageBytes.{first_form}
+use Rattle.mr_pages.specs.File.{File, file_of, is_odd_size}
+use Rattle.mr_pages.specs.Faults.{has, mapfault}
+use Rattle.mr_pages.specs.Stands.{whole_pages}
+use Rattle.mr_pages.specs.Walking.{child_link, head_of}
+use Rattle.mr_pages.specs.Source.{IsRootIn, Checks, Settles}
+use Rattle.mr_pages.proofs.HeadLaws.{first_form_is}
+use Rattle.mr_pages.proofs.Agreement.{is_file}
+use Rattle.mr_pages.proofs.AsRead.{reads_there}
+use Rattle.mr_pages.proofs.Lists.{contains_has}
+use Rattle.mr_store.specs.Kept.{Entries, IsGood}
+use Rattle.mr_store.specs.Stored.{told_bytes, stands_for, placed, room, IsOpen, IsRootOf, IsStore}
+use Rattle.mr_store.specs.Paging.{IsFileOf, IsPaging}
+use Rattle.mr_record.specs.Bytes.{AreBytes}
+use Rattle.mr_outside.specs.Causes.{ShelfCauses}
+use Rattle.mr_outside.specs.declared.shelf.ShelfErr.{ShelfErr}
+use Rattle.mr_outside.specs.declared.shelf.ShelfErr.TheVariants as shelf
+use Rattle.mr_pages.specs.declared.rule.MapRule.TheVariants as rule
+use Rattle.mr_pages.specs.Opening.{of_shelf, Fails, Tells}
+use Rattle.mr_pages.proofs.Answered.{told_failed, tells_read, odd_fault}
+use Rattle.mr_store.specs.Opening.{HasPages, WasChecked, IsFaultOf, Refused, TellsMap, IsOpened, IsRefused, OpensMap, RefusesMap}
+use Rattle.mr_outside.specs.Told.{OfFile}
+use Rattle.mr_pages.specs.declared.error.MapErr.{MapErr}
+use Rattle.mr_pages.specs.declared.error.MapErr.TheVariants as errors
+
+none_at : (count : ℕ) (root : Option Child) → IsRoot count (option_map child_link root) → (count ≡ 0) ↔ IsNone root
+none_at count None r = (λ z. refl, λ n. r)
+none_at count (Some c) r = (λ z. absurd (omega (arith, z, r.0)), λ n. let some : IsNone (Some c) = n in cc)
+
+root_at : (count pages n : ℕ) (root : Option Child) → n ≡ pages → IsRoot count (option_map child_link root) →
+    IfSome root (IsRootIn pages) → IfSome root (IsRootOf n)
+root_at count pages n None e r i = tt
+root_at count pages n (Some c) e r i = record {
+  positive = i.positive;
+  within = omega (arith, i.within, e);
+  low = r.2.level;
+}
+
+module _ (hash : List ℕ → List ℕ) (told : Option Files) (name : List ℕ) (pages : ℕ) (es : Entries) (cap : ℕ)
+    (s : IsPaging hash told name pages es cap) (h : MapHead)
+    (w : WasChecked hash pages (option_map (file_of first_form) (told_bytes told name)) h es) where
+  told_open : (bytes : List ℕ) → IsFileOf pages es bytes →
+      WasChecked hash pages (Some (file_of first_form bytes)) h es → IsOpen hash h es bytes
+  told_open bytes f v =
+      let file = file_of first_form bytes in
+      let fault = v.fault file refl in
+      let head = v.head file refl in
+      let r = reads_there hash file (is_file first_form first_form_is bytes f.are) fault (head_of h) head in
+      record {
+        are = f.are;
+        fault = fault;
+        head = head;
+        same = f.same;
+        all = λ small page on. v.kept file refl page
+            (ap (has page) (sym r.on) ∙ contains_has page (whole_pages (placed h bytes)) on)
+            (subst (λ n. n ≤ room + 1) v.says.count small);
+      }
+
+  at_told : (o : Option (List ℕ)) → IfSome o (IsFileOf pages es) →
+      WasChecked hash pages (option_map (file_of first_form) o) h es → IfSome o (IsOpen hash h es)
+  at_told None f v = tt
+  at_told (Some bytes) f v = told_open bytes f v
+
+  pub store_of : IsStore hash told name h es cap
+  store_of = record {
+    few = w.says.fits.count;
+    none = none_at h.count h.root w.says.fits.root;
+    root = root_at h.count pages h.pages h.root w.says.count w.says.fits.root w.inside;
+    cap = s.cap;
+    good = λ e within. subst (λ n. IsGood hash n e.1) (sym w.says.count) (s.each e within).good;
+    there = s.there;
+    open_ = at_told (told_bytes told name) s.file_ w;
+  }
+
+-- ---- what opening answers
+
+pub answers_of : (hash : List ℕ → List ℕ) → ((xs : List ℕ) → length (hash xs) ≡ 32) → (s : Shelved) (name : List ℕ)
+    (e : MapErr) → OfFile s.files name ⊤ AreBytes → IsFaultOf hash s name e →
+    OfFile s.files name (Fails (Err e)) (λ bytes. Tells first_form hash bytes (Err e))
+answers_of hash sized s name errors.Missing are f =
+    told_failed first_form first_form_is hash sized s.files name (Err errors.Missing) are tt
+answers_of hash sized s name errors.Fault are f =
+    told_failed first_form first_form_is hash sized s.files name (Err errors.Fault) are tt
+answers_of hash sized s name errors.NoMemory are f =
+    told_failed first_form first_form_is hash sized s.files name (Err errors.NoMemory) are tt
+answers_of hash sized s name (errors.Map x) are f = by_files s.files are f
+  where
+    by_bytes : (o : Option (List ℕ)) → MatchOption o ⊤ AreBytes →
+        MatchOption o ⊥ (λ bytes. mapfault hash (file_of first_form bytes) ≡ Some x) →
+        MatchOption o ⊥ (λ bytes. Tells first_form hash bytes (Err (errors.Map x)))
+    by_bytes None are f = f
+    by_bytes (Some bytes) are f = tells_read first_form first_form_is hash sized bytes are (Err (errors.Map x)) f
+
+    by_files : (o : Option Files) → OfFile o name ⊤ AreBytes →
+        OfFile o name ⊥ (λ bytes. mapfault hash (file_of first_form bytes) ≡ Some x) →
+        OfFile o name ⊥ (λ bytes. Tells first_form hash bytes (Err (errors.Map x)))
+    by_files None are f = tt
+    by_files (Some files) are f = by_bytes (file files name) are f
+
+-- the shelf refused
+pub shelf_refuses : {A : Type 0} (hash : List ℕ → List ℕ) (name : List ℕ) (before after : Shelved) (e : ShelfErr) →
+    ShelfCauses {A = A} name before after (Err e) → Refused hash name before after (of_shelf e)
+shelf_refuses hash name before after shelf.Missing c = record {
+  fault = tt;
+  why = record { missing = λ is. inl (c.missing refl); failed = λ is. absurd (cc); quiet = inr tt; once = tt };
+}
+shelf_refuses hash name before after shelf.Fault c = record {
+  fault = tt;
+  why = record { missing = λ is. absurd (cc); failed = λ is. c.fault refl; quiet = inr tt; once = tt };
+}
+shelf_refuses hash name before after shelf.NoMemory c = record {
+  fault = tt;
+  why = record { missing = λ is. absurd (cc); failed = λ is. absurd (cc); quiet = inr tt; once = tt };
+}
+
+-- there was no memory
+pub no_room : (hash : List ℕ → List ℕ) (name : List ℕ) (before after : Shelved) →
+    Refused hash name before after errors.NoMemory
+no_room hash name before after = record {
+  fault = tt;
+  why = record { missing = λ is. absurd (cc); failed = λ is. absurd (cc); quiet = inr tt; once = tt };
+}
+
+-- what settles something counts no fault
+pub quiet_or : (A : Type 0) (e : MapErr) (P : Type 0) → Settles {A = A} (Err e) P → P ⊎ Fails (Err e)
+quiet_or A (errors.Map f) P s = inl s
+quiet_or A errors.Missing P s = inr tt
+quiet_or A errors.Fault P s = inr tt
+quiet_or A errors.NoMemory P s = inr tt
+
+-- whole pages, and so many
+pub pages_are : (told : Option Files) (name : List ℕ) (size pages : ℕ) → OfFile told name ⊤ AreBytes →
+    OfFile told name ⊥ (λ bytes. size ≡ length bytes) → is_odd_size 4096 size ≡ false → pages ≡ size / 4096 →
+    OfFile told name ⊥ (HasPages pages)
+pages_are None name size pages are long even count = tt
+pages_are (Some files) name size pages are long even count = here (file files name) are long
+  where
+    here : (o : Option (List ℕ)) → MatchOption o ⊤ AreBytes → MatchOption o ⊥ (λ bytes. size ≡ length bytes) →
+        MatchOption o ⊥ (HasPages pages)
+    here None are long = long
+    here (Some bytes) are long = record {
+      are = are;
+      even = subst (λ n. is_odd_size 4096 n ≡ false) long even;
+      count = subst (λ n. pages ≡ n / 4096) long count;
+    }
+
+-- a file that is odd breaks the first rule
+pub odd_refuses : (hash : List ℕ → List ℕ) (name : List ℕ) (before after : Shelved) (size : ℕ) →
+    OfFile before.files name ⊥ (λ bytes. size ≡ length bytes) → is_odd_size 4096 size ≡ true →
+    after.faults ≡ before.faults →
+    Refused hash name before after (errors.Map (record { page = 0; rule = rule.Size }))
+odd_refuses hash name before after size long odd quiet = record {
+  fault = by_files before.files long;
+  why = record { missing = λ is. absurd (cc); failed = λ is. absurd (cc); quiet = inl quiet; once = tt };
+}
+  where
+    by_bytes : (o : Option (List ℕ)) → MatchOption o ⊥ (λ bytes. size ≡ length bytes) → MatchOption o ⊥
+        (λ bytes. mapfault hash (file_of first_form bytes) ≡ Some (record { page = 0; rule = rule.Size }))
+    by_bytes None long = long
+    by_bytes (Some bytes) long =
+        odd_fault first_form hash bytes (subst (λ n. is_odd_size 4096 n ≡ true) long odd)
+
+    by_files : (o : Option Files) → OfFile o name ⊥ (λ bytes. size ≡ length bytes) → OfFile o name ⊥
+        (λ bytes. mapfault hash (file_of first_form bytes) ≡ Some (record { page = 0; rule = rule.Size }))
+    by_files None long = tt
+    by_files (Some files) long = by_bytes (file files name) long
+
+pub fault_of : (hash : List ℕ → List ℕ) (s : Shelved) (name : List ℕ) (pages : ℕ) (es : Entries) (e : MapErr) →
+    MatchOption s.files ⊤ (λ files. IsSome (file files name)) → IfSome (told_bytes s.files name) (IsFileOf pages es) →
+    ((f : File) → option_map (file_of first_form) (told_bytes s.files name) ≡ Some f → f.pages ≡ pages →
+    Checks {M = Unit {0}} hash f (Err e)) → IsFaultOf hash s name e
+fault_of hash s name pages es errors.Missing there f c = tt
+fault_of hash s name pages es errors.Fault there f c = tt
+fault_of hash s name pages es errors.NoMemory there f c = tt
+fault_of hash s name pages es (errors.Map x) there f c = by_files s.files there f c
+  where
+    by_bytes : (o : Option (List ℕ)) → IsSome o → IfSome o (IsFileOf pages es) →
+        ((g : File) → option_map (file_of first_form) o ≡ Some g → g.pages ≡ pages → mapfault hash g ≡ Some x) →
+        MatchOption o ⊥ (λ bytes. mapfault hash (file_of first_form bytes) ≡ Some x)
+    by_bytes None some f c = let none : IsSome {T = List ℕ} None = some in cc
+    by_bytes (Some bytes) some f c = c (file_of first_form bytes) refl (sym f.count)
+
+    by_files : (o : Option Files) → MatchOption o ⊤ (λ files. IsSome (file files name)) →
+        IfSome (told_bytes o name) (IsFileOf pages es) →
+        ((g : File) → option_map (file_of first_form) (told_bytes o name) ≡ Some g → g.pages ≡ pages →
+        mapfault hash g ≡ Some x) →
+        OfFile o name ⊥ (λ bytes. mapfault hash (file_of first_form bytes) ≡ Some x)
+    by_files None there f c = tt
+    by_files (Some files) there f c = by_bytes (file files name) there f c
+
+pub matched : {T E : Type 0} (r : Result T E) (A A' : T → Type 0) (B B' : E → Type 0) →
+    ((t : T) → A t → A' t) → ((e : E) → B e → B' e) → MatchResult r A B → MatchResult r A' B'
+matched (Ok t) A A' B B' f g m = f t m
+matched (Err e) A A' B B' f g m = g e m
+
+of_pages : (told : Option Files) (name : List ℕ) (pages : ℕ) (P : List ℕ → Type 0) (Q : Type 0) →
+    OfFile told name ⊥ (HasPages pages) → ((bytes : List ℕ) → HasPages pages bytes → P bytes) → OfFile told name Q P
+of_pages None name pages P Q h f = tt
+of_pages (Some files) name pages P Q h f = here (file files name) h
+  where
+    here : (o : Option (List ℕ)) → MatchOption o ⊥ (HasPages pages) → MatchOption o Q P
+    here None h = absurd h
+    here (Some bytes) h = f bytes h
+
+module _ (hash : List ℕ → List ℕ) (name : List ℕ) (pages : ℕ) (before middle : Shelved)
+    (files : middle.files ≡ before.files)
+    (faults : middle.faults ≡ before.faults) (reads : middle.reads ≡ before.reads)
+    (has_pages : OfFile before.files name ⊥ (HasPages pages)) where
+  pub opens_from : (n n' : List ℕ) (h : MapHead) (after : Shelved) (f : ℕ) → n ≡ name →
+      IsOpened hash n pages middle n' h after f → OpensMap hash name before n' h after f
+  opens_from n n' h after f same o = record {
+    answers = subst (λ m. OfFile before.files m ⊥ (TellsMap hash (stands_for h (told_bytes after.files n'))))
+        (o.same ∙ same)
+        (subst (λ told. OfFile told n' ⊥ (TellsMap hash (stands_for h (told_bytes after.files n'))))
+        (o.files ∙ files) o.answers);
+    same = o.same ∙ same;
+    files = o.files ∙ files;
+    quiet = o.quiet ∙ faults;
+    reads = of_pages before.files name pages _ ⊥ has_pages
+        (λ bytes p. omega (arith, o.few, reads, p.count));
+    none = o.none;
+  }
+
+  pub refuses_from : ((xs : List ℕ) → length (hash xs) ≡ 32) → OfFile before.files name ⊤ AreBytes →
+      (n : List ℕ) (after : Shelved) (e : MapErr) → n ≡ name →
+      IsRefused hash n pages middle after e → RefusesMap hash name before after e
+  refuses_from sized are n after e same r =
+      let s : middle ≡ before = λ i. record { files = files i; faults = faults i; reads = reads i } in
+      let refused : Refused hash name before after e =
+      subst (λ m. Refused hash name m after e) s (subst (λ k. Refused hash k middle after e) same r.refused) in
+      record {
+        answers = answers_of hash sized before name e are refused.fault;
+        why = refused.why;
+        files = r.files ∙ files;
+        later = omega (arith, r.later, faults);
+        reads = of_pages before.files name pages _ _ has_pages (λ bytes p. omega (arith, r.few, reads, p.count));
+      }
+
+-- where nothing was read
+pub none_read : (before after : Shelved) (name : List ℕ) → after.reads ≡ before.reads →
+    OfFile before.files name (after.reads ≡ before.reads) (λ bytes. after.reads ≤ before.reads + length bytes / 4096)
+none_read before after name same = by_files before.files
+  where
+    by_bytes : (o : Option (List ℕ)) →
+        MatchOption o (after.reads ≡ before.reads) (λ bytes. after.reads ≤ before.reads + length bytes / 4096)
+    by_bytes None = same
+    by_bytes (Some bytes) = omega (arith, same)
+
+    by_files : (o : Option Files) →
+        OfFile o name (after.reads ≡ before.reads) (λ bytes. after.reads ≤ before.reads + length bytes / 4096)
+    by_files None = tt
+    by_files (Some files) = by_bytes (file files name)
+
+pub err_is : (a b : MapErr) → a ≡ b → ◌≡◌ {A = Result (Checked (Unit {0})) MapErr} (Err a) (Err b)
+err_is a b e = λ i. Err (e i)

@@ -1,0 +1,175 @@
+-- The pages of a file on a shelf as a walk sees them, and what is kept of them.
+use Rattle.std.proofs.Common.{◌≡◌, ◌≢◌, ℕ, ◌+◌, ◌*◌, ◌/◌, ◌<◌, ◌≤◌, Bool, true, false, List, [], ◌∷◌, length, inl, inr, refl, sym, ap, subst, ◌∙◌, arith}
+use Rattle.std.specs.Prelude.{◌==◌, ◌⊎◌, nat_eq, Contains, Option, Some, None, option_map, Result, Ok, Err, IfSome, IsSome, OnOk, OnErr, MatchOption, if◌then◌else◌}
+use Rattle.std.specs.List.{AllByRecursion, IsDistinct}
+use Rattle.std.specs.Map.{lookup, keys_of}
+use Rattle.std.proofs.lemmas.Bool.{ne_eqb}
+use Rattle.std.proofs.lemmas.List.{length-map}
+use Rattle.std.proofs.lemmas.Map.Steps.{length-le_from_distinct_below}
+use Rattle.lru.specs.LruCache.{LruCache, IsValid}
+use Rattle.lru.proofs.Splits.{all_from, all_map}
+use Rattle.mr_outside.specs.Files.{Files, file}
+use Rattle.mr_outside.specs.Told.{OfFile}
+use Rattle.mr_tree.specs.View as view
+use Rattle.mr_tree.specs.declared.child.Child.{Child}
+use Rattle.mr_pages.specs.declared.head.MapHead.{MapHead}
+use Rattle.mr_pages.specs.declared.rule.MapRule.{MapRule}
+use Rattle.mr_pages.specs.declared.rule.MapRule.TheVariants as rule
+use Rattle.mr_pages.specs.declared.node.Node as owned_type
+use Rattle.mr_pages.specs.PageBytes.{first_form}
+use Rattle.mr_pages.specs.File.{page_at, file_of}
+use Rattle.mr_pages.specs.Faults.{of_level}
+use Rattle.mr_pages.specs.Walking.{page_node, Shows, Heads}
+use Rattle.mr_pages.specs.Source.{Origin, MayKeep}
+use Rattle.mr_pages.proofs.Agreement.{whole_pages_are}
+use Rattle.mr_pages.proofs.Lists.{all_has}
+use Rattle.mr_store.specs.declared.kept.Kept.{Kept}
+use Rattle.mr_store.specs.Kept.{Entries, node_of, AreInside, IsKeptOf, Gains}
+use Rattle.mr_store.specs.Again.{TellsPage}
+use Rattle.mr_store.specs.Stored.{told_bytes, room}
+use Rattle.mr_store.specs.Paging.{Holds, IsGoodEntry, IsFileOf, IsPaging}
+
+-- ---- the bytes of a page
+
+whole_of : (pages : ℕ) (es : Entries) (bytes : List ℕ) → IsFileOf pages es bytes → length bytes ≡ pages * 4096
+whole_of pages es bytes f =
+    (whole_pages_are 4096 (length bytes) (omega arith) f.even).whole ∙ ap (λ n. n * 4096) (sym f.count)
+
+pub page_is : (told : Option Files) (name : List ℕ) (pages page : ℕ) (es : Entries) (p : List ℕ) →
+    IfSome (told_bytes told name) (IsFileOf pages es) → OfFile told name ⊥ (TellsPage page p) → page < pages →
+    IfSome (told_bytes told name) (λ bytes. p ≡ page_at first_form bytes page)
+page_is None name pages page es p f t within = tt
+page_is (Some files) name pages page es p f t within = here (file files name) f t
+  where
+    here : (o : Option (List ℕ)) → IfSome o (IsFileOf pages es) → MatchOption o ⊥ (TellsPage page p) →
+        IfSome o (λ bytes. p ≡ page_at first_form bytes page)
+    here None f t = tt
+    here (Some bytes) f t = t pages (whole_of pages es bytes f) within
+
+pub free_shows : (o : Option (List ℕ)) (page : ℕ) (p : List ℕ) (r : Option ℕ) →
+    IfSome o (λ bytes. p ≡ page_at first_form bytes page) → r ≡ first_form.free_in p →
+    IfSome (option_map (file_of first_form) o) (λ f. r ≡ f.free page)
+free_shows None page p r is e = tt
+free_shows (Some bytes) page p r is e = e ∙ ap first_form.free_in is
+
+pub node_shows : (o : Option (List ℕ)) (page level : ℕ) (p : List ℕ) (r : Bool) (n : view.Node) →
+    IfSome o (λ bytes. p ≡ page_at first_form bytes page) → Shows r n (of_level level (first_form.node_in p)) →
+    IfSome (option_map (file_of first_form) o) (λ f. Shows r n (of_level level (f.node page)))
+node_shows None page level p r n is s = tt
+node_shows (Some bytes) page level p r n is s =
+    subst (λ q. Shows r n (of_level level (first_form.node_in q))) is s
+
+pub head_shows : (o : Option (List ℕ)) (pages : ℕ) (es : Entries) (p : List ℕ) (r : Result MapHead MapRule) →
+    IfSome o (IsFileOf pages es) → IfSome o (λ bytes. p ≡ page_at first_form bytes 0) →
+    Heads r (first_form.head_in pages p) → IfSome (option_map (file_of first_form) o) (λ f. Heads r f.head)
+head_shows None pages es p r f is s = tt
+head_shows (Some bytes) pages es p r f is s =
+    let same : first_form.head_in pages p ≡ (file_of first_form bytes).head =
+    (λ i. first_form.head_in (f.count i) (is i))
+    ∙ ap (λ b. if b then Err rule.Size else first_form.head_in (length bytes / 4096) (page_at first_form bytes 0))
+    (sym f.even) in
+    subst (Heads r) same s
+
+-- ---- what is kept
+
+module _ (hash : List ℕ → List ℕ) (told : Option Files) (name : List ℕ) (pages : ℕ) (c d : LruCache ℕ Kept)
+    (s : IsPaging hash told name pages c.entries c.cap) (child : Child) (n : owned_type.Node)
+    (faults reads : ℕ)
+    (origin : Origin)
+    (may : MayKeep hash (record {
+      origin = origin;
+      pages = pages;
+      file = option_map (file_of first_form) (told_bytes told name);
+      faults = faults;
+      reads = reads;
+    }) child n) where
+  good_entry : (e : ℕ × Kept) → IsKeptOf child (node_of n) e → IsGoodEntry hash pages e
+  good_entry e k = record {
+    low = subst (λ p. 1 ≤ p) (sym k.page) may.low;
+    within = subst (λ p. p < pages) (sym k.page) may.place;
+    good = record {
+      shape = subst Rattle.mr_tree.specs.Snapshot.HasShape (sym k.node) may.known.shape;
+      level = ap view.level_of k.node ∙ may.known.level ∙ sym k.that.level;
+      digest = ap (λ m. hash (view.preimage_of m)) k.node ∙ may.known.digest ∙ sym k.that.digest;
+      inside = subst (AreInside pages) (sym k.node) may.inside;
+    };
+  }
+
+  grown_file : Gains c.cap c.entries d.entries child (node_of n) → (o : Option (List ℕ)) →
+      IfSome (option_map (file_of first_form) o) (λ f. f.node child.id ≡ Some (page_node (node_of n))) →
+      IfSome o (IsFileOf pages c.entries) → IfSome o (IsFileOf pages d.entries)
+  grown_file g None t f = tt
+  grown_file g (Some bytes) t f = record {
+    are = f.are;
+    even = f.even;
+    count = f.count;
+    same = λ e within. elim (g.each e within) [
+      | inl old ↦ f.same e old
+      | inr new' ↦ ap (file_of first_form bytes).node new'.page ∙ t ∙ ap (λ m. Some (page_node m)) (sym new'.node)
+    ];
+  }
+
+  grown : Gains c.cap c.entries d.entries child (node_of n) → d.cap ≡ c.cap →
+      IsPaging hash told name pages d.entries d.cap
+  grown g same = record {
+    some = s.some;
+    few = s.few;
+    cap = same ∙ s.cap;
+    each = λ e within. elim (g.each e within) [ inl old ↦ s.each e old | inr new' ↦ good_entry e new' ];
+    there = s.there;
+    file_ = grown_file g (told_bytes told name) may.told s.file_;
+  }
+
+  pub still_paging : {A E : Type 0} (r : Result A E) →
+      OnOk r (Gains c.cap c.entries d.entries child (node_of n)) → OnErr r (d ≡ c) → d.cap ≡ c.cap →
+      IsPaging hash told name pages d.entries d.cap
+  still_paging (Ok a) g e same = grown g same
+  still_paging (Err x) g e same =
+      subst (λ (m : LruCache ℕ Kept). IsPaging hash told name pages m.entries m.cap) (sym e) s
+
+  -- ---- there is room for all pages of a small file
+
+  none_keys : (es : Entries) → lookup (nat_eq child.id) es ≡ None →
+      AllByRecursion (λ k. (child.id == k) ≡ false) (keys_of es)
+  none_keys [] e = tt
+  none_keys (x ∷ es) e = here (child.id == x.0) refl (none_keys es)
+    where
+      here : (b : Bool) → (child.id == x.0) ≡ b →
+          (lookup (nat_eq child.id) es ≡ None → AllByRecursion (λ k. (child.id == k) ≡ false) (keys_of es)) →
+          AllByRecursion (λ k. (child.id == k) ≡ false) (keys_of (x ∷ es))
+      here true t on = let h : ◌≡◌ {A = Option Kept} (Some x.1) None = rw t at e in cc
+      here false t on = (t, on (rw t at e))
+
+  keys_are : (P : ℕ → Type 0) → ((e : ℕ × Kept) → Contains c.entries e → P e.0) →
+      AllByRecursion P (keys_of c.entries)
+  keys_are P f = all_map (λ (e : ℕ × Kept). e.0) P c.entries (all_from (λ (e : ℕ × Kept). P e.0) c.entries f)
+
+  many : IsDistinct ◌==◌ (keys_of c.entries) → lookup (nat_eq child.id) c.entries ≡ None →
+      length c.entries + 2 ≤ pages
+  unfolding IsDistinct
+  many distinct none =
+      let ks = keys_of c.entries in
+      let low : AllByRecursion (λ k. (0 == k) ≡ false) ks = keys_are (λ k. (0 == k) ≡ false)
+      (λ e within. ne_eqb 0 e.0 (zero_less e.0 (s.each e within).low)) in
+      let high : AllByRecursion (λ k. k < pages) ks =
+      keys_are (λ k. k < pages) (λ e within. (s.each e within).within) in
+      let all : length (0 ∷ child.id ∷ ks) ≤ pages = length-le_from_distinct_below (0 ∷ child.id ∷ ks) pages
+      ((ne_eqb 0 child.id (zero_less child.id may.low), low), (none_keys c.entries none, distinct))
+      (all_has (λ k. k < pages) (0 ∷ child.id ∷ ks) (omega (arith, s.some), (may.place, high))) in
+      omega (arith, all, length-map c.entries (λ (e : ℕ × Kept). e.0))
+    where
+      zero_less : (k : ℕ) → 1 ≤ k → 0 ≢ k
+      zero_less k h e = omega (arith, h, e)
+
+  roomy : IsValid nat_eq c → pages ≤ room + 1 → (o : Option Kept) → lookup (nat_eq child.id) c.entries ≡ o →
+      IsSome (lookup (nat_eq child.id) c.entries) ⊎ (length c.entries < c.cap)
+  roomy valid small None e = inr (omega (arith, many valid.0 e, small, s.cap))
+  roomy valid small (Some k) e = inl (subst (IsSome {T = Kept}) (sym e) refl)
+
+  pub keeps_more : {A E : Type 0} (r : Result A E) → IsValid nat_eq c →
+      OnOk r (Gains c.cap c.entries d.entries child (node_of n)) → OnErr r (d ≡ c) →
+      (page : ℕ) → Holds pages c.entries page → Holds pages d.entries page
+  keeps_more (Ok a) valid g e page h = λ small.
+      g.none_lost (roomy valid small (lookup (nat_eq child.id) c.entries) refl) page (h small)
+  keeps_more (Err x) valid g e page h =
+      subst (λ (m : LruCache ℕ Kept). Holds pages m.entries page) (sym e) h

@@ -1,0 +1,49 @@
+use Rattle.std.proofs.Common.{arith, ap, subst, sym, inr, ◌∙◌}
+use Rattle.mr_pages.specs.declared.error.MapErr.TheVariants as errors
+use Rattle.std.specs.String.{string_bytes}
+use Rattle.mr_pages.specs.declared.checking.Checked.{Checked}
+use Rattle.mr_pages.specs.Source.{Origin}
+use Rattle.mr_store.specs.Opening.{IsRefused}
+use Rattle.mr_store.proofs.Openings.{fault_of, err_is, quiet_or}
+use Rattle.mr_store.proofs.opening.checked.Goals as goal
+
+pub returns-in-Ok : goal.returns-in-Ok
+returns-in-Ok g c = record {
+  opened = record {
+    answers = c.over.ensures.answers;
+    same = ap string_bytes c.over.ensures.name ∙ ap (λ (o : Origin). o.name) c.in-Ok.ensures.goes.from_;
+    count = ap (λ (h : Rattle.mr_pages.specs.declared.head.MapHead.MapHead). h.pages) c.over.ensures.head
+        ∙ c.in-Ok.ensures.says.count;
+    files = ap (λ s. (g.S.Shelf.state s).files) c.over.ensures.shelf
+        ∙ ap (λ (o : Origin). o.files) c.in-Ok.ensures.goes.from_;
+    quiet = ap (λ s. (g.S.Shelf.state s).faults) c.over.ensures.shelf ∙ c.in-Ok.ensures.goes.quiet;
+    few = omega (
+      arith,
+      ap (λ s. (g.S.Shelf.state s).reads) c.over.ensures.shelf,
+      c.in-Ok.ensures.goes.few,
+    );
+    none = c.over.ensures.fetches;
+  };
+}
+
+pub returns-in-Err : goal.returns-in-Err
+returns-in-Err g c =
+    let s = c.args.paging in
+    record {
+      opened = subst (λ s'. IsRefused g.H.Hashes.of (string_bytes s.name) s.pages (g.S.Shelf.state s.shelf)
+          (g.S.Shelf.state s') c.in-Err.error) (sym c.given_up.ensures) (record {
+            refused = record {
+              fault = fault_of g.H.Hashes.of (g.S.Shelf.state s.shelf) (string_bytes s.name) s.pages s.cache.entries
+                  c.in-Err.error s.paging.there s.paging.file_ c.in-Err.ensures.told;
+              why = record {
+                missing = λ e. inr (c.in-Err.ensures.goes.missing (err_is c.in-Err.error errors.Missing e));
+                failed = λ e. c.in-Err.ensures.goes.fault (err_is c.in-Err.error errors.Fault e);
+                quiet = quiet_or (Checked (Unit {0})) c.in-Err.error _ c.in-Err.ensures.goes.quiet;
+                once = c.in-Err.ensures.once;
+              };
+            };
+            files = ap (λ (o : Origin). o.files) c.in-Err.ensures.goes.from_;
+            later = c.in-Err.ensures.goes.later;
+            few = omega (arith, c.in-Err.ensures.goes.few);
+          });
+    }

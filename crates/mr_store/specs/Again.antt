@@ -1,0 +1,100 @@
+-- What a read of a node's page gives.
+use Rattle.std.specs.Prelude.{◌≡◌, ◌≢◌, ⊤, ℕ, ◌*◌, ◌<◌, ◌≤◌, List, length, Some, Result, Ok, Err}
+use Rattle.mr_outside.specs.Faults.{Rose, next_count}
+use Rattle.mr_outside.specs.State.{Shelved}
+use Rattle.mr_outside.specs.declared.shelf.ShelfErr.{ShelfErr}
+use Rattle.mr_outside.specs.declared.shelf.ShelfErr.TheVariants as shelf
+use Rattle.mr_outside.specs.Told.{MayMiss}
+use Rattle.mr_tree.specs.View as view
+use Rattle.mr_tree.specs.View.{preimage_of}
+use Rattle.mr_tree.specs.Snapshot.{HasShape}
+use Rattle.mr_tree.specs.declared.child.Child.{Child}
+use Rattle.mr_tree.specs.declared.nodes.NodesErr.{NodesErr}
+use Rattle.mr_tree.specs.declared.nodes.NodesErr.TheVariants as errors
+use Rattle.mr_record.specs.declared.version.Version.TheVariants.{One}
+use Rattle.mr_tree.specs.Digest.{by}
+use Rattle.mr_pages.specs.Page.{Node, level_of, entry_of}
+use Rattle.mr_pages.specs.PageBytes.{first_form}
+use Rattle.mr_pages.specs.File.{page_at, file_of}
+use Rattle.mr_pages.specs.Walking.{page_node}
+use Rattle.mr_store.specs.Kept.{AreInside}
+
+-- a page of a file of these bytes was read
+abbrev pub TellsPage : ℕ → List ℕ → List ℕ → Type 0
+TellsPage page p bytes =
+    (pages : ℕ) → length bytes ≡ pages * 4096 → page < pages → p ≡ page_at first_form bytes page
+
+-- this child's page is not in the file
+pub record Outside (pages : ℕ) (n : view.Node) (page : ℕ) : Type 0 where
+  pub far : 1 ≤ page → pages ≤ page
+  pub broken : AreInside pages n → ⊥
+
+-- the view shows a node with the level and the digest of the child, whose children are in the file
+pub record IsRead (hash : List ℕ → List ℕ) (pages : ℕ) (c : Child) (n : view.Node) : Type 0 where
+  pub shape : HasShape n
+  pub level : view.level_of n ≡ c.level
+  pub digest : hash (preimage_of n) ≡ c.digest
+  pub inside : AreInside pages n
+
+-- a page's node is what is said of the child
+pub record IsSaid (hash : List ℕ → List ℕ) (pages : ℕ) (c : Child) (m : Node) : Type 0 where
+  pub level : level_of m ≡ c.level
+  pub digest : (entry_of (by One hash) m).digest ≡ c.digest
+  pub inside : (n : view.Node) → page_node n ≡ m → AreInside pages n
+
+-- the node is shown, unless the shelf or the memory failed
+abbrev pub TellsNode : {A : Type 0} → Node → Result A NodesErr → view.Node → Type 0
+TellsNode m (Ok _) n = page_node n ≡ m
+TellsNode m (Err (errors.Changed page held found)) n = ⊥
+TellsNode m (Err (errors.Page page)) n = ⊥
+TellsNode m (Err (errors.Outside page)) n = ⊥
+TellsNode m (Err errors.Missing) n = ⊤
+TellsNode m (Err errors.Fault) n = ⊤
+TellsNode m (Err errors.NoMemory) n = ⊤
+
+-- what a file of these bytes tells of the child
+abbrev pub TellsAgain : {A : Type 0} → (List ℕ → List ℕ) → ℕ → Child → Result A NodesErr →
+    view.Node → List ℕ → Type 0
+TellsAgain hash pages c result n bytes =
+    length bytes ≡ pages * 4096 → c.id < pages → (m : Node) →
+    (file_of first_form bytes).node c.id ≡ Some m → IsSaid hash pages c m → TellsNode m result n
+
+-- why the page of the child is refused
+abbrev pub IsBlamed : ℕ → Child → NodesErr → Type 0
+IsBlamed pages c (errors.Changed page held found) =
+    (page ≡ c.id) × (held ≡ c.digest) × (held ≢ found)
+IsBlamed pages c (errors.Page page) = page ≡ c.id
+IsBlamed pages c (errors.Outside page) = 1 ≤ page → pages ≤ page
+IsBlamed pages c errors.Missing = ⊥
+IsBlamed pages c errors.Fault = ⊥
+IsBlamed pages c errors.NoMemory = ⊥
+
+-- why it is not shown; what was read is blamed only where a read was counted
+abbrev pub IsRefused : (pages : ℕ) → List ℕ → Child → Shelved → Shelved → NodesErr → Type 0
+IsRefused pages name c before after errors.Missing =
+    MayMiss before.files name before.faults after.faults
+IsRefused pages name c before after errors.Fault = Rose before.faults after.faults
+IsRefused pages name c before after errors.NoMemory = ⊤
+IsRefused pages name c before after e =
+    IsBlamed pages c e × (after.reads ≡ next_count before.reads)
+
+-- at most one read is counted, and no count falls
+pub record ReadsOne (before after : Shelved) : Type 0 where
+  pub files : after.files ≡ before.files
+  pub faults : before.faults ≤ after.faults
+  pub more : before.reads ≤ after.reads
+  pub one : after.reads ≤ next_count before.reads
+
+-- a shelf's refusal in a fetch's own words
+abbrev pub Refuses : ShelfErr → NodesErr → Type 0
+Refuses shelf.Missing e = e ≡ errors.Missing
+Refuses shelf.Fault e = e ≡ errors.Fault
+Refuses shelf.NoMemory e = e ≡ errors.NoMemory
+
+-- what was read is blamed only where a read was counted, or where their count stands at its last
+-- value
+abbrev pub Reread : (before after : ℕ) → NodesErr → Type 0
+Reread before after errors.Missing = ⊤
+Reread before after errors.Fault = ⊤
+Reread before after errors.NoMemory = ⊤
+Reread before after e = Rose before after

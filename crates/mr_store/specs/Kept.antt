@@ -1,0 +1,73 @@
+-- What a cache of node pages holds.
+use Rattle.std.specs.Prelude.{◌≡◌, ℕ, ◌<◌, ◌≤◌, ◌⊎◌, Bool, true, false, List, length, All, Contains, Some, IsSome, IsSomeAnd, nat_eq}
+use Rattle.std.specs.Map.{lookup}
+use Rattle.mr_tree.specs.View.{Node, children_in, level_of, preimage_of}
+use Rattle.mr_tree.specs.Snapshot.{HasShape}
+use Rattle.mr_tree.specs.declared.child.Child.{Child}
+use Rattle.mr_pages.specs.declared.node.Node as owned_type
+use Rattle.mr_pages.specs.Walking.{owned}
+use Rattle.mr_store.specs.declared.kept.Kept.{Kept}
+
+abbrev pub node_of : owned_type.Node → Node
+node_of = owned
+
+-- the pages with what is kept of them
+abbrev pub Entries : Type 0
+Entries = List (ℕ × Kept)
+
+-- the page is kept with the level and the digest of the child
+pub record IsThat (c : Child) (k : Kept) : Type 0 where
+  pub level : k.level ≡ c.level
+  pub digest : k.digest ≡ c.digest
+
+-- the page of the child is kept, with its level and its digest
+abbrev pub IsHeld : Entries → Child → Type 0
+IsHeld es c = IsSomeAnd (lookup (nat_eq c.id) es) (IsThat c)
+
+-- each child's page is in a file of so many pages, and not page 0
+abbrev pub AreInside : ℕ → Node → Type 0
+AreInside pages n = All (λ (c : Child). (1 ≤ c.id) × (c.id < pages)) (children_in n)
+
+-- what is kept can be shown
+pub record IsShown (k : Kept) : Type 0 where
+  pub shape : HasShape (node_of k.node)
+  pub level : level_of (node_of k.node) ≡ k.level
+
+-- what is kept is a node with this level and this digest, whose children are in the file
+pub record IsGood (hash : List ℕ → List ℕ) (pages : ℕ) (k : Kept) : Type 0 where
+  pub shape : HasShape (node_of k.node)
+  pub level : level_of (node_of k.node) ≡ k.level
+  pub digest : hash (preimage_of (node_of k.node)) ≡ k.digest
+  pub inside : AreInside pages (node_of k.node)
+
+-- the node of the child was found there
+pub record IsFound (es : Entries) (c : Child) (n : Node) : Type 0 where
+  pub kept : Kept
+  pub there : lookup (nat_eq c.id) es ≡ Some kept
+  pub that : IsThat c kept
+  pub node : n ≡ node_of kept.node
+
+abbrev pub Finds : Entries → Child → Bool → Node → Type 0
+Finds es c true n = IsFound es c n
+Finds es c false n = ¬ (IsHeld es c)
+
+-- nothing is kept that was not before, and no page is dropped
+pub record Stays (before after : Entries) : Type 0 where
+  pub none_new : (e : ℕ × Kept) → Contains after e → Contains before e
+  pub none_lost : (page : ℕ) → IsSome (lookup (nat_eq page) before) →
+      IsSome (lookup (nat_eq page) after)
+
+-- the node of the child is what is kept
+pub record IsKeptOf (c : Child) (n : Node) (e : ℕ × Kept) : Type 0 where
+  pub page : e.0 ≡ c.id
+  pub that : IsThat c e.1
+  pub node : node_of e.1.node ≡ n
+
+-- the node of the child was put there
+pub record Gains (room : ℕ) (before after : Entries) (c : Child) (n : Node) : Type 0 where
+  pub each : (e : ℕ × Kept) → Contains after e → Contains before e ⊎ IsKeptOf c n e
+  pub put : IsSome (lookup (nat_eq c.id) after)
+  -- no page is dropped where it was there before, or there is room
+  pub none_lost : IsSome (lookup (nat_eq c.id) before) ⊎ (length before < room) → (page : ℕ) →
+      IsSome (lookup (nat_eq page) before) →
+      IsSome (lookup (nat_eq page) after)

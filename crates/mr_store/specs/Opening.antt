@@ -1,0 +1,110 @@
+-- What opening a map comes to.
+use Rattle.std.specs.Prelude.{◌≡◌, ⊤, ◌⊎◌, false, ℕ, ◌+◌, ◌/◌, ◌≤◌, List, length, Option, Some, None, option_map, IfSome, Ok, Err}
+use Rattle.mr_outside.specs.Faults.{Rose}
+use Rattle.mr_outside.specs.State.{Shelved}
+use Rattle.mr_outside.specs.Told.{OfFile, MayMiss}
+use Rattle.mr_record.specs.Bytes.{AreBytes}
+use Rattle.mr_pages.specs.declared.error.MapErr.{MapErr}
+use Rattle.mr_pages.specs.declared.error.MapErr.TheVariants as errors
+use Rattle.mr_pages.specs.declared.head.MapHead.{MapHead}
+use Rattle.mr_pages.specs.PageBytes.{first_form}
+use Rattle.mr_pages.specs.File.{File, file_of, is_odd_size}
+use Rattle.mr_pages.specs.Faults.{mapfault}
+use Rattle.mr_pages.specs.Source.{SaysHead, IsRootIn, AllKept, SaysOnce}
+use Rattle.mr_pages.specs.Walking.{child_link, head_of}
+use Rattle.mr_pages.specs.Opening.{Fails, Tells}
+use Rattle.mr_tree.specs.Nodes.{Standing}
+use Rattle.mr_tree.specs.declared.tree.Tree.{Tree}
+use Rattle.mr_store.specs.Kept.{Entries}
+use Rattle.mr_store.specs.Stored.{told_bytes, stands_for}
+use Rattle.mr_store.specs.Paging.{Holds}
+
+-- whole pages, and so many
+pub record HasPages (pages : ℕ) (bytes : List ℕ) : Type 0 where
+  pub are : AreBytes bytes
+  pub even : is_odd_size 4096 (length bytes) ≡ false
+  pub count : pages ≡ length bytes / 4096
+
+-- what was checked of a file: page 0 says this, its root is in the file, and there is no fault
+pub record WasChecked (hash : List ℕ → List ℕ) (pages : ℕ) (file : Option File) (h : MapHead)
+    (es : Entries) : Type 0 where
+  pub says : SaysHead pages h
+  pub inside : IfSome h.root (IsRootIn pages)
+  pub fault : (f : File) → file ≡ Some f → mapfault hash f ≡ None
+  pub head : (f : File) → file ≡ Some f → f.head ≡ Ok (head_of h)
+  pub kept : (f : File) → file ≡ Some f → AllKept f (option_map child_link h.root) (Holds pages es)
+
+-- the fault is that of the file, where this is told
+abbrev pub IsFaultOf : (List ℕ → List ℕ) → Shelved → List ℕ → MapErr → Type 0
+IsFaultOf hash s name (errors.Map f) = OfFile s.files name ⊥
+    (λ bytes. mapfault hash (file_of first_form bytes) ≡ Some f)
+IsFaultOf hash s name _ = ⊤
+
+-- each failure has its cause, and what says something of the file counts no fault
+pub record HasWhy (name : List ℕ) (before after : Shelved) (e : MapErr) : Type 0 where
+  pub missing : e ≡ errors.Missing →
+      MayMiss before.files name before.faults after.faults ⊎ Rose before.faults after.faults
+  pub failed : e ≡ errors.Fault → Rose before.faults after.faults
+  pub quiet : (after.faults ≡ before.faults) ⊎ Fails (Err e)
+  -- and no rule of a page that is read again
+  pub once : SaysOnce e
+
+-- why a map was not opened
+pub record Refused (hash : List ℕ → List ℕ) (name : List ℕ) (before after : Shelved) (e : MapErr)
+    : Type 0 where
+  pub fault : IsFaultOf hash before name e
+  pub why : HasWhy name before after e
+
+-- what is told of a map that was opened and stands for this, where its file has these bytes
+abbrev pub TellsMap : (List ℕ → List ℕ) → Standing → List ℕ → Type 0
+TellsMap hash s bytes = (t : Tree) × (s.tree ≡ Some t)
+    × Tells first_form hash bytes (Ok (record { tree = t; batch = s.batch }))
+
+-- the map was opened: reads rose by its pages at most, and no fault was counted
+pub record IsOpened (hash : List ℕ → List ℕ) (name : List ℕ) (pages : ℕ) (before : Shelved)
+    (name' : List ℕ) (h : MapHead) (after : Shelved) (fetches : ℕ) : Type 0 where
+  pub answers : OfFile after.files name' ⊥
+      (TellsMap hash (stands_for h (told_bytes after.files name')))
+  pub same : name' ≡ name
+  pub count : h.pages ≡ pages
+  pub files : after.files ≡ before.files
+  pub quiet : after.faults ≡ before.faults
+  pub few : after.reads ≤ before.reads + pages
+  pub none : fetches ≡ 0
+
+-- it was not
+pub record IsRefused (hash : List ℕ → List ℕ) (name : List ℕ) (pages : ℕ) (before after : Shelved)
+    (e : MapErr) : Type 0 where
+  pub refused : Refused hash name before after e
+  pub files : after.files ≡ before.files
+  pub later : before.faults ≤ after.faults
+  pub few : after.reads ≤ before.reads + pages
+
+-- how many pages a file of these bytes has
+abbrev pub pages_in : List ℕ → ℕ
+pages_in bytes = length bytes / 4096
+
+-- The map was opened, under this name: it stands for the one map that the file stands for. Each
+-- page
+-- was read once at most, no fault was counted, and nothing was fetched yet.
+pub record OpensMap (hash : List ℕ → List ℕ) (name : List ℕ) (before : Shelved) (name' : List ℕ)
+    (h : MapHead) (after : Shelved) (fetches : ℕ) : Type 0 where
+  pub answers : OfFile before.files name ⊥
+      (TellsMap hash (stands_for h (told_bytes after.files name')))
+  pub same : name' ≡ name
+  pub files : after.files ≡ before.files
+  pub quiet : after.faults ≡ before.faults
+  pub reads : OfFile before.files name ⊥ (λ bytes. after.reads ≤ before.reads + pages_in bytes)
+  pub none : fetches ≡ 0
+
+-- It was not, for this reason: the fault of the file where it has one, else a failure with its
+-- cause.
+pub record RefusesMap (hash : List ℕ → List ℕ) (name : List ℕ) (before after : Shelved)
+    (e : MapErr) : Type 0 where
+  pub answers : OfFile before.files name (Fails (Err e))
+      (λ bytes. Tells first_form hash bytes (Err e))
+  pub why : HasWhy name before after e
+  pub files : after.files ≡ before.files
+  pub later : before.faults ≤ after.faults
+  pub reads : OfFile before.files name (after.reads ≡ before.reads)
+      (λ bytes. after.reads ≤ before.reads + pages_in bytes)

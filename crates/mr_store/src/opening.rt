@@ -1,0 +1,199 @@
+//! Maps that are opened page by page.
+
+ghost use Rattle.std.specs.Prelude.{◌≡◌, ◌≤◌, ℕ, List, [], ⊤, length, IfOk, IfErr, OnOk, MatchResult};
+ghost use Rattle.std.specs.String.{string_bytes};
+ghost use Rattle.mr_outside.specs.Told.{OfFile};
+ghost use Rattle.mr_pages.specs.Page.{page_limit};
+ghost use Rattle.mr_store.specs.Paging.{sourced};
+ghost use Rattle.mr_store.specs.Opening.{HasPages, WasChecked, Refused, TellsMap, IsOpened, IsRefused, OpensMap, RefusesMap};
+ghost use Rattle.mr_record.specs.Bytes.{AreBytes};
+ghost use Rattle.mr_store.specs.Stored.{told_bytes, stands_for};
+
+use crate::kept::Kept;
+use crate::paged::Paged;
+use crate::paging::Paging;
+use lru::LruCache;
+use mr_outside::Shelf;
+use mr_pages::{FIRST, MapErr, MapFault, MapHead, MapRule, check, page_count};
+use mr_tree::{Hash32, Hashes};
+use std::alloc::{AllocError, Global};
+use std::marker::PhantomData;
+use std::num::NonZeroUsize;
+
+/// The node pages that are kept.
+const ROOM: usize = 256;
+
+/// What is made before pages are read.
+#[derive(Drop)]
+struct Ready {
+    name: String,
+    pages: u32,
+    cache: LruCache<u32, Kept>,
+}
+
+fn empty_cache(alloc: Global) -> Result<LruCache<u32, Kept>, AllocError>
+    ensures entries { IfOk result (λ c. c.entries ≡ []) }
+    ensures cap { IfOk result (λ c. c.cap ≡ 256) }
+{
+    match NonZeroUsize::new(ROOM) {
+        Some(room) => LruCache::new(alloc, room),
+        None => Err(AllocError),
+    }
+}
+
+// How many pages the file has.
+fn pages_of<H: Hashes, S: Shelf>(shelf: &mut S, name: &str) -> Result<u32, MapErr>
+    ensures are { OfFile (S.state shelf.old).files name.now ⊤ AreBytes }
+    ensures pages { IfOk result (λ n. OfFile (S.state shelf.old).files name.now ⊥ (HasPages n)) }
+    ensures some { IfOk result (λ n. 1 ≤ n) }
+    ensures few { IfOk result (λ n. n ≤ page_limit) }
+    ensures refused { IfErr result
+        (Refused H.of name.now (S.state shelf.old) (S.state shelf.new)) }
+    ensures files { (S.state shelf.new).files ≡ (S.state shelf.old).files }
+    ensures faults { (S.state shelf.old).faults ≤ (S.state shelf.new).faults }
+    ensures reads { (S.state shelf.new).reads ≡ (S.state shelf.old).reads }
+    ensures quiet { OnOk result ((S.state shelf.new).faults ≡ (S.state shelf.old).faults) }
+{
+    let size = shelf.size(name)?;
+    match page_count(FIRST, size) {
+        Some(pages) => Ok(pages),
+        None => Err(MapErr::Map(MapFault {
+            page: 0,
+            rule: MapRule::Size,
+        })),
+    }
+}
+
+fn copied(alloc: Global, name: &str) -> Result<String, AllocError>
+    ensures { IfOk result (λ s. string_bytes s ≡ name.now) }
+{
+    String::from_str(alloc, name)
+}
+
+// All that is made before pages are read.
+fn make_ready<H: Hashes, S: Shelf>(
+    alloc: Global,
+    shelf: &mut S,
+    name: &str,
+) -> Result<Ready, MapErr>
+    ensures are { OfFile (S.state shelf.old).files name.now ⊤ AreBytes }
+    ensures name { IfOk result (λ r. string_bytes r.name ≡ name.now) }
+    ensures entries { IfOk result (λ r. r.cache.entries ≡ []) }
+    ensures cap { IfOk result (λ r. r.cache.cap ≡ 256) }
+    ensures pages { IfOk result (λ r. OfFile (S.state shelf.old).files name.now ⊥
+        (HasPages r.pages)) }
+    ensures some { IfOk result (λ r. 1 ≤ r.pages) }
+    ensures few { IfOk result (λ r. r.pages ≤ page_limit) }
+    ensures refused { IfErr result
+        (Refused H.of name.now (S.state shelf.old) (S.state shelf.new)) }
+    ensures files { (S.state shelf.new).files ≡ (S.state shelf.old).files }
+    ensures faults { (S.state shelf.old).faults ≤ (S.state shelf.new).faults }
+    ensures reads { (S.state shelf.new).reads ≡ (S.state shelf.old).reads }
+    ensures quiet { OnOk result ((S.state shelf.new).faults ≡ (S.state shelf.old).faults) }
+{
+    let pages = pages_of::<H, S>(shelf, name)?;
+    let cache = empty_cache(alloc)?;
+    let name = copied(alloc, name)?;
+    Ok(Ready { name, pages, cache })
+}
+
+// What every hash function keeps to.
+fn are_sized<H: Hashes>()
+    ensures { (bytes : List ℕ) → length (H.of bytes) ≡ 32 }
+{}
+
+// The map whose pages were checked.
+fn over<S: Shelf, H: Hash32>(alloc: Global, paging: Paging<S, H>, head: MapHead) -> Paged<S, H>
+    requires { WasChecked H.of paging.pages
+        (sourced paging.pages (S.state paging.shelf) (string_bytes paging.name)).file head
+        paging.cache.entries }
+    ensures name { result.name ≡ paging.name }
+    ensures shelf { result.shelf ≡ paging.shelf }
+    ensures head { result.head ≡ head }
+    ensures fetches { result.fetches ≡ 0 }
+    ensures answers { OfFile (S.state result.shelf).files (string_bytes result.name) ⊥
+        (TellsMap H.of (stands_for result.head
+        (told_bytes (S.state result.shelf).files (string_bytes result.name)))) }
+{
+    let Paging {
+        shelf,
+        name,
+        pages: _,
+        cache,
+        hash: _,
+    } = paging;
+    are_sized::<H>();
+    Paged {
+        alloc,
+        shelf,
+        name,
+        head,
+        cache,
+        fetches: 0,
+        refusal: None,
+        hash: PhantomData,
+    }
+}
+
+// The map whose pages are these, or its first fault.
+fn checked<S: Shelf, H: Hash32>(
+    alloc: Global,
+    paging: Paging<S, H>,
+) -> Result<Paged<S, H>, (S, MapErr)>
+    ensures opened { MatchResult result
+        (λ p. IsOpened H.of (string_bytes paging.name) paging.pages (S.state paging.shelf)
+        (string_bytes p.name) p.head (S.state p.shelf) p.fetches)
+        (λ r. IsRefused H.of (string_bytes paging.name) paging.pages (S.state paging.shelf)
+        (S.state r.0) r.1) }
+{
+    let mut paging = paging;
+    match check::<Paging<S, H>>(alloc, &mut paging) {
+        Ok(checked) => Ok(over::<S, H>(alloc, paging, checked.head)),
+        Err(error) => Err((given_up::<S, H>(paging), error)),
+    }
+}
+
+fn given_up<S: Shelf, H: Hashes>(paging: Paging<S, H>) -> S
+    ensures { result ≡ paging.shelf }
+{
+    let Paging {
+        shelf,
+        name: _,
+        pages: _,
+        cache: _,
+        hash: _,
+    } = paging;
+    shelf
+}
+
+impl<S: Shelf, H: Hash32> Paged<S, H> {
+    /// Opens the map in a file of the shelf, which is handed back beside a refusal.
+    ///
+    /// Each page is read at most once, and checked; what is kept are the nodes of up to 256. The
+    /// file's length is what `size` gives, and what a read gives short counts as zeros.
+    pub fn open_map(alloc: Global, shelf: S, name: &str) -> Result<Paged<S, H>, (S, MapErr)>
+        ensures opened { MatchResult result
+            (λ p. OpensMap H.of name.now (S.state shelf) (string_bytes p.name) p.head
+            (S.state p.shelf) p.fetches)
+            (λ r. RefusesMap H.of name.now (S.state shelf) (S.state r.0) r.1) }
+    {
+        are_sized::<H>();
+        let mut shelf = shelf;
+        match make_ready::<H, S>(alloc, &mut shelf, name) {
+            Err(error) => Err((shelf, error)),
+            Ok(made) => {
+                let Ready { name, pages, cache } = made;
+                checked::<S, H>(
+                    alloc,
+                    Paging {
+                        shelf,
+                        name,
+                        pages,
+                        cache,
+                        hash: PhantomData,
+                    },
+                )
+            }
+        }
+    }
+}

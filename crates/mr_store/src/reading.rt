@@ -1,0 +1,121 @@
+//! Pages that are read again.
+
+ghost use Rattle.std.specs.Prelude.{◌≡◌, ◌≤◌, IfOk, OnOk, IfErr, MatchOption, Some, bytes_eq, ⊤};
+ghost use Rattle.mr_outside.specs.Told.{OfFile};
+ghost use Rattle.mr_outside.specs.Causes.{ShelfCauses, CountsRead};
+ghost use Rattle.mr_pages.specs.Page as pages_spec;
+ghost use Rattle.mr_pages.specs.PageBytes.{first_form};
+ghost use Rattle.mr_tree.specs.View.{preimage_of};
+ghost use Rattle.mr_store.specs.Kept.{AreInside};
+ghost use Rattle.mr_store.specs.Again.{TellsPage, Outside, IsRead, IsSaid, TellsNode, TellsAgain, IsBlamed, IsRefused, ReadsOne, Refuses};
+
+use mr_outside::{Shelf, ShelfErr};
+use mr_pages::{PAGE_SIZE, read_filled, read_page};
+use mr_tree::{Child, Hashes, NodeView, NodesErr, is_view};
+
+/// Whether two digests are the same.
+pub(crate) fn are_same(a: &[u8; 32], b: &[u8; 32]) -> bool
+    ensures { result ≡ bytes_eq a.now b.now }
+{
+    a.as_slice() == b.as_slice()
+}
+
+/// The bytes of a page. What the read gives short counts as zeros.
+pub(crate) fn page_bytes<S: Shelf>(
+    shelf: &mut S,
+    name: &str,
+    page: u32,
+) -> Result<[u8; 4096], ShelfErr>
+    ensures told { IfOk result (λ p. OfFile (S.state shelf.old).files name.now ⊥
+        (TellsPage page p)) }
+    ensures causes { ShelfCauses name.now (S.state shelf.old) (S.state shelf.new) result }
+    ensures files { (S.state shelf.new).files ≡ (S.state shelf.old).files }
+    ensures reads { CountsRead (S.state shelf.old) (S.state shelf.new) result }
+{
+    let mut bytes = [0; PAGE_SIZE];
+    read_filled(shelf, name, page as u64 * PAGE_SIZE as u64, &mut bytes)?;
+    Ok(bytes)
+}
+
+// The first child's page that is page 0, or not in a file of so many pages.
+fn outside(view: &NodeView, pages: u32) -> Option<u32>
+    ensures { MatchOption result (AreInside pages view.now) (Outside pages view.now) }
+{
+    let children = view.children();
+    for child in children {
+        if child.id == 0 || child.id >= pages {
+            return Some(child.id);
+        }
+    }
+    None
+}
+
+// The digest of the node that a view shows.
+fn digest_of<H: Hashes>(view: &NodeView) -> [u8; 32]
+    ensures { result ≡ H.of (preimage_of view.now) }
+{
+    view.entry::<H>().digest
+}
+
+// The node that a page spells, if it is what is said of the child.
+fn judge<H: Hashes>(
+    page: &[u8; 4096],
+    pages: u32,
+    child: &Child,
+    into: &mut NodeView,
+) -> Result<(), NodesErr>
+    ensures read { OnOk result (IsRead H.of pages child.now into.new) }
+    ensures told { (m : pages_spec.Node) → first_form.node_in page.now ≡ Some m →
+        IsSaid H.of pages child.now m → TellsNode m result into.new }
+    ensures blamed { IfErr result (IsBlamed pages child.now) }
+{
+    if !read_page(page, child.level, into) {
+        return Err(NodesErr::Page { page: child.id });
+    }
+    is_view(into);
+    let found = digest_of::<H>(into);
+    if !are_same(&child.digest, &found) {
+        return Err(NodesErr::Changed {
+            page: child.id,
+            held: child.digest,
+            found,
+        });
+    }
+    match outside(into, pages) {
+        Some(page) => Err(NodesErr::Outside { page }),
+        None => Ok(()),
+    }
+}
+
+// The same cause in a fetch's own words.
+fn refusal(error: ShelfErr) -> NodesErr
+    ensures { Refuses error result }
+{
+    match error {
+        ShelfErr::Missing => NodesErr::Missing,
+        ShelfErr::Fault => NodesErr::Fault,
+        ShelfErr::NoMemory => NodesErr::NoMemory,
+    }
+}
+
+/// Reads the page of the child, and shows its node if it is what is said of the child.
+pub(crate) fn read_again<H: Hashes, S: Shelf>(
+    shelf: &mut S,
+    name: &str,
+    pages: u32,
+    child: &Child,
+    into: &mut NodeView,
+) -> Result<(), NodesErr>
+    ensures read { OnOk result (IsRead H.of pages child.now into.new) }
+    ensures told { OfFile (S.state shelf.old).files name.now ⊤
+        (TellsAgain H.of pages child.now result into.new) }
+    ensures refused { IfErr result
+        (IsRefused pages name.now child.now (S.state shelf.old) (S.state shelf.new)) }
+    ensures quiet { OnOk result ((S.state shelf.new).faults ≡ (S.state shelf.old).faults) }
+    ensures one { ReadsOne (S.state shelf.old) (S.state shelf.new) }
+{
+    match page_bytes(shelf, name, child.id) {
+        Ok(page) => judge::<H>(&page, pages, child, into),
+        Err(error) => Err(refusal(error)),
+    }
+}
