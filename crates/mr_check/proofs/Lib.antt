@@ -1,4 +1,13 @@
-pub mod Several
-pub mod Nodes
-pub mod Judged
 pub mod Checks
+pub mod Stopping
+pub mod Noting
+pub mod Opening
+pub mod Nodes
+pub mod Stepping
+pub mod Whole
+pub mod Turning
+pub mod Tallying
+pub mod Pieces
+pub mod Judging
+pub mod Bytes
+pub mod Gathering

@@ -1,2 +1,9 @@
-pub mod Steps
 pub mod Answers
+pub mod Stops
+pub mod Popping
+pub mod Tallies
+pub mod Stages
+pub mod Standing
+pub mod Heads
+pub mod Reads
+pub mod Judged

@@ -13,67 +13,16 @@ ghost use Rattle.mr_proof.specs.Halves.{AcceptsJust, RefusesJust, OneHalf, Spell
 ghost use Rattle.mr_proof.specs.Headline.{Headline, AcceptedIsHonest, OthersFail};
 ghost use Rattle.mr_check.specs.declared.error.CheckErr.TheVariants as errors;
 ghost use Rattle.mr_check.specs.Answers.{Checks};
-ghost use Rattle.mr_check.specs.Steps.{TookRootOr, Ends, stand};
 
-use crate::CheckErr;
-use crate::cursor::{Cursor, fault_at, front};
-use crate::head::read_head;
-use crate::item::read_item;
-use crate::radius::has_other_radius;
-use mr_proof::{Fault, Head, Rule, accepted_is_honest, honest_is_accepted};
-use mr_query::{Area, Query, answer};
+use crate::{CheckErr, Intake};
+use mr_proof::{accepted_is_honest, honest_is_accepted};
+use mr_query::Query;
 use mr_record::Record;
-use mr_tree::{Entry, Hash32, Hashes, root_digest};
+use mr_tree::Hash32;
 use std::alloc::Global;
 
-// What is said of the root node, if there is one.
-fn root_node<H: Hashes>(
-    alloc: Global,
-    q: &Query,
-    head: &Head,
-    from: &mut Cursor<'_>,
-    kept: &mut Vec<Record>,
-) -> Result<Entry, CheckErr>
-    ensures { TookRootOr H.of q.now head.now result
-        (stand from.old) from.new kept.old.items kept.new.items }
-{
-    if head.count == 0 {
-        return Ok(Entry::none());
-    }
-    let area = Area {
-        query: *q,
-        radius: head.radius,
-    };
-    read_item::<H>(alloc, &area, head.level, from, kept)
-}
-
-// What is found behind the last field.
-#[tactic(auto, unfolding(mr_proof::specs::Reading::ending))]
-fn end<H: Hashes>(
-    root: &[u8; 32],
-    q: &Query,
-    head: &Head,
-    node: &Entry,
-    kept: &[Record],
-    behind: &Cursor<'_>,
-) -> Result<(), Fault>
-    ensures { Ends H.of root.now q.now head.now node.now kept.now result (stand behind.now) }
-{
-    if !behind.rest.is_empty() {
-        return Err(fault_at(Rule::Trailing, behind.at));
-    }
-    let found = root_digest::<H>(head.version(), head.batch, head.count, node);
-    if found.as_slice() != root.as_slice() {
-        return Err(fault_at(Rule::WrongRoot { found }, behind.at));
-    }
-    if has_other_radius(q, head.radius, kept) {
-        return Err(fault_at(Rule::WrongRadius, behind.at));
-    }
-    Ok(())
-}
-
 // What is answered for a proof.
-fn judge<H: Hashes>(
+fn answered_by<H: Hash32>(
     alloc: Global,
     root: &[u8; 32],
     q: &Query,
@@ -82,12 +31,9 @@ fn judge<H: Hashes>(
     requires { IsAskable q.now }
     ensures { Checks result (verdict H.of root.now q.now proof.now) }
 {
-    let mut cursor = front(proof);
-    let head = read_head(q, &mut cursor)?;
-    let mut kept = Vec::new(alloc);
-    let node = root_node::<H>(alloc, q, &head, &mut cursor, &mut kept)?;
-    end::<H>(root, q, &head, &node, &kept, &cursor)?;
-    Ok(answer(kept, q)?)
+    let mut intake = Intake::<H>::new(alloc, root, q)?;
+    intake.take(proof)?;
+    intake.end()
 }
 
 /// The records that the proof proves to be the answer to the query on the map with this root
@@ -95,9 +41,9 @@ fn judge<H: Hashes>(
 /// distance by rising number.
 ///
 /// A proof that proves nothing is refused with the first rule that it breaks. The proof is read
-/// once, from the front; kept are the records in the region of the proof, a hasher and a rectangle
-/// for each of at most eight levels, and the records of one leaf. The work is in proportion to the
-/// proof's length, and that of a sort of the records that were kept.
+/// once, from the front; kept are the records in the region of the proof, and a hasher and a
+/// rectangle for each of at most eight levels. The work is in proportion to the proof's length, and
+/// that of a sort of the records that were kept. A `Judge` takes the proof in pieces.
 pub fn check<H: Hash32>(
     alloc: Global,
     root: &[u8; 32],
@@ -129,5 +75,5 @@ pub fn check<H: Hash32>(
 {
     honest_is_accepted::<H>(q);
     accepted_is_honest::<H>(q, proof);
-    judge::<H>(alloc, root, q, proof)
+    answered_by::<H>(alloc, root, q, proof)
 }

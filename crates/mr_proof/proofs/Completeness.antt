@@ -145,29 +145,33 @@ record_again heeds e next s r rest fine parts within =
     let d = p.place in
     record { end = p.end; left = p.left; place = omega arith; same = n.same ∙ x.same ∙ l.same ∙ p.same }
 
-records_again : {A B : Type 0} (heeds : Bool) (e : A → Stand → Result B Fault) (next : List Record → Grammar A)
+records_again : {A B : Type 0} (heeds : Bool) (e : A → Stand → Result B Fault) (region : Seen → Bool)
+    (next : List Record → Grammar A)
     (s : Stand) (rs : List Record) (rest : List ℕ) → AllByRecursion IsRecord rs
     → s.rest ≡ flat_map record_bytes rs ++ rest → s.at + length (flat_map record_bytes rs) ≤ place_limit
-    → Comes heeds e (some_records (length rs) next) (next rs) s (flat_map record_bytes rs) rest
-records_again heeds e next s [] rest fine parts within = comes_none heeds e (next []) s rest parts
-records_again heeds e next s (r ∷ rs) rest fine parts within =
+    → Comes heeds e (some_records region (length rs) next) (next rs) s (flat_map record_bytes rs) rest
+records_again heeds e region next s [] rest fine parts within = comes_none heeds e (next []) s rest parts
+records_again heeds e region next s (r ∷ rs) rest fine parts within =
     let whole : flat_map record_bytes (r ∷ rs) ≡ record_bytes r ++ flat_map record_bytes rs = flat_map-cons record_bytes
     r rs in
     let size : length (flat_map record_bytes (r ∷ rs)) ≡ length (record_bytes r) + length
     (flat_map record_bytes rs) = ap length whole ∙ length-append (record_bytes r) (flat_map record_bytes rs) in
     let regrouped : s.rest ≡ record_bytes r ++ (flat_map record_bytes rs ++ rest) = parts
     ∙ ap (λ (x : List ℕ). x ++ rest) whole ∙ append_assoc (record_bytes r) (flat_map record_bytes rs) rest in
-    let one = record_again heeds e (λ r. notes (opens r) (some_records (length rs) (λ rs. next (r ∷ rs)))) s r
+    let one = record_again heeds e (λ r. notes (opens r (region (seen_at r.rect)))
+    (some_records region (length rs) (λ rs. next (r ∷ rs)))) s r
     (flat_map record_bytes rs ++ rest) fine.0 regrouped (omega arith) in
     let a = one.place in
-    let behind_one = records_again heeds e (λ rs. next (r ∷ rs)) one.end rs rest fine.1 one.left (omega arith) in
-    let others : Comes heeds e (notes (opens r) (some_records (length rs) (λ rs. next (r ∷ rs))))
+    let behind_one = records_again heeds e region (λ rs. next (r ∷ rs)) one.end rs rest fine.1 one.left (omega arith) in
+    let others : Comes heeds e (notes (opens r (region (seen_at r.rect)))
+    (some_records region (length rs) (λ rs. next (r ∷ rs))))
     (next (r ∷ rs)) one.end (flat_map record_bytes rs) rest = record
     { end = behind_one.end; left = behind_one.left; place = behind_one.place; same = behind_one.same } in
-    comes_as heeds e (some_records (length (r ∷ rs)) next) (next (r ∷ rs)) s
+    comes_as heeds e (some_records region (length (r ∷ rs)) next) (next (r ∷ rs)) s
     (record_bytes r ++ flat_map record_bytes rs) (flat_map record_bytes (r ∷ rs)) rest (sym whole)
-    (comes_both heeds e (some_records (length (r ∷ rs)) next)
-    (notes (opens r) (some_records (length rs) (λ rs. next (r ∷ rs)))) (next (r ∷ rs)) s (record_bytes r)
+    (comes_both heeds e (some_records region (length (r ∷ rs)) next)
+    (notes (opens r (region (seen_at r.rect))) (some_records region (length rs) (λ rs. next (r ∷ rs)))) (next (r ∷ rs))
+    s (record_bytes r)
     (flat_map record_bytes rs) rest one others)
 
 -- ---- items
@@ -190,11 +194,12 @@ leaf_again : {A B : Type 0} (heeds : Bool) (e : A → Stand → Result B Fault) 
     → Comes heeds e (leaf region next) (next (Leaf rs)) s (tail (Leaf rs)) rest
 leaf_again heeds e region next s rs rest fine tight parts within =
     let text = flat_map record_bytes rs in
-    let n = reads_again heeds e want.LeafCount number_in (λ n. some_records n (λ rs. opened region (Leaf rs) next)) s
+    let n = reads_again heeds e want.LeafCount number_in
+    (λ n. some_records region n (λ rs. opened region (Leaf rs) next)) s
     (length rs ∷ []) (text ++ rest) (field.Num (length rs)) refl
     (leaf_count_value (length rs) fine.some fine.few) parts (omega arith) in
     let a = n.place in
-    let all = records_again heeds e (λ rs. opened region (Leaf rs) next) n.end rs rest
+    let all = records_again heeds e region (λ rs. opened region (Leaf rs) next) n.end rs rest
     (recursion_from_All IsRecord rs fine.each) n.left (omega arith) in
     let b = all.place in
     let met = note_again heeds e rule.Needless (met_by region (seen (Leaf rs)))

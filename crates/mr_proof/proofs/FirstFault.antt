@@ -19,7 +19,7 @@ use Rattle.mr_proof.specs.Limits.{place_limit}
 use Rattle.mr_proof.specs.Fields.{size_of, field_of, pruned_tag}
 use Rattle.mr_proof.specs.Cut.{Cut, Cuts, Pruned, Leaf, Inner, no_more, first}
 use Rattle.mr_proof.specs.Spelling.{Said, said, opened_records}
-use Rattle.mr_proof.specs.Tight.{Seen, asks}
+use Rattle.mr_proof.specs.Tight.{Seen, seen_at, asks}
 use Rattle.mr_proof.specs.Accepted.{root_found}
 use Rattle.mr_proof.specs.Grammar.{must, opens, Grammar, done, reads, notes, number_in, tag_in, rect_in, wide_in, bytes_in, payload, one_record, some_records, opened, leaf, some_items, inner, pruned, item, radius, level, head, part, whole}
 use Rattle.mr_proof.specs.Layout.{fault, Stand, start, behind, field_or_fault, field_at}
@@ -86,7 +86,7 @@ field_place w s f e =
 -- ---- all faults of a layout lie behind where it stands
 
 -- the rules of notes
-abbrev IsJudged : Rule → Type 0
+abbrev pub IsJudged : Rule → Type 0
 IsJudged r = (r ≡ rule.Hidden) ⊎ (r ≡ rule.Needless)
 
 same_rule : (a b : Rule) → IsJudged a → IsJudged b → rank a ≡ rank b → a ≡ b
@@ -98,17 +98,17 @@ same_rule a b (inr p) (inl q) e =
     let x : rank a ≡ 14 = ap rank p in let y : rank b ≡ 13 = ap rank q in absurd (omega arith)
 
 -- each field has a byte, and the notes behind one come in the order of their rules, here from this number on
-abbrev Sized : {A : Type 0} → ℕ → Grammar A → Type 0
+abbrev pub Sized : {A : Type 0} → ℕ → Grammar A → Type 0
 Sized n (done x) = Unit {0}
 Sized n (reads w next) = (0 < size_of w) × ((f : Field) → Sized 0 (next f))
 Sized n (notes (must r b) next) = IsJudged r × (n ≤ rank r) × Sized (rank r) next
-Sized n (notes (opens x) next) = Sized n next
+Sized n (notes (opens x met) next) = Sized n next
 
 sized_any : {A : Type 0} (n : ℕ) (g : Grammar A) → Sized n g → Sized 0 g
 sized_any n (done x) h = tt
 sized_any n (reads w next) h = h
 sized_any n (notes (must r b) next) h = (h.0, omega arith, h.2)
-sized_any n (notes (opens x) next) h = sized_any n next h
+sized_any n (notes (opens x met) next) h = sized_any n next h
 
 -- at the next field or behind it, or of a note at the last field, whose rule has this number or a later one
 abbrev Late : ℕ → Stand → Fault → Type 0
@@ -151,7 +151,7 @@ late final last n (notes (must r true) next) sized s lt =
 late final last n (notes (must r false) next) sized s lt =
     All-cons (Late n s) (fault r s.last) (faults final next s) (inr (refl, sized.0, sized.1))
     (late_from n (rank r) s (faults final next s) sized.1 (late final last (rank r) next sized.2 s lt))
-late final last n (notes (opens x) next) sized s lt = late final last n next sized s lt
+late final last n (notes (opens x met) next) sized s lt = late final last n next sized s lt
 
 -- ---- reading and the layout
 
@@ -194,7 +194,7 @@ agree e final ends last n (notes (must r false) next) sized s lt =
     (All-weaker (Late (rank r) s) (λ x. (x ≡ fault r s.last) ⊎ Before (fault r s.last) x)
     (λ f l. note_first r s f sized.0 lt l)
     (faults final next s) (late final last (rank r) next sized.2 s lt))
-agree e final ends last n (notes (opens x) next) sized s lt = agree e final ends last n next sized s lt
+agree e final ends last n (notes (opens x met) next) sized s lt = agree e final ends last n next sized s lt
 
 -- ---- the ending
 
@@ -265,12 +265,13 @@ sized_record m next h = (
   ),
 )
 
-sized_records : {A : Type 0} (n : ℕ) (next : List Record → Grammar A) → ((rs : List Record) → Sized 0 (next rs))
-    → Sized 0 (some_records n next)
-sized_records zero next h = h []
-sized_records (suc n) next h =
-    sized_record 0 (λ r. notes (opens r) (some_records n (λ rs. next (r ∷ rs))))
-    (λ r. sized_records n (λ rs. next (r ∷ rs)) (λ rs. h (r ∷ rs)))
+sized_records : {A : Type 0} (region : Seen → Bool) (n : ℕ) (next : List Record → Grammar A) →
+    ((rs : List Record) → Sized 0 (next rs))
+    → Sized 0 (some_records region n next)
+sized_records region zero next h = h []
+sized_records region (suc n) next h =
+    sized_record 0 (λ r. notes (opens r (region (seen_at r.rect))) (some_records region n (λ rs. next (r ∷ rs))))
+    (λ r. sized_records region n (λ rs. next (r ∷ rs)) (λ rs. h (r ∷ rs)))
 
 -- behind an item the notes are those of opened nodes
 abbrev Follows : {A : Type 0} {X : Type 0} → (X → Grammar A) → Type 0
@@ -279,7 +280,7 @@ Follows {A} {X} next = (x : X) → Sized 14 (next x)
 sized_leaf : {A : Type 0} (region : Seen → Bool) (next : Cut → Grammar A) → Follows next → Sized 0 (leaf region next)
 sized_leaf region next h = (
   omega arith,
-  λ n. sized_records (number_in n) (λ rs. opened region (Leaf rs) next)
+  λ n. sized_records region (number_in n) (λ rs. opened region (Leaf rs) next)
       (λ rs. (inr refl, omega arith, h (Leaf rs))),
 )
 
@@ -367,7 +368,7 @@ sized_head k next h = (
   ),
 )
 
-sized_whole : (k : Kind) (region : Option ℕ → Seen → Bool) → Sized 0 (whole k region)
+pub sized_whole : (k : Kind) (region : Option ℕ → Seen → Bool) → Sized 0 (whole k region)
 sized_whole k region =
     sized_head k (part region) (λ h.
     sized_choice 0 (h.count == 0) (done (said h None)) (item (region h.radius) h.level (λ P. done (said h (Some P)))) tt

@@ -82,7 +82,7 @@ walk_stays e more f settled last (reads w next) s is =
     (λ x. walk_stays e more f settled last (next x.0) x.1) is
 walk_stays e more f settled last (notes (must r true) next) s is = walk_stays e more f settled last next s is
 walk_stays e more f settled last (notes (must r false) next) s is = is
-walk_stays e more f settled last (notes (opens x) next) s is = walk_stays e more f settled last next s is
+walk_stays e more f settled last (notes (opens x met) next) s is = walk_stays e more f settled last next s is
 
 -- ---- the whole
 

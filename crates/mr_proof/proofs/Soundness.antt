@@ -85,14 +85,16 @@ take_record heeds e next s a fits is =
       rest = p.rest;
     }
 
-take_records : {A B : Type 0} (heeds : Bool) (e : A → Stand → Result B Fault) (n : ℕ) (next : List Record → Grammar A)
-    (s : Stand) (a : B) → IsBytes s.rest → s.at ≤ place_limit → walk heeds e (some_records n next) s ≡ Ok a
+take_records : {A B : Type 0} (heeds : Bool) (e : A → Stand → Result B Fault) (region : Seen → Bool) (n : ℕ)
+    (next : List Record → Grammar A)
+    (s : Stand) (a : B) → IsBytes s.rest → s.at ≤ place_limit → walk heeds e (some_records region n next) s ≡ Ok a
     → Taken heeds e (flat_map record_bytes) (λ rs. (length rs ≡ n) × AllByRecursion IsRecord rs) next s a
-take_records heeds e zero next s a fits within is = record
+take_records heeds e region zero next s a fits within is = record
     { value = []; end = s; good = (refl, tt); took = took_none s fits within; rest = is }
-take_records heeds e (suc n) next s a fits within is =
-    let r = take_record heeds e (λ r. notes (opens r) (some_records n (λ rs. next (r ∷ rs)))) s a fits is in
-    let rs = take_records heeds e n (λ rs. next (r.value ∷ rs)) r.end a r.took.fits r.took.within r.rest in
+take_records heeds e region (suc n) next s a fits within is =
+    let r = take_record heeds e (λ r. notes (opens r (region (seen_at r.rect)))
+    (some_records region n (λ rs. next (r ∷ rs)))) s a fits is in
+    let rs = take_records heeds e region n (λ rs. next (r.value ∷ rs)) r.end a r.took.fits r.took.within r.rest in
     record {
       value = r.value ∷ rs.value;
       end = rs.end;
@@ -131,8 +133,9 @@ take_leaf : {A B : Type 0} (heeds : Bool) (e : A → Stand → Result B Fault) (
     × (walk heeds e (next P) t ≡ Ok a)
 take_leaf heeds e region next s a fits within is =
     let n = take_reads heeds e want.LeafCount number_in (λ n. n ∷ []) (λ n. (1 ≤ n) × (n ≤ leaf_limit)) leaf_count_meant
-    (λ n. some_records n (λ rs. opened region (Leaf rs) next)) s a fits is in
-    let rs = take_records heeds e n.value (λ rs. opened region (Leaf rs) next) n.end a n.took.fits n.took.within n.rest
+    (λ n. some_records region n (λ rs. opened region (Leaf rs) next)) s a fits is in
+    let rs = take_records heeds e region n.value (λ rs. opened region (Leaf rs) next) n.end a n.took.fits n.took.within
+    n.rest
     in
     let met = note_passed heeds rule.Needless (met_by region (seen (Leaf rs.value))) rs.end.last
     (walk heeds e (next (Leaf rs.value)) rs.end) a rs.rest in

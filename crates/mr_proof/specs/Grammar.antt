@@ -16,10 +16,10 @@ use Rattle.mr_proof.specs.Spelling.{Said, said}
 use Rattle.mr_proof.specs.Tight.{Seen, seen_at, seen, met_by}
 
 -- What the fields so far say: that the rule is broken, unless this test passes; or that the record
--- was opened. A note stands at the last field before it.
+-- was opened, and whether the region meets it. A note stands at the last field before it.
 pub data Note : Type 0 where
   must : Rule → Bool → Note
-  opens : Record → Note
+  opens : Record → Bool → Note
 
 -- what comes next: nothing more; a field, whose value says what follows it; or a note, which is no
 -- field
@@ -41,9 +41,11 @@ one_record next =
     next (record { number = number_in n; rect = rect_in r; payload = p })))))
 
 -- n records of a leaf
-abbrev pub some_records : {A : Type 0} → ℕ → (List Record → Grammar A) → Grammar A
-some_records zero next = next []
-some_records (suc n) next = one_record (λ r. notes (opens r) (some_records n (λ rs. next (r ∷ rs))))
+abbrev pub some_records : {A : Type 0} → (Seen → Bool) → ℕ → (List Record → Grammar A) → Grammar A
+some_records region zero next = next []
+some_records region (suc n) next =
+    one_record (λ r. notes (opens r (region (seen_at r.rect)))
+    (some_records region n (λ rs. next (r ∷ rs))))
 
 -- a node that was opened: the region meets it
 abbrev pub opened : {A : Type 0} → (Seen → Bool) → Cut → (Cut → Grammar A) → Grammar A
@@ -52,7 +54,8 @@ opened region P next = notes (must rule.Needless (met_by region (seen P))) (next
 -- a leaf, behind its tag
 abbrev pub leaf : {A : Type 0} → (Seen → Bool) → (Cut → Grammar A) → Grammar A
 leaf region next =
-    reads want.LeafCount (λ n. some_records (number_in n) (λ rs. opened region (Leaf rs) next))
+    reads want.LeafCount (λ n. some_records region (number_in n)
+    (λ rs. opened region (Leaf rs) next))
 
 -- n items, each of this grammar
 abbrev pub some_items : {A : Type 0} → ((Cut → Grammar A) → Grammar A) → ℕ → (Cuts → Grammar A)

@@ -11,6 +11,8 @@ pub mod Grammar
 pub mod Layout
 pub mod Refused
 pub mod Reading
+pub mod Handed
 pub mod Halves
+pub mod Feeding
 pub mod Clash
 pub mod Headline

@@ -25,7 +25,7 @@ Err e >>= f = Err e
 abbrev pub past : {B : Type 0} → Bool → Note → ℕ → Result B Fault → Result B Fault
 past heeds (must broken passes) at rest =
     if not heeds || passes then rest else Err (fault broken at)
-past heeds (opens r) at rest = rest
+past heeds (opens r met) at rest = rest
 
 -- What the ending gives after the last field, or the first fault before it: a field's, or, where
 -- notes are heeded, a note's.

@@ -61,7 +61,7 @@ with_field (Err f) behind = f ∷ []
 -- the fault of a note at the last field, which stands at this place
 abbrev pub note_faults : Note → ℕ → List Fault
 note_faults (must broken passes) at = if_fault (not passes) (fault broken at)
-note_faults (opens r) at = []
+note_faults (opens r met) at = []
 
 -- All faults of the layout: that of the field with which it ends, those of the notes on the way,
 -- and after a layout that reached its last field those that then are found.

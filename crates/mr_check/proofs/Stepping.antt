@@ -1,0 +1,511 @@
+-- What each field leads to.
+use Rattle.std.proofs.Common.{◌≡◌, ℕ, zero, suc, ◌-◌, ◌+◌, ◌≤◌, ◌<◌, Bool, true, false, eqb, List, [], ◌∷◌, ◌++◌, length, map, reverse, Ok, Err, Option, Some, None, refl, sym, ap, subst, ◌∙◌, append_assoc, arith, inl, inr}
+use Rattle.std.specs.Prelude.{filter, option_map, if◌then◌else◌, ◌==◌}
+use Rattle.std.proofs.lemmas.Bool.{cases_Bool, eqb-true, ne_eqb}
+use Rattle.std.proofs.lemmas.List.{append-nil, map-append, length-append}
+use Rattle.std.proofs.lemmas.List.Elements.{filter-append}
+use Rattle.mr_geom.specs.Rectangle.{Rectangle}
+use Rattle.mr_record.specs.declared.record.Record.{Record}
+use Rattle.mr_tree.specs.Digest.{leaf_tag, inner_tag, no_entry}
+use Rattle.mr_tree.specs.Gathers.{Gathers, Piece, of_record}
+use Rattle.mr_tree.specs.declared.entry.Entry.{Entry}
+use Rattle.mr_tree.specs.declared.gathering.Gathering.{Gathering}
+use Rattle.mr_tree.proofs.Gathered.{leaf_gathered}
+use Rattle.mr_query.specs.declared.query.Query.{Query}
+use Rattle.mr_proof.specs.declared.head.Head.{Head}
+use Rattle.mr_proof.specs.declared.rule.Rule.{Rule}
+use Rattle.mr_proof.specs.declared.rule.Rule.TheVariants as rule
+use Rattle.mr_proof.specs.declared.want.Want.TheVariants as want
+use Rattle.mr_proof.specs.declared.field.Field.{Field}
+use Rattle.mr_proof.specs.Fields.{pruned_tag}
+use Rattle.mr_proof.specs.Cut.{Cut, Cuts, Pruned, Leaf, Inner, entry_shown, rect}
+use Rattle.mr_proof.specs.declared.shown.Shown.{Shown}
+use Rattle.mr_proof.specs.Spelling.{Said, said}
+use Rattle.mr_proof.specs.Tight.{Seen, seen_at, seen, met_by, asks}
+use Rattle.mr_proof.specs.Grammar.{Grammar, done, reads, notes, opens, number_in, tag_in, bytes_in, some_records, opened, some_items, item, part}
+use Rattle.mr_check.specs.declared.frame.Frame.{Frame}
+use Rattle.mr_check.specs.declared.frame.Stack.{Stack}
+use Rattle.mr_check.specs.declared.stage.HeadField.{HeadField}
+use Rattle.mr_check.specs.declared.stage.Stage.{Stage}
+use Rattle.mr_check.specs.declared.stage.Stage.TheVariants as stage
+use Rattle.mr_check.specs.declared.tally.Tally.{Tally}
+use Rattle.mr_check.specs.declared.machine.Machine.{Machine}
+use Rattle.mr_check.specs.declared.machine.Stepped.TheVariants as stepped
+use Rattle.mr_check.specs.Stops.{past_notes, noted}
+use Rattle.mr_check.specs.Tallies.{Counts}
+use Rattle.mr_check.specs.Heads.{head_left}
+use Rattle.mr_check.specs.Standing.{Open, Above, after, after_record, node_next, shown_next, stage_of, stage_behind, opened_item, behind_number, behind_sides, behind_length, head_next, region_of, asked, frames_of, AreFrames, IsLeaf, so_far, scheme, InTree, InHead, IsRead, LeafRead, Waits, WaitsPast, Steps, Closes, stepped_by, found_by, plus}
+use Rattle.mr_check.proofs.Opening.{IsClosing, item_waits, after_quiet, past_met, past_missed}
+
+-- ---- a step from what it waits for
+
+waits_on : {H : Type 0} (hash : List ℕ → List ℕ) (holds : H → List ℕ → Type 0) (q : Query) (m : Machine H)
+    (given : List Record) (g next : Grammar Said) → noted g ≡ [] → past_notes g ≡ Ok next
+    → Waits hash holds q m given next → Steps hash holds q m given g stepped.On
+waits_on hash holds q m given g next quiet past waits =
+    (quiet, record { next = next; past = past; waits = waits })
+
+-- a close gives a step
+pub close_steps : {H : Type 0} (hash : List ℕ → List ℕ) (holds : H → List ℕ → Type 0) (q : Query) (m : Machine H)
+    (given : List Record) (g : Grammar Said) (broken : Option Rule) → noted g ≡ []
+    → Closes hash holds q m given g broken → Steps hash holds q m given g (stepped_by broken)
+close_steps hash holds q m given g None quiet w = (quiet, w)
+close_steps hash holds q m given g (Some d) quiet w = w
+
+-- ---- the head
+
+behind_head : {H : Type 0} (hash : List ℕ → List ℕ) (holds : H → List ℕ → Type 0) (q : Query) (m : Machine H)
+    (given : List Record) (h : Head) → h.kind ≡ m.head.kind
+    → InHead q m.head (frames_of m) m.tally given
+    → Steps hash holds q (record m { head = h; stage = stage_behind h None }) given (part (asks q).region h) stepped.On
+behind_head hash holds q m given h kind is = elim (cases_Bool (eqb h.count 0)) [
+  | inl t ↦
+      let none : h.count ≡ 0 = eqb-true h.count 0 t in
+      let here : stage_behind h None ≡ stage.End no_entry = rw t refl in
+      let there : part (asks q).region h ≡ done (said h None) = rw t refl in
+      let steps : Steps hash holds q (record m { head = h; stage = stage.End no_entry }) given (done (said h None))
+      stepped.On =
+      waits_on hash holds q (record m { head = h; stage = stage.End no_entry }) given (done (said h None))
+      (done (said h None)) refl refl (record {
+        above = record { nodes = []; records = [] };
+        whole = None;
+        waits = refl;
+        is_open = record { root = rw none refl; kept = is.nothing; tally = rw is.nothing (is.tally h.radius) };
+      }) in
+      rw (here, there) steps
+  | inr f ↦
+      let here : stage_behind h None ≡ stage.Tag h.level = rw f refl in
+      let region = (asks q).region h.radius in
+      let next = after region h h.level [] in
+      let there : part (asks q).region h ≡ reads (want.Tag h.level) (λ t. node_next region h.level next (tag_in t)) =
+      (rw f refl) ∙ item_waits region h.level next in
+      let g = reads (want.Tag h.level) (λ t. node_next region h.level next (tag_in t)) in
+      let steps : Steps hash holds q (record m { head = h; stage = stage.Tag h.level }) given g stepped.On =
+      waits_on hash holds q (record m { head = h; stage = stage.Tag h.level }) given g g refl refl (record {
+        above = record { nodes = []; records = [] };
+        whole = None;
+        waits = refl;
+        is_open = (
+          refl,
+          record {
+            depth = omega arith;
+            frames = subst (λ (fs : List (Frame _)). AreFrames (scheme hash h) holds h.level fs []) (sym is.frames) tt;
+            kept = is.nothing;
+            tally = rw is.nothing (is.tally h.radius);
+          },
+        );
+      }) in
+      rw (here, there) steps
+]
+
+behind_left : {H : Type 0} (hash : List ℕ → List ℕ) (holds : H → List ℕ → Type 0) (q : Query) (m : Machine H)
+    (given : List Record) (h : Head) (next : Option HeadField) → h.kind ≡ m.head.kind
+    → InHead q m.head (frames_of m) m.tally given
+    → Steps hash holds q (record m { head = h; stage = stage_behind h next }) given
+    (head_left (asks q).region h next) stepped.On
+behind_left hash holds q m given h None kind is = behind_head hash holds q m given h kind is
+behind_left hash holds q m given h (Some f) kind is =
+    let g = head_left (asks q).region h (Some f) in
+    waits_on hash holds q (record m { head = h; stage = stage.Head f }) given g g refl refl (record {
+      above = record { nodes = []; records = [] };
+      whole = None;
+      waits = refl;
+      is_open = record { kind = kind ∙ is.kind; frames = is.frames; nothing = is.nothing; tally = is.tally };
+    })
+
+pub headed : {H : Type 0} (hash : List ℕ → List ℕ) (holds : H → List ℕ → Type 0) (q : Query) (m : Machine H)
+    (given : List Record) (h : Head) (next : Option HeadField) (at : HeadField) (v : Field) → h.kind ≡ m.head.kind
+    → ((region : Option ℕ → Seen → Bool) → head_next region m.head at v ≡ head_left region h next)
+    → InHead q m.head (frames_of m) m.tally given
+    → Steps hash holds q (record m { head = h; stage = stage_behind h next }) given
+    (head_next (asks q).region m.head at v) stepped.On
+headed hash holds q m given h next at v kind goes is =
+    subst (λ (g : Grammar Said). Steps hash holds q (record m { head = h; stage = stage_behind h next }) given g
+    stepped.On) (sym (goes (asks q).region)) (behind_left hash holds q m given h next kind is)
+
+-- ---- items
+
+opened_steps : {H : Type 0} (hash : List ℕ → List ℕ) (holds : H → List ℕ → Type 0) (q : Query) (m : Machine H)
+    (v : ℕ) (given : List Record) (a : Above) → a.records ≡ []
+    → InTree hash holds q m.head (frames_of m) m.tally v given a
+    → Steps hash holds q (record m { stage = (if v == 0 then stage.Records else stage.Entries (v - 1)) }) given
+    (opened_item (region_of q m.head) v (after (region_of q m.head) m.head v a.nodes)) stepped.On
+opened_steps hash holds q m zero given a none is =
+    let g = opened_item (region_of q m.head) 0 (after (region_of q m.head) m.head 0 a.nodes) in
+    waits_on hash holds q (record m { stage = stage.Records }) given g g refl refl
+    (record { above = a; whole = None; waits = refl; is_open = (none, is) })
+opened_steps hash holds q m (suc w) given a none is =
+    let region = region_of q m.head in
+    let below : suc w - 1 ≡ w = omega arith in
+    let up : suc w ≡ w + 1 = omega arith in
+    let not_leaf : eqb (suc w) 0 ≡ false = ne_eqb (suc w) 0 (λ e. omega arith) in
+    let g = opened_item region (suc w) (after region m.head (suc w) a.nodes) in
+    let k = opened_item region (suc w) (after region m.head (w + 1) a.nodes) in
+    let same : k ≡ g = ap (λ (n : ℕ). opened_item region (suc w) (after region m.head n a.nodes)) (sym up) in
+    let steps : Steps hash holds q (record m { stage = stage.Entries w }) given k stepped.On =
+    waits_on hash holds q (record m { stage = stage.Entries w }) given k k refl refl (record {
+      above = a;
+      whole = None;
+      waits = refl;
+      is_open = (none, subst (λ (n : ℕ). InTree hash holds q m.head (frames_of m) m.tally n given a) up is);
+    }) in
+    let here : stage.Entries w ≡ (if suc w == 0 then stage.Records else stage.Entries (suc w - 1)) =
+    rw (not_leaf, below) refl in
+    subst (λ (s : Stage). Steps hash holds q (record m { stage = s }) given g stepped.On) here
+    (subst (λ (x : Grammar Said). Steps hash holds q (record m { stage = stage.Entries w }) given x stepped.On) same
+    steps)
+
+pub tagged : {H : Type 0} (hash : List ℕ → List ℕ) (holds : H → List ℕ → Type 0) (q : Query) (m : Machine H)
+    (v t : ℕ) (given : List Record) (a : Above) → a.records ≡ []
+    → InTree hash holds q m.head (frames_of m) m.tally v given a
+    → Steps hash holds q (record m { stage = stage_of v t }) given
+    (node_next (region_of q m.head) v (after (region_of q m.head) m.head v a.nodes) t) stepped.On
+tagged hash holds q m v t given a none is = elim (cases_Bool (eqb t pruned_tag)) [
+  | inl p ↦ rw p
+      (waits_on hash holds q (record m { stage = stage.Shown v }) given
+      (node_next (region_of q m.head) v (after (region_of q m.head) m.head v a.nodes) pruned_tag)
+      (node_next (region_of q m.head) v (after (region_of q m.head) m.head v a.nodes) pruned_tag) refl refl
+      (record { above = a; whole = None; waits = refl; is_open = (none, is) }))
+  | inr o ↦ rw o (opened_steps hash holds q m v given a none is)
+]
+
+pub shown_met : (region : Seen → Bool) (r : Rectangle) (next : Cut → Grammar Said) → region (seen_at r) ≡ true
+    → past_notes (shown_next region next r) ≡ Err rule.Hidden
+shown_met region r next met = rw met refl
+
+pub shown_missed : {H : Type 0} (hash : List ℕ → List ℕ) (holds : H → List ℕ → Type 0) (q : Query) (m : Machine H)
+    (v : ℕ) (r : Rectangle) (given : List Record) (a : Above) → region_of q m.head (seen_at r) ≡ false
+    → a.records ≡ [] → InTree hash holds q m.head (frames_of m) m.tally v given a
+    → Steps hash holds q (record m { stage = stage.Digest v r }) given
+    (shown_next (region_of q m.head) (after (region_of q m.head) m.head v a.nodes) r) stepped.On
+shown_missed hash holds q m v r given a missed none is =
+    let next = after (region_of q m.head) m.head v a.nodes in
+    let g = reads want.Digest (λ d. next (Pruned (record { rect = r; digest = bytes_in d }))) in
+    let past : past_notes (shown_next (region_of q m.head) next r) ≡ Ok g = rw missed refl in
+    waits_on hash holds q (record m { stage = stage.Digest v r }) given (shown_next (region_of q m.head) next r) g refl
+    past (record { above = a; whole = None; waits = refl; is_open = (none, is) })
+
+pub pruned_read : {H : Type 0} (hash : List ℕ → List ℕ) (holds : H → List ℕ → Type 0) (q : Query) (h : Head)
+    (fs : List (Frame H)) (t : Tally) (v : ℕ) (part : Shown) (x : Entry) (given : List Record) (a : Above)
+    → x ≡ entry_shown v part → a.records ≡ [] → InTree hash holds q h fs t v given a
+    → IsRead hash holds q h fs t x given a.nodes (Pruned part)
+pruned_read hash holds q h fs t v part x given a says none is =
+    let low : x.level ≡ v = ap (λ (y : Entry). y.level) says in
+    record {
+      says = ap (λ (k : ℕ). entry_shown k part) low ∙ sym says;
+      depth = omega (arith, is.depth, low);
+      frames = subst (λ (k : ℕ). AreFrames (scheme hash h) holds k fs a.nodes) (sym low) is.frames;
+      kept = is.kept ∙ ap (λ (rs : List Record). filter (asked q h) (so_far a.nodes ++ rs)) none;
+      tally = is.tally;
+    }
+
+-- what a node of this level that was read whole leads to, where it is said of by its own level
+pub closed_at : {H : Type 0} (hash : List ℕ → List ℕ) (holds : H → List ℕ → Type 0) (q : Query) (m : Machine H)
+    (h : Head) (given : List Record) (region : Seen → Bool) (v w : ℕ) (os : List Open) (P : Cut) (broken : Option Rule)
+    → w ≡ v → Closes hash holds q m given (after region h w os P) broken
+    → Closes hash holds q m given (after region h v os P) broken
+closed_at hash holds q m h given region v w os P broken e c =
+    subst (λ (k : ℕ). Closes hash holds q m given (after region h k os P) broken) e c
+
+pub inner_opened : {H : Type 0} (hash : List ℕ → List ℕ) (holds : H → List ℕ → Type 0) (q : Query) (m : Machine H)
+    (s : Stack (Frame H)) (x : Gathering H) (w n : ℕ) (given : List Record) (a : Above) → 1 ≤ n
+    → Gathers (holds x.hasher) x.rect (inner_tag ∷ (w + 1) ∷ n ∷ []) []
+    → reverse s.list.items ≡ record { node = x; left = n - 1 } ∷ frames_of m
+    → a.records ≡ [] → InTree hash holds q m.head (frames_of m) m.tally (w + 1) given a
+    → Steps hash holds q (record m { frames = s; stage = stage.Tag w }) given
+    (some_items (item (region_of q m.head) w) n (λ Ps. opened (region_of q m.head) (Inner Ps)
+    (after (region_of q m.head) m.head (w + 1) a.nodes))) stepped.On
+inner_opened hash holds q m s x w n given a some gathers there none is =
+    let region = region_of q m.head in
+    let X = λ (Ps : Cuts). opened region (Inner Ps) (after region m.head (w + 1) a.nodes) in
+    let o : Open = record { front = []; left = n - 1 } in
+    let next = after region m.head w (o ∷ a.nodes) in
+    let g = reads (want.Tag w) (λ t. node_next region w next (tag_in t)) in
+    let count : n ≡ suc (n - 1) = omega arith in
+    let reads_on : some_items (item region w) n X ≡ g = ap (λ (k : ℕ). some_items (item region w) k X) count
+    ∙ item_waits region w next in
+    let total : n ≡ 0 + ((n - 1) + 1) = omega arith in
+    waits_on hash holds q (record m { frames = s; stage = stage.Tag w }) given (some_items (item region w) n X) g
+    (ap noted reads_on) (ap past_notes reads_on) (record {
+      above = record { nodes = o ∷ a.nodes; records = [] };
+      whole = None;
+      waits = refl;
+      is_open = (
+        refl,
+        record {
+          depth = omega (arith, is.depth);
+          frames = subst (λ (gs : List (Frame _)). AreFrames (scheme hash m.head) holds w gs (o ∷ a.nodes))
+              (sym there) (
+                record {
+                  left = refl;
+                  gathers = subst (λ (k : ℕ). Gathers (holds x.hasher) x.rect (inner_tag ∷ (w + 1) ∷ k ∷ []) []) total
+                      gathers;
+                  level = λ lt. absurd (omega arith);
+                },
+                is.frames,
+              );
+          kept = is.kept ∙ ap (filter (asked q m.head))
+              (ap (λ (rs : List Record). so_far a.nodes ++ rs) none
+              ∙ sym (append-nil (so_far a.nodes ++ [])));
+          tally = is.tally;
+        },
+      );
+    })
+
+-- ---- records
+
+record_waits : (region : Seen → Bool) (h : Head) (n : ℕ) (os : List Open) (rs : List Record) (r : Record)
+    → some_records region (suc n) (λ ts. opened region (Leaf (rs ++ r ∷ ts)) (after region h 0 os))
+    ≡ reads want.Number (λ v. behind_number (after_record region h n os (rs ++ r ∷ [])) (number_in v))
+record_waits region h n os rs r =
+    λ j. reads want.Number (λ v. behind_number (λ (x : Record). notes (opens x (region (seen_at x.rect)))
+    (some_records region n (λ ts. opened region (Leaf (sym (append_assoc rs (r ∷ []) (x ∷ ts)) j))
+    (after region h 0 os)))) (number_in v))
+
+first_waits : (region : Seen → Bool) (h : Head) (n : ℕ) (os : List Open)
+    → some_records region (suc n) (λ ts. opened region (Leaf ts) (after region h 0 os))
+    ≡ reads want.Number (λ v. behind_number (after_record region h n os []) (number_in v))
+first_waits region h n os = refl
+
+pub leaf_opened : {H : Type 0} (hash : List ℕ → List ℕ) (holds : H → List ℕ → Type 0) (q : Query) (m : Machine H)
+    (x : Gathering H) (n : ℕ) (given : List Record) (a : Above) → 1 ≤ n
+    → Gathers (holds x.hasher) x.rect (leaf_tag ∷ n ∷ []) []
+    → a.records ≡ [] → InTree hash holds q m.head (frames_of m) m.tally 0 given a
+    → Steps hash holds q (record m { leaf = record { node = x; left = n - 1 }; stage = stage.Number })
+    given (some_records (region_of q m.head) n (λ rs. opened (region_of q m.head) (Leaf rs)
+    (after (region_of q m.head) m.head 0 a.nodes))) stepped.On
+leaf_opened hash holds q m x n given a some gathers none is =
+    let region = region_of q m.head in
+    let X = λ (rs : List Record). opened region (Leaf rs) (after region m.head 0 a.nodes) in
+    let g = reads want.Number (λ v. behind_number (after_record region m.head (n - 1) a.nodes []) (number_in v)) in
+    let count : n ≡ suc (n - 1) = omega arith in
+    let reads_on : some_records region n X ≡ g = ap (λ (k : ℕ). some_records region k X) count
+    ∙ first_waits region m.head (n - 1) a.nodes in
+    let total : n ≡ 0 + ((n - 1) + 1) = omega arith in
+    waits_on hash holds q (record m { leaf = record { node = x; left = n - 1 }; stage = stage.Number })
+    given (some_records region n X) g (ap noted reads_on) (ap past_notes reads_on) (record {
+      above = record { nodes = a.nodes; records = [] };
+      whole = None;
+      waits = refl;
+      is_open = (
+        subst (λ (k : ℕ). Gathers (holds x.hasher) x.rect (leaf_tag ∷ k ∷ []) []) total gathers,
+        record {
+          depth = is.depth;
+          frames = is.frames;
+          kept = is.kept ∙ ap (λ (rs : List Record). filter (asked q m.head) (so_far a.nodes ++ rs)) none;
+          tally = is.tally;
+        },
+      );
+    })
+
+-- a record that is met is handed out
+pub kept_more : (q : Query) (h : Head) (met : Bool) (given rs : List Record) (r : Record) → met ≡ asked q h r
+    → given ≡ filter (asked q h) rs → plus met given r ≡ filter (asked q h) (rs ++ r ∷ [])
+kept_more q h true given rs r met kept =
+    let one : filter (asked q h) (r ∷ []) ≡ r ∷ [] = rw (sym met) refl in
+    ap (λ (xs : List Record). xs ++ r ∷ []) kept ∙ ap (λ (xs : List Record). filter (asked q h) rs ++ xs) (sym one)
+    ∙ sym (filter-append (asked q h) rs (r ∷ []))
+kept_more q h false given rs r met kept =
+    let none : filter (asked q h) (r ∷ []) ≡ [] = rw (sym met) refl in
+    kept ∙ sym (append-nil (filter (asked q h) rs)) ∙ ap (λ (xs : List Record). filter (asked q h) rs ++ xs) (sym none)
+    ∙ sym (filter-append (asked q h) rs (r ∷ []))
+
+-- a step that hands out the record where it is met
+found_steps : {H : Type 0} (hash : List ℕ → List ℕ) (holds : H → List ℕ → Type 0) (q : Query) (m : Machine H)
+    (given : List Record) (met : Bool) (r : Record) (g : Grammar Said) → m.latest ≡ r → noted g ≡ []
+    → WaitsPast hash holds q m (plus met given r) g
+    → Steps hash holds q m given (notes (opens r met) g) (found_by None met)
+found_steps hash holds q m given true r g is quiet w = (
+  (λ i. sym is i ∷ quiet i),
+  record {
+    next = w.next;
+    past = w.past;
+    waits = subst (λ (x : Record). Waits hash holds q m (given ++ x ∷ []) w.next) (sym is) w.waits;
+  },
+)
+found_steps hash holds q m given false r g is quiet w =
+    (quiet, record { next = w.next; past = w.past; waits = w.waits })
+
+-- a record more was added
+abbrev pub AddsRecord : {H : Type 0} → (H → List ℕ → Type 0) → Gathering H → Gathering H → Record → Type 0
+AddsRecord holds m n r =
+    (head : List ℕ) (pieces : List Piece) → Gathers (holds m.hasher) m.rect head pieces
+    → Gathers (holds n.hasher) n.rect head (pieces ++ of_record r ∷ [])
+
+-- what is gathered of a leaf with one record more
+added : {H : Type 0} (holds : H → List ℕ → Type 0) (m n : Gathering H) (r : Record) (rs : List Record) (k j : ℕ)
+    → k ≡ j → AddsRecord holds m n r → Gathers (holds m.hasher) m.rect (leaf_tag ∷ k ∷ []) (map of_record rs)
+    → Gathers (holds n.hasher) n.rect (leaf_tag ∷ j ∷ []) (map of_record (rs ++ r ∷ []))
+added holds m n r rs k j e adds is =
+    subst (λ (x : ℕ × List Piece). Gathers (holds n.hasher) n.rect (leaf_tag ∷ x.0 ∷ []) x.1)
+    (λ i. (e i, sym (map-append of_record rs (r ∷ [])) i)) (adds (leaf_tag ∷ k ∷ []) (map of_record rs) is)
+
+pub record_on : {H : Type 0} (hash : List ℕ → List ℕ) (holds : H → List ℕ → Type 0) (q : Query) (m : Machine H)
+    (n : Gathering H) (t : Tally) (met : Bool) (given : List Record) (a : Above)
+    → AddsRecord holds m.leaf.node n m.latest → 0 < m.leaf.left → met ≡ asked q m.head m.latest
+    → Counts q m.head.radius (plus met given m.latest) t
+    → IsLeaf holds m.leaf a.records → InTree hash holds q m.head (frames_of m) m.tally 0 given a
+    → Steps hash holds q (record m {
+      leaf = record { node = n; left = m.leaf.left - 1 };
+      tally = t;
+      stage = stage.Number;
+    })
+    given (after_record (region_of q m.head) m.head m.leaf.left a.nodes a.records m.latest) (found_by None met)
+record_on hash holds q m n t met given a adds some is_met counts leaf is =
+    let region = region_of q m.head in
+    let r = m.latest in
+    let left = m.leaf.left in
+    let all = a.records ++ r ∷ [] in
+    let X = λ (ts : List Record). opened region (Leaf (a.records ++ r ∷ ts)) (after region m.head 0 a.nodes) in
+    let k = reads want.Number (λ v. behind_number (after_record region m.head (left - 1) a.nodes all) (number_in v)) in
+    let count : left ≡ suc (left - 1) = omega arith in
+    let reads_on : some_records region left X ≡ k = ap (λ (n : ℕ). some_records region n X) count
+    ∙ record_waits region m.head (left - 1) a.nodes a.records r in
+    let total : length a.records + (left + 1) ≡ length all + ((left - 1) + 1) = omega
+    (arith, length-append a.records (r ∷ [])) in
+    let after_it = record m { leaf = record { node = n; left = left - 1 }; tally = t; stage = stage.Number } in
+    let w : WaitsPast hash holds q after_it (plus met given r) (some_records region left X) = record {
+      next = k;
+      past = ap past_notes reads_on;
+      waits = record {
+        above = record { nodes = a.nodes; records = all };
+        whole = None;
+        waits = refl;
+        is_open = (
+          added holds m.leaf.node n r a.records (length a.records + (left + 1)) (length all + ((left - 1) + 1)) total
+              adds leaf,
+          record {
+            depth = is.depth;
+            frames = is.frames;
+            kept = kept_more q m.head met given (so_far a.nodes ++ a.records) r is_met is.kept
+                ∙ ap (filter (asked q m.head)) (append_assoc (so_far a.nodes) a.records (r ∷ []));
+            tally = counts;
+          },
+        );
+      };
+    } in
+    subst (λ (b : Bool). Steps hash holds q after_it given (notes (opens r b) (some_records region left X))
+    (found_by None met)) is_met
+    (found_steps hash holds q after_it given met r (some_records region left X) refl (ap noted reads_on) w)
+
+-- the last record of a leaf
+pub leaf_read : {H : Type 0} (hash : List ℕ → List ℕ) (holds : H → List ℕ → Type 0) (q : Query) (h : Head)
+    (fs : List (Frame H)) (old new : Tally) (f : Frame H) (n : Gathering H) (met : Bool) (r : Record)
+    (given : List Record) (a : Above) → AddsRecord holds f.node n r → f.left ≡ 0 → met ≡ asked q h r
+    → Counts q h.radius (plus met given r) new
+    → IsLeaf holds f a.records → InTree hash holds q h fs old 0 given a
+    → LeafRead hash holds q h fs new (record { node = n; left = f.left }) (plus met given r) a r
+leaf_read hash holds q h fs old new f n met r given a adds none is_met counts leaf is =
+    let total : length a.records + (f.left + 1) ≡ length (a.records ++ r ∷ []) = omega
+    (arith, length-append a.records (r ∷ [])) in
+    record {
+      gathers = added holds f.node n r a.records (length a.records + (f.left + 1)) (length (a.records ++ r ∷ [])) total
+          adds leaf;
+      depth = omega (arith, is.depth);
+      frames = is.frames;
+      kept = kept_more q h met given (so_far a.nodes ++ a.records) r is_met is.kept
+          ∙ ap (filter (asked q h)) (append_assoc (so_far a.nodes) a.records (r ∷ []));
+      tally = counts;
+    }
+
+pub leaf_said : {H : Type 0} (hash : List ℕ → List ℕ) (holds : H → List ℕ → Type 0) (q : Query) (h : Head)
+    (fs : List (Frame H)) (t : Tally) (f : Frame H) (x : Entry) (given : List Record) (a : Above) (r : Record)
+    → IsClosing (scheme hash h) holds f.node 0 x
+    → LeafRead hash holds q h fs t f given a r
+    → IsRead hash holds q h fs t x given a.nodes (Leaf (a.records ++ r ∷ []))
+leaf_said hash holds q h fs t f x given a r c is =
+    let all = a.records ++ r ∷ [] in
+    record {
+      says = sym (leaf_gathered (scheme hash h) (holds f.node.hasher) all x c.level
+          (record { fed = is.gathers.fed; round = c.rect ∙ is.gathers.round }) c.digest);
+      depth = omega (arith, is.depth, c.level);
+      frames = subst (λ (k : ℕ). AreFrames (scheme hash h) holds k fs a.nodes) (sym c.level) is.frames;
+      kept = is.kept;
+      tally = is.tally;
+    }
+
+leaf_rect : {H : Type 0} (hash : List ℕ → List ℕ) (holds : H → List ℕ → Type 0) (q : Query) (h : Head)
+    (fs : List (Frame H)) (t : Tally) (f : Frame H) (x : Entry) (given : List Record) (a : Above) (r : Record)
+    (b : Bool)
+    → IsClosing (scheme hash h) holds f.node 0 x
+    → met_by (region_of q h) (option_map seen_at x.rect) ≡ b
+    → LeafRead hash holds q h fs t f given a r
+    → met_by (region_of q h) (seen (Leaf (a.records ++ r ∷ []))) ≡ b
+leaf_rect hash holds q h fs t f x given a r b c met is =
+    let place : x.rect ≡ rect (Leaf (a.records ++ r ∷ [])) =
+    sym (ap (λ (y : Entry). y.rect) (leaf_said hash holds q h fs t f x given a r c is).says) in
+    ap (λ (z : Option Rectangle). met_by (region_of q h) (option_map seen_at z)) (sym place) ∙ met
+
+pub leaf_missed : {H : Type 0} (hash : List ℕ → List ℕ) (holds : H → List ℕ → Type 0) (q : Query) (h : Head)
+    (fs : List (Frame H)) (t : Tally) (f : Frame H) (x : Entry) (given : List Record) (a : Above) (r : Record)
+    → IsClosing (scheme hash h) holds f.node 0 x
+    → met_by (region_of q h) (option_map seen_at x.rect) ≡ false
+    → LeafRead hash holds q h fs t f given a r
+    → past_notes (after_record (region_of q h) h 0 a.nodes a.records r) ≡ Err rule.Needless
+leaf_missed hash holds q h fs t f x given a r c missed is =
+    past_missed (region_of q h) (Leaf (a.records ++ r ∷ [])) (after (region_of q h) h 0 a.nodes)
+    (leaf_rect hash holds q h fs t f x given a r false c missed is)
+
+leaf_found : {H : Type 0} (hash : List ℕ → List ℕ) (holds : H → List ℕ → Type 0) (q : Query) (m : Machine H)
+    (given : List Record) (met : Bool) (r : Record) (g k : Grammar Said) (broken : Option Rule) → m.latest ≡ r
+    → noted g ≡ [] → past_notes g ≡ past_notes k
+    → Closes hash holds q m (plus met given r) k broken
+    → Steps hash holds q m given (notes (opens r met) g) (found_by broken met)
+leaf_found hash holds q m given met r g k None same quiet e w =
+    found_steps hash holds q m given met r g same quiet (record { next = w.next; past = e ∙ w.past; waits = w.waits })
+leaf_found hash holds q m given met r g k (Some d) same quiet e w = e ∙ w
+
+pub leaf_closed : {H : Type 0} (hash : List ℕ → List ℕ) (holds : H → List ℕ → Type 0) (q : Query) (h : Head)
+    (fs : List (Frame H)) (t : Tally) (m : Machine H) (f : Frame H) (x : Entry) (met : Bool) (given : List Record)
+    (a : Above) (r : Record) (broken : Option Rule) → m.latest ≡ r → IsClosing (scheme hash h) holds f.node 0 x
+    → met_by (region_of q h) (option_map seen_at x.rect) ≡ true → met ≡ asked q h r
+    → ((os : List Open) (P : Cut) → IsRead hash holds q h fs t x (plus met given r) os P
+    → Closes hash holds q m (plus met given r) (after (region_of q h) h x.level os P) broken)
+    → LeafRead hash holds q h fs t f (plus met given r) a r
+    → Steps hash holds q m given (after_record (region_of q h) h 0 a.nodes a.records r) (found_by broken met)
+leaf_closed hash holds q h fs t m f x met given a r broken same c meets is_met behind_it is =
+    let region = region_of q h in
+    let all = a.records ++ r ∷ [] in
+    let behind = opened region (Leaf all) (after region h 0 a.nodes) in
+    subst (λ (b : Bool). Steps hash holds q m given (notes (opens r b) behind) (found_by broken met)) is_met
+    (leaf_found hash holds q m given met r behind (after region h 0 a.nodes (Leaf all)) broken same
+    (after_quiet region h 0 a.nodes (Leaf all))
+    (past_met region (Leaf all) (after region h 0 a.nodes)
+    (leaf_rect hash holds q h fs t f x (plus met given r) a r true c meets is))
+    (closed_at hash holds q m h (plus met given r) region 0 x.level a.nodes (Leaf all) broken c.level
+    (behind_it a.nodes (Leaf all) (leaf_said hash holds q h fs t f x (plus met given r) a r c is))))
+
+-- a field of a record that is not its last
+pub sides_on : {H : Type 0} (hash : List ℕ → List ℕ) (holds : H → List ℕ → Type 0) (q : Query) (m : Machine H)
+    (n : ℕ) (given : List Record) (a : Above) → IsLeaf holds m.leaf a.records
+    → InTree hash holds q m.head (frames_of m) m.tally 0 given a
+    → Steps hash holds q (record m { stage = stage.Sides n }) given
+    (behind_number (after_record (region_of q m.head) m.head m.leaf.left a.nodes a.records) n) stepped.On
+sides_on hash holds q m n given a leaf is =
+    let g = behind_number (after_record (region_of q m.head) m.head m.leaf.left a.nodes a.records) n in
+    waits_on hash holds q (record m { stage = stage.Sides n }) given g g refl refl
+    (record { above = a; whole = None; waits = refl; is_open = (leaf, is) })
+
+pub length_on : {H : Type 0} (hash : List ℕ → List ℕ) (holds : H → List ℕ → Type 0) (q : Query) (m : Machine H)
+    (n : ℕ) (r : Rectangle) (given : List Record) (a : Above) → IsLeaf holds m.leaf a.records
+    → InTree hash holds q m.head (frames_of m) m.tally 0 given a
+    → Steps hash holds q (record m { stage = stage.Length n r }) given
+    (behind_sides (after_record (region_of q m.head) m.head m.leaf.left a.nodes a.records) n r) stepped.On
+length_on hash holds q m n r given a leaf is =
+    let g = behind_sides (after_record (region_of q m.head) m.head m.leaf.left a.nodes a.records) n r in
+    waits_on hash holds q (record m { stage = stage.Length n r }) given g g refl refl
+    (record { above = a; whole = None; waits = refl; is_open = (leaf, is) })
+
+pub payload_on : {H : Type 0} (hash : List ℕ → List ℕ) (holds : H → List ℕ → Type 0) (q : Query) (m : Machine H)
+    (n : ℕ) (r : Rectangle) (l : ℕ) (given : List Record) (a : Above) → 0 < l → IsLeaf holds m.leaf a.records
+    → InTree hash holds q m.head (frames_of m) m.tally 0 given a
+    → Steps hash holds q (record m { stage = stage.Payload n r l }) given
+    (behind_length (after_record (region_of q m.head) m.head m.leaf.left a.nodes a.records) n r l) stepped.On
+payload_on hash holds q m n r l given a some leaf is =
+    let next = after_record (region_of q m.head) m.head m.leaf.left a.nodes a.records in
+    let is_not : eqb l 0 ≡ false = ne_eqb l 0 (λ e. omega arith) in
+    let g = reads (want.Payload l) (λ p. next (record { number = n; rect = r; payload = bytes_in p })) in
+    let here : behind_length next n r l ≡ g = rw is_not refl in
+    waits_on hash holds q (record m { stage = stage.Payload n r l }) given (behind_length next n r l) g
+    (ap noted here) (ap past_notes here)
+    (record { above = a; whole = None; waits = refl; is_open = (leaf, is) })

@@ -1,0 +1,341 @@
+-- What a reader that was fed a front of a proof still waits for, and what it keeps of what it was
+-- fed. This serves private functions and proofs: the relation that it defines is known by what
+-- contracts say of it.
+use Rattle.std.specs.Prelude.{◌≡◌, ℕ, zero, suc, ◌+◌, ◌-◌, ◌<◌, ◌≤◌, Bool, not, ◌==◌, if◌then◌else◌, List, [], ◌∷◌, ◌++◌, length, map, filter, reverse, ⊤, Option, Some, None, Ok, Err}
+use Rattle.std.specs.List.{flat_map}
+use Rattle.mr_geom.specs.Rectangle.{Rectangle}
+use Rattle.mr_record.specs.declared.record.Record.{Record}
+use Rattle.mr_tree.specs.Tree.{first_level}
+use Rattle.mr_tree.specs.Digest.{Scheme, by, leaf_tag, inner_tag, no_entry, root_preimage}
+use Rattle.mr_tree.specs.Gathers.{Gathers, Piece, of_record, of_entry}
+use Rattle.mr_tree.specs.declared.entry.Entry.{Entry}
+use Rattle.mr_query.specs.declared.query.Query.{Query}
+use Rattle.mr_query.specs.Region.{reaches}
+use Rattle.mr_proof.specs.declared.head.Kind.{Kind}
+use Rattle.mr_proof.specs.declared.head.Head.{Head}
+use Rattle.mr_proof.specs.declared.rule.Rule.{Rule}
+use Rattle.mr_proof.specs.declared.rule.Rule.TheVariants as rule
+use Rattle.mr_proof.specs.declared.want.Want.{Want}
+use Rattle.mr_proof.specs.declared.want.Want.TheVariants as want
+use Rattle.mr_proof.specs.declared.field.Field.{Field}
+use Rattle.mr_proof.specs.Fields.{pruned_tag}
+use Rattle.mr_proof.specs.Cut.{Cut, Cuts, Pruned, Leaf, Inner, first, entry, records}
+use Rattle.mr_proof.specs.Spelling.{Said, said, version_of, opened_records}
+use Rattle.mr_proof.specs.Tight.{Seen, seen_at, asks, kind_of}
+use Rattle.mr_proof.specs.Accepted.{root_bytes}
+use Rattle.mr_proof.specs.Grammar.{Grammar, must, opens, done, reads, notes, number_in, wide_in, tag_in, rect_in, bytes_in, payload, some_records, opened, leaf, some_items, inner, pruned, item, radius, level, part}
+use Rattle.mr_check.specs.declared.frame.Frame.{Frame}
+use Rattle.mr_check.specs.declared.stage.HeadField.{HeadField}
+use Rattle.mr_check.specs.declared.stage.HeadField.TheVariants as field
+use Rattle.mr_check.specs.declared.stage.Stage.{Stage}
+use Rattle.mr_check.specs.declared.stage.Stage.TheVariants as stage
+use Rattle.mr_check.specs.declared.tally.Tally.{Tally}
+use Rattle.mr_check.specs.declared.machine.Machine.{Machine}
+use Rattle.mr_check.specs.declared.machine.Stepped.{Stepped}
+use Rattle.mr_check.specs.declared.machine.Stepped.TheVariants as stepped
+use Rattle.mr_check.specs.Stops.{past_notes, noted}
+use Rattle.mr_check.specs.Stages.{want_at, FitsStage}
+use Rattle.mr_check.specs.Tallies.{Counts}
+
+-- ---- what follows a node and a record
+
+-- an inner node that is open: the cuts of the children that were read, and how many children stand
+-- behind the one that is under way
+pub record Open : Type 0 where
+  pub front : List Cut
+  pub left : ℕ
+
+-- these cuts, and then those
+abbrev pub with_front : List Cut → Cuts → Cuts
+with_front [] Ps = Ps
+with_front (P ∷ front) Ps = first P (with_front front Ps)
+
+abbrev pub region_of : Query → Head → Seen → Bool
+region_of q h = (asks q).region h.radius
+
+abbrev pub asked : Query → Head → Record → Bool
+asked q h r = reaches q h.radius r.rect
+
+-- what follows a node of this level below these open nodes, its parent first
+abbrev pub after : (Seen → Bool) → Head → ℕ → List Open → Cut → Grammar Said
+after region h level [] P = done (said h (Some P))
+after region h level (o ∷ os) P =
+    some_items (item region level) o.left (λ Ps.
+    opened region (Inner (with_front o.front (first P Ps))) (after region h (level + 1) os))
+
+-- what follows a record of a leaf, behind these and with so many more to come
+abbrev pub after_record : (Seen → Bool) → Head → ℕ → List Open → List Record → Record → Grammar Said
+after_record region h left os rs r =
+    notes (opens r (region (seen_at r.rect))) (some_records region left (λ ts.
+    opened region (Leaf (rs ++ r ∷ ts)) (after region h 0 os)))
+
+-- ---- what follows the field under way
+
+abbrev pub head_so : Kind → ℕ → ℕ → Option ℕ → ℕ → Head
+head_so k b c r l = record { kind = k; batch = b; count = c; radius = r; level = l }
+
+abbrev pub after_radius : (Option ℕ → Seen → Bool) → Kind → ℕ → ℕ → Option ℕ → Grammar Said
+after_radius region k b c r = level c (λ l. part region (head_so k b c r l))
+
+abbrev pub after_count : (Option ℕ → Seen → Bool) → Kind → ℕ → ℕ → Grammar Said
+after_count region k b c = radius k (λ r. after_radius region k b c r)
+
+abbrev pub after_kind : (Option ℕ → Seen → Bool) → Kind → Grammar Said
+after_kind region k =
+    reads want.Batch (λ b. reads want.Count (λ c. after_count region k (number_in b) (number_in c)))
+
+abbrev pub head_next : (Option ℕ → Seen → Bool) → Head → HeadField → Field → Grammar Said
+head_next region h field.Magic v =
+    reads want.Version (λ _. reads (want.Kind h.kind) (λ _. after_kind region h.kind))
+head_next region h field.Version v = reads (want.Kind h.kind) (λ _. after_kind region h.kind)
+head_next region h field.Kind v = after_kind region h.kind
+head_next region h field.Batch v =
+    reads want.Count (λ c. after_count region h.kind (number_in v) (number_in c))
+head_next region h field.Count v = after_count region h.kind h.batch (number_in v)
+head_next region h field.Flag v =
+    if number_in v == 0 then after_radius region h.kind h.batch h.count None
+    else reads want.Radius (λ r. after_radius region h.kind h.batch h.count (Some (wide_in r)))
+head_next region h field.Radius v = after_radius region h.kind h.batch h.count (Some (wide_in v))
+head_next region h field.Level v =
+    part region (head_so h.kind h.batch h.count h.radius (number_in v))
+
+-- an opened node behind its tag
+abbrev pub opened_item : (Seen → Bool) → ℕ → (Cut → Grammar Said) → Grammar Said
+opened_item region zero next = leaf region next
+opened_item region (suc w) next = inner region (item region w) next
+
+-- the stage behind a tag
+abbrev pub stage_of : ℕ → ℕ → Stage
+stage_of level t =
+    if t == pruned_tag then stage.Shown level else if level == 0 then stage.Records
+    else stage.Entries (level - 1)
+
+abbrev pub node_next : (Seen → Bool) → ℕ → (Cut → Grammar Said) → ℕ → Grammar Said
+node_next region v next t =
+    if t == pruned_tag then pruned region next else opened_item region v next
+
+-- a pruned part behind its rectangle
+abbrev pub shown_next : (Seen → Bool) → (Cut → Grammar Said) → Rectangle → Grammar Said
+shown_next region next r =
+    notes (must rule.Hidden (not (region (seen_at r)))) (reads want.Digest (λ d.
+    next (Pruned (record { rect = r; digest = bytes_in d }))))
+
+-- a record behind its number, behind its rectangle too, and behind its length too
+abbrev pub behind_length : (Record → Grammar Said) → ℕ → Rectangle → ℕ → Grammar Said
+behind_length next n r l = payload l (λ p. next (record { number = n; rect = r; payload = p }))
+
+abbrev pub behind_sides : (Record → Grammar Said) → ℕ → Rectangle → Grammar Said
+behind_sides next n r = reads want.Length (λ l. behind_length next n r (number_in l))
+
+abbrev pub behind_number : (Record → Grammar Said) → ℕ → Grammar Said
+behind_number next n = reads want.Rect (λ r. behind_sides next n (rect_in r))
+
+-- what is open above the field under way: the inner nodes, and the records of a leaf that were read
+pub record Above : Type 0 where
+  pub nodes : List Open
+  pub records : List Record
+
+-- what follows the field under way, by its value
+abbrev pub next_at : (Option ℕ → Seen → Bool) → Head → ℕ → Above → Stage → Field → Grammar Said
+next_at region h left a (stage.Head f) v = head_next region h f v
+next_at region h left a (stage.Tag l) v =
+    node_next (region h.radius) l (after (region h.radius) h l a.nodes) (tag_in v)
+next_at region h left a (stage.Shown l) v =
+    shown_next (region h.radius) (after (region h.radius) h l a.nodes) (rect_in v)
+next_at region h left a (stage.Digest l r) v =
+    after (region h.radius) h l a.nodes (Pruned (record { rect = r; digest = bytes_in v }))
+next_at region h left a (stage.Entries w) v =
+    some_items (item (region h.radius) w) (number_in v)
+    (λ Ps. opened (region h.radius) (Inner Ps) (after (region h.radius) h (w + 1) a.nodes))
+next_at region h left a stage.Records v =
+    some_records (region h.radius) (number_in v)
+    (λ rs. opened (region h.radius) (Leaf rs) (after (region h.radius) h 0 a.nodes))
+next_at region h left a stage.Number v =
+    behind_number (after_record (region h.radius) h left a.nodes a.records) (number_in v)
+next_at region h left a (stage.Sides n) v =
+    behind_sides (after_record (region h.radius) h left a.nodes a.records) n (rect_in v)
+next_at region h left a (stage.Length n r) v =
+    behind_length (after_record (region h.radius) h left a.nodes a.records) n r (number_in v)
+next_at region h left a (stage.Payload n r l) v =
+    after_record (region h.radius) h left a.nodes a.records (record
+    { number = n; rect = r; payload = bytes_in v })
+next_at region h left a (stage.End node) v = done (said h None)
+
+-- what is still to be read
+abbrev pub left_at : (Option ℕ → Seen → Bool) → Head → ℕ → Above → Option Cut → Option Want → Stage
+    → Grammar Said
+left_at region h left a whole None s = done (said h whole)
+left_at region h left a whole (Some w) s = reads w (next_at region h left a s)
+
+-- ---- what is kept of what was read
+
+-- the open nodes, the last first
+abbrev pub frames_of : {H : Type 0} → Machine H → List (Frame H)
+frames_of m = reverse m.frames.list.items
+
+-- the scheme of a proof with this head
+abbrev pub scheme : (List ℕ → List ℕ) → Head → Scheme
+scheme hash h = by (version_of h) hash
+
+-- what is said of some children, and their pieces of the preimage
+abbrev pub said_of : Scheme → ℕ → List Cut → List Entry
+said_of s w front = map (entry s w) front
+
+abbrev pub levels_of : List Entry → List ℕ
+levels_of es = map (λ (e : Entry). e.level) es
+
+abbrev pub parts_of : Scheme → ℕ → List Cut → List Piece
+parts_of s w front = map (λ (P : Cut). of_entry (entry s w P)) front
+
+-- the frame is that of an open node whose children are of this level
+pub record IsFrame {H : Type 0} (s : Scheme) (holds : H → List ℕ → Type 0) (w : ℕ) (f : Frame H)
+    (o : Open) : Type 0 where
+  pub left : f.left ≡ o.left
+  pub gathers : Gathers (holds f.node.hasher) f.node.rect
+      (inner_tag ∷ (w + 1) ∷ (length o.front + (o.left + 1)) ∷ []) (parts_of s w o.front)
+  pub level : 0 < length o.front → first_level (levels_of (said_of s w o.front)) ≡ w
+
+-- the frames are those of the open nodes, of which the first has children of this level
+abbrev pub AreFrames : {H : Type 0} → Scheme → (H → List ℕ → Type 0) → ℕ → List (Frame H)
+    → List Open → Type 0
+AreFrames s holds w [] [] = ⊤
+AreFrames s holds w [] (o ∷ os) = ⊥
+AreFrames s holds w (f ∷ fs) [] = ⊥
+AreFrames s holds w (f ∷ fs) (o ∷ os) =
+    IsFrame s holds w f o × AreFrames s holds (w + 1) fs os
+
+-- the frame is that of an open leaf with these records so far, and one under way
+abbrev pub IsLeaf : {H : Type 0} → (H → List ℕ → Type 0) → Frame H → List Record → Type 0
+IsLeaf holds f rs =
+    Gathers (holds f.node.hasher) f.node.rect (leaf_tag ∷ (length rs + (f.left + 1)) ∷ [])
+    (map of_record rs)
+
+-- the records of the children that were read, in reading order
+abbrev pub so_far : List Open → List Record
+so_far [] = []
+so_far (o ∷ os) = so_far os ++ flat_map records o.front
+
+-- the records of the leaf before this one, and this one, which is the last, were read; with it
+-- these were handed out
+pub record LeafRead {H : Type 0} (hash : List ℕ → List ℕ) (holds : H → List ℕ → Type 0) (q : Query)
+    (h : Head) (fs : List (Frame H)) (t : Tally) (leaf : Frame H) (given : List Record) (a : Above)
+    (r : Record) : Type 0 where
+  pub gathers : Gathers (holds leaf.node.hasher) leaf.node.rect
+      (leaf_tag ∷ length (a.records ++ r ∷ []) ∷ []) (map of_record (a.records ++ r ∷ []))
+  pub depth : length a.nodes ≡ h.level
+  pub frames : AreFrames (scheme hash h) holds 0 fs a.nodes
+  pub kept : given ≡ filter (asked q h) (so_far a.nodes ++ (a.records ++ r ∷ []))
+  pub tally : Counts q h.radius given t
+
+-- below the open nodes a node of this level is under way; of all records so far these were handed
+-- out
+pub record InTree {H : Type 0} (hash : List ℕ → List ℕ) (holds : H → List ℕ → Type 0) (q : Query)
+    (h : Head) (fs : List (Frame H)) (t : Tally) (v : ℕ) (given : List Record)
+    (a : Above) : Type 0 where
+  pub depth : v + length a.nodes ≡ h.level
+  pub frames : AreFrames (scheme hash h) holds v fs a.nodes
+  pub kept : given ≡ filter (asked q h) (so_far a.nodes ++ a.records)
+  pub tally : Counts q h.radius given t
+
+-- in the head
+pub record InHead {H : Type 0} (q : Query) (h : Head) (fs : List (Frame H)) (t : Tally)
+    (given : List Record) : Type 0 where
+  pub kind : h.kind ≡ kind_of q
+  pub frames : fs ≡ []
+  pub nothing : given ≡ []
+  pub tally : (radius : Option ℕ) → Counts q radius [] t
+
+-- behind the last field
+pub record AtEnd (hash : List ℕ → List ℕ) (q : Query) (h : Head) (t : Tally) (node : Entry)
+    (given : List Record) (whole : Option Cut) : Type 0 where
+  pub root : root_preimage (version_of h) h.batch h.count node ≡ root_bytes hash h whole
+  pub kept : given ≡ filter (asked q h) (opened_records whole)
+  pub tally : Counts q h.radius given t
+
+abbrev pub IsOpen : {H : Type 0} → (List ℕ → List ℕ) → (H → List ℕ → Type 0) → Query → Machine H
+    → Stage → List Record → Above → Option Cut → Type 0
+IsOpen hash holds q m (stage.Head f) given a whole = InHead q m.head (frames_of m) m.tally given
+IsOpen hash holds q m (stage.Tag v) given a whole =
+    (a.records ≡ []) × InTree hash holds q m.head (frames_of m) m.tally v given a
+IsOpen hash holds q m (stage.Shown v) given a whole =
+    (a.records ≡ []) × InTree hash holds q m.head (frames_of m) m.tally v given a
+IsOpen hash holds q m (stage.Digest v r) given a whole =
+    (a.records ≡ []) × InTree hash holds q m.head (frames_of m) m.tally v given a
+IsOpen hash holds q m (stage.Entries w) given a whole =
+    (a.records ≡ []) × InTree hash holds q m.head (frames_of m) m.tally (w + 1) given a
+IsOpen hash holds q m stage.Records given a whole =
+    (a.records ≡ []) × InTree hash holds q m.head (frames_of m) m.tally 0 given a
+IsOpen hash holds q m (stage.End node) given a whole = AtEnd hash q m.head m.tally node given whole
+IsOpen hash holds q m _ given a whole =
+    IsLeaf holds m.leaf a.records × InTree hash holds q m.head (frames_of m) m.tally 0 given a
+
+-- ---- the machine
+
+-- a cut of a node was read, of which this is said, and the records handed out are those of it and
+-- of what was read before
+pub record IsRead {H : Type 0} (hash : List ℕ → List ℕ) (holds : H → List ℕ → Type 0) (q : Query)
+    (h : Head) (fs : List (Frame H)) (t : Tally) (node : Entry) (given : List Record)
+    (os : List Open) (P : Cut) : Type 0 where
+  pub says : entry (scheme hash h) node.level P ≡ node
+  pub depth : node.level + length os ≡ h.level
+  pub frames : AreFrames (scheme hash h) holds node.level fs os
+  pub kept : given ≡ filter (asked q h) (so_far os ++ records P)
+  pub tally : Counts q h.radius given t
+
+-- The machine waits for this, and these records were handed out.
+pub record Waits {H : Type 0} (hash : List ℕ → List ℕ) (holds : H → List ℕ → Type 0) (q : Query)
+    (m : Machine H) (given : List Record) (g : Grammar Said) : Type 0 where
+  pub above : Above
+  pub whole : Option Cut
+  pub waits : g ≡ left_at (asks q).region m.head m.leaf.left above whole
+      (want_at m.head.kind m.stage) m.stage
+  pub is_open : IsOpen hash holds q m m.stage given above whole
+
+-- past the notes here it waits for what comes next
+pub record WaitsPast {H : Type 0} (hash : List ℕ → List ℕ) (holds : H → List ℕ → Type 0)
+    (q : Query) (m : Machine H) (given : List Record) (g : Grammar Said) : Type 0 where
+  pub next : Grammar Said
+  pub past : past_notes g ≡ Ok next
+  pub waits : Waits hash holds q m given next
+
+-- what a step comes to, where this stands behind the field
+abbrev pub Steps : {H : Type 0} → (List ℕ → List ℕ) → (H → List ℕ → Type 0) → Query → Machine H
+    → List Record → Grammar Said → Stepped → Type 0
+Steps hash holds q m given g stepped.On = (noted g ≡ []) × WaitsPast hash holds q m given g
+Steps hash holds q m given g stepped.Found =
+    (noted g ≡ m.latest ∷ []) × WaitsPast hash holds q m (given ++ m.latest ∷ []) g
+Steps hash holds q m given g (stepped.Broken rule) = past_notes g ≡ Err rule
+
+-- what comes of a node that was read whole
+abbrev pub Closes : {H : Type 0} → (List ℕ → List ℕ) → (H → List ℕ → Type 0) → Query → Machine H
+    → List Record → Grammar Said → Option Rule → Type 0
+Closes hash holds q m given g None = WaitsPast hash holds q m given g
+Closes hash holds q m given g (Some rule) = past_notes g ≡ Err rule
+
+-- the stage that a step, or a node that was read whole, leads to is one that there may be
+abbrev pub StepFits : Kind → Stage → ℕ → Stepped → Type 0
+StepFits k s deep (stepped.Broken rule) = deep ≤ 7
+StepFits k s deep _ = FitsStage k s deep
+
+abbrev pub CloseFits : Kind → Stage → ℕ → Option Rule → Type 0
+CloseFits k s deep None = FitsStage k s deep
+CloseFits k s deep (Some rule) = deep ≤ 7
+
+abbrev pub stepped_by : Option Rule → Stepped
+stepped_by None = stepped.On
+stepped_by (Some rule) = stepped.Broken rule
+
+-- the records handed out, with one more where the region meets it
+abbrev pub plus : Bool → List Record → Record → List Record
+plus met given r = if met then given ++ r ∷ [] else given
+
+abbrev pub found_by : Option Rule → Bool → Stepped
+found_by (Some rule) met = stepped.Broken rule
+found_by None met = if met then stepped.Found else stepped.On
+
+-- the stage behind a field of a head, which is not whole or whole
+abbrev pub stage_behind : Head → Option HeadField → Stage
+stage_behind h (Some f) = stage.Head f
+stage_behind h None =
+    if h.count == 0 then stage.End no_entry
+    else stage.Tag h.level

@@ -1,0 +1,38 @@
+//! A piece of a proof, field by field.
+
+ghost use Rattle.std.specs.Prelude.{◌≡◌, ℕ, List, None, length};
+ghost use Rattle.mr_check.specs.Answers.{TakesFrom};
+ghost use Rattle.mr_check.specs.Reads.{FitsReader, StandsAt, FedBy, FaultFed};
+
+use crate::fed::Fed;
+use crate::reader::{Reader, Turn, advance};
+use mr_query::Query;
+use mr_tree::Hashes;
+
+// The fields of a piece, up to the first record of the region or the first fault.
+pub(crate) fn read_piece<H: Hashes>(q: &Query, r: &mut Reader<H>, piece: &[u8]) -> Fed
+    requires fits { FitsReader r.old }
+    requires none { r.old.fault ≡ None }
+    ensures fits { FitsReader r.new }
+    ensures fault { FaultFed r.new.fault result }
+    ensures taken { TakesFrom (length piece.now) result }
+    ensures fed { (s : List ℕ) → StandsAt H.of H.holds q.now r.old s
+        → FedBy H.of H.holds q.now s piece.now r.new result }
+{
+    let mut at = 0;
+    loop {
+        let (_, rest) = piece.split_at(at);
+        match advance(q, r, rest) {
+            Turn::More => return Fed::More,
+            Turn::Took(count) => at += count,
+            Turn::Found(count) => {
+                let one = &r.machine.latest;
+                return Fed::Found {
+                    taken: at + count,
+                    item: *one,
+                };
+            }
+            Turn::Broken(fault) => return Fed::Fault(fault),
+        }
+    }
+}

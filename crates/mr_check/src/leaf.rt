@@ -1,0 +1,129 @@
+//! The records of a leaf.
+
+ghost use Rattle.std.specs.Prelude.{◌≡◌, ◌≤◌, [], List, vec_len};
+ghost use Rattle.mr_record.specs.declared.record.Record as types;
+ghost use Rattle.mr_check.specs.Tallies.{Counts};
+ghost use Rattle.mr_check.specs.Standing.{frames_of, Above, InTree, IsLeaf, LeafRead, Steps, StepFits, after_record, asked, region_of, found_by, plus, behind_length};
+
+use crate::closing::{area_of, close, meets};
+use crate::frame::Frame;
+use crate::machine::{Machine, Stepped};
+use crate::stage::Stage;
+use crate::tally::{Tally, count};
+use mr_geom::Rect;
+use mr_proof::{Head, Rule};
+use mr_query::Query;
+use mr_record::{Payload, Record};
+use mr_tree::{Gathering, Hashes};
+use std::mem;
+
+// Whether the record is handed out; if so, it is counted.
+fn counted(q: &Query, head: &Head, tally: &mut Tally, one: &Record) -> bool
+    ensures met { result ≡ asked q.now head.now one.now }
+    ensures tally { (given : List types.Record) → Counts q.now head.now.radius given tally.old
+        → Counts q.now head.now.radius (plus result given one.now) tally.new }
+{
+    if area_of(q, head).meets(&one.rect) {
+        count(tally, q, head.radius, one);
+        true
+    } else {
+        false
+    }
+}
+
+// The open leaf, with another one in its place.
+fn taken<H: Hashes>(leaf: &mut Frame<H>) -> Frame<H>
+    ensures { result ≡ leaf.old }
+{
+    let blank = Frame {
+        node: Gathering::<H>::leaf(0),
+        left: 0,
+    };
+    mem::replace(leaf, blank)
+}
+
+fn found(broken: Option<Rule>, met: bool) -> Stepped
+    ensures { result ≡ found_by broken met }
+{
+    match broken {
+        Some(rule) => Stepped::Broken(rule),
+        None => { if met { Stepped::Found } else { Stepped::On } }
+    }
+}
+
+// The last record of the open leaf was read.
+fn last<H: Hashes>(q: &Query, m: &mut Machine<H>, met: bool) -> Stepped
+    requires { vec_len m.old.frames.list ≤ 7 }
+    ensures fits { StepFits m.new.head.kind m.new.stage (vec_len m.new.frames.list) result }
+    ensures steps { (given : List types.Record) (a : Above)
+        → met ≡ asked q.now m.old.head m.old.latest
+        → LeafRead H.of H.holds q.now m.old.head (frames_of m.old) m.old.tally m.old.leaf
+        (plus met given m.old.latest) a m.old.latest
+        → Steps H.of H.holds q.now m.new given (after_record (region_of q.now m.old.head) m.old.head
+        0 a.nodes a.records m.old.latest) result }
+{
+    let leaf = taken(&mut m.leaf);
+    let node = leaf.node.close(0);
+    if !meets(q, &m.head, &node) {
+        return Stepped::Broken(Rule::Needless);
+    }
+    found(close(q, m, &node), met)
+}
+
+// One more record of the open leaf was read.
+pub(crate) fn record<H: Hashes>(q: &Query, m: &mut Machine<H>) -> Stepped
+    requires { vec_len m.old.frames.list ≤ 7 }
+    ensures fits { StepFits m.new.head.kind m.new.stage (vec_len m.new.frames.list) result }
+    ensures steps { (given : List types.Record) (a : Above) → IsLeaf H.holds m.old.leaf a.records
+        → InTree H.of H.holds q.now m.old.head (frames_of m.old) m.old.tally 0 given a
+        → Steps H.of H.holds q.now m.new given (after_record (region_of q.now m.old.head) m.old.head
+        m.old.leaf.left a.nodes a.records m.old.latest) result }
+{
+    let met = counted(q, &m.head, &mut m.tally, &m.latest);
+    m.leaf.node.add_record(&m.latest);
+    if m.leaf.left == 0 {
+        return last(q, m, met);
+    }
+    m.leaf.left -= 1;
+    m.stage = Stage::Number;
+    found(None, met)
+}
+
+// The length of a payload.
+pub(crate) fn sized<H: Hashes>(
+    q: &Query,
+    m: &mut Machine<H>,
+    number: u64,
+    rect: &Rect,
+    length: u8,
+) -> Stepped
+    requires deep { vec_len m.old.frames.list ≤ 7 }
+    requires few { length ≤ 200 }
+    ensures fits { StepFits m.new.head.kind m.new.stage (vec_len m.new.frames.list) result }
+    ensures steps { (given : List types.Record) (a : Above) → IsLeaf H.holds m.old.leaf a.records
+        → InTree H.of H.holds q.now m.old.head (frames_of m.old) m.old.tally 0 given a
+        → Steps H.of H.holds q.now m.new given (behind_length (after_record
+        (region_of q.now m.old.head) m.old.head m.old.leaf.left a.nodes a.records) number
+        rect.now length) result }
+{
+    if length > 0 {
+        m.stage = Stage::Payload(number, *rect, length);
+        return Stepped::On;
+    }
+    let payload = no_payload();
+    m.latest = Record {
+        number,
+        rect: *rect,
+        payload,
+    };
+    record(q, m)
+}
+
+fn no_payload() -> Payload
+    ensures { result ≡ [] }
+{
+    match Payload::new(&[]) {
+        Some(none) => none,
+        None => unreachable!(),
+    }
+}

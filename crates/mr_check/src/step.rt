@@ -1,0 +1,103 @@
+//! One more field.
+
+ghost use Rattle.std.specs.Prelude.{◌≡◌, ◌≤◌, List, Option, vec_len};
+ghost use Rattle.mr_record.specs.declared.record.Record as types;
+ghost use Rattle.mr_proof.specs.Cut.{Cut};
+ghost use Rattle.mr_proof.specs.Tight.{asks};
+ghost use Rattle.mr_check.specs.Stages.{want_at, head_want, MayBe, FitsStage};
+ghost use Rattle.mr_proof.specs.Fields.{HasForm};
+ghost use Rattle.mr_query.specs.declared.query.Query as queries;
+ghost use Rattle.mr_check.specs.declared.machine.Stepped.TheVariants as stepped;
+ghost use Rattle.mr_check.specs.Standing.{frames_of, Above, IsOpen, InHead, Steps, StepFits, next_at, head_next, stage_behind};
+
+use crate::headed::behind_field;
+use crate::inner::{opened_inner, opened_leaf, pruned, shown, tagged};
+use crate::leaf::{record, sized};
+use crate::machine::{Machine, Stepped};
+use crate::stage::{HeadField, Stage};
+use crate::values::{digest_of, number_of, payload_of, rect_of, tag_of};
+use mr_proof::{Field, Head, Shown};
+use mr_query::Query;
+use mr_record::Record;
+use mr_tree::{Entry, Hashes};
+
+// The stage behind a field of the head.
+fn stage_behind(head: &Head, next: Option<HeadField>) -> Stage
+    ensures { result ≡ stage_behind head.now next }
+{
+    match next {
+        Some(field) => Stage::Head(field),
+        None => {
+            if head.count == 0 {
+                Stage::End(Entry::none())
+            } else {
+                Stage::Tag(head.level)
+            }
+        }
+    }
+}
+
+// A field of the head.
+fn headed<H: Hashes>(m: &mut Machine<H>, at: HeadField, field: &Field) -> Stepped
+    requires levels { vec_len m.old.frames.list ≡ 0 }
+    requires may { HasForm (head_want m.old.head.kind at) field.now }
+    ensures fits { StepFits m.new.head.kind m.new.stage (vec_len m.new.frames.list) result }
+    ensures steps { (q : queries.Query) (given : List types.Record)
+        → InHead q m.old.head (frames_of m.old) m.old.tally given
+        → Steps H.of H.holds q m.new given
+        (head_next (asks q).region m.old.head at field.now) result }
+{
+    let next = behind_field(&mut m.head, at, field);
+    m.stage = stage_behind(&m.head, next);
+    Stepped::On
+}
+
+// The stage alone is another.
+fn goes<H: Hashes>(m: &mut Machine<H>, stage: Stage) -> Stepped
+    ensures value { result ≡ stepped.On }
+    ensures stage { m.new ≡ record m.old { stage = stage } }
+{
+    m.stage = stage;
+    Stepped::On
+}
+
+// One more field, behind those before.
+pub(crate) fn step<H: Hashes>(q: &Query, m: &mut Machine<H>, field: &Field) -> Stepped
+    requires fits { FitsStage m.old.head.kind m.old.stage (vec_len m.old.frames.list) }
+    requires may { MayBe (want_at m.old.head.kind m.old.stage) field.now }
+    ensures fits { StepFits m.new.head.kind m.new.stage (vec_len m.new.frames.list) result }
+    ensures steps { (given : List types.Record) (a : Above) (whole : Option Cut)
+        → IsOpen H.of H.holds q.now m.old m.old.stage given a whole
+        → Steps H.of H.holds q.now m.new given (next_at (asks q.now).region m.old.head
+        m.old.leaf.left a m.old.stage field.now) result }
+{
+    let stage = m.stage;
+    match stage {
+        Stage::Head(at) => headed(m, at, field),
+        Stage::Tag(level) => tagged(q, m, level, tag_of(field)),
+        Stage::Shown(level) => shown(q, m, level, &rect_of(field)),
+        Stage::Digest(level, rect) => pruned(
+            q,
+            m,
+            level,
+            &Shown {
+                rect,
+                digest: digest_of(field),
+            },
+        ),
+        Stage::Entries(below) => opened_inner(q, m, below, number_of(field) as u8),
+        Stage::Records => opened_leaf(q, m, number_of(field) as u8),
+        Stage::Number => goes(m, Stage::Sides(number_of(field))),
+        Stage::Sides(number) => goes(m, Stage::Length(number, rect_of(field))),
+        Stage::Length(number, rect) => sized(q, m, number, &rect, number_of(field) as u8),
+        Stage::Payload(number, rect, _) => {
+            m.latest = Record {
+                number,
+                rect,
+                payload: payload_of(field),
+            };
+            record(q, m)
+        }
+        Stage::End(_) => unreachable!(),
+    }
+}
