@@ -8,6 +8,7 @@ pub mod Numbered
 pub mod Digests
 pub mod Spelling
 pub mod Batches
+pub mod Taking
 pub mod Verdicts
 pub mod Promises
 pub mod WholeRuns

@@ -14,3 +14,4 @@ pub mod Promises
 pub mod Run
 pub mod Ending
 pub mod Listing
+pub mod Taking

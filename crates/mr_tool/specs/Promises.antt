@@ -112,7 +112,7 @@ Delivers said before after status = IsWhole said before after status
     ⊎ HasStopped before after status
 
 -- `check` of the proof that an honest server gives, against the root digest of its map, prints
--- what a scan of the map's records gives; for every map, version and query.
+-- what a scan of the map's records gives; for every map and query. So far there is one version.
 abbrev pub AnswersHonest : (List ℕ → List ℕ) → List (List ℕ) → World → World → Status → Type 0
 AnswersHonest hash words before after status =
     (v : Version) (t : Tree) (batch : ℕ) (root : List ℕ) (q : Query) (proof : Bor (List ℕ))
@@ -138,7 +138,7 @@ pub record IsWorth (s : Scheme) (t : Tree) (batch : ℕ) (q : Query)
   pub worth : NoneAnd s.of (clash s t batch bytes) (PrintsScan s t batch q bytes before after)
 
 -- What it is worth that `check` accepts bytes against the root digest of a map, for every map,
--- version, query and bytes.
+-- query and bytes. So far there is one version.
 abbrev pub AcceptsHonestOrCollides : (List ℕ → List ℕ) → List (List ℕ) → World → World → Status
     → Type 0
 AcceptsHonestOrCollides hash words before after status =

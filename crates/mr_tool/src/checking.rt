@@ -3,13 +3,13 @@
 ghost use Rattle.mr_query.specs.Word.{IsAskable};
 ghost use Rattle.mr_tool.specs.Ending.{Comes, GivesOrStops};
 ghost use Rattle.mr_tool.specs.Refusal.{refused_line as line_of};
-ghost use Rattle.mr_tool.specs.Say.{ends, say_check, say_check_of};
+ghost use Rattle.mr_tool.specs.Say.{ends, say_check};
 
 use crate::Status;
 use crate::ending::{Ending, Halt};
-use crate::input::{missing, read};
+use crate::input::missing;
 use crate::lines::refused_line;
-use mr_check::{CheckErr, check};
+use crate::pieces::{Stop, judge_file};
 use mr_outside::Shelf;
 use mr_proof::Fault;
 use mr_query::Query;
@@ -24,23 +24,6 @@ pub(crate) fn refused(alloc: Global, fault: &Fault) -> Result<Ending, Halt>
     Ok(Ending::line(alloc, Status::Refused, line))
 }
 
-// What the bytes of a proof prove, or why they are refused.
-fn check_bytes<H: Hash32>(
-    alloc: Global,
-    root: &[u8; 32],
-    query: &Query,
-    bytes: &[u8],
-) -> Result<Ending, Halt>
-    requires { IsAskable query.now }
-    ensures { GivesOrStops (say_check_of H.of root.now query.now bytes.now) result }
-{
-    match check::<H>(alloc, root, query, bytes) {
-        Ok(records) => Ok(Ending::records(alloc, Status::Done, records)),
-        Err(CheckErr::Fault(fault)) => refused(alloc, &fault),
-        Err(CheckErr::NoMemory) => Err(Halt::NoMemory),
-    }
-}
-
 // The answer that the proof in a file proves, against a root digest and for a query.
 pub(crate) fn check_proof<H: Hash32, S: Shelf>(
     alloc: Global,
@@ -53,9 +36,10 @@ pub(crate) fn check_proof<H: Hash32, S: Shelf>(
     ensures { Comes (say_check H.of root.now query.now name.now) (S.state shelf.old)
         (S.state shelf.new) result }
 {
-    match read(alloc, name, shelf) {
-        Ok(Some(bytes)) => check_bytes::<H>(alloc, root, query, &bytes),
-        Ok(None) => missing(alloc, name),
-        Err(halt) => Err(halt),
+    match judge_file::<H, S>(alloc, root, query, name, shelf) {
+        Ok(records) => Ok(Ending::records(alloc, Status::Done, records)),
+        Err(Stop::Refused(fault)) => refused(alloc, &fault),
+        Err(Stop::Missing) => missing(alloc, name),
+        Err(Stop::Halted(halt)) => Err(halt),
     }
 }

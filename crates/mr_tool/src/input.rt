@@ -16,7 +16,7 @@ use mr_record::{Record, TextErr, TextFault, read_lines};
 use std::alloc::Global;
 
 // What the type tells of its values.
-fn are_bytes(_bytes: &[u8])
+pub(crate) fn are_bytes(_bytes: &[u8])
     ensures { AreBytes _bytes.now }
 {}
 

@@ -14,6 +14,7 @@ mod listing;
 mod making;
 mod memory;
 mod opening;
+mod pieces;
 mod program;
 mod proving;
 mod root;

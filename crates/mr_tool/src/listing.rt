@@ -1,6 +1,6 @@
 //! The command `list`.
 
-ghost use Rattle.std.specs.Prelude.{◌≡◌, map, IfOk, OnOk};
+ghost use Rattle.std.specs.Prelude.{◌≡◌, ◌++◌, map, IfOk, OnOk};
 ghost use Rattle.mr_record.specs.Sorting.{sorted_by_key};
 ghost use Rattle.mr_query.specs.Scan.{by_number as in_order};
 ghost use Rattle.mr_tree.specs.Tree.{records};
@@ -13,7 +13,7 @@ use crate::ending::{Ending, Halt};
 use crate::opening::open_map;
 use mr_outside::Shelf;
 use mr_record::Record;
-use mr_tree::{Hash32, Tree, records_of};
+use mr_tree::{Hash32, Tree};
 use std::alloc::{AllocError, Global};
 
 // A record with its number beside it: a sort moves this, and not the record.
@@ -23,17 +23,43 @@ pub(crate) struct Numbered<'a> {
     item: &'a Record,
 }
 
-// Each record with its number.
-fn entries_of(alloc: Global, list: &[Record]) -> Result<Vec<Numbered<'_>>, AllocError>
-    ensures { IfOk result (λ v. map seen v.items ≡ map numbered_record list.now) }
+// Adds some records, each with its number.
+fn add_records<'a>(list: &'a [Record], entries: &mut Vec<Numbered<'a>>) -> Result<(), AllocError>
+    ensures { OnOk result (map seen entries.new.items
+        ≡ map seen entries.old.items ++ map numbered_record list.now) }
 {
-    let mut entries = Vec::with_capacity(alloc, list.len())?;
     for record in list {
         entries.push(Numbered {
             number: record.number,
             item: record,
         })?;
     }
+    Ok(())
+}
+
+// Adds the records of a tree, left to right.
+fn add_tree<'a>(tree: &'a Tree, entries: &mut Vec<Numbered<'a>>) -> Result<(), AllocError>
+    ensures { OnOk result (map seen entries.new.items
+        ≡ map seen entries.old.items ++ map numbered_record (records tree.now)) }
+{
+    match tree {
+        Tree::Empty => Ok(()),
+        Tree::Leaf(records) => add_records(records.as_slice(), entries),
+        Tree::Inner(children) => {
+            for child in children.as_slice() {
+                add_tree(child, entries)?;
+            }
+            Ok(())
+        }
+    }
+}
+
+// The records of a tree, each with its number.
+fn entries_of(alloc: Global, tree: &Tree) -> Result<Vec<Numbered<'_>>, AllocError>
+    ensures { IfOk result (λ v. map seen v.items ≡ map numbered_record (records tree.now)) }
+{
+    let mut entries = Vec::new(alloc);
+    add_tree(tree, &mut entries)?;
     Ok(entries)
 }
 
@@ -52,28 +78,21 @@ fn copies(alloc: Global, entries: &[Numbered<'_>]) -> Result<Vec<Record>, AllocE
     entries.iter().map(|entry| *entry.item).collect(alloc)
 }
 
-// The records in rising number.
-fn by_number(alloc: Global, list: &[Record]) -> Result<Vec<Record>, AllocError>
-    ensures { IfOk result (λ v. v.items ≡ in_order list.now) }
+// The records of a tree in rising number.
+fn by_number(alloc: Global, tree: &Tree) -> Result<Vec<Record>, AllocError>
+    ensures { IfOk result (λ v. v.items ≡ in_order (records tree.now)) }
 {
-    let mut entries = entries_of(alloc, list)?;
+    let mut entries = entries_of(alloc, tree)?;
     sort(&mut entries)?;
     copies(alloc, &entries)
 }
 
-// The records of a tree, which is given up for them.
-fn records_of_tree(alloc: Global, tree: Tree) -> Result<Vec<Record>, AllocError>
-    ensures { IfOk result (λ v. v.items ≡ records tree) }
-{
-    records_of(alloc, &tree)
-}
-
-// The records of a tree in rising number.
+// What is said of a map with this tree, which is given up.
 fn list_tree(alloc: Global, tree: Tree) -> Result<Ending, AllocError>
     ensures { IfOk result (λ e. Gives (say_list_of tree) e) }
 {
-    let list = records_of_tree(alloc, tree)?;
-    Ok(Ending::records(alloc, Status::Done, by_number(alloc, &list)?))
+    let list = by_number(alloc, &tree)?;
+    Ok(Ending::records(alloc, Status::Done, list))
 }
 
 // The records of the map in a file, in rising number.

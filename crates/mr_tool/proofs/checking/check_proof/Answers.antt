@@ -1,30 +1,44 @@
-use Rattle.std.proofs.Common.{subst}
-use Rattle.mr_tool.specs.Say.{say_check_of}
-use Rattle.mr_tool.specs.Ending.{GivesOrStops}
-use Rattle.mr_tool.proofs.Going.{comes_given, comes_read, comes_missed, comes_unread}
-use Rattle.mr_tool.proofs.Verdicts.{check_writes}
+use Rattle.std.proofs.Common.{sym, subst}
+use Rattle.std.specs.Prelude.{Ok, Err}
+use Rattle.mr_record.specs.RecordText.{text_of}
+use Rattle.mr_tool.specs.Ending.{Gives, GivesOrStops}
+use Rattle.mr_tool.specs.Say.{prints, say_check_of}
+use Rattle.mr_tool.proofs.Going.{comes_given, comes_on, judged_needs}
+use Rattle.mr_tool.specs.Plan.{comes}
+use Rattle.mr_tool.proofs.Verdicts.{says_verdict, gives, check_writes}
 use Rattle.mr_tool.proofs.checking.check_proof.Goals as goal
 
-pub returns-in-Ok-Some : goal.returns-in-Ok-Some
-returns-in-Ok-Some g c =
-    let said = say_check_of g.H.Hashes.of c.args.root.now c.args.query.now in
-    let between = g.S.Shelf.state c.read.new.shelf in
-    let bytes = c.in-Ok-Some.bytes.items in
-    comes_read c.args.name.now said (g.S.Shelf.state c.args.shelf.now) between between
-    c.in-Ok-Some.bytes c.in-Ok-Some.field-0 c.check_bytes.result c.in-Ok-Some.field-0-is c.in-Ok-Some.ensures
-    (comes_given (said bytes) between c.check_bytes.result
-    (check_writes g.H.Hashes.of c.args.root.now c.args.query.now bytes)
-    (subst (λ b. GivesOrStops (said b) c.check_bytes.result) c.deref.ensures.value c.check_bytes.ensures))
+pub returns-in-Ok : goal.returns-in-Ok
+returns-in-Ok g c =
+    let hash = g.H.Hashes.of in
+    let said = say_check_of hash c.args.root.now c.args.query.now in
+    let before = g.S.Shelf.state c.args.shelf.now in
+    let after = g.S.Shelf.state c.judge_file.new.shelf in
+    let is = c.in-Ok.ensures.judges in
+    let causes = c.in-Ok.ensures.causes in
+    comes_on c.args.name.now (λ b. comes (said b)) is.bytes before after after
+    (record { counts = causes.counts; files = causes.files; faults = causes.cause }) is.input is.are
+    (judged_needs c.args.name.now said before.files) (Ok c.records.result)
+    (comes_given (said is.bytes) after (Ok c.records.result)
+    (check_writes hash c.args.root.now c.args.query.now is.bytes)
+    (subst (λ outcome. Gives outcome c.records.result)
+    (sym (says_verdict hash c.args.root.now c.args.query.now is.bytes (Ok c.in-Ok.records.items) is.verdict_is))
+    (gives (prints (text_of c.in-Ok.records.items)) c.records.result ((λ e. cc), (λ e. cc)) c.records.ensures.status
+    c.records.ensures.printed)))
 
-pub returns-in-Ok-None : goal.returns-in-Ok-None
-returns-in-Ok-None g c =
-    let said = say_check_of g.H.Hashes.of c.args.root.now c.args.query.now in
-    comes_missed c.args.name.now said (g.S.Shelf.state c.args.shelf.now)
-    (g.S.Shelf.state c.read.new.shelf) c.in-Ok-None.field-0 c.missing.result c.in-Ok-None.field-0-is
-    c.in-Ok-None.ensures c.missing.ensures
-
-pub returns-in-Err : goal.returns-in-Err
-returns-in-Err g c =
-    let said = say_check_of g.H.Hashes.of c.args.root.now c.args.query.now in
-    comes_unread c.args.name.now said (g.S.Shelf.state c.args.shelf.now)
-    (g.S.Shelf.state c.read.new.shelf) c.in-Err.halt c.in-Err.ensures
+pub returns-in-Err-Refused : goal.returns-in-Err-Refused
+returns-in-Err-Refused g c =
+    let hash = g.H.Hashes.of in
+    let said = say_check_of hash c.args.root.now c.args.query.now in
+    let before = g.S.Shelf.state c.args.shelf.now in
+    let after = g.S.Shelf.state c.judge_file.new.shelf in
+    let is = rw c.in-Err-Refused.field-0-is at c.in-Err-Refused.ensures.judges in
+    let causes = rw c.in-Err-Refused.field-0-is at c.in-Err-Refused.ensures.causes in
+    comes_on c.args.name.now (λ b. comes (said b)) is.bytes before after after
+    (record { counts = causes.counts; files = causes.files; faults = causes.cause }) is.input is.are
+    (judged_needs c.args.name.now said before.files) c.refused.result
+    (comes_given (said is.bytes) after c.refused.result
+    (check_writes hash c.args.root.now c.args.query.now is.bytes)
+    (subst (λ outcome. GivesOrStops outcome c.refused.result)
+    (sym (says_verdict hash c.args.root.now c.args.query.now is.bytes (Err c.in-Err-Refused.fault) is.verdict_is))
+    c.refused.ensures))

@@ -1,0 +1,20 @@
+use Rattle.std.proofs.Common.{◌≡◌, ◌-◌, ◌+◌, [], List, ℕ}
+use Rattle.mr_outside.specs.State.{Shelved}
+use Rattle.mr_query.specs.declared.query.Query.{Query}
+use Rattle.mr_check.specs.Judged.{IsTaken}
+use Rattle.mr_tool.specs.Ending.{NoneFalls}
+use Rattle.mr_tool.proofs.Taking.{HasTaken}
+use Rattle.mr_tool.proofs.pieces.take_file.Given as goal
+
+abbrev pub invariant-loop-at : goal.invariant-loop-at
+invariant-loop-at g l = record {
+  counts : NoneFalls (g.S.Shelf.state l.initial.shelf) (g.S.Shelf.state l.shelf);
+  files : (g.S.Shelf.state l.shelf).files ≡ (g.S.Shelf.state l.initial.shelf).files;
+  faults : (g.S.Shelf.state l.shelf).faults ≡ (g.S.Shelf.state l.initial.shelf).faults;
+  taken : (root : List ℕ) (q : Query) → IsTaken g.H.Hashes.of g.H.Hashes.holds root q l.initial.intake []
+      → HasTaken g.H.Hashes.of g.H.Hashes.holds root q (g.S.Shelf.state l.initial.shelf).files l.name l.size l.at
+      l.intake;
+}
+
+abbrev pub decreases-loop-at : goal.decreases-loop-at
+decreases-loop-at g l = l.size - l.at
