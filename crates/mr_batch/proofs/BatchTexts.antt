@@ -313,13 +313,16 @@ head_here line lines fault e =
     record {
       first = broken.1;
       empty = λ none. absurd cc;
-      breaks = λ other rest same. let is : line ≡ other = cc in subst (λ l. number_of_line l ≡ Err fault.rule) is broken.0;
+      breaks = λ other rest same. let is : line ≡ other = cc in subst (λ l. number_of_line l ≡ Err fault.rule) is
+          broken.0;
     }
 
-no_lines : (fault : TextFault) → ◌≡◌ {A = Result Changes TextFault} (Err (record { line = 1; rule = Head })) (Err fault) →
+no_lines : (fault : TextFault) → ◌≡◌ {A = Result Changes TextFault} (Err (record { line = 1; rule = Head }))
+    (Err fault) →
     IsHeadBreak [] fault
 no_lines fault e =
-    let same : record { line = 1; rule = Head } ≡ fault = same_fault {A = Changes} (record { line = 1; rule = Head }) fault e in
+    let same : record { line = 1; rule = Head } ≡ fault = same_fault {A = Changes} (record { line = 1; rule = Head })
+    fault e in
     record {
       first = sym (ap (λ (f : TextFault). f.line) same);
       empty = λ none. sym (ap (λ (f : TextFault). f.rule) same);

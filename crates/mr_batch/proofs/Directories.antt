@@ -46,7 +46,8 @@ IsDirectoryOf-put old new rs i r apart low e is put counted =
     let fresh = number_is_new rs i r apart low e in
     let more : take (i + 1) rs ≡ take i rs ++ r ∷ [] = take_more rs i r low ∙ ap (λ s. take i rs ++ s ∷ []) (sym e) in
     let none : rect_at old r.number ≡ None = is.rects r.number ∙ rect_in-absent (take i rs) r.number fresh in
-    let one : length new ≡ length old + 1 = counted ∙ ap (λ (o : Option Rectangle). length old + cond (is_some o) 0 1) none in
+    let one : length new ≡ length old + 1 = counted ∙ ap (λ (o : Option Rectangle). length old + cond (is_some o) 0 1)
+    none in
     let len = length_push (take i rs) r in
     let was = is.count in
     subst (IsDirectoryOf new) (sym more) (record {

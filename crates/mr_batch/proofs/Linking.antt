@@ -53,13 +53,15 @@ pub record AreLinks (changes : List Change) (bound : ℕ) (links : List (Option 
   pub each : (i : ℕ) → i < bound
       → IsLastBelow i (slice_index (numbers changes) i) (numbers changes) (slice_index_or links i None)
 
-pub AreLinks-push : (changes : List Change) (i : ℕ) (links : List (Option ℕ)) (o : Option ℕ) → AreLinks changes i links →
+pub AreLinks-push : (changes : List Change) (i : ℕ) (links : List (Option ℕ)) (o : Option ℕ)
+    → AreLinks changes i links →
     IsLastBelow i (slice_index (numbers changes) i) (numbers changes) o → AreLinks changes (i + 1) (links ++ o ∷ [])
 AreLinks-push changes i links o are is = record {
   count = let n = length_push links o in let m = are.count in omega arith;
   each = λ k below. ⊎_elim
       (λ (same : k ≡ i).
-      subst (λ j. IsLastBelow j (slice_index (numbers changes) j) (numbers changes) (slice_index_or (links ++ o ∷ []) j None))
+      subst (λ j. IsLastBelow j (slice_index (numbers changes) j) (numbers changes)
+      (slice_index_or (links ++ o ∷ []) j None))
       (sym same)
       (subst (IsLastBelow i (slice_index (numbers changes) i) (numbers changes))
       (sym (get_or_at links o [] None i are.count)) is))
@@ -91,7 +93,8 @@ after_same has c n e = let t : eqb (named c) n ≡ true = eq-eqb (named c) n e i
 after_other : (has : ℕ → Bool) (c : Change) (n : ℕ) → named c ≢ n → after has c n ≡ has n
 after_other has c n ne = let t : eqb (named c) n ≡ false = ne_eqb (named c) n ne in rw t refl
 
-number_below : (cs : List Change) (i : ℕ) (d : Change) → i < length cs → named (get_or cs i d) ≡ slice_index (numbers cs) i
+number_below : (cs : List Change) (i : ℕ) (d : Change) → i < length cs → named (get_or cs i d)
+    ≡ slice_index (numbers cs) i
 number_below cs i d low = sym (get_or-map named cs i d 0 low)
 
 -- no earlier change says anything of the number

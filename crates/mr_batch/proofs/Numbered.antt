@@ -49,7 +49,8 @@ member_number : (n : ℕ) (rs : List Record) → is_member eqb (map number_of rs
 member_number n [] = refl
 member_number n (r ∷ rs) = (λ j. turned n r.number j || member_number n rs j)
 
-none_equal : (n : ℕ) (rs : List Record) → has_number n rs ≡ false → AllByRecursion (λ y. eqb n y ≡ false) (map number_of rs)
+none_equal : (n : ℕ) (rs : List Record) → has_number n rs ≡ false → AllByRecursion (λ y. eqb n y ≡ false)
+    (map number_of rs)
 none_equal n [] none = tt
 none_equal n (r ∷ rs) none =
     let parts = or_parts (eqb r.number n) (has_number n rs) none in
@@ -109,7 +110,8 @@ numbers_differ n (e ∷ entries) none =
 apart_entries : (entries : Entries) → IsDistinct eqb (keys_of entries) → Apart (map record_at entries)
 apart_entries [] distinct = λ i j d above low. absurd (omega arith)
 apart_entries (e ∷ entries) distinct =
-    let others : Apart (map record_at entries) = apart_entries entries (IsDistinct-tail eqb e.0 (keys_of entries) distinct)
+    let others : Apart (map record_at entries) = apart_entries entries
+    (IsDistinct-tail eqb e.0 (keys_of entries) distinct)
     in
     AllPairs-cons (λ a b. a.number ≢ b.number) (record_at e) (map record_at entries)
     (numbers_differ e.0 entries (IsDistinct-head eqb e.0 (keys_of entries) distinct)) others

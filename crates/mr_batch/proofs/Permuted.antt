@@ -174,7 +174,8 @@ module _ {T : Type 0} (records : T → List Record) (Holds : T → Type 0) (chan
   -- the next change may be made, and the others after it
   pub next_change : (t : T) (c : Change) (cs : List Change) (out : List Record) → Holds t →
       applied (records t) (c ∷ cs) ≡ Some out →
-      (may_make (records t) c ≡ true) × Holds (changed t c) × BothApply (made (records t) c) (records (changed t c)) cs out
+      (may_make (records t) c ≡ true) × Holds (changed t c) × BothApply (made (records t) c) (records (changed t c))
+      cs out
   unfolding applied
   next_change t c cs out holds e =
       let first = made_then (may_make (records t) c) (applied (made (records t) c) cs) out e in

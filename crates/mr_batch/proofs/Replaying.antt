@@ -123,7 +123,8 @@ tree_at_end before t cs i all way =
 pub records_at_end : (before t : Tree) (cs : List Change) (i : ℕ) → length cs ≤ i → IsOnTheWay before cs i t →
     IsLeft (records before) cs (records t)
 records_at_end before t cs i all way =
-    let none : applied (records t) [] ≡ Some way.rest = ap (applied (records t)) (sym (drop_all cs i all)) ∙ way.applies in
+    let none : applied (records t) [] ≡ Some way.rest = ap (applied (records t)) (sym (drop_all cs i all))
+    ∙ way.applies in
     let same : records t ≡ way.rest = some_same (records t) way.rest (sym (applied_none (records t)) ∙ none) in
     record {
       list = way.all;
@@ -133,7 +134,8 @@ records_at_end before t cs i all way =
 
 -- ---- the fault by a directory of the records
 
-numbers_alike : (entries : Entries) (rs tree_rs : List Record) → Apart tree_rs → rs ≡ tree_rs → IsDirectoryOf entries rs →
+numbers_alike : (entries : Entries) (rs tree_rs : List Record) → Apart tree_rs → rs ≡ tree_rs
+    → IsDirectoryOf entries rs →
     HaveNumbers entries tree_rs
 numbers_alike entries rs tree_rs apart same is =
     numbers_of entries tree_rs apart (subst (IsDirectoryOf entries) same is)

@@ -111,9 +111,11 @@ has_number-push n rs r =
 taken_out : (k n m : ℕ) (has : Bool) → m ≡ k → cond (eqb k n) false has ≡ cond (eqb k n) false (eqb m n || has)
 taken_out k n m has same =
     ⊎_elim (λ (t : eqb k n ≡ true). rw t refl)
-    (λ (f : eqb k n ≡ false). let g : eqb m n ≡ false = ap (λ x. eqb x n) same ∙ f in rw (f, g) refl) (cases_Bool (eqb k n))
+    (λ (f : eqb k n ≡ false). let g : eqb m n ≡ false = ap (λ x. eqb x n) same ∙ f in rw (f, g) refl)
+    (cases_Bool (eqb k n))
 
-left_in : (k n m : ℕ) (has : Bool) → m ≢ k → (eqb m n || cond (eqb k n) false has) ≡ cond (eqb k n) false (eqb m n || has)
+left_in : (k n m : ℕ) (has : Bool) → m ≢ k → (eqb m n || cond (eqb k n) false has)
+    ≡ cond (eqb k n) false (eqb m n || has)
 left_in k n m has other =
     ⊎_elim
     (λ (t : eqb k n ≡ true).
@@ -127,7 +129,8 @@ without-there : (k : ℕ) (r : Record) (rs : List Record) → r.number ≢ k →
 without-there k r rs ne = let f : eqb r.number k ≡ false = ne_eqb r.number k ne in rw f refl
 
 has_number-without : (k n : ℕ) (rs : List Record) → has_number n (without k rs) ≡ cond (eqb k n) false (has_number n rs)
-has_number-without k n [] = ⊎_elim (λ (t : eqb k n ≡ true). rw t refl) (λ (f : eqb k n ≡ false). rw f refl) (cases_Bool (eqb k n))
+has_number-without k n [] = ⊎_elim (λ (t : eqb k n ≡ true). rw t refl) (λ (f : eqb k n ≡ false). rw f refl)
+    (cases_Bool (eqb k n))
 has_number-without k n (r ∷ rs) =
     let ih = has_number-without k n rs in
     ⊎_elim

@@ -10,7 +10,8 @@ returns-clause-exact c =
     λ rs have.
     subst (λ (o : Option BatchFault). MatchResult c.check_all.result (λ _. o ≡ None) (λ f. o ≡ Some f))
     (same_fault_by c.args.dir.now rs c.len-count.result have
-    (c.len-count.ensures.exact ∙ as_many c.args.dir.now rs c.len-count.ensures.rising have) c.args.held c.args.batch.now)
+    (c.len-count.ensures.exact ∙ as_many c.args.dir.now rs c.len-count.ensures.rising have) c.args.held
+    c.args.batch.now)
     c.check_all.ensures
 
 pub returns-clause-admissible : goal.returns-clause-admissible

@@ -17,6 +17,7 @@ returns-in-None c =
     let list = c.args.batch.now.list in
     let one = c.change-in-None.result.now in
     c.is_some.ensures ∙ ap is_some c.rect.ensures
-    ∙ ap (knows c.args.dir.now) (c.number.ensures ∙ sym (number_at list c.args.i one c.requires c.change-in-None.ensures))
+    ∙ ap (knows c.args.dir.now) (c.number.ensures ∙ sym (number_at list c.args.i one c.requires
+    c.change-in-None.ensures))
     ∙ sym (after_all-none (knows c.args.dir.now) list c.args.i (slice_index (numbers list) c.args.i) one (omega arith)
     (c.in-None.ensures.last c.requires))

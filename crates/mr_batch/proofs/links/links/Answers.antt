@@ -11,7 +11,8 @@ loop-i-preserved c =
     let changes = c.args.changes.now in
     let i = c.loop-i.i in
     let m = c.number.result in
-    let here = number_at changes i c.index-changes-i.result c.loop-i-test.true c.index-changes-i.is ∙ sym c.number.ensures
+    let here = number_at changes i c.index-changes-i.result c.loop-i-test.true c.index-changes-i.is
+    ∙ sym c.number.ensures
     in
     let old = c.in_ok-last.ensures.old in
     let found = subst (IsLastBelow i m (numbers changes)) (sym old) (c.loop-i.invariant.places m) in

@@ -83,7 +83,8 @@ entry_over-one-requires g t c κs within =
               below,
               child_front (by One g.H.Hashes.of) c.as_slice-child-items.result.now c.loop-child.child-index
                   c.child-item.result c.loop-child.rest.now c.child-item.is c.loop-child-test.true
-                  c.loop-child.invariant.left c.leaf_count.result c.split_at.result.0.now c.leaf_count.ensures c.split_at.ensures.front,
+                  c.loop-child.invariant.left c.leaf_count.result c.split_at.result.0.now c.leaf_count.ensures
+                  c.split_at.ensures.front,
             ),
           ),
         ),
