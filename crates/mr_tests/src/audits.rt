@@ -3,14 +3,16 @@
 //! the map. Strings and digests come from a program of another language.
 
 use crate::bench::Step::{Change, Do, Run};
-use crate::bench::{Row, Story, first_other, first_untrue};
+use crate::bench::{Row, Story, rows_hold, stories_go};
 use crate::maps::SEVENTEEN;
 use crate::parts::File;
 use crate::parts::Part::{Raw, Row as InARow, Text};
-use crate::rows::{SEVEN, first_good_line};
+use crate::rows::{SEVEN, lines_are_bad};
 use mr_tool::Status::{BadMap, Collision, Done, Outside, Refused};
 use mr_tree::XorHash;
-use std::test::Fail;
+use std::alloc::Global;
+use std::process::Abort;
+use std::thread::Threads;
 
 const TEXT_OF_SEVEN: &[File<'static>] = &[("r", &[Text(SEVEN)])];
 
@@ -298,11 +300,18 @@ const DEEP: &[Story<'static>] = &[Story {
     ],
 }];
 
+fn audits_go<R: Threads + Abort + Sync>(rt: &R, alloc: Global) {
+    stories_go::<XorHash, R>(rt, alloc, AUDITS);
+}
+
+fn deep_go<R: Threads + Abort + Sync>(rt: &R, alloc: Global) {
+    stories_go::<XorHash, R>(rt, alloc, DEEP);
+}
+
 #[test]
-fn proofs_beside_their_maps(rt: HostRuntime) -> Result<(), Fail> {
-    assert_eq!(rt; first_untrue::<XorHash, _>(&rt, rt.alloc(), AUDITS)?, None);
-    assert_eq!(rt; first_untrue::<XorHash, _>(&rt, rt.alloc(), DEEP)?, None);
-    Ok(())
+fn proofs_beside_their_maps(rt: HostRuntime) {
+    audits_go(&rt, rt.alloc());
+    deep_go(&rt, rt.alloc());
 }
 
 const BAD_MAP: &[File<'static>] = &[("m", &[Text("MRMP")])];
@@ -332,8 +341,7 @@ const REFUSED: &[Row<'static>] = &[
 const WORDS: &[&str] = &["audit m window:0,0,0,0 m", "audit m window:1,0,0,0 p"];
 
 #[test]
-fn audits_without_a_map(rt: HostRuntime) -> Result<(), Fail> {
-    assert_eq!(rt; first_other::<XorHash, _>(&rt, rt.alloc(), REFUSED)?, None);
-    assert_eq!(rt; first_good_line(&rt, rt.alloc(), WORDS, BAD_MAP)?, None);
-    Ok(())
+fn audits_without_a_map(rt: HostRuntime) {
+    rows_hold::<XorHash, _>(&rt, rt.alloc(), REFUSED);
+    lines_are_bad(&rt, rt.alloc(), WORDS, BAD_MAP);
 }

@@ -1,5 +1,6 @@
 //! Rows and stories of runs, and how they are run: over a shelf and a sink in memory.
 
+use crate::assertions::{all_go, all_hold};
 use crate::listed::Listed;
 use crate::parts::{File, Part, bytes_of, edited, expanded};
 use mr_outside::{Gate, MemShelf, MemSink, NoGate, Shelf};
@@ -7,6 +8,7 @@ use mr_tool::{Status, run};
 use mr_tree::Hash32;
 use sha2::{Digest, Sha256};
 use std::alloc::{AllocError, Global};
+use std::process::Abort;
 use std::thread::Threads;
 
 /// A call that fails, by its number from 1 on.
@@ -120,14 +122,23 @@ pub fn shelf_with(alloc: Global, name: &str, bytes: &[u8]) -> Result<MemShelf, A
     Ok(shelf)
 }
 
-// The calls of the shelf that fail, or those of the sink.
-fn failing(alloc: Global, fails: &[Call], of_shelf: bool) -> Result<Vec<u64>, AllocError> {
+// The calls of the shelf that fail.
+fn shelf_calls(alloc: Global, fails: &[Call]) -> Result<Vec<u64>, AllocError> {
     let mut numbers = Vec::new(alloc);
     for call in fails {
-        match call {
-            Call::Shelf(number) if of_shelf => numbers.push(*number)?,
-            Call::Sink(number) if !of_shelf => numbers.push(*number)?,
-            _ => {}
+        if let Call::Shelf(number) = call {
+            numbers.push(*number)?;
+        }
+    }
+    Ok(numbers)
+}
+
+// The calls of the sink that fail.
+fn sink_calls(alloc: Global, fails: &[Call]) -> Result<Vec<u64>, AllocError> {
+    let mut numbers = Vec::new(alloc);
+    for call in fails {
+        if let Call::Sink(number) = call {
+            numbers.push(*number)?;
         }
     }
     Ok(numbers)
@@ -186,22 +197,37 @@ fn is_left(alloc: Global, row: &Row<'_>, shelf: &Listed) -> Result<bool, AllocEr
     )
 }
 
+// The shelf of a row.
+fn listed_of(alloc: Global, row: &Row<'_>) -> Result<Listed, AllocError> {
+    let fail = shelf_calls(alloc, row.fails)?;
+    Ok(Listed::new(alloc, shelf_of(alloc, row.files, &fail)?))
+}
+
+// Whether what is printed and the files are as the row says.
+fn is_judged(
+    alloc: Global,
+    row: &Row<'_>,
+    printed: &[u8],
+    shelf: &Listed,
+) -> Result<bool, AllocError> {
+    let said = printed == expanded(alloc, row.text)?.as_bytes();
+    Ok(said && is_left(alloc, row, shelf)?)
+}
+
 /// Whether the run is as the row says.
 pub fn is_so<H: Hash32, R: Threads + Sync>(
     rt: &R,
     alloc: Global,
     row: &Row<'_>,
 ) -> Result<bool, AllocError> {
-    let shelf = shelf_of(alloc, row.files, &failing(alloc, row.fails, true)?)?;
-    let shelf = Listed::new(alloc, shelf);
-    let fail = failing(alloc, row.fails, false)?;
+    let fail = sink_calls(alloc, row.fails)?;
+    let shelf = listed_of(alloc, row)?;
     let (status, printed, shelf) = ran::<H, _, _, _>(rt, alloc, row.words, shelf, &fail, &NoGate)?;
-    let said = printed.as_slice() == expanded(alloc, row.text)?.as_bytes();
-    Ok(status == row.status && said && is_left(alloc, row, &shelf)?)
+    Ok(status == row.status && is_judged(alloc, row, &printed, &shelf)?)
 }
 
-/// The name of the first row whose run is not as it says.
-pub fn first_other<H: Hash32, R: Threads + Sync>(
+// The name of the first row whose run is not as it says.
+fn first_other<H: Hash32, R: Threads + Sync>(
     rt: &R,
     alloc: Global,
     rows: &[Row<'static>],
@@ -212,6 +238,15 @@ pub fn first_other<H: Hash32, R: Threads + Sync>(
         }
     }
     Ok(None)
+}
+
+/// Fails by the name of the first row whose run is not as it says.
+pub fn rows_hold<H: Hash32, R: Threads + Abort + Sync>(
+    rt: &R,
+    alloc: Global,
+    rows: &[Row<'static>],
+) {
+    all_hold(rt, first_other::<H, R>(rt, alloc, rows));
 }
 
 // Runs a command line: the shelf that it leaves, and whether it ends so and prints these bytes.
@@ -237,16 +272,39 @@ fn is_done<H: Hash32, R: Threads + Sync>(
     Ok((left, ended == Status::Done))
 }
 
-fn changed(
+// A command line whose text is spelled out, or made of parts.
+fn is_run<H: Hash32, R: Threads + Sync>(
+    rt: &R,
+    alloc: Global,
+    words: &str,
+    status: Status,
+    text: &str,
+    shelf: MemShelf,
+) -> Result<(MemShelf, bool), AllocError> {
+    let text = expanded(alloc, text)?;
+    is_printed::<H, R>(rt, alloc, words, status, text.as_bytes(), shelf)
+}
+
+fn is_put_together<H: Hash32, R: Threads + Sync>(
+    rt: &R,
+    alloc: Global,
+    words: &str,
+    parts: &[Part<'_>],
+    shelf: MemShelf,
+) -> Result<(MemShelf, bool), AllocError> {
+    let text = bytes_of(alloc, parts)?;
+    is_printed::<H, R>(rt, alloc, words, Status::Done, &text, shelf)
+}
+
+fn change(
     alloc: Global,
     name: &str,
     edits: &[(usize, u8)],
-    shelf: MemShelf,
-) -> Result<MemShelf, AllocError> {
-    let mut shelf = shelf;
-    let bytes = edited(alloc, &file_of(alloc, &shelf, name)?, edits)?;
+    shelf: &mut MemShelf,
+) -> Result<bool, AllocError> {
+    let bytes = edited(alloc, &file_of(alloc, shelf, name)?, edits)?;
     shelf.put(name, &bytes)?;
-    Ok(shelf)
+    Ok(true)
 }
 
 /// The SHA-256 digest of these bytes, in hexadecimal digits.
@@ -265,6 +323,26 @@ fn hashes(
     Ok(bytes.len() == length && digest(alloc, &bytes)?.as_str() == digits)
 }
 
+// Takes a step that runs no command line: whether all is as it says.
+fn is_looked_at(alloc: Global, step: &Step<'_>, shelf: &mut MemShelf) -> Result<bool, AllocError> {
+    match step {
+        Step::Change(name, edits) => change(alloc, name, edits, shelf),
+        Step::Holds(name, parts) => holds(alloc, shelf, name, parts),
+        Step::Hashes(name, length, digits) => hashes(alloc, shelf, name, *length, digits),
+        _ => Ok(false),
+    }
+}
+
+fn looked_at(
+    alloc: Global,
+    step: &Step<'_>,
+    shelf: MemShelf,
+) -> Result<(MemShelf, bool), AllocError> {
+    let mut shelf = shelf;
+    let held = is_looked_at(alloc, step, &mut shelf)?;
+    Ok((shelf, held))
+}
+
 // Takes a step: the shelf that it leaves, and whether all is as the step says.
 fn taken<H: Hash32, R: Threads + Sync>(
     rt: &R,
@@ -277,24 +355,10 @@ fn taken<H: Hash32, R: Threads + Sync>(
             words,
             status,
             text,
-        } => {
-            let text = expanded(alloc, text)?;
-            is_printed::<H, R>(rt, alloc, words, *status, text.as_bytes(), shelf)
-        }
+        } => is_run::<H, R>(rt, alloc, words, *status, text, shelf),
         Step::Do(words) => is_done::<H, R>(rt, alloc, words, shelf),
-        Step::Print(words, parts) => {
-            let text = bytes_of(alloc, parts)?;
-            is_printed::<H, R>(rt, alloc, words, Status::Done, &text, shelf)
-        }
-        Step::Change(name, edits) => Ok((changed(alloc, name, edits, shelf)?, true)),
-        Step::Holds(name, parts) => {
-            let held = holds(alloc, &shelf, name, parts)?;
-            Ok((shelf, held))
-        }
-        Step::Hashes(name, length, digits) => {
-            let held = hashes(alloc, &shelf, name, *length, digits)?;
-            Ok((shelf, held))
-        }
+        Step::Print(words, parts) => is_put_together::<H, R>(rt, alloc, words, parts, shelf),
+        _ => looked_at(alloc, step, shelf),
     }
 }
 
@@ -315,8 +379,8 @@ fn first_missed<H: Hash32, R: Threads + Sync>(
     Ok(None)
 }
 
-/// The name of the first story that does not go as it says, and the number of the step.
-pub fn first_untrue<H: Hash32, R: Threads + Sync>(
+// The name of the first story that does not go as it says, and the number of the step.
+fn first_untrue<H: Hash32, R: Threads + Sync>(
     rt: &R,
     alloc: Global,
     stories: &[Story<'static>],
@@ -327,4 +391,13 @@ pub fn first_untrue<H: Hash32, R: Threads + Sync>(
         }
     }
     Ok(None)
+}
+
+/// Fails by the name of the first story that does not go as it says, and the number of the step.
+pub fn stories_go<H: Hash32, R: Threads + Abort + Sync>(
+    rt: &R,
+    alloc: Global,
+    stories: &[Story<'static>],
+) {
+    all_go(rt, first_untrue::<H, R>(rt, alloc, stories));
 }

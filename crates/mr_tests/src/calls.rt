@@ -1,6 +1,7 @@
 //! The calls that each command makes on the shelf, in their order, and the pieces of work that pass
 //! its gate.
 
+use crate::assertions::all_hold;
 use crate::bench::{ran, shelf_of};
 use crate::gates::{each_once, fresh};
 use crate::listed::Listed;
@@ -11,7 +12,6 @@ use mr_outside::MemShelf;
 use mr_tool::Status;
 use mr_tree::XorHash;
 use std::alloc::{AllocError, Global};
-use std::test::Fail;
 use std::thread::Threads;
 
 // A command over the shelf that the one before left, the lines of its calls, and how many pieces
@@ -167,12 +167,10 @@ fn first_miscalled<R: Threads + Sync>(
 }
 
 #[test]
-fn the_calls_of_each_command(rt: HostRuntime) -> Result<(), Fail> {
-    let alloc = rt.alloc();
-    assert_eq!(rt; first_miscalled(&rt, alloc, SMALL, CALLS, false)?, None);
-    assert_eq!(rt;
-        first_miscalled(&rt, alloc, LARGE, LARGE_CALLS, true)?,
-        None
+fn the_calls_of_each_command(rt: HostRuntime) {
+    all_hold(&rt, first_miscalled(&rt, rt.alloc(), SMALL, CALLS, false));
+    all_hold(
+        &rt,
+        first_miscalled(&rt, rt.alloc(), LARGE, LARGE_CALLS, true),
     );
-    Ok(())
 }

@@ -2,19 +2,11 @@
 //! follows the definitions of insertion and deletion.
 
 use crate::bench::Step::{Change, Do, Run};
-use crate::bench::{Story, first_untrue, ran_on, shelf_with};
-use crate::made::lines;
-use crate::maps::{Ending, TURNED, TWO, ended, is_stopped, listed, may_stand};
-use crate::parts::Part::{
-    Added, Fill, Leaf, Map, Mixed, Places, Removed, Renewed, Row, Seal, Text,
-};
-use crate::parts::{File, Part, bytes_of};
-use crate::rows::{SEVEN, first_good_line};
-use mr_tool::Status::{self, BadBatch, BadMap, BadText, Done, Outside};
+use crate::bench::{Story, stories_go};
+use crate::parts::Part::{Added, Mixed, Places, Removed, Renewed, Row, Text};
+use crate::rows::{SEVEN, lines_are_bad};
+use mr_tool::Status::{BadBatch, BadMap, BadText, Done, Outside};
 use mr_tree::{Sha, XorHash};
-use std::alloc::{AllocError, Global};
-use std::test::Fail;
-use std::thread::Threads;
 
 // Under the exclusive or of all bytes.
 const SMALL: &[Story<'static>] = &[
@@ -279,9 +271,8 @@ const WORDS: &[&str] = &[
 ];
 
 #[test]
-fn words_that_apply_no_batch(rt: HostRuntime) -> Result<(), Fail> {
-    assert_eq!(rt; first_good_line(&rt, rt.alloc(), WORDS, &[])?, None);
-    Ok(())
+fn words_that_apply_no_batch(rt: HostRuntime) {
+    lines_are_bad(&rt, rt.alloc(), WORDS, &[]);
 }
 
 // Under SHA-256.
@@ -668,144 +659,22 @@ const MIXED: &[Story<'static>] = &[Story {
 }];
 
 #[test]
-fn batches_on_small_maps(rt: HostRuntime) -> Result<(), Fail> {
-    assert_eq!(rt; first_untrue::<XorHash, _>(&rt, rt.alloc(), SMALL)?, None);
-    Ok(())
+fn batches_on_small_maps(rt: HostRuntime) {
+    stories_go::<XorHash, _>(&rt, rt.alloc(), SMALL);
 }
 
 #[test]
-fn batches_on_large_maps(rt: HostRuntime) -> Result<(), Fail> {
-    assert_eq!(rt; first_untrue::<Sha, _>(&rt, rt.alloc(), LARGE)?, None);
-    Ok(())
+fn batches_on_large_maps(rt: HostRuntime) {
+    stories_go::<Sha, _>(&rt, rt.alloc(), LARGE);
 }
 
 #[test]
-fn maps_that_are_emptied(rt: HostRuntime) -> Result<(), Fail> {
-    assert_eq!(rt; first_untrue::<Sha, _>(&rt, rt.alloc(), EMPTIED)?, None);
-    Ok(())
+fn maps_that_are_emptied(rt: HostRuntime) {
+    stories_go::<Sha, _>(&rt, rt.alloc(), EMPTIED);
 }
 
 #[test]
-fn batches_that_are_applied_twice(rt: HostRuntime) -> Result<(), Fail> {
-    assert_eq!(rt; first_untrue::<Sha, _>(&rt, rt.alloc(), MIXED)?, None);
-    assert_eq!(rt; first_untrue::<Sha, _>(&rt, rt.alloc(), MIXED)?, None);
-    Ok(())
-}
-
-// What one batch applied to this map prints, and the two maps listed.
-fn with_one_batch<R: Threads + Sync>(
-    rt: &R,
-    alloc: Global,
-    map: &[Part<'_>],
-) -> Result<Vec<u8>, AllocError> {
-    let mut shelf = shelf_with(alloc, "m", &bytes_of(alloc, map)?)?;
-    shelf.put("b", b"batch 1\n- 7\n+ 18 3 3 3 3 -\n")?;
-    let mut printed = Vec::new(alloc);
-    for line in ["apply m b n", "list n", "list m"] {
-        let (_, left) = ran_on::<XorHash, R>(rt, alloc, line, shelf, &mut printed)?;
-        shelf = left;
-    }
-    Ok(printed)
-}
-
-// The same batch on two files that stand for one map, with its leaves at other places: a root
-// digest and two lists of 17 lines.
-#[test]
-fn one_map_in_two_files(rt: HostRuntime) -> Result<(), Fail> {
-    let alloc = rt.alloc();
-    assert!(rt; bytes_of(alloc, TWO)?.as_slice() != bytes_of(alloc, TURNED)?.as_slice());
-    let printed = with_one_batch(&rt, alloc, TWO)?;
-    assert!(rt; lines(&printed) == 35);
-    assert!(rt; printed.as_slice() == with_one_batch(&rt, alloc, TURNED)?.as_slice());
-    Ok(())
-}
-
-// The map of record 7 at (0,0), and a batch.
-const MAP_AND_BATCH: &[File<'static>] = &[
-    (
-        "m",
-        &[
-            Map {
-                level: 0,
-                count: 1,
-                pages: 2,
-                root: 1,
-                corners: [0, 0, 0, 0],
-                digest: 0x4a,
-            },
-            Seal,
-            Leaf(SEVEN),
-            Fill,
-        ],
-    ),
-    ("b", &[Text("batch 1\n+ 8 1 1 1 1 -\n")]),
-];
-
-// Whether a new map is whole, or has no seal, or no whole page.
-fn is_in_order<R: Threads + Sync>(rt: &R, alloc: Global, new: &[u8]) -> Result<bool, AllocError> {
-    let said = listed(rt, alloc, new)?;
-    Ok(said.as_slice() == b"7 0 0 0 0 -\n8 1 1 1 1 -\n".as_slice() || may_stand(rt, alloc, new)?)
-}
-
-// How the batch is applied where these calls of the shelf and of the sink fail; of the files that
-// it leaves, the one of this name.
-fn applied<R: Threads + Sync>(
-    rt: &R,
-    alloc: Global,
-    fails: (u64, u64),
-    name: &str,
-) -> Result<Ending, AllocError> {
-    ended(rt, alloc, "apply m b n", MAP_AND_BATCH, fails, name)
-}
-
-// Whether the batch, where these calls fail, leaves this file as it was.
-fn keeps<R: Threads + Sync>(
-    rt: &R,
-    alloc: Global,
-    fails: (u64, u64),
-    file: &File<'_>,
-) -> Result<bool, AllocError> {
-    let left = applied(rt, alloc, fails, file.0)?.left;
-    Ok(left.as_slice() == bytes_of(alloc, file.1)?.as_slice())
-}
-
-// Whether it keeps both files, and leaves a new map in order.
-fn leaves<R: Threads + Sync>(
-    rt: &R,
-    alloc: Global,
-    fails: (u64, u64),
-    new: &[u8],
-) -> Result<bool, AllocError> {
-    for file in MAP_AND_BATCH {
-        if !keeps(rt, alloc, fails, file)? {
-            return Ok(false);
-        }
-    }
-    is_in_order(rt, alloc, new)
-}
-
-#[test]
-fn each_call_of_an_application_fails_in_turn(rt: HostRuntime) -> Result<(), Fail> {
-    let alloc = rt.alloc();
-    // Two sizes and two reads, and then the file is made, written, synced, sealed and synced.
-    for call in 1..10u64 {
-        let stopped = applied(&rt, alloc, (call, 0), "n")?;
-        assert!(rt; is_stopped(&stopped), "call {call}");
-        assert!(rt;
-            leaves(&rt, alloc, (call, 0), &stopped.left)?,
-            "call {call}"
-        );
-    }
-    Ok(())
-}
-
-#[test]
-fn an_application_is_done_or_says_nothing(rt: HostRuntime) -> Result<(), Fail> {
-    let alloc = rt.alloc();
-    let done = applied(&rt, alloc, (10, 0), "n")?;
-    assert!(rt; done.status == Done && leaves(&rt, alloc, (10, 0), &done.left)?);
-    let unsaid = applied(&rt, alloc, (0, 1), "n")?;
-    assert!(rt; unsaid.status == Outside && unsaid.said.is_empty());
-    assert!(rt; leaves(&rt, alloc, (0, 1), &unsaid.left)?);
-    Ok(())
+fn batches_that_are_applied_twice(rt: HostRuntime) {
+    stories_go::<Sha, _>(&rt, rt.alloc(), MIXED);
+    stories_go::<Sha, _>(&rt, rt.alloc(), MIXED);
 }

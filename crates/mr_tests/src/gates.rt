@@ -1,6 +1,7 @@
 //! The gate that a run is given: each piece of work passes it once, and two pieces are at work at
 //! once, since either one may wait behind the gate until the other has left.
 
+use crate::assertions::holds;
 use crate::bench::{ran, shelf_of};
 use crate::joined::{numbers, plain};
 use crate::maps::SEVENTEEN;
@@ -11,9 +12,7 @@ use mr_tool::Status;
 use mr_tree::Sha;
 use std::alloc::{AllocError, Global};
 use std::hint::spin_loop;
-use std::process::Abort;
 use std::sync::atomic::{AtomicU64, Ordering};
-use std::test::Fail;
 use std::thread::Threads;
 
 // How often a piece came, how often it went, and the number that it went with.
@@ -69,20 +68,22 @@ pub fn fresh(alloc: Global, pieces: usize) -> Result<Passages, AllocError> {
 
 /// Whether each piece came and went once, and no other did.
 pub fn each_once(gate: &Passages) -> bool {
+    for passage in &gate.list {
+        if passage.entered.load(Ordering::SeqCst) != 1 || passage.left.load(Ordering::SeqCst) != 1 {
+            return false;
+        }
+    }
     gate.others.load(Ordering::SeqCst) == 0
-        && gate.list.iter().all(|passage| {
-            passage.entered.load(Ordering::SeqCst) == 1 && passage.left.load(Ordering::SeqCst) == 1
-        })
 }
 
 /// Whether so many pieces passed as there are numbers, each once and with its number.
 pub fn is_passed(gate: &Passages, numbers: &[u64]) -> bool {
-    each_once(gate)
-        && gate.list.len() == numbers.len()
-        && gate.list.iter().zip(numbers).all(|(passage, number)| passage
-            .found
-            .load(Ordering::SeqCst)
-            == *number)
+    for (passage, number) in gate.list.iter().zip(numbers) {
+        if passage.found.load(Ordering::SeqCst) != *number {
+            return false;
+        }
+    }
+    gate.list.len() == numbers.len() && each_once(gate)
 }
 
 /// Whether a piece came and went.
@@ -141,12 +142,14 @@ fn builds<G: Gate, R: Threads + Sync>(rt: &R, alloc: Global, gate: &G) -> Result
 }
 
 // The numbers of the leaves of those records, by one thread.
-fn expected(rt: &impl Abort, alloc: Global) -> Option<Vec<u64>> {
-    let records = read_lines(alloc, SEVENTEEN.as_bytes()).ok()?;
-    let (tree, _) = plain::<Sha>(rt, alloc, records).ok()?;
+fn expected(alloc: Global) -> Result<Vec<u64>, AllocError> {
     let mut list = Vec::new(alloc);
-    numbers::<Sha>(&tree, &mut list).ok()?;
-    Some(list)
+    if let Ok(records) = read_lines(alloc, SEVENTEEN.as_bytes()) {
+        if let Some(tree) = plain(alloc, records) {
+            numbers::<Sha>(&tree, &mut list)?;
+        }
+    }
+    Ok(list)
 }
 
 fn gate_that_holds(alloc: Global, held: usize, awaited: usize) -> Result<Holding, AllocError> {
@@ -158,20 +161,32 @@ fn gate_that_holds(alloc: Global, held: usize, awaited: usize) -> Result<Holding
     })
 }
 
+// Whether the map is built, no piece was held to its last turn, and both passed with their numbers.
+fn is_built<R: Threads + Sync>(rt: &R, alloc: Global, gate: &Holding) -> Result<bool, AllocError> {
+    let built = builds(rt, alloc, gate)? && gate.expired.load(Ordering::SeqCst) == 0;
+    let numbers = expected(alloc)?;
+    Ok(built && numbers.len() == 2 && is_passed(&gate.passages, &numbers))
+}
+
+fn is_built_holding<R: Threads + Sync>(
+    rt: &R,
+    alloc: Global,
+    held: usize,
+    awaited: usize,
+) -> Result<bool, AllocError> {
+    is_built(rt, alloc, &gate_that_holds(alloc, held, awaited)?)
+}
+
 #[test]
-fn gate_build(rt: HostRuntime) -> Result<(), Fail> {
-    let alloc = rt.alloc();
-    let numbers = expected(&rt, alloc).ok_or("two leaves")?;
-    assert_eq!(rt; numbers.len(), 2);
-    for (held, awaited) in [(1, 0), (0, 1)] {
-        let gate = gate_that_holds(alloc, held, awaited)?;
-        assert!(rt; builds(&rt, alloc, &gate)?, "{held}");
-        assert_eq!(rt;
-            gate.expired.load(Ordering::SeqCst),
-            0,
-            "{held} was held to the last turn"
-        );
-        assert!(rt; is_passed(&gate.passages, &numbers), "{held}");
-    }
-    Ok(())
+fn gate_build(rt: HostRuntime) {
+    holds(
+        &rt,
+        "the second is held",
+        is_built_holding(&rt, rt.alloc(), 1, 0),
+    );
+    holds(
+        &rt,
+        "the first is held",
+        is_built_holding(&rt, rt.alloc(), 0, 1),
+    );
 }

@@ -1,6 +1,10 @@
 //! Bulk load in joined halves: the tree's root is that of one thread, and each leaf passes the gate
 //! once, with the number of its digest.
 
+ghost use Rattle.std.specs.Prelude.{IfSome};
+ghost use Rattle.mr_tree.specs.WellFormed.{WellFormed};
+
+use crate::assertions::{all_hold, holds};
 use crate::gates::{Passages, fresh, has_left, is_passed};
 use mr_geom::Rect;
 use mr_outside::{Gate, NoGate};
@@ -8,9 +12,7 @@ use mr_pack::{PackErr, pack, pack_joined};
 use mr_record::{Payload, Record, u64_of_bytes};
 use mr_tree::{Hash32, Sha, Tree, XorHash, leaf_entry, root_of};
 use std::alloc::{AllocError, Global};
-use std::process::Abort;
 use std::sync::atomic::{AtomicU64, Ordering};
-use std::test::Fail;
 use std::thread::Threads;
 
 // Record `number` at a place that mixes the leaves.
@@ -27,34 +29,40 @@ fn scattered(number: u32) -> Option<Record> {
 }
 
 // So many records.
-fn records(alloc: Global, count: u32) -> Result<Vec<Record>, Fail> {
+fn records(alloc: Global, count: u32) -> Result<Vec<Record>, AllocError> {
     let mut list = Vec::new(alloc);
     for number in 1..=count {
-        list.push(scattered(number).ok_or("no record")?)?;
+        if let Some(record) = scattered(number) {
+            list.push(record)?;
+        }
     }
     Ok(list)
 }
 
-/// The root by one thread, and the tree.
-pub fn plain<H: Hash32>(
-    rt: &impl Abort,
-    alloc: Global,
-    list: Vec<Record>,
-) -> Result<(Tree, [u8; 32]), PackErr> {
-    assert!(rt; list.len() <= 1 << 20);
-    let tree = pack(alloc, list)?;
-    let root = root_of::<H>(&tree, 0);
-    Ok((tree, root))
+/// The tree by one thread, none where there are too many records, a number stands twice or there
+/// is no memory.
+pub fn plain(alloc: Global, list: Vec<Record>) -> Option<Tree>
+    ensures { IfSome result WellFormed }
+{
+    if list.len() > 1 << 20 {
+        return None;
+    }
+    match pack(alloc, list) {
+        Ok(tree) => Some(tree),
+        Err(_) => None,
+    }
 }
 
 // The root by joined halves.
-fn joined<H: Hash32, G: Gate, R: Threads + Abort + Sync>(
+fn joined<H: Hash32, G: Gate, R: Threads + Sync>(
     rt: &R,
     alloc: Global,
     list: Vec<Record>,
     gate: &G,
 ) -> Result<[u8; 32], PackErr> {
-    assert!(rt; list.len() <= 1 << 20);
+    if list.len() > 1 << 20 {
+        return Err(PackErr::NoMemory);
+    }
     let (_tree, root) = pack_joined::<H, G, R>(rt, alloc, list, gate)?;
     Ok(root)
 }
@@ -83,33 +91,94 @@ pub fn numbers<H: Hash32>(tree: &Tree, list: &mut Vec<u64>) -> Result<(), AllocE
     Ok(())
 }
 
-// So many records have one root either way, and so many leaves pass the gate.
-fn agrees<H: Hash32, R: Threads + Abort + Sync>(
-    rt: &R,
-    alloc: Global,
+// So many records, and how many leaves they are packed into.
+#[derive(Clone, Copy)]
+struct Load<'a> {
+    name: &'a str,
     count: u32,
     leaves: usize,
-) -> Result<bool, Fail> {
-    let (tree, root) = plain::<H>(rt, alloc, records(alloc, count)?)
-        .ok()
-        .ok_or("packed")?;
+}
+
+const LOADS: &[Load<'static>] = &[
+    Load {
+        name: "no record",
+        count: 0,
+        leaves: 0,
+    },
+    Load {
+        name: "one record",
+        count: 1,
+        leaves: 1,
+    },
+    Load {
+        name: "one more than a leaf holds",
+        count: 17,
+        leaves: 2,
+    },
+    Load {
+        name: "three levels",
+        count: 1_100,
+        leaves: 69,
+    },
+];
+
+const TWO_LEAVES: &[Load<'static>] = &[Load {
+    name: "one more than a leaf holds",
+    count: 17,
+    leaves: 2,
+}];
+
+// Whether a root is that of the tree, each of whose leaves passed the gate.
+fn is_its_root<H: Hash32>(
+    alloc: Global,
+    tree: &Tree,
+    gate: &Passages,
+    root: Result<[u8; 32], PackErr>,
+) -> Result<bool, AllocError>
+    requires { WellFormed tree.now }
+{
     let mut list = Vec::new(alloc);
-    numbers::<H>(&tree, &mut list)?;
-    let gate = fresh(alloc, leaves)?;
-    let same = joined::<H, _, R>(rt, alloc, records(alloc, count)?, &gate)
-        .ok()
-        .ok_or("joined")?;
-    Ok(same == root && is_passed(&gate, &list))
+    numbers::<H>(tree, &mut list)?;
+    match root {
+        Ok(root) => Ok(root_of::<H>(tree, 0) == root && is_passed(gate, &list)),
+        Err(_) => Ok(false),
+    }
+}
+
+// So many records have one root either way, and so many leaves pass the gate.
+fn agrees<H: Hash32, R: Threads + Sync>(
+    rt: &R,
+    alloc: Global,
+    load: &Load<'_>,
+) -> Result<bool, AllocError> {
+    let gate = fresh(alloc, load.leaves)?;
+    let root = joined::<H, _, R>(rt, alloc, records(alloc, load.count)?, &gate);
+    match plain(alloc, records(alloc, load.count)?) {
+        Some(tree) => is_its_root::<H>(alloc, &tree, &gate, root),
+        None => Ok(false),
+    }
+}
+
+fn first_disagreeing<H: Hash32, R: Threads + Sync>(
+    rt: &R,
+    alloc: Global,
+    loads: &[Load<'static>],
+) -> Result<Option<&'static str>, AllocError> {
+    for load in loads {
+        if !agrees::<H, R>(rt, alloc, load)? {
+            return Ok(Some(load.name));
+        }
+    }
+    Ok(None)
 }
 
 #[test]
-fn joined_halves_give_the_root(rt: HostRuntime) -> Result<(), Fail> {
-    let alloc = rt.alloc();
-    for (count, leaves) in [(0, 0), (1, 1), (17, 2), (1_100, 69)] {
-        assert!(rt; agrees::<Sha, _>(&rt, alloc, count, leaves)?, "{count}");
-    }
-    assert!(rt; agrees::<XorHash, _>(&rt, alloc, 17, 2)?);
-    Ok(())
+fn joined_halves_give_the_root(rt: HostRuntime) {
+    all_hold(&rt, first_disagreeing::<Sha, _>(&rt, rt.alloc(), LOADS));
+    all_hold(
+        &rt,
+        first_disagreeing::<XorHash, _>(&rt, rt.alloc(), TWO_LEAVES),
+    );
 }
 
 // Counts the pieces that come before the one in front of them has gone.
@@ -134,41 +203,59 @@ impl Gate for Orderly {
 
 // The leaves of twenty thousand records pass the gate in at most 16 parts, and in a part each leaf
 // goes before the next one comes: so no more than 15 come before the one in front has gone.
-fn is_orderly<R: Threads + Abort + Sync>(
+fn is_orderly<R: Threads + Sync>(
     rt: &R,
     alloc: Global,
     leaves: &[u64],
-) -> Result<bool, Fail> {
+) -> Result<bool, AllocError> {
     let gate = Orderly {
         passages: fresh(alloc, leaves.len())?,
         hasty: AtomicU64::new(0),
     };
     let list = records(alloc, 20_000)?;
-    joined::<XorHash, _, R>(rt, alloc, list, &gate)
-        .ok()
-        .ok_or("joined")?;
-    Ok(is_passed(&gate.passages, leaves) && gate.hasty.load(Ordering::SeqCst) <= 15)
+    let done = joined::<XorHash, _, R>(rt, alloc, list, &gate).is_ok();
+    Ok(done && is_passed(&gate.passages, leaves) && gate.hasty.load(Ordering::SeqCst) <= 15)
 }
 
-#[test]
-fn a_leaf_goes_before_the_next_comes(rt: HostRuntime) -> Result<(), Fail> {
-    let alloc = rt.alloc();
-    let (tree, _) = plain::<XorHash>(&rt, alloc, records(alloc, 20_000)?)
-        .ok()
-        .ok_or("packed")?;
+// The numbers of the leaves of so many records, by one thread.
+fn leaves(alloc: Global, count: u32) -> Result<Vec<u64>, AllocError> {
     let mut leaves = Vec::new(alloc);
-    numbers::<XorHash>(&tree, &mut leaves)?;
-    assert_eq!(rt; leaves.len(), 1250);
-    assert!(rt; is_orderly(&rt, alloc, &leaves)?);
-    Ok(())
+    if let Some(tree) = plain(alloc, records(alloc, count)?) {
+        numbers::<XorHash>(&tree, &mut leaves)?;
+    }
+    Ok(leaves)
+}
+
+fn twenty_thousand_are_orderly<R: Threads + Sync>(
+    rt: &R,
+    alloc: Global,
+) -> Result<bool, AllocError> {
+    let leaves = leaves(alloc, 20_000)?;
+    Ok(leaves.len() == 1250 && is_orderly(rt, alloc, &leaves)?)
 }
 
 #[test]
-fn the_least_number_that_stands_twice_is_named(rt: HostRuntime) -> Result<(), Fail> {
-    let alloc = rt.alloc();
+fn a_leaf_goes_before_the_next_comes(rt: HostRuntime) {
+    holds(
+        &rt,
+        "1250 leaves",
+        twenty_thousand_are_orderly(&rt, rt.alloc()),
+    );
+}
+
+// Twenty records, three of them twice.
+fn three_twice(alloc: Global) -> Result<Vec<Record>, AllocError> {
     let mut list = records(alloc, 20)?;
     list.append(&mut records(alloc, 3)?)?;
-    let refused = joined::<XorHash, _, _>(&rt, alloc, list, &NoGate).err();
-    assert_eq!(rt; refused, Some(PackErr::NumberTwice { number: 1 }));
-    Ok(())
+    Ok(list)
+}
+
+fn names_the_least<R: Threads + Sync>(rt: &R, alloc: Global) -> Result<bool, AllocError> {
+    let refused = joined::<XorHash, _, R>(rt, alloc, three_twice(alloc)?, &NoGate);
+    Ok(matches!(refused, Err(PackErr::NumberTwice { number: 1 })))
+}
+
+#[test]
+fn the_least_number_that_stands_twice_is_named(rt: HostRuntime) {
+    holds(&rt, "1 of 1, 2 and 3", names_the_least(&rt, rt.alloc()));
 }

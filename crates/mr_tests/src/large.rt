@@ -1,6 +1,7 @@
 //! Runs at sizes that matter, with ample memory. Roots come from a program of another language.
 
-use crate::bench::{Row, first_other, is_so, ran, shelf_of};
+use crate::assertions::{all_hold, holds, holds_at};
+use crate::bench::{Row, is_so, ran, rows_hold, shelf_of};
 use crate::parts::Part::{Places, Raw, Row as InARow};
 use crate::parts::{File, bytes_of};
 use mr_outside::{NoGate, StdShelf};
@@ -8,7 +9,6 @@ use mr_tool::Status::{self, Done, Outside};
 use mr_tree::{Sha, XorHash};
 use std::alloc::{AllocError, Global};
 use std::rt::Files;
-use std::test::Fail;
 use std::thread::Threads;
 
 // Under the exclusive or of all bytes.
@@ -63,18 +63,18 @@ const ROOTS: &[Row<'static>] = &[
 ];
 
 #[test]
-fn roots_of_many_records(rt: HostRuntime) -> Result<(), Fail> {
-    assert_eq!(rt;
-        first_other::<XorHash, _>(&rt, rt.alloc(), XOR_ROOTS)?,
-        None
-    );
-    assert_eq!(rt; first_other::<Sha, _>(&rt, rt.alloc(), ROOTS)?, None);
-    Ok(())
+fn roots_of_many_records(rt: HostRuntime) {
+    rows_hold::<XorHash, _>(&rt, rt.alloc(), XOR_ROOTS);
+    rows_hold::<Sha, _>(&rt, rt.alloc(), ROOTS);
 }
 
 // A record's payload of 200 bytes.
 fn payload(alloc: Global, byte: u8) -> Result<Vec<u8>, AllocError> {
-    (0..200).map(|_| byte).collect(alloc)
+    let mut bytes = Vec::new(alloc);
+    for _ in 0..200 {
+        bytes.push(byte)?;
+    }
+    Ok(bytes)
 }
 
 // Puts record I of a leaf, at (I,I) with 200 bytes I, into a proof.
@@ -134,13 +134,27 @@ const CHECK_ALL: &str = "check becaebc526ef66483375ace805b3724b1ba615adb3e71e819
 
 const ROOT_OF_ALL: &str = "becaebc526ef66483375ace805b3724b1ba615adb3e71e819e9acca1df98019d\n";
 
+fn full_is_accepted<R: Threads + Sync>(rt: &R, alloc: Global) -> Result<bool, AllocError> {
+    let lines = full_lines(alloc)?;
+    prints(
+        rt,
+        alloc,
+        CHECK_ALL,
+        "p",
+        &full_leaf(alloc)?,
+        lines.as_str(),
+    )
+}
+
+fn full_has_its_root<R: Threads + Sync>(rt: &R, alloc: Global) -> Result<bool, AllocError> {
+    let lines = full_lines(alloc)?;
+    prints(rt, alloc, "root r", "r", lines.as_bytes(), ROOT_OF_ALL)
+}
+
 #[test]
-fn a_full_leaf_of_long_payloads_is_accepted(rt: HostRuntime) -> Result<(), Fail> {
-    let alloc = rt.alloc();
-    let (proof, lines) = (full_leaf(alloc)?, full_lines(alloc)?);
-    assert!(rt; prints(&rt, alloc, CHECK_ALL, "p", &proof, lines.as_str())?);
-    assert!(rt; prints(&rt, alloc, "root r", "r", lines.as_bytes(), ROOT_OF_ALL)?);
-    Ok(())
+fn a_full_leaf_of_long_payloads_is_accepted(rt: HostRuntime) {
+    holds(&rt, "its proof", full_is_accepted(&rt, rt.alloc()));
+    holds(&rt, "its root", full_has_its_root(&rt, rt.alloc()));
 }
 
 const PLACES: &[File<'static>] = &[("r", &[Places(1, 5000)])];
@@ -157,33 +171,34 @@ fn listed<R: Threads + Sync>(
     Ok((status, said))
 }
 
+fn lines(alloc: Global) -> Result<Vec<u8>, AllocError> {
+    bytes_of(alloc, &[Places(1, 5000)])
+}
+
 // Whether a list is stopped at this piece, behind pieces of whole lines that have up to 65,536
 // bytes each, and no room for one line more.
-fn stops_a_list<R: Threads + Sync>(
-    rt: &R,
-    alloc: Global,
-    lines: &[u8],
-    call: u64,
-) -> Result<bool, AllocError> {
+fn stops_a_list<R: Threads + Sync>(rt: &R, alloc: Global, call: u64) -> Result<bool, AllocError> {
     let (status, said) = listed(rt, alloc, call)?;
     let pieces = call.wrapping_sub(1) as usize;
     let size = said.len();
     let is_full = size <= pieces.wrapping_mul(65_536) && size >= pieces.wrapping_mul(65_000);
-    Ok(status == Outside && lines.starts_with(&said) && is_full)
+    Ok(status == Outside && lines(alloc)?.starts_with(&said) && is_full)
+}
+
+fn lists_all<R: Threads + Sync>(rt: &R, alloc: Global) -> Result<bool, AllocError> {
+    let (status, said) = listed(rt, alloc, 4)?;
+    Ok(status == Done && said.as_slice() == lines(alloc)?.as_slice())
 }
 
 #[test]
-fn a_list_goes_out_in_large_pieces(rt: HostRuntime) -> Result<(), Fail> {
-    let alloc = rt.alloc();
-    let lines = bytes_of(alloc, &[Places(1, 5000)])?;
+fn a_list_goes_out_in_large_pieces(rt: HostRuntime) {
     for call in 1..=3u64 {
-        assert!(rt; stops_a_list(&rt, alloc, &lines, call)?, "call {call}");
+        holds_at(&rt, "call", call, stops_a_list(&rt, rt.alloc(), call));
     }
-    let (status, said) = listed(&rt, alloc, 4)?;
-    assert!(rt; status == Done && said.as_slice() == lines.as_slice());
-    Ok(())
+    holds(&rt, "a call past the last", lists_all(&rt, rt.alloc()));
 }
 
+// Names under which there is no file, and what is said of each.
 const NAMES: &[(&str, &[u8])] = &[
     (".", b"shelf fault\n"),
     ("/", b"shelf fault\n"),
@@ -211,10 +226,20 @@ fn is_missed<R: Threads + Files + Sync>(
     Ok(status == Outside && printed.as_slice() == said)
 }
 
-#[test]
-fn the_real_file_system_without_the_file(rt: HostRuntime) -> Result<(), Fail> {
-    for (name, said) in NAMES {
-        assert!(rt; is_missed(&rt, rt.alloc(), name, said)?, "{name:?}");
+fn first_found<R: Threads + Files + Sync>(
+    rt: &R,
+    alloc: Global,
+    names: &[(&'static str, &[u8])],
+) -> Result<Option<&'static str>, AllocError> {
+    for (name, said) in names {
+        if !is_missed(rt, alloc, name, said)? {
+            return Ok(Some(name));
+        }
     }
-    Ok(())
+    Ok(None)
+}
+
+#[test]
+fn the_real_file_system_without_the_file(rt: HostRuntime) {
+    all_hold(&rt, first_found(&rt, rt.alloc(), NAMES));
 }

@@ -1,6 +1,7 @@
 //! The proof of one path in a map of three levels: with a byte changed, and cut off at each place.
 //! Digests and lines come from a program of another language.
 
+use crate::assertions::{all_hold, holds, holds_at};
 use crate::bench::{digest, file_of, ran, shelf_of, shelf_with};
 use crate::parts::Part::Row;
 use mr_outside::NoGate;
@@ -43,20 +44,37 @@ fn flipped(alloc: Global, bytes: &[u8], place: usize) -> Result<Vec<u8>, AllocEr
     Ok(flipped)
 }
 
+// Whether the proof with the lowest bit of this byte changed is refused; what is said of it is put
+// behind what was said before.
+fn is_refused<R: Threads + Sync>(
+    rt: &R,
+    alloc: Global,
+    proof: &[u8],
+    place: usize,
+    said: &mut Vec<u8>,
+) -> Result<bool, AllocError> {
+    let (status, line) = judged(rt, alloc, &flipped(alloc, proof, place)?)?;
+    said.extend_from_slice(&line)?;
+    Ok(status == Refused)
+}
+
+// Of all that is said.
+const SAID: &str = "1f91763e5bb7b0af3208f9be7ea3462b85f13d64ee8eca795d41849c91039c8a";
+
+fn is_all_said(alloc: Global, said: &[u8]) -> Result<bool, AllocError> {
+    Ok(digest(alloc, said)?.as_str() == SAID)
+}
+
 #[test]
 fn each_byte_of_a_path_counts(rt: HostRuntime) -> Result<(), Fail> {
     let alloc = rt.alloc();
     let proof = path(&rt, alloc)?;
     let mut said = Vec::new(alloc);
     for place in 0..proof.len() {
-        let (status, line) = judged(&rt, alloc, &flipped(alloc, &proof, place)?)?;
-        assert!(rt; status == Refused, "{place}");
-        said.extend_from_slice(&line)?;
+        let refused = is_refused(&rt, alloc, &proof, place, &mut said);
+        holds_at(&rt, "byte", place as u64, refused);
     }
-    assert!(rt;
-        digest(alloc, &said)?.as_str()
-            == "1f91763e5bb7b0af3208f9be7ea3462b85f13d64ee8eca795d41849c91039c8a"
-    );
+    holds(&rt, "what is said", is_all_said(alloc, &said));
     Ok(())
 }
 
@@ -207,15 +225,33 @@ const FLIPS: &[Flip<'static>] = &[
     },
 ];
 
-#[test]
-fn what_is_said_of_a_changed_byte(rt: HostRuntime) -> Result<(), Fail> {
-    let alloc = rt.alloc();
-    let proof = path(&rt, alloc)?;
-    for flip in FLIPS {
-        let (_, said) = judged(&rt, alloc, &flipped(alloc, &proof, flip.place)?)?;
-        assert!(rt; said.as_slice() == flip.says.as_bytes(), "{}", flip.what);
+fn is_said<R: Threads + Sync>(
+    rt: &R,
+    alloc: Global,
+    proof: &[u8],
+    flip: &Flip<'_>,
+) -> Result<bool, AllocError> {
+    let (_, said) = judged(rt, alloc, &flipped(alloc, proof, flip.place)?)?;
+    Ok(said.as_slice() == flip.says.as_bytes())
+}
+
+fn first_unsaid<R: Threads + Sync>(
+    rt: &R,
+    alloc: Global,
+    flips: &[Flip<'static>],
+) -> Result<Option<&'static str>, AllocError> {
+    let proof = path(rt, alloc)?;
+    for flip in flips {
+        if !is_said(rt, alloc, &proof, flip)? {
+            return Ok(Some(flip.what));
+        }
     }
-    Ok(())
+    Ok(None)
+}
+
+#[test]
+fn what_is_said_of_a_changed_byte(rt: HostRuntime) {
+    all_hold(&rt, first_unsaid(&rt, rt.alloc(), FLIPS));
 }
 
 // The fields of the proof: how often these widths stand behind one another.
@@ -280,11 +316,15 @@ fn is_short<R: Threads + Sync>(
 #[test]
 fn each_cut_of_a_path_is_short(rt: HostRuntime) -> Result<(), Fail> {
     let alloc = rt.alloc();
-    let proof = path(&rt, alloc)?;
-    let places = places(alloc)?;
-    assert_eq!(rt; places.len(), proof.len());
+    let (proof, places) = (path(&rt, alloc)?, places(alloc)?);
+    holds(
+        &rt,
+        "a place for each byte",
+        Ok(places.len() == proof.len()),
+    );
     for (length, place) in places.iter().enumerate() {
-        assert!(rt; is_short(&rt, alloc, &proof, length, *place)?, "{length}");
+        let short = is_short(&rt, alloc, &proof, length, *place);
+        holds_at(&rt, "length", length as u64, short);
     }
     Ok(())
 }

@@ -2,6 +2,10 @@
 #![tactic(auto)]
 
 #[cfg(test)]
+mod applications;
+#[cfg(test)]
+mod assertions;
+#[cfg(test)]
 mod audits;
 #[cfg(test)]
 mod bench;
@@ -26,7 +30,13 @@ mod maps;
 #[cfg(test)]
 mod nearest;
 #[cfg(test)]
+mod nearest_audits;
+#[cfg(test)]
+mod nearest_checks;
+#[cfg(test)]
 mod parts;
+#[cfg(test)]
+mod pieces;
 #[cfg(test)]
 mod proofs;
 #[cfg(test)]

@@ -3,13 +3,14 @@
 
 ghost use Rattle.mr_query.specs.Word.{IsAskable};
 
+use crate::assertions::{holds, holds_at};
 use crate::bench::Call::{Shelf, Sink};
 use crate::bench::Step::Run;
-use crate::bench::{Row, Story, digest, first_other, first_untrue, is_so, ran, shelf_of};
+use crate::bench::{Row, Story, digest, is_so, ran, rows_hold, shelf_of, stories_go};
 use crate::maps::{Ending, ended, is_stopped};
 use crate::parts::File;
 use crate::parts::Part::Text;
-use crate::rows::first_good_line;
+use crate::rows::lines_are_bad;
 use mr_batch::generate_queries;
 use mr_outside::{MemShelf, MemSink, NoGate};
 use mr_query::{Query, write_query};
@@ -149,11 +150,10 @@ const ROOTS: &[Story<'static>] = &[Story {
 }];
 
 #[test]
-fn what_is_made_and_shown(rt: HostRuntime) -> Result<(), Fail> {
-    assert_eq!(rt; first_other::<Sha, _>(&rt, rt.alloc(), MADE)?, None);
-    assert_eq!(rt; first_other::<XorHash, _>(&rt, rt.alloc(), SHOWN)?, None);
-    assert_eq!(rt; first_untrue::<Sha, _>(&rt, rt.alloc(), ROOTS)?, None);
-    Ok(())
+fn what_is_made_and_shown(rt: HostRuntime) {
+    rows_hold::<Sha, _>(&rt, rt.alloc(), MADE);
+    rows_hold::<XorHash, _>(&rt, rt.alloc(), SHOWN);
+    stories_go::<Sha, _>(&rt, rt.alloc(), ROOTS);
 }
 
 const WORDS: &[&str] = &[
@@ -182,9 +182,8 @@ const WORDS: &[&str] = &[
 ];
 
 #[test]
-fn words_that_make_nothing(rt: HostRuntime) -> Result<(), Fail> {
-    assert_eq!(rt; first_good_line(&rt, rt.alloc(), WORDS, FIRST)?, None);
-    Ok(())
+fn words_that_make_nothing(rt: HostRuntime) {
+    lines_are_bad(&rt, rt.alloc(), WORDS, FIRST);
 }
 
 const OLD: &[File<'static>] = &[("r", &[Text("another text\n")])];
@@ -223,17 +222,21 @@ fn is_unprinted<R: Threads + Sync>(rt: &R, alloc: Global, text: &[u8]) -> Result
 
 const TWENTY: &str = "5c5da43082743abe28354353307e4d0865ecb0f7f4c8ae44eda9c329d244bfb9";
 
+fn is_the_text(alloc: Global, text: &[u8]) -> Result<bool, AllocError> {
+    Ok(digest(alloc, text)?.as_str() == TWENTY)
+}
+
 #[test]
 fn each_call_of_making_fails_in_turn(rt: HostRuntime) -> Result<(), Fail> {
     let alloc = rt.alloc();
     let text = made(&rt, alloc, (0, 0))?.left;
-    assert!(rt; digest(alloc, &text)?.as_str() == TWENTY);
+    holds(&rt, "the text", is_the_text(alloc, &text));
     // The file is made, written and synced.
     for call in 1..4u64 {
-        assert!(rt; is_cut(&rt, alloc, &text, call)?, "call {call}");
+        holds_at(&rt, "call", call, is_cut(&rt, alloc, &text, call));
     }
-    assert!(rt; is_made(&rt, alloc, &text)?);
-    assert!(rt; is_unprinted(&rt, alloc, &text)?);
+    holds(&rt, "a call past the last", is_made(&rt, alloc, &text));
+    holds(&rt, "a call of the sink", is_unprinted(&rt, alloc, &text));
     Ok(())
 }
 
@@ -246,14 +249,13 @@ fn mapped<R: Threads + Sync>(rt: &R, alloc: Global) -> Result<(String, MemShelf)
     Ok((String::from_str(alloc, root.trim_end())?, shelf))
 }
 
-// The word of a query.
-fn word(alloc: Global, query: &Query) -> Option<String>
+// The word of a query, or as much of it as there was memory for.
+fn word(alloc: Global, query: &Query) -> Result<String, AllocError>
     requires { IsAskable query.now }
 {
     let mut out = MemSink::new(alloc, Vec::new(alloc));
-    write_query(&mut out, query).ok()?;
-    let text = str::from_utf8(out.bytes()).ok()?;
-    String::from_str(alloc, text).ok()
+    let _ = write_query(&mut out, query);
+    String::from_str(alloc, str::from_utf8(out.bytes()).unwrap_or(""))
 }
 
 // The number in the line on a proof.
@@ -274,7 +276,7 @@ pub fn lines(text: &[u8]) -> u64 {
 
 // How many proofs were accepted, how many records their answers have, and how many bytes they have
 // themselves.
-#[derive(Clone, Copy, Debug)]
+#[derive(Clone, Copy)]
 struct Figures {
     accepted: u64,
     answers: u64,
@@ -326,7 +328,7 @@ fn all_tried<R: Threads + Sync>(
     alloc: Global,
     root: &str,
     shelf: MemShelf,
-) -> Result<Figures, Fail> {
+) -> Result<Figures, AllocError> {
     let mut shelf = shelf;
     let mut figures = Figures {
         accepted: 0,
@@ -334,7 +336,7 @@ fn all_tried<R: Threads + Sync>(
         bytes: 0,
     };
     for query in &generate_queries(alloc, 64, 1)? {
-        let query = word(alloc, query).ok_or("no word")?;
+        let query = word(alloc, query)?;
         let (sum, left) = tried(rt, alloc, root, query.as_str(), shelf, &figures)?;
         figures = sum;
         shelf = left;
@@ -342,28 +344,40 @@ fn all_tried<R: Threads + Sync>(
     Ok(figures)
 }
 
-#[test]
-fn a_demonstration_adds_up(rt: HostRuntime) -> Result<(), Fail> {
-    let alloc = rt.alloc();
-    let (root, shelf) = mapped(&rt, alloc)?;
+// What a demonstration prints of them.
+fn printed(alloc: Global, root: &str, figures: &Figures) -> Result<String, AllocError> {
     let Figures {
         accepted,
         answers,
         bytes,
-    } = all_tried(&rt, alloc, root.as_str(), shelf)?;
-    let printed = format!(in alloc;
+    } = *figures;
+    format!(in alloc;
         "records 1000\nlevel 1\nroot {root}\nqueries 64\naccepted {accepted}\nanswers {answers}\n\
          bytes {bytes}\n"
-    )?;
+    )
+}
+
+// Whether a demonstration prints this.
+fn is_shown<R: Threads + Sync>(rt: &R, alloc: Global, text: &str) -> Result<bool, AllocError> {
     let row = Row {
         name: "a demonstration adds up",
         words: "demo 1000 1",
         files: &[],
         fails: &[],
         status: Done,
-        text: printed.as_str(),
+        text,
         made: &[],
     };
-    assert!(rt; is_so::<Sha, _>(&rt, alloc, &row)?);
-    Ok(())
+    is_so::<Sha, R>(rt, alloc, &row)
+}
+
+fn adds_up<R: Threads + Sync>(rt: &R, alloc: Global) -> Result<bool, AllocError> {
+    let (root, shelf) = mapped(rt, alloc)?;
+    let figures = all_tried(rt, alloc, root.as_str(), shelf)?;
+    is_shown(rt, alloc, printed(alloc, root.as_str(), &figures)?.as_str())
+}
+
+#[test]
+fn a_demonstration_adds_up(rt: HostRuntime) {
+    holds(&rt, "64 queries", adds_up(&rt, rt.alloc()));
 }

@@ -1,21 +1,20 @@
 //! Map files, as rows and stories: the commands that write and list them and that prove windows on
 //! them, and files that stand for no map. All under the exclusive or of all bytes.
 
+use crate::assertions::{all_hold, holds, holds_at};
 use crate::bench::Call::{Shelf, Sink};
 use crate::bench::Step::{Change, Run};
-use crate::bench::{
-    Row, Story, file_of, first_other, first_untrue, is_so, ran, shelf_of, shelf_with,
-};
+use crate::bench::{Row, Story, file_of, is_so, ran, rows_hold, shelf_of, shelf_with, stories_go};
 use crate::parts::Part::{
     Child, Fill, Inner, Leaf, Map, Node, Pruned, Raw, Seal, Text, Window, Zeros,
 };
 use crate::parts::{File, Part, bytes_of};
-use crate::rows::{SEVEN, first_good_line};
+use crate::rows::{SEVEN, lines_are_bad};
 use mr_outside::NoGate;
 use mr_tool::Status::{self, BadMap, BadText, Done, Outside};
 use mr_tree::XorHash;
 use std::alloc::{AllocError, Global};
-use std::test::Fail;
+use std::process::Abort;
 use std::thread::Threads;
 
 const TEXT_OF_SEVEN: &[File<'static>] = &[("r", &[Text(SEVEN)])];
@@ -38,18 +37,21 @@ const MAP_OF_ONE: &[File<'static>] = &[("m", ONE)];
 // The map of no record.
 const NONE: &[Part<'static>] = &[Raw(b"MRMP\x01"), Zeros(20), Raw(b"\x01"), Seal];
 
-/// The records I at (I,0) for I from 1 to 17, and their two leaves.
+/// The records I at (I,0) for I from 1 to 17.
 pub const SEVENTEEN: &str = "1 1 0 1 0 -\n2 2 0 2 0 -\n3 3 0 3 0 -\n4 4 0 4 0 -\n5 5 0 5 0 -\n\
     6 6 0 6 0 -\n7 7 0 7 0 -\n8 8 0 8 0 -\n9 9 0 9 0 -\n10 10 0 10 0 -\n11 11 0 11 0 -\n\
     12 12 0 12 0 -\n13 13 0 13 0 -\n14 14 0 14 0 -\n15 15 0 15 0 -\n16 16 0 16 0 -\n\
     17 17 0 17 0 -\n";
 
-const TEXT_OF_SEVENTEEN: &[File<'static>] = &[("r", &[Text(SEVENTEEN)])];
+/// Their text.
+pub const TEXT_OF_SEVENTEEN: &[File<'static>] = &[("r", &[Text(SEVENTEEN)])];
 
-const FIRST: &str = "1 1 0 1 0 -\n2 2 0 2 0 -\n3 3 0 3 0 -\n4 4 0 4 0 -\n5 5 0 5 0 -\n\
+/// Their first leaf.
+pub const FIRST: &str = "1 1 0 1 0 -\n2 2 0 2 0 -\n3 3 0 3 0 -\n4 4 0 4 0 -\n5 5 0 5 0 -\n\
     6 6 0 6 0 -\n7 7 0 7 0 -\n8 8 0 8 0 -\n";
 
-const SECOND: &str = "9 9 0 9 0 -\n10 10 0 10 0 -\n11 11 0 11 0 -\n12 12 0 12 0 -\n\
+/// Their second leaf.
+pub const SECOND: &str = "9 9 0 9 0 -\n10 10 0 10 0 -\n11 11 0 11 0 -\n12 12 0 12 0 -\n\
     13 13 0 13 0 -\n14 14 0 14 0 -\n15 15 0 15 0 -\n16 16 0 16 0 -\n17 17 0 17 0 -\n";
 
 const HEAD_OF_TWO: Part<'static> = Map {
@@ -502,18 +504,28 @@ const BROKEN: &[Story<'static>] = &[
     },
 ];
 
-#[test]
-fn maps_that_are_built(rt: HostRuntime) -> Result<(), Fail> {
-    assert_eq!(rt; bytes_of(rt.alloc(), TWO)?.len(), 16_384);
-    assert_eq!(rt; first_other::<XorHash, _>(&rt, rt.alloc(), BUILT)?, None);
-    Ok(())
+fn has_four_pages(alloc: Global) -> Result<bool, AllocError> {
+    Ok(bytes_of(alloc, TWO)?.len() == 16_384)
 }
 
 #[test]
-fn maps_that_are_listed(rt: HostRuntime) -> Result<(), Fail> {
-    assert_eq!(rt; first_other::<XorHash, _>(&rt, rt.alloc(), LISTED)?, None);
-    assert_eq!(rt; first_untrue::<XorHash, _>(&rt, rt.alloc(), BROKEN)?, None);
-    Ok(())
+fn maps_that_are_built(rt: HostRuntime) {
+    holds(&rt, "four pages", has_four_pages(rt.alloc()));
+    rows_hold::<XorHash, _>(&rt, rt.alloc(), BUILT);
+}
+
+fn lists_hold<R: Threads + Abort + Sync>(rt: &R, alloc: Global) {
+    rows_hold::<XorHash, R>(rt, alloc, LISTED);
+}
+
+fn broken_go<R: Threads + Abort + Sync>(rt: &R, alloc: Global) {
+    stories_go::<XorHash, R>(rt, alloc, BROKEN);
+}
+
+#[test]
+fn maps_that_are_listed(rt: HostRuntime) {
+    lists_hold(&rt, rt.alloc());
+    broken_go(&rt, rt.alloc());
 }
 
 const WORDS: &[&str] = &[
@@ -537,13 +549,9 @@ const PROVING_WORDS: &[&str] = &[
 ];
 
 #[test]
-fn words_that_name_no_map(rt: HostRuntime) -> Result<(), Fail> {
-    assert_eq!(rt; first_good_line(&rt, rt.alloc(), WORDS, FAULTY)?, None);
-    assert_eq!(rt;
-        first_good_line(&rt, rt.alloc(), PROVING_WORDS, MAP_AND_TEXT)?,
-        None
-    );
-    Ok(())
+fn words_that_name_no_map(rt: HostRuntime) {
+    lines_are_bad(&rt, rt.alloc(), WORDS, FAULTY);
+    lines_are_bad(&rt, rt.alloc(), PROVING_WORDS, MAP_AND_TEXT);
 }
 
 const MAP_AND_TEXT: &[File<'static>] = &[("m", ONE), ("t", &[Text("a text")])];
@@ -603,9 +611,8 @@ const PROVED: &[Row<'static>] = &[
 ];
 
 #[test]
-fn windows_that_are_proved_or_not(rt: HostRuntime) -> Result<(), Fail> {
-    assert_eq!(rt; first_other::<XorHash, _>(&rt, rt.alloc(), PROVED)?, None);
-    Ok(())
+fn windows_that_are_proved_or_not(rt: HostRuntime) {
+    rows_hold::<XorHash, _>(&rt, rt.alloc(), PROVED);
 }
 
 // Rows that are not so: one leaves out the file that is made, one the file that is there.
@@ -630,12 +637,22 @@ const FORGETFUL: &[Row<'static>] = &[
     },
 ];
 
-#[test]
-fn a_file_that_a_row_leaves_out_is_seen(rt: HostRuntime) -> Result<(), Fail> {
-    for row in FORGETFUL {
-        assert!(rt; !is_so::<XorHash, _>(&rt, rt.alloc(), row)?, "{}", row.name);
+fn first_unseen<R: Threads + Sync>(
+    rt: &R,
+    alloc: Global,
+    rows: &[Row<'static>],
+) -> Result<Option<&'static str>, AllocError> {
+    for row in rows {
+        if is_so::<XorHash, R>(rt, alloc, row)? {
+            return Ok(Some(row.name));
+        }
     }
-    Ok(())
+    Ok(None)
+}
+
+#[test]
+fn a_file_that_a_row_leaves_out_is_seen(rt: HostRuntime) {
+    all_hold(&rt, first_unseen(&rt, rt.alloc(), FORGETFUL));
 }
 
 /// How a command line ended: its status, what it printed, and the file that it left, empty where
@@ -695,77 +712,79 @@ pub fn may_stand<R: Threads + Sync>(
     )
 }
 
-// Whether a build is stopped at this call: it is whole only once its pages were synced and its seal
-// was written.
-fn stops_a_build<R: Threads + Sync>(
+// Whether the file holds these parts.
+fn is_made_of(alloc: Global, left: &[u8], parts: &[Part<'_>]) -> Result<bool, AllocError> {
+    Ok(bytes_of(alloc, parts)?.as_slice() == left)
+}
+
+// How `build m r` ends where these calls of the shelf and of the sink fail, and the map that it
+// leaves.
+fn built<R: Threads + Sync>(
     rt: &R,
     alloc: Global,
-    two: &[u8],
-    call: u64,
-) -> Result<bool, AllocError> {
-    let ended = ended(rt, alloc, "build m r", TEXT_OF_SEVENTEEN, (call, 0), "m")?;
-    let in_order = if call == 7 {
-        ended.left.as_slice() == two
-    } else {
-        may_stand(rt, alloc, &ended.left)?
-    };
-    Ok(is_stopped(&ended) && in_order)
+    fails: (u64, u64),
+) -> Result<Ending, AllocError> {
+    ended(rt, alloc, "build m r", TEXT_OF_SEVENTEEN, fails, "m")
+}
+
+// Whether a build is stopped at this call: it is whole only once its pages were synced and its seal
+// was written.
+fn stops_a_build<R: Threads + Sync>(rt: &R, alloc: Global, call: u64) -> Result<bool, AllocError> {
+    let ended = built(rt, alloc, (call, 0))?;
+    if !is_stopped(&ended) {
+        return Ok(false);
+    }
+    if call == 7 {
+        return is_made_of(alloc, &ended.left, TWO);
+    }
+    may_stand(rt, alloc, &ended.left)
 }
 
 // Whether a build, where these calls fail, ends so and leaves the map.
 fn builds<R: Threads + Sync>(
     rt: &R,
     alloc: Global,
-    two: &[u8],
     fails: (u64, u64),
     status: Status,
     said: &[u8],
 ) -> Result<bool, AllocError> {
-    let ended = ended(rt, alloc, "build m r", TEXT_OF_SEVENTEEN, fails, "m")?;
-    Ok(ended.status == status && ended.said.as_slice() == said && ended.left.as_slice() == two)
+    let ended = built(rt, alloc, fails)?;
+    let whole = is_made_of(alloc, &ended.left, TWO)?;
+    Ok(ended.status == status && ended.said.as_slice() == said && whole)
 }
 
+const LINE_OF_TWO: &[u8] = b"000000000000000000000000000000000000000000000000000000000000000f\n";
+
 #[test]
-fn each_call_of_a_build_fails_in_turn(rt: HostRuntime) -> Result<(), Fail> {
-    let alloc = rt.alloc();
-    let two = bytes_of(alloc, TWO)?;
+fn each_call_of_a_build_fails_in_turn(rt: HostRuntime) {
     // A size, a read, and then the file is made, written, synced, sealed and synced.
     for call in 1..8u64 {
-        assert!(rt; stops_a_build(&rt, alloc, &two, call)?, "call {call}");
+        holds_at(&rt, "call", call, stops_a_build(&rt, rt.alloc(), call));
     }
-    let line = b"000000000000000000000000000000000000000000000000000000000000000f\n".as_slice();
-    assert!(rt; builds(&rt, alloc, &two, (8, 0), Done, line)?);
-    assert!(rt; builds(&rt, alloc, &two, (0, 1), Outside, b"")?);
-    Ok(())
+    let past_the_last = builds(&rt, rt.alloc(), (8, 0), Done, LINE_OF_TWO);
+    holds(&rt, "a call past the last", past_the_last);
+    let of_the_sink = builds(&rt, rt.alloc(), (0, 1), Outside, b"");
+    holds(&rt, "a call of the sink", of_the_sink);
 }
 
 // Whether `prove` is stopped at this call, and its proof is whole only where it was written and not
 // synced.
-fn stops_a_proof<R: Threads + Sync>(
-    rt: &R,
-    alloc: Global,
-    proof: &[u8],
-    call: u64,
-) -> Result<bool, AllocError> {
-    let ended = ended(
-        rt,
-        alloc,
-        "prove m window:2,0,3,0 p",
-        MAP_OF_TWO,
-        (call, 0),
-        "p",
-    )?;
-    Ok(is_stopped(&ended) && (ended.left.as_slice() == proof) == (call == 5))
+fn stops_a_proof<R: Threads + Sync>(rt: &R, alloc: Global, call: u64) -> Result<bool, AllocError> {
+    let line = "prove m window:2,0,3,0 p";
+    let ended = ended(rt, alloc, line, MAP_OF_TWO, (call, 0), "p")?;
+    let whole = is_made_of(alloc, &ended.left, PROOF_OF_TWO)?;
+    Ok(is_stopped(&ended) && whole == (call == 5))
+}
+
+fn has_276_bytes(alloc: Global) -> Result<bool, AllocError> {
+    Ok(bytes_of(alloc, PROOF_OF_TWO)?.len() == 276)
 }
 
 #[test]
-fn each_call_of_a_proof_fails_in_turn(rt: HostRuntime) -> Result<(), Fail> {
-    let alloc = rt.alloc();
-    let proof = bytes_of(alloc, PROOF_OF_TWO)?;
-    assert_eq!(rt; proof.len(), 276);
+fn each_call_of_a_proof_fails_in_turn(rt: HostRuntime) {
+    holds(&rt, "276 bytes", has_276_bytes(rt.alloc()));
     // A size, a read, and then the file is made, written and synced.
     for call in 1..6u64 {
-        assert!(rt; stops_a_proof(&rt, alloc, &proof, call)?, "call {call}");
+        holds_at(&rt, "call", call, stops_a_proof(&rt, rt.alloc(), call));
     }
-    Ok(())
 }

@@ -1,24 +1,26 @@
-//! Queries for nearest records: proved on a map that was built, checked, and audited. Proofs,
-//! digests and answers come from a program of another language.
+//! Queries for nearest records: proved on a map that was built, and checked. Proofs, digests and
+//! answers come from a program of another language.
 
-use crate::bench::Step::{Change, Do, Hashes, Holds, Print, Run};
-use crate::bench::{Row, Story, first_other, first_untrue};
-use crate::maps::SEVENTEEN;
+use crate::bench::Step::{Hashes, Holds, Print, Run};
+use crate::bench::{Story, stories_go};
+use crate::maps::{FIRST, SECOND, TEXT_OF_SEVENTEEN};
 use crate::parts::File;
-use crate::parts::Part::{Leaf, Nearest, Node, Pruned, Raw, Row as InARow, Text, Window, Zeros};
-use crate::rows::{FOUR_PLACES, OPENED, SEVEN};
-use mr_tool::Status::{Collision, Done, Refused};
+use crate::parts::Part::{Leaf, Nearest, Node, Pruned, Raw, Row, Text};
+use crate::rows::FOUR_PLACES;
+use mr_tool::Status::Done;
 use mr_tree::{Sha, XorHash};
-use std::test::Fail;
+use std::alloc::Global;
+use std::process::Abort;
+use std::thread::Threads;
 
-// Three places, as a text and in the order of their leaf.
+// Three places.
 const THREE: &str = "1 1 0 1 0 -\n2 0 2 0 2 -\n3 3 0 3 0 -\n";
 
-const LEAF_OF_THREE: &str = "1 1 0 1 0 -\n3 3 0 3 0 -\n2 0 2 0 2 -\n";
+/// Their leaf.
+pub const LEAF_OF_THREE: &str = "1 1 0 1 0 -\n3 3 0 3 0 -\n2 0 2 0 2 -\n";
 
-const TEXT_OF_THREE: &[File<'static>] = &[("r", &[Text(THREE)])];
-
-const TEXT_OF_SEVENTEEN: &[File<'static>] = &[("r", &[Text(SEVENTEEN)])];
+/// Three places, as a text.
+pub const TEXT_OF_THREE: &[File<'static>] = &[("r", &[Text(THREE)])];
 
 // Seven places, many of them at one distance.
 const CIRCLE: &[File<'static>] = &[(
@@ -31,13 +33,6 @@ const CIRCLE: &[File<'static>] = &[(
 
 const LEAF_OF_CIRCLE: &str = "2 6 0 6 0 -\n3 0 0 0 0 -\n7 -5 -1 -5 1 00ff\n9 5 0 5 0 -\n\
     1 3 4 3 4 -\n4 -3 4 -3 4 -\n5 0 5 0 5 -\n";
-
-// The two leaves of seventeen places.
-const FIRST: &str = "1 1 0 1 0 -\n2 2 0 2 0 -\n3 3 0 3 0 -\n4 4 0 4 0 -\n5 5 0 5 0 -\n\
-    6 6 0 6 0 -\n7 7 0 7 0 -\n8 8 0 8 0 -\n";
-
-const SECOND: &str = "9 9 0 9 0 -\n10 10 0 10 0 -\n11 11 0 11 0 -\n12 12 0 12 0 -\n\
-    13 13 0 13 0 -\n14 14 0 14 0 -\n15 15 0 15 0 -\n16 16 0 16 0 -\n17 17 0 17 0 -\n";
 
 // Under the exclusive or of all bytes.
 const ANSWERS: &[Story<'static>] = &[
@@ -375,7 +370,7 @@ const MANY: &[Story<'static>] = &[
     },
     Story {
         name: "one less than are asked for",
-        files: &[("r", &[InARow(1023)])],
+        files: &[("r", &[Row(1023)])],
         steps: &[
             Run {
                 words: "build m r",
@@ -390,7 +385,7 @@ const MANY: &[Story<'static>] = &[
             Print(
                 "check 8cacc6cdfbc42a4dcd74d5093d669725f525a5a89c921581db5621ecd6f4e36a \
                     nearest:0,0,1024 p",
-                &[InARow(1023)],
+                &[Row(1023)],
             ),
             Hashes(
                 "p",
@@ -401,7 +396,7 @@ const MANY: &[Story<'static>] = &[
     },
     Story {
         name: "as many of a thousand",
-        files: &[("r", &[InARow(1024)])],
+        files: &[("r", &[Row(1024)])],
         steps: &[
             Run {
                 words: "build m r",
@@ -416,7 +411,7 @@ const MANY: &[Story<'static>] = &[
             Print(
                 "check 2b3c93efccf62f130f7b6a8da814b2d508ac00422f210f40e9d3f64c7166e2e1 \
                     nearest:0,0,1024 p",
-                &[InARow(1024)],
+                &[Row(1024)],
             ),
             Hashes(
                 "p",
@@ -427,7 +422,7 @@ const MANY: &[Story<'static>] = &[
     },
     Story {
         name: "one more than are asked for",
-        files: &[("r", &[InARow(1025)])],
+        files: &[("r", &[Row(1025)])],
         steps: &[
             Run {
                 words: "build m r",
@@ -442,7 +437,7 @@ const MANY: &[Story<'static>] = &[
             Print(
                 "check 0a1f58ba200fb9fbf1ec601962e66d4f61fca5ce3dd5b1fbc2a96141ab87d843 \
                     nearest:0,0,1024 p",
-                &[InARow(1024)],
+                &[Row(1024)],
             ),
             Hashes(
                 "p",
@@ -453,646 +448,16 @@ const MANY: &[Story<'static>] = &[
     },
 ];
 
-#[test]
-fn the_nearest_that_are_proved(rt: HostRuntime) -> Result<(), Fail> {
-    assert_eq!(rt; first_untrue::<XorHash, _>(&rt, rt.alloc(), ANSWERS)?, None);
-    assert_eq!(rt; first_untrue::<Sha, _>(&rt, rt.alloc(), MANY)?, None);
-    Ok(())
+fn answers_go<R: Threads + Abort + Sync>(rt: &R, alloc: Global) {
+    stories_go::<XorHash, R>(rt, alloc, ANSWERS);
 }
 
-// Flags and radii that are others than those of the answer, parts that touch the circle, nodes
-// outside it. Under the exclusive or of all bytes.
-const CHECKS: &[Row<'static>] = &[
-    Row {
-        name: "a window's proof",
-        words: "check ..18 nearest:0,0,1 p",
-        files: &[("p", OPENED)],
-        fails: &[],
-        status: Refused,
-        text: "refused WrongKind at 5\n",
-        made: &[],
-    },
-    Row {
-        name: "a proof for the nearest, of a window",
-        words: "check ..18 window:0,0,0,0 p",
-        files: &[(
-            "p",
-            &[
-                Nearest {
-                    count: 1,
-                    radius: Some(0),
-                    level: 0,
-                },
-                Leaf(SEVEN),
-            ],
-        )],
-        fails: &[],
-        status: Refused,
-        text: "refused WrongKind at 5\n",
-        made: &[],
-    },
-    Row {
-        name: "a pruned leaf that touches the circle",
-        words: "check ..00 nearest:0,0,1 p",
-        files: &[(
-            "p",
-            &[
-                Nearest {
-                    count: 2,
-                    radius: Some(9),
-                    level: 1,
-                },
-                Node(2),
-                Leaf("2 0 3 0 3 -\n"),
-                Pruned {
-                    corners: [3, 0, 3, 0],
-                    digest: 0x00,
-                },
-            ],
-        )],
-        fails: &[],
-        status: Refused,
-        text: "refused Hidden at 70\n",
-        made: &[],
-    },
-    Row {
-        name: "a radius where there are fewer",
-        words: "check ..1e nearest:0,0,5 p",
-        files: &[(
-            "p",
-            &[
-                Nearest {
-                    count: 3,
-                    radius: Some(9),
-                    level: 0,
-                },
-                Leaf(LEAF_OF_THREE),
-            ],
-        )],
-        fails: &[],
-        status: Refused,
-        text: "refused WrongRadius at 117\n",
-        made: &[],
-    },
-    Row {
-        name: "the radius of two",
-        words: "check ..1e nearest:0,0,2 p",
-        files: &[(
-            "p",
-            &[
-                Nearest {
-                    count: 3,
-                    radius: Some(4),
-                    level: 0,
-                },
-                Leaf(LEAF_OF_THREE),
-            ],
-        )],
-        fails: &[],
-        status: Done,
-        text: "1 1 0 1 0 -\n2 0 2 0 2 -\n",
-        made: &[],
-    },
-    Row {
-        name: "one less",
-        words: "check ..1e nearest:0,0,2 p",
-        files: &[(
-            "p",
-            &[
-                Nearest {
-                    count: 3,
-                    radius: Some(3),
-                    level: 0,
-                },
-                Leaf(LEAF_OF_THREE),
-            ],
-        )],
-        fails: &[],
-        status: Refused,
-        text: "refused WrongRadius at 117\n",
-        made: &[],
-    },
-    Row {
-        name: "one more",
-        words: "check ..1e nearest:0,0,2 p",
-        files: &[(
-            "p",
-            &[
-                Nearest {
-                    count: 3,
-                    radius: Some(5),
-                    level: 0,
-                },
-                Leaf(LEAF_OF_THREE),
-            ],
-        )],
-        fails: &[],
-        status: Refused,
-        text: "refused WrongRadius at 117\n",
-        made: &[],
-    },
-    Row {
-        name: "that of three",
-        words: "check ..1e nearest:0,0,2 p",
-        files: &[(
-            "p",
-            &[
-                Nearest {
-                    count: 3,
-                    radius: Some(9),
-                    level: 0,
-                },
-                Leaf(LEAF_OF_THREE),
-            ],
-        )],
-        fails: &[],
-        status: Refused,
-        text: "refused WrongRadius at 117\n",
-        made: &[],
-    },
-    Row {
-        name: "no radius for two",
-        words: "check ..1e nearest:0,0,2 p",
-        files: &[(
-            "p",
-            &[
-                Nearest {
-                    count: 3,
-                    radius: None,
-                    level: 0,
-                },
-                Leaf(LEAF_OF_THREE),
-            ],
-        )],
-        fails: &[],
-        status: Refused,
-        text: "refused WrongRadius at 101\n",
-        made: &[],
-    },
-    Row {
-        name: "no radius for three",
-        words: "check ..1e nearest:0,0,3 p",
-        files: &[(
-            "p",
-            &[
-                Nearest {
-                    count: 3,
-                    radius: None,
-                    level: 0,
-                },
-                Leaf(LEAF_OF_THREE),
-            ],
-        )],
-        fails: &[],
-        status: Refused,
-        text: "refused WrongRadius at 101\n",
-        made: &[],
-    },
-    Row {
-        name: "the radius of three",
-        words: "check ..1e nearest:0,0,3 p",
-        files: &[(
-            "p",
-            &[
-                Nearest {
-                    count: 3,
-                    radius: Some(9),
-                    level: 0,
-                },
-                Leaf(LEAF_OF_THREE),
-            ],
-        )],
-        fails: &[],
-        status: Done,
-        text: "1 1 0 1 0 -\n2 0 2 0 2 -\n3 3 0 3 0 -\n",
-        made: &[],
-    },
-    Row {
-        name: "a wrong root is seen before a wrong radius",
-        words: "check ..1f nearest:0,0,2 p",
-        files: &[(
-            "p",
-            &[
-                Nearest {
-                    count: 3,
-                    radius: Some(5),
-                    level: 0,
-                },
-                Leaf(LEAF_OF_THREE),
-            ],
-        )],
-        fails: &[],
-        status: Refused,
-        text: "refused WrongRoot at 117 found ..1e\n",
-        made: &[],
-    },
-    Row {
-        name: "a byte more is seen before a wrong radius",
-        words: "check ..1e nearest:0,0,2 p",
-        files: &[(
-            "p",
-            &[
-                Nearest {
-                    count: 3,
-                    radius: Some(5),
-                    level: 0,
-                },
-                Leaf(LEAF_OF_THREE),
-                Raw(b"\0"),
-            ],
-        )],
-        fails: &[],
-        status: Refused,
-        text: "refused Trailing at 117\n",
-        made: &[],
-    },
-    Row {
-        name: "a flag that is neither 0 nor 1",
-        words: "check ..1e nearest:0,0,2 p",
-        files: &[(
-            "p",
-            &[Raw(
-                b"MRVO\x01K\0\0\0\0\0\0\0\0\0\0\0\0\0\0\0\x03\x02\0L\x03\0\0\0\0\0\0\0\x01\0\0\0\
-                  \x01\0\0\0\0\0\0\0\x01\0\0\0\0\0\0\0\0\0\0\0\0\x03\0\0\0\x03\0\0\0\0\0\0\0\x03\0\
-                  \0\0\0\0\0\0\0\0\0\0\0\x02\0\0\0\0\0\0\0\x02\0\0\0\0\0\0\0\x02\0",
-            )],
-        )],
-        fails: &[],
-        status: Refused,
-        text: "refused BadFlag at 22\n",
-        made: &[],
-    },
-    Row {
-        name: "the greatest radius",
-        words: "check ..1e nearest:0,0,2 p",
-        files: &[(
-            "p",
-            &[
-                Nearest {
-                    count: 3,
-                    radius: Some(36893488130239234050),
-                    level: 0,
-                },
-                Leaf(LEAF_OF_THREE),
-            ],
-        )],
-        fails: &[],
-        status: Refused,
-        text: "refused WrongRadius at 117\n",
-        made: &[],
-    },
-    Row {
-        name: "a radius past the greatest",
-        words: "check ..1e nearest:0,0,2 p",
-        files: &[(
-            "p",
-            &[
-                Nearest {
-                    count: 3,
-                    radius: Some(36893488130239234051),
-                    level: 0,
-                },
-                Leaf(LEAF_OF_THREE),
-            ],
-        )],
-        fails: &[],
-        status: Refused,
-        text: "refused BadRadius at 23\n",
-        made: &[],
-    },
-    Row {
-        name: "a radius that is cut off",
-        words: "check ..1e nearest:0,0,2 p",
-        files: &[(
-            "p",
-            &[Raw(
-                b"MRVO\x01K\0\0\0\0\0\0\0\0\0\0\0\0\0\0\0\x03\x01\0\0\0\0\0\0\0\0\0\0\0\0\0\0\0",
-            )],
-        )],
-        fails: &[],
-        status: Refused,
-        text: "refused Short at 23\n",
-        made: &[],
-    },
-    Row {
-        name: "a head without a flag",
-        words: "check ..1e nearest:0,0,2 p",
-        files: &[("p", &[Raw(b"MRVO\x01K\0\0\0\0\0\0\0\0\0\0\0\0\0\0\0\x03")])],
-        fails: &[],
-        status: Refused,
-        text: "refused Short at 22\n",
-        made: &[],
-    },
-    Row {
-        name: "a leaf outside the circle",
-        words: "check ..1e nearest:9,9,1 p",
-        files: &[(
-            "p",
-            &[
-                Nearest {
-                    count: 3,
-                    radius: Some(3),
-                    level: 0,
-                },
-                Leaf(LEAF_OF_THREE),
-            ],
-        )],
-        fails: &[],
-        status: Refused,
-        text: "refused Needless at 116\n",
-        made: &[],
-    },
-    Row {
-        name: "a radius on the empty map",
-        words: "check ..44 nearest:0,0,1 p",
-        files: &[(
-            "p",
-            &[Raw(
-                b"MRVO\x01K\0\0\0\0\0\0\0\0\0\0\0\0\0\0\0\0\x01\0\0\0\0\0\0\0\0\0\0\0\0\0\0\0\0",
-            )],
-        )],
-        fails: &[],
-        status: Refused,
-        text: "refused WrongRadius at 39\n",
-        made: &[],
-    },
-    Row {
-        name: "a radius and another root on the empty map",
-        words: "check ..45 nearest:0,0,1 p",
-        files: &[(
-            "p",
-            &[Raw(
-                b"MRVO\x01K\0\0\0\0\0\0\0\0\0\0\0\0\0\0\0\0\x01\0\0\0\0\0\0\0\0\0\0\0\0\0\0\0\0",
-            )],
-        )],
-        fails: &[],
-        status: Refused,
-        text: "refused WrongRoot at 39 found ..44\n",
-        made: &[],
-    },
-    Row {
-        name: "no radius on the empty map",
-        words: "check ..44 nearest:0,0,1 p",
-        files: &[("p", &[Raw(b"MRVO\x01K\0\0\0\0\0\0\0\0\0\0\0\0\0\0\0\0\0")])],
-        fails: &[],
-        status: Done,
-        text: "",
-        made: &[],
-    },
-    Row {
-        name: "one leaf opened and one pruned",
-        words: "check ..0f nearest:17,1,2 p",
-        files: &[(
-            "p",
-            &[
-                Nearest {
-                    count: 17,
-                    radius: Some(2),
-                    level: 1,
-                },
-                Node(2),
-                Pruned {
-                    corners: [1, 0, 8, 0],
-                    digest: 0x4c,
-                },
-                Leaf(SECOND),
-            ],
-        )],
-        fails: &[],
-        status: Done,
-        text: "17 17 0 17 0 -\n16 16 0 16 0 -\n",
-        made: &[],
-    },
-    Row {
-        name: "a leaf opened outside the circle",
-        words: "check ..0f nearest:17,1,2 p",
-        files: &[(
-            "p",
-            &[
-                Nearest {
-                    count: 17,
-                    radius: Some(2),
-                    level: 1,
-                },
-                Node(2),
-                Leaf(FIRST),
-                Leaf(SECOND),
-            ],
-        )],
-        fails: &[],
-        status: Refused,
-        text: "refused Needless at 243\n",
-        made: &[],
-    },
-    Row {
-        name: "a leaf pruned inside a wider circle",
-        words: "check ..0f nearest:17,1,2 p",
-        files: &[(
-            "p",
-            &[
-                Nearest {
-                    count: 17,
-                    radius: Some(82),
-                    level: 1,
-                },
-                Node(2),
-                Pruned {
-                    corners: [1, 0, 8, 0],
-                    digest: 0x4c,
-                },
-                Leaf(SECOND),
-            ],
-        )],
-        fails: &[],
-        status: Refused,
-        text: "refused Hidden at 43\n",
-        made: &[],
-    },
-    Row {
-        name: "a wider circle that touches no other leaf",
-        words: "check ..0f nearest:17,1,2 p",
-        files: &[(
-            "p",
-            &[
-                Nearest {
-                    count: 17,
-                    radius: Some(81),
-                    level: 1,
-                },
-                Node(2),
-                Pruned {
-                    corners: [1, 0, 8, 0],
-                    digest: 0x4c,
-                },
-                Leaf(SECOND),
-            ],
-        )],
-        fails: &[],
-        status: Refused,
-        text: "refused WrongRadius at 318\n",
-        made: &[],
-    },
-    Row {
-        name: "no radius, and a pruned leaf",
-        words: "check ..0f nearest:17,1,2 p",
-        files: &[(
-            "p",
-            &[
-                Nearest {
-                    count: 17,
-                    radius: None,
-                    level: 1,
-                },
-                Node(2),
-                Pruned {
-                    corners: [1, 0, 8, 0],
-                    digest: 0x4c,
-                },
-                Leaf(SECOND),
-            ],
-        )],
-        fails: &[],
-        status: Refused,
-        text: "refused Hidden at 27\n",
-        made: &[],
-    },
-    Row {
-        name: "both leaves pruned",
-        words: "check ..0f nearest:17,1,2 p",
-        files: &[(
-            "p",
-            &[
-                Nearest {
-                    count: 17,
-                    radius: Some(2),
-                    level: 1,
-                },
-                Node(2),
-                Pruned {
-                    corners: [1, 0, 8, 0],
-                    digest: 0x4c,
-                },
-                Pruned {
-                    corners: [9, 0, 17, 0],
-                    digest: 0x4c,
-                },
-            ],
-        )],
-        fails: &[],
-        status: Refused,
-        text: "refused Hidden at 92\n",
-        made: &[],
-    },
-];
-
-#[test]
-fn checks_of_proofs_for_the_nearest(rt: HostRuntime) -> Result<(), Fail> {
-    assert_eq!(rt; first_other::<XorHash, _>(&rt, rt.alloc(), CHECKS)?, None);
-    Ok(())
+fn many_go<R: Threads + Abort + Sync>(rt: &R, alloc: Global) {
+    stories_go::<Sha, R>(rt, alloc, MANY);
 }
 
-// Under the exclusive or of all bytes.
-const AUDITS: &[Story<'static>] = &[
-    Story {
-        name: "an honest proof without a radius",
-        files: TEXT_OF_THREE,
-        steps: &[
-            Do("build m r"),
-            Do("prove m nearest:0,0,5 p"),
-            Run {
-                words: "check ..1e nearest:0,0,5 p",
-                status: Done,
-                text: "1 1 0 1 0 -\n2 0 2 0 2 -\n3 3 0 3 0 -\n",
-            },
-            Run {
-                words: "audit m nearest:0,0,5 p",
-                status: Done,
-                text: "sound\n1 1 0 1 0 -\n2 0 2 0 2 -\n3 3 0 3 0 -\n",
-            },
-        ],
-    },
-    Story {
-        name: "an honest proof with one",
-        files: &[("r", &[Text("1 3 0 3 0 -\n2 0 3 0 3 -\n")])],
-        steps: &[
-            Do("build m r"),
-            Do("prove m nearest:0,0,1 p"),
-            Run {
-                words: "check ..1c nearest:0,0,1 p",
-                status: Done,
-                text: "1 3 0 3 0 -\n",
-            },
-            Run {
-                words: "audit m nearest:0,0,1 p",
-                status: Done,
-                text: "sound\n1 3 0 3 0 -\n",
-            },
-        ],
-    },
-    Story {
-        name: "an honest proof on the empty map",
-        files: &[("r", &[])],
-        steps: &[
-            Do("build m r"),
-            Do("prove m nearest:0,0,1 p"),
-            Run {
-                words: "check ..44 nearest:0,0,1 p",
-                status: Done,
-                text: "",
-            },
-            Run {
-                words: "audit m nearest:0,0,1 p",
-                status: Done,
-                text: "sound\n",
-            },
-        ],
-    },
-    Story {
-        name: "two numbers exchanged",
-        files: TEXT_OF_THREE,
-        steps: &[
-            Do("build m r"),
-            Do("prove m nearest:0,0,5 p"),
-            Change("p", &[(33, 3), (58, 1)]),
-            Run {
-                words: "check ..1e nearest:0,0,5 p",
-                status: Done,
-                text: "3 1 0 1 0 -\n2 0 2 0 2 -\n1 3 0 3 0 -\n",
-            },
-            Run {
-                words: "audit m nearest:0,0,5 p",
-                status: Collision,
-                text: "collision\n4c03000000000000000100000001000000000000000100000000000000000000\
-                    000003000000030000000000000003000000000000000000000000020000000000000002000000\
-                    000000000200\n4c03000000000000000300000001000000000000000100000000000000000000\
-                    000001000000030000000000000003000000000000000000000000020000000000000002000000\
-                    000000000200\n",
-            },
-        ],
-    },
-    Story {
-        name: "another radius",
-        files: TEXT_OF_THREE,
-        steps: &[
-            Do("build m r"),
-            Do("prove m nearest:0,0,2 p"),
-            Change("p", &[(38, 5)]),
-            Run {
-                words: "check ..1e nearest:0,0,2 p",
-                status: Refused,
-                text: "refused WrongRadius at 117\n",
-            },
-            Run {
-                words: "audit m nearest:0,0,2 p",
-                status: Refused,
-                text: "refused WrongRadius at 117\n",
-            },
-        ],
-    },
-];
-
 #[test]
-fn proofs_for_the_nearest_beside_their_maps(rt: HostRuntime) -> Result<(), Fail> {
-    assert_eq!(rt; first_untrue::<XorHash, _>(&rt, rt.alloc(), AUDITS)?, None);
-    Ok(())
+fn the_nearest_that_are_proved(rt: HostRuntime) {
+    answers_go(&rt, rt.alloc());
+    many_go(&rt, rt.alloc());
 }

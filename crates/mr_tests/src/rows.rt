@@ -1,8 +1,9 @@
 //! Roots of record texts and checks of windows' proofs, as rows. Their values are computed by hand
 //! or by a program of another language.
 
+use crate::assertions::{all_hold, holds};
 use crate::bench::Call::{Shelf, Sink};
-use crate::bench::{Row, first_other, is_so, ran, shelf_of};
+use crate::bench::{Row, is_so, ran, rows_hold, shelf_of};
 use crate::parts::Part::{Leaf, Node, Pruned, Raw, Text, Window, Zeros};
 use crate::parts::{File, Part};
 use mr_outside::{MemSink, NoGate};
@@ -11,7 +12,7 @@ use mr_tool::run;
 use mr_tree::{Sha, XorHash};
 use sha2::{Digest, Sha256};
 use std::alloc::{AllocError, Global};
-use std::test::Fail;
+use std::process::Abort;
 use std::thread::Threads;
 
 /// The text of one record.
@@ -166,10 +167,9 @@ const SHA_ROOTS: &[Row<'static>] = &[
 ];
 
 #[test]
-fn roots(rt: HostRuntime) -> Result<(), Fail> {
-    assert_eq!(rt; first_other::<XorHash, _>(&rt, rt.alloc(), ROOTS)?, None);
-    assert_eq!(rt; first_other::<Sha, _>(&rt, rt.alloc(), SHA_ROOTS)?, None);
-    Ok(())
+fn roots(rt: HostRuntime) {
+    rows_hold::<XorHash, _>(&rt, rt.alloc(), ROOTS);
+    rows_hold::<Sha, _>(&rt, rt.alloc(), SHA_ROOTS);
 }
 
 // The line that `root` prints for record 7 at (0,0), by SHA-256 of the literal bytes.
@@ -183,16 +183,18 @@ fn literal_root(alloc: Global) -> Result<String, AllocError> {
     Ok(line)
 }
 
-#[test]
-fn the_root_is_sha_256_of_the_literal_preimages(rt: HostRuntime) -> Result<(), Fail> {
-    let alloc = rt.alloc();
+fn is_literal_root<R: Threads + Sync>(rt: &R, alloc: Global) -> Result<bool, AllocError> {
     let shelf = shelf_of(alloc, TEXT_OF_SEVEN, &[])?;
-    let (status, said, _) = ran::<Sha, _, _, _>(&rt, alloc, "root r", shelf, &[], &NoGate)?;
-    assert!(rt; status == Done && said.as_slice() == literal_root(alloc)?.as_bytes());
-    Ok(())
+    let (status, said, _) = ran::<Sha, _, _, R>(rt, alloc, "root r", shelf, &[], &NoGate)?;
+    Ok(status == Done && said.as_slice() == literal_root(alloc)?.as_bytes())
 }
 
-// A text that breaks a rule, and the line on it.
+#[test]
+fn the_root_is_sha_256_of_the_literal_preimages(rt: HostRuntime) {
+    holds(&rt, "one record", is_literal_root(&rt, rt.alloc()));
+}
+
+// A text that breaks a rule, and the line on it. A failure is told by both.
 #[derive(Clone, Copy)]
 struct Broken<'a> {
     text: &'a [u8],
@@ -289,12 +291,21 @@ fn is_broken<R: Threads + Sync>(
     is_so::<XorHash, R>(rt, alloc, &row)
 }
 
+fn broken_holds<R: Threads + Abort + Sync>(rt: &R, alloc: Global, broken: &Broken<'_>) {
+    let it = is_broken(rt, alloc, broken);
+    assert!(rt;
+        matches!(it, Ok(true)),
+        "{:?}, {}",
+        broken.text,
+        broken.says
+    );
+}
+
 #[test]
-fn texts_that_break_a_rule(rt: HostRuntime) -> Result<(), Fail> {
+fn texts_that_break_a_rule(rt: HostRuntime) {
     for broken in BROKEN {
-        assert!(rt; is_broken(&rt, rt.alloc(), broken)?, "{:?}", broken.text);
+        broken_holds(&rt, rt.alloc(), broken);
     }
-    Ok(())
 }
 
 // Words that spell no command.
@@ -319,8 +330,8 @@ const LINES: &[&str] = &[
     "check ..18 nearest:0,0,0 p",
 ];
 
-/// The first of these command lines that does not end with bad words over these files.
-pub fn first_good_line<R: Threads + Sync>(
+// The first of these command lines that does not end with bad words over these files.
+fn first_good_line<R: Threads + Sync>(
     rt: &R,
     alloc: Global,
     lines: &[&'static str],
@@ -343,23 +354,31 @@ pub fn first_good_line<R: Threads + Sync>(
     Ok(None)
 }
 
-#[test]
-fn words_that_spell_no_command(rt: HostRuntime) -> Result<(), Fail> {
-    assert_eq!(rt;
-        first_good_line(&rt, rt.alloc(), LINES, TEXT_OF_SEVEN)?,
-        None
-    );
-    Ok(())
+/// Fails by the first of these command lines that does not end with bad words over these files.
+pub fn lines_are_bad<R: Threads + Abort + Sync>(
+    rt: &R,
+    alloc: Global,
+    lines: &[&'static str],
+    files: &[File<'_>],
+) {
+    all_hold(rt, first_good_line(rt, alloc, lines, files));
 }
 
 #[test]
-fn no_words(rt: HostRuntime) -> Result<(), Fail> {
-    let alloc = rt.alloc();
+fn words_that_spell_no_command(rt: HostRuntime) {
+    lines_are_bad(&rt, rt.alloc(), LINES, TEXT_OF_SEVEN);
+}
+
+fn no_words_are_bad<R: Threads + Sync>(rt: &R, alloc: Global) -> Result<bool, AllocError> {
     let mut out = MemSink::new(alloc, Vec::new(alloc));
     let shelf = shelf_of(alloc, TEXT_OF_SEVEN, &[])?;
-    let (status, _) = run::<XorHash, _, _, _, _>(&rt, alloc, &[], shelf, &mut out, &NoGate);
-    assert!(rt; status == BadWords && out.bytes() == b"bad words\n".as_slice());
-    Ok(())
+    let (status, _) = run::<XorHash, _, _, _, R>(rt, alloc, &[], shelf, &mut out, &NoGate);
+    Ok(status == BadWords && out.bytes() == b"bad words\n".as_slice())
+}
+
+#[test]
+fn no_words(rt: HostRuntime) {
+    holds(&rt, "no words", no_words_are_bad(&rt, rt.alloc()));
 }
 
 /// A window's proof on the map of that record, which opens its leaf.
@@ -526,9 +545,8 @@ const CHECKS: &[Row<'static>] = &[
 ];
 
 #[test]
-fn checks_of_a_proof(rt: HostRuntime) -> Result<(), Fail> {
-    assert_eq!(rt; first_other::<XorHash, _>(&rt, rt.alloc(), CHECKS)?, None);
-    Ok(())
+fn checks_of_a_proof(rt: HostRuntime) {
+    rows_hold::<XorHash, _>(&rt, rt.alloc(), CHECKS);
 }
 
 /// The proof of a window on the four places: their leaf is opened.
@@ -611,7 +629,6 @@ const ANSWERS: &[Row<'static>] = &[
 ];
 
 #[test]
-fn an_answer_of_two_places_and_what_fails(rt: HostRuntime) -> Result<(), Fail> {
-    assert_eq!(rt; first_other::<Sha, _>(&rt, rt.alloc(), ANSWERS)?, None);
-    Ok(())
+fn an_answer_of_two_places_and_what_fails(rt: HostRuntime) {
+    rows_hold::<Sha, _>(&rt, rt.alloc(), ANSWERS);
 }

@@ -3,13 +3,15 @@
 ghost use Rattle.std.specs.Prelude.{IfOk};
 ghost use Rattle.mr_query.specs.Word.{IsAskable};
 
+use crate::assertions::{all_hold, all_hold_in_memory, holds, holds_in_memory};
+use crate::made::Corners;
 use mr_check::{CheckErr, check};
 use mr_geom::Rect;
 use mr_proof::{Fault, Field, Rule, Want, read_field};
 use mr_query::Query;
-use mr_tree::{Sha, XorHash};
+use mr_record::Record;
+use mr_tree::{Hash32, Sha, XorHash};
 use std::alloc::{AllocError, Global};
-use std::test::Fail;
 
 /// A window's proof on the map of record 7 that opens its leaf.
 pub const OPENED: &[u8] = b"MRVO\x01W\0\0\0\0\0\0\0\0\0\0\0\0\0\0\0\x01\0\
@@ -39,26 +41,35 @@ pub fn window(x0: i32, y0: i32, x1: i32, y1: i32) -> Result<Query, &'static str>
 
 // A proof for a window on a map of level 1, which opens the root and its second child, that leaf,
 // and prunes its first.
-const INNER: &[u8] = &[
+pub const INNER: &[u8] = &[
     0x4d, 0x52, 0x56, 0x4f, 1, 0x57, 0, 0, 0, 0, 0, 0, 0, 0, 0, 0, 0, 0, 0, 0, 0, 2, 1, 0x4e, 2,
     0x50, 0, 0, 0, 5, 0, 0, 0, 5, 0, 0, 0, 6, 0, 0, 0, 6, 0, 0, 0, 0, 0, 0, 0, 0, 0, 0, 0, 0, 0, 0,
     0, 0, 0, 0, 0, 0, 0, 0, 0, 0, 0, 0, 0, 0, 0, 0, 0, 0x11, 0x4c, 1, 0, 0, 0, 0, 0, 0, 0, 7, 0, 0,
     0, 0, 0, 0, 0, 0, 0, 0, 0, 0, 0, 0, 0, 0, 0,
 ];
 
-// Whether this proof is refused, under the exclusive or of all bytes, by this rule at this place.
-fn is_refused(alloc: Global, q: &Query, proof: &[u8], rule: Rule, at: u64) -> bool
+// The client, of which nothing is known but that it answers.
+fn checked<H: Hash32>(
+    alloc: Global,
+    root: &[u8; 32],
+    q: &Query,
+    proof: &[u8],
+) -> Result<Vec<Record>, CheckErr>
     requires { IsAskable q.now }
 {
-    let answer = check::<XorHash>(alloc, &digest(0x46), q, proof);
-    answer.err() == Some(CheckErr::Fault(Fault { rule, at }))
+    check::<H>(alloc, root, q, proof)
 }
 
-// How many records this proof answers the query with; 0 where it is refused.
-fn answers(alloc: Global, q: &Query, proof: &[u8]) -> usize
-    requires { IsAskable q.now }
-{
-    match check::<XorHash>(alloc, &digest(0x46), q, proof) {
+fn is_fault(answer: Result<Vec<Record>, CheckErr>, rule: Rule, at: u64) -> bool {
+    match answer {
+        Err(CheckErr::Fault(fault)) => fault == Fault { rule, at },
+        _ => false,
+    }
+}
+
+// How many records are answered; 0 where the proof is refused.
+fn answers(answer: Result<Vec<Record>, CheckErr>) -> usize {
+    match answer {
         Ok(answer) => answer.len(),
         Err(_) => 0,
     }
@@ -73,23 +84,84 @@ fn changed(alloc: Global, bytes: &[u8], place: usize, change: u8) -> Result<Vec<
     Ok(changed)
 }
 
+fn opens_the_leaf(alloc: Global) -> bool {
+    match window(0, 0, 0, 0) {
+        Ok(here) => answers(checked::<XorHash>(alloc, &digest(0x46), &here, INNER)) == 1,
+        Err(_) => false,
+    }
+}
+
+// A window for which the proof, with a byte changed, is refused, under the exclusive or of all
+// bytes, by a rule at a place.
+#[derive(Clone, Copy)]
+struct Refused<'a> {
+    name: &'a str,
+    window: Corners,
+    place: usize,
+    change: u8,
+    rule: Rule,
+    at: u64,
+}
+
+const REFUSED: &[Refused<'static>] = &[
+    Refused {
+        name: "a child in the window is pruned",
+        window: (6, 6, 7, 7),
+        place: 22,
+        change: 0,
+        rule: Rule::Hidden,
+        at: 26,
+    },
+    Refused {
+        name: "a leaf beside the window is opened",
+        window: (2, 2, 3, 3),
+        place: 22,
+        change: 0,
+        rule: Rule::Needless,
+        at: 100,
+    },
+    Refused {
+        name: "a level past the limit",
+        window: (0, 0, 0, 0),
+        place: 22,
+        change: 9,
+        rule: Rule::BadLevel,
+        at: 22,
+    },
+];
+
+fn is_refused(alloc: Global, row: &Refused<'_>, proof: &[u8]) -> bool {
+    let (x0, y0, x1, y1) = row.window;
+    match window(x0, y0, x1, y1) {
+        Ok(q) => {
+            let answer = checked::<XorHash>(alloc, &digest(0x46), &q, proof);
+            is_fault(answer, row.rule, row.at)
+        }
+        Err(_) => false,
+    }
+}
+
+fn first_accepted(
+    alloc: Global,
+    rows: &[Refused<'static>],
+) -> Result<Option<&'static str>, AllocError> {
+    for row in rows {
+        if !is_refused(alloc, row, &changed(alloc, INNER, row.place, row.change)?) {
+            return Ok(Some(row.name));
+        }
+    }
+    Ok(None)
+}
+
 #[test]
-fn a_node_above_a_leaf_is_read(rt: HostRuntime) -> Result<(), Fail> {
-    let alloc = rt.alloc();
-    let here = window(0, 0, 0, 0)?;
-    assert_eq!(rt; answers(alloc, &here, INNER), 1);
-    let pruned = window(6, 6, 7, 7)?;
-    assert!(rt; is_refused(alloc, &pruned, INNER, Rule::Hidden, 26));
-    let between = window(2, 2, 3, 3)?;
-    assert!(rt; is_refused(alloc, &between, INNER, Rule::Needless, 100));
-    let higher = changed(alloc, INNER, 22, 9)?;
-    assert!(rt; is_refused(alloc, &here, &higher, Rule::BadLevel, 22));
-    Ok(())
+fn a_node_above_a_leaf_is_read(rt: HostRuntime) {
+    holds(&rt, "the leaf is opened", opens_the_leaf(rt.alloc()));
+    all_hold_in_memory(&rt, first_accepted(rt.alloc(), REFUSED));
 }
 
 // The root digest of the map, by SHA-256: that of its 67 bytes, which end in the digest of the
 // leaf's 27 bytes.
-fn sha_root() -> [u8; 32] {
+pub fn sha_root() -> [u8; 32] {
     let leaf = sha(&LEAF);
     let mut bytes = [0; 67];
     bytes[0] = b'R';
@@ -107,37 +179,158 @@ fn sha(bytes: &[u8]) -> [u8; 32] {
     hasher.finish()
 }
 
-#[test]
-fn every_change_of_one_byte_is_refused(rt: HostRuntime) -> Result<(), Fail> {
-    let alloc = rt.alloc();
-    let (root, q) = (sha_root(), window(0, 0, 0, 0)?);
-    assert!(rt; check::<Sha>(alloc, &root, &q, OPENED).is_ok());
-    for place in 0..50 {
-        for change in 1..=u8::MAX {
-            let proof = changed(alloc, OPENED, place, change)?;
-            assert!(rt; check::<Sha>(alloc, &root, &q, &proof).is_err());
+fn is_accepted(alloc: Global, root: &[u8; 32], proof: &[u8]) -> bool {
+    match window(0, 0, 0, 0) {
+        Ok(q) => checked::<Sha>(alloc, root, &q, proof).is_ok(),
+        Err(_) => false,
+    }
+}
+
+// Whether the proof is refused with each change of the byte at this place.
+fn counts(alloc: Global, root: &[u8; 32], place: usize) -> Result<bool, AllocError> {
+    for change in 1..=u8::MAX {
+        if is_accepted(alloc, root, &changed(alloc, OPENED, place, change)?) {
+            return Ok(false);
         }
     }
-    Ok(())
+    Ok(true)
+}
+
+#[test]
+fn every_change_of_one_byte_is_refused(rt: HostRuntime) {
+    let root = sha_root();
+    holds(&rt, "no change", is_accepted(rt.alloc(), &root, OPENED));
+    for place in 0..50 {
+        holds_in_memory(&rt, "each byte counts", counts(rt.alloc(), &root, place));
+    }
+}
+
+// What a reader finds.
+#[derive(Clone, Copy, PartialEq)]
+enum Found {
+    Num(u64),
+    Wide(u128),
+    Tag(u8),
+    Other,
+    Broken(Rule),
+}
+
+fn taken(read: Result<Field, Rule>) -> Found {
+    match read {
+        Ok(Field::Num(number)) => Found::Num(number),
+        Ok(Field::Wide(number)) => Found::Wide(number),
+        Ok(Field::Tag(byte)) => Found::Tag(byte),
+        Ok(_) => Found::Other,
+        Err(rule) => Found::Broken(rule),
+    }
+}
+
+// A field that is wanted, bytes, and what its reader finds in them.
+#[derive(Clone, Copy)]
+struct Reading<'a> {
+    name: &'a str,
+    want: Want,
+    bytes: &'a [u8],
+    found: Found,
+}
+
+const READINGS: &[Reading<'static>] = &[
+    Reading {
+        name: "a flag that is set",
+        want: Want::Flag,
+        bytes: &[1],
+        found: Found::Num(1),
+    },
+    Reading {
+        name: "a flag that is neither 0 nor 1",
+        want: Want::Flag,
+        bytes: &[2],
+        found: Found::Broken(Rule::BadFlag),
+    },
+    Reading {
+        name: "the greatest radius",
+        want: Want::Radius,
+        bytes: &[0, 0, 0, 0, 0, 0, 0, 1, 0xff, 0xff, 0xff, 0xfc, 0, 0, 0, 2],
+        found: Found::Wide(36_893_488_130_239_234_050),
+    },
+    Reading {
+        name: "a radius past the greatest",
+        want: Want::Radius,
+        bytes: &[0, 0, 0, 0, 0, 0, 0, 1, 0xff, 0xff, 0xff, 0xfc, 0, 0, 0, 3],
+        found: Found::Broken(Rule::BadRadius),
+    },
+    Reading {
+        name: "no children",
+        want: Want::InnerCount,
+        bytes: &[0],
+        found: Found::Broken(Rule::BadEntries),
+    },
+    Reading {
+        name: "as many children as there may be",
+        want: Want::InnerCount,
+        bytes: &[64],
+        found: Found::Num(64),
+    },
+    Reading {
+        name: "a child more",
+        want: Want::InnerCount,
+        bytes: &[65],
+        found: Found::Broken(Rule::BadEntries),
+    },
+    Reading {
+        name: "the tag of an inner node for a leaf",
+        want: Want::Tag(0),
+        bytes: b"N",
+        found: Found::Broken(Rule::BadTag),
+    },
+    Reading {
+        name: "the tag of an inner node",
+        want: Want::Tag(1),
+        bytes: b"N",
+        found: Found::Tag(b'N'),
+    },
+    Reading {
+        name: "the tag of a leaf for an inner node",
+        want: Want::Tag(1),
+        bytes: b"L",
+        found: Found::Broken(Rule::BadTag),
+    },
+    Reading {
+        name: "the greatest length",
+        want: Want::Length,
+        bytes: &[200],
+        found: Found::Num(200),
+    },
+    Reading {
+        name: "a length past the greatest",
+        want: Want::Length,
+        bytes: &[201],
+        found: Found::Broken(Rule::BadLength),
+    },
+];
+
+fn read(want: &Want, bytes: &[u8]) -> Found {
+    if bytes.len() != want.size() {
+        return Found::Other;
+    }
+    match want {
+        Want::Payload(_) => Found::Other,
+        _ => taken(read_field(want, bytes)),
+    }
+}
+
+fn first_misread(rows: &[Reading<'static>]) -> Option<&'static str> {
+    for row in rows {
+        if read(&row.want, row.bytes) != row.found {
+            return Some(row.name);
+        }
+    }
+    None
 }
 
 #[test]
 fn each_field_has_its_value_or_its_rule(rt: HostRuntime) {
-    assert_eq!(rt; Want::Flag.size(), 1);
-    assert!(rt; matches!(read_field(&Want::Flag, &[1]), Ok(Field::Num(1))));
-    assert!(rt; matches!(read_field(&Want::Flag, &[2]), Err(Rule::BadFlag)));
-    assert_eq!(rt; Want::Radius.size(), 16);
-    let mut radius = [0, 0, 0, 0, 0, 0, 0, 1, 0xff, 0xff, 0xff, 0xfc, 0, 0, 0, 2];
-    let greatest = 36_893_488_130_239_234_050;
-    assert!(rt; matches!(read_field(&Want::Radius, &radius), Ok(Field::Wide(r)) if r == greatest));
-    radius[15] = 3;
-    assert!(rt; matches!(read_field(&Want::Radius, &radius), Err(Rule::BadRadius)));
-    assert!(rt; matches!(read_field(&Want::InnerCount, &[0]), Err(Rule::BadEntries)));
-    assert!(rt; matches!(read_field(&Want::InnerCount, &[64]), Ok(Field::Num(64))));
-    assert!(rt; matches!(read_field(&Want::InnerCount, &[65]), Err(Rule::BadEntries)));
-    assert!(rt; matches!(read_field(&Want::Tag(0), b"N"), Err(Rule::BadTag)));
-    assert!(rt; matches!(read_field(&Want::Tag(1), b"N"), Ok(Field::Tag(b'N'))));
-    assert!(rt; matches!(read_field(&Want::Tag(1), b"L"), Err(Rule::BadTag)));
-    assert!(rt; matches!(read_field(&Want::Length, &[200]), Ok(Field::Num(200))));
-    assert!(rt; matches!(read_field(&Want::Length, &[201]), Err(Rule::BadLength)));
+    holds(&rt, "the size of a flag", Want::Flag.size() == 1);
+    holds(&rt, "the size of a radius", Want::Radius.size() == 16);
+    all_hold(&rt, first_misread(READINGS));
 }

@@ -1,15 +1,18 @@
 //! Insertion into trees and deletion from them, and directories of records, by their calls.
 
+ghost use Rattle.std.specs.Prelude.{IfSome};
+ghost use Rattle.mr_tree.specs.WellFormed.{WellFormed};
+
+use crate::assertions::{holds, holds_in_memory};
+use crate::made::{directory_of, record_of, records_of, rect, tree_of};
 use mr_batch::Directory;
 use mr_geom::Rect;
 use mr_grow::{DropErr, GrowErr, delete, insert};
-use mr_pack::pack;
-use mr_record::{Record, read_line, read_lines};
-use mr_tree::{COUNT_LIMIT, Tree, XorHash, count_of, records_of, root_of};
+use mr_record::Record;
+use mr_tree::{COUNT_LIMIT, Tree, XorHash, records_of as list_of, root_of};
 use std::alloc::{AllocError, Global};
-use std::test::Fail;
 
-const SIXTEEN: &[u8] = b"1 1 0 1 0 -\n2 2 0 2 0 -\n3 3 0 3 0 -\n4 4 0 4 0 -\n5 5 0 5 0 -\n\
+const SIXTEEN: &str = "1 1 0 1 0 -\n2 2 0 2 0 -\n3 3 0 3 0 -\n4 4 0 4 0 -\n5 5 0 5 0 -\n\
     6 6 0 6 0 -\n7 7 0 7 0 -\n8 8 0 8 0 -\n9 9 0 9 0 -\n10 10 0 10 0 -\n11 11 0 11 0 -\n\
     12 12 0 12 0 -\n13 13 0 13 0 -\n14 14 0 14 0 -\n15 15 0 15 0 -\n16 16 0 16 0 -\n";
 
@@ -24,155 +27,196 @@ fn first_entries(tree: &Tree) -> usize {
     }
 }
 
-// Of the tree of some records after one more: the entries of the first leaf, and the last byte of
-// the root, each before and after the record with the number 17 is deleted.
-fn there_and_back(
-    alloc: Global,
-    list: Vec<Record>,
-    one: Record,
-) -> Result<(usize, u8, usize, u8), Fail> {
-    if list.len() > 1_000 {
-        return Err("too many".into());
-    }
-    let tree = match pack(alloc, list) {
-        Ok(tree) => tree,
-        Err(_) => return Err("no tree".into()),
-    };
-    let grown = match insert(alloc, tree, one) {
-        Ok(grown) => grown,
-        Err(_) => return Err("no room".into()),
-    };
-    let (entries, root) = (first_entries(&grown), root_of::<XorHash>(&grown, 1));
-    match delete(alloc, grown, 17) {
-        Ok(back) => Ok((
-            entries,
-            root[31],
-            first_entries(&back),
-            root_of::<XorHash>(&back, 2)[31],
-        )),
-        Err(_) => Err("no record".into()),
-    }
-}
-
-#[test]
-fn a_record_comes_and_goes(rt: HostRuntime) -> Result<(), Fail> {
-    let alloc = rt.alloc();
-    let list = read_lines(alloc, SIXTEEN).map_err(|_| "no records")?;
-    let one = read_line(b"17 100 100 100 100 -".as_slice()).map_err(|_| "no record")?;
-    let found = there_and_back(alloc, list, one)?;
-    assert!(rt; found == (11, 0x04, 0, 0x1c));
-    Ok(())
-}
-
-// How many records a tree has that was handed back for this number.
-fn still_there(alloc: Global, back: &Tree, number: u64, named: u64) -> Result<usize, AllocError> {
-    if number != named {
-        return Ok(0);
-    }
-    Ok(records_of(alloc, back)?.len())
-}
-
-// How many records are handed back where a record with this number is to come in and is there, and
-// how many where it is to go out and is not there; 0 where it is done.
-fn handed_back(alloc: Global, list: Vec<Record>, one: Record) -> Result<(usize, usize), Fail> {
-    if list.len() > 1_000 {
-        return Err("too many".into());
-    }
-    let tree = match pack(alloc, list) {
-        Ok(tree) => tree,
-        Err(_) => return Err("no tree".into()),
-    };
+fn with(alloc: Global, tree: Tree, one: Record) -> Option<Tree>
+    requires { WellFormed tree }
+    ensures { IfSome result WellFormed }
+{
     match insert(alloc, tree, one) {
-        Err(GrowErr::Present(back, number)) => Ok((
-            still_there(alloc, &back, number, one.number)?,
-            0,
-        )),
-        Err(_) => Err("no room".into()),
-        Ok(grown) => match delete(alloc, grown, 99) {
-            Err(DropErr::Absent(back, number)) => Ok((0, still_there(alloc, &back, number, 99)?)),
-            _ => Ok((0, 0)),
-        },
+        Ok(grown) => Some(grown),
+        Err(_) => None,
     }
 }
 
+fn without(alloc: Global, tree: Tree, number: u64) -> Option<Tree>
+    requires { WellFormed tree }
+    ensures { IfSome result WellFormed }
+{
+    match delete(alloc, tree, number) {
+        Ok(left) => Some(left),
+        Err(_) => None,
+    }
+}
+
+// Whether the first leaf has so many entries, and the root ends in this byte.
+fn is_so(tree: &Tree, batch: u64, entries: usize, root: u8) -> bool
+    requires { WellFormed tree.now }
+{
+    first_entries(tree) == entries && root_of::<XorHash>(tree, batch)[31] == root
+}
+
+// A leaf is split by a record more, and put together again without it.
+fn is_there_and_back(alloc: Global) -> Option<bool> {
+    let tree = tree_of(alloc, records_of(alloc, SIXTEEN)?)?;
+    let grown = with(alloc, tree, record_of("17 100 100 100 100 -")?)?;
+    let split = is_so(&grown, 1, 11, 0x04);
+    let back = without(alloc, grown, 17)?;
+    Some(split && is_so(&back, 2, 0, 0x1c))
+}
+
 #[test]
-fn trees_that_are_handed_back(rt: HostRuntime) -> Result<(), Fail> {
-    let alloc = rt.alloc();
-    let list = read_lines(alloc, SIXTEEN).map_err(|_| "no records")?;
-    let one = read_line(b"16 0 0 0 0 -".as_slice()).map_err(|_| "no record")?;
-    assert!(rt; handed_back(alloc, list, one)? == (16, 0));
-    let list = read_lines(alloc, SIXTEEN).map_err(|_| "no records")?;
-    let one = read_line(b"18 0 0 0 0 -".as_slice()).map_err(|_| "no record")?;
-    assert!(rt; handed_back(alloc, list, one)? == (0, 17));
-    Ok(())
+fn a_record_comes_and_goes(rt: HostRuntime) {
+    holds(
+        &rt,
+        "there and back",
+        is_there_and_back(rt.alloc()) == Some(true),
+    );
+}
+
+fn listed(alloc: Global, tree: &Tree) -> Option<usize> {
+    match list_of(alloc, tree) {
+        Ok(list) => Some(list.len()),
+        Err(_) => None,
+    }
+}
+
+fn inserted(alloc: Global, tree: Tree, one: Record) -> Result<Tree, GrowErr>
+    requires { WellFormed tree }
+{
+    insert(alloc, tree, one)
+}
+
+// How many records a tree has that is handed back since it has this number.
+fn kept_with(alloc: Global, answer: Result<Tree, GrowErr>, number: u64) -> Option<usize> {
+    match answer {
+        Err(GrowErr::Present(back, named)) if named == number => listed(alloc, &back),
+        _ => None,
+    }
+}
+
+fn deleted(alloc: Global, tree: Tree, number: u64) -> Result<Tree, DropErr>
+    requires { WellFormed tree }
+{
+    delete(alloc, tree, number)
+}
+
+// How many records a tree has that is handed back since it does not have this number.
+fn kept_without(alloc: Global, answer: Result<Tree, DropErr>, number: u64) -> Option<usize> {
+    match answer {
+        Err(DropErr::Absent(back, named)) if named == number => listed(alloc, &back),
+        _ => None,
+    }
+}
+
+fn is_absent(alloc: Global) -> Option<bool> {
+    let tree = tree_of(alloc, records_of(alloc, SIXTEEN)?)?;
+    let grown = with(alloc, tree, record_of("18 0 0 0 0 -")?)?;
+    Some(kept_without(alloc, deleted(alloc, grown, 99), 99) == Some(17))
 }
 
 // As many records as there may be, at one place.
-fn most(alloc: Global) -> Result<Vec<Record>, Fail> {
-    let one = read_line(b"0 0 0 0 0 -".as_slice()).map_err(|_| "no record")?;
+fn most(alloc: Global) -> Result<Vec<Record>, AllocError> {
     let mut list = Vec::new(alloc);
-    for number in 0..COUNT_LIMIT {
-        list.push(Record { number, ..one })?;
+    if let Some(one) = record_of("0 0 0 0 0 -") {
+        for number in 0..COUNT_LIMIT {
+            list.push(Record { number, ..one })?;
+        }
     }
     Ok(list)
 }
 
-// How a record is inserted into the tree of this list: the records of the tree that is handed back
-// because it is full or has the number, each by a count of its own, and nothing else.
-#[derive(Clone, Copy, Debug, PartialEq)]
-enum Answer {
-    Full(u64),
-    Present(u64, u64),
-    Otherwise,
+// How many records a tree has that is handed back because it is full.
+fn kept_full(alloc: Global, answer: Result<Tree, GrowErr>) -> Option<usize> {
+    match answer {
+        Err(GrowErr::Full(back)) => listed(alloc, &back),
+        _ => None,
+    }
 }
 
-fn inserted(alloc: Global, list: Vec<Record>, one: Record) -> Answer {
-    if list.len() > 1 << 20 {
-        return Answer::Otherwise;
-    }
-    let Ok(tree) = pack(alloc, list) else {
-        return Answer::Otherwise;
-    };
-    match insert(alloc, tree, one) {
-        Err(GrowErr::Full(back)) => Answer::Full(count_of(&back)),
-        Err(GrowErr::Present(back, number)) => Answer::Present(count_of(&back), number),
-        _ => Answer::Otherwise,
-    }
+fn is_full(alloc: Global, list: Vec<Record>, line: &str) -> Option<bool> {
+    let answer = inserted(alloc, tree_of(alloc, list)?, record_of(line)?);
+    Some(kept_full(alloc, answer) == Some(1 << 20))
+}
+
+fn is_taken(alloc: Global, list: Vec<Record>, line: &str, number: u64) -> Option<bool> {
+    let count = list.len();
+    let answer = inserted(alloc, tree_of(alloc, list)?, record_of(line)?);
+    Some(kept_with(alloc, answer, number) == Some(count))
+}
+
+fn sixteen_has_sixteen(alloc: Global) -> Option<bool> {
+    let list = records_of(alloc, SIXTEEN)?;
+    Some(list.len() == 16 && is_taken(alloc, list, "16 0 0 0 0 -", 16)?)
 }
 
 #[test]
-fn a_full_tree_takes_no_record(rt: HostRuntime) -> Result<(), Fail> {
-    let alloc = rt.alloc();
-    let one = read_line(b"1048576 0 0 0 0 -".as_slice()).map_err(|_| "no record")?;
-    assert_eq!(rt; inserted(alloc, most(alloc)?, one), Answer::Full(1 << 20));
-    Ok(())
+fn trees_that_are_handed_back(rt: HostRuntime) {
+    let present = sixteen_has_sixteen(rt.alloc()) == Some(true);
+    holds(&rt, "a number that is there", present);
+    let absent = is_absent(rt.alloc()) == Some(true);
+    holds(&rt, "one that is not there", absent);
+}
+
+fn most_is_full(alloc: Global) -> Result<bool, AllocError> {
+    Ok(is_full(alloc, most(alloc)?, "1048576 0 0 0 0 -") == Some(true))
+}
+
+#[test]
+fn a_full_tree_takes_no_record(rt: HostRuntime) {
+    holds_in_memory(&rt, "full", most_is_full(rt.alloc()));
+}
+
+fn most_has_sixteen(alloc: Global) -> Result<bool, AllocError> {
+    let list = most(alloc)?;
+    Ok(list.len() == 1 << 20 && is_taken(alloc, list, "16 0 0 0 0 -", 16) == Some(true))
 }
 
 // A number that is there is named first, also where the tree is full.
 #[test]
-fn a_number_is_taken_once(rt: HostRuntime) -> Result<(), Fail> {
-    let alloc = rt.alloc();
-    let list = read_lines(alloc, SIXTEEN).map_err(|_| "no records")?;
-    let one = read_line(b"16 0 0 0 0 -".as_slice()).map_err(|_| "no record")?;
-    assert_eq!(rt; inserted(alloc, list, one), Answer::Present(16, 16));
-    assert_eq!(rt;
-        inserted(alloc, most(alloc)?, one),
-        Answer::Present(1 << 20, 16)
+fn a_number_is_taken_once(rt: HostRuntime) {
+    holds(
+        &rt,
+        "of sixteen",
+        sixteen_has_sixteen(rt.alloc()) == Some(true),
     );
-    Ok(())
+    holds_in_memory(
+        &rt,
+        "of as many as there may be",
+        most_has_sixteen(rt.alloc()),
+    );
+}
+
+// Whether so many records are in the directory, and this number has this rectangle or none.
+fn has(directory: &Directory, count: usize, number: u64, rect: Option<Rect>) -> bool {
+    directory.len() == count && directory.rect(number) == rect
+}
+
+// Whether a record that is taken out of the directory, which has so many then, had this rectangle.
+fn takes(directory: &mut Directory, number: u64, rect: Option<Rect>, count: usize) -> bool {
+    directory.take(number) == rect && has(directory, count, number, None)
+}
+
+fn put_and_taken(directory: &mut Directory, rect: Rect) -> Result<bool, AllocError> {
+    let begins = has(directory, 16, 17, None);
+    directory.put(17, rect)?;
+    let has_one_more = has(directory, 17, 17, Some(rect));
+    directory.put(16, rect)?;
+    let has_no_more = has(directory, 17, 16, Some(rect));
+    let goes = takes(directory, 16, Some(rect), 16) && takes(directory, 16, None, 16);
+    Ok(begins && has_one_more && has_no_more && goes)
+}
+
+fn directory_of_sixteen(alloc: Global) -> Option<Directory> {
+    directory_of(alloc, &records_of(alloc, SIXTEEN)?)
+}
+
+fn is_a_directory(alloc: Global) -> Result<bool, AllocError> {
+    match (directory_of_sixteen(alloc), rect((1, 2, 3, 4))) {
+        (Some(mut directory), Some(rect)) => put_and_taken(&mut directory, rect),
+        _ => Ok(false),
+    }
 }
 
 #[test]
-fn a_directory(rt: HostRuntime) -> Result<(), Fail> {
-    let alloc = rt.alloc();
-    let list = read_lines(alloc, SIXTEEN).map_err(|_| "no records")?;
-    let mut dir = Directory::of(alloc, &list)?;
-    assert!(rt; dir.len() == 16 && dir.rect(17).is_none());
-    let rect = Rect::new(1, 2, 3, 4).ok_or("no rectangle")?;
-    dir.put(17, rect)?;
-    assert!(rt; dir.len() == 17 && dir.rect(17) == Some(rect));
-    dir.put(16, rect)?;
-    assert!(rt; dir.len() == 17 && dir.take(16) == Some(rect));
-    assert!(rt; dir.len() == 16 && dir.rect(16).is_none() && dir.take(16).is_none());
-    Ok(())
+fn a_directory(rt: HostRuntime) {
+    holds_in_memory(&rt, "a directory", is_a_directory(rt.alloc()));
 }

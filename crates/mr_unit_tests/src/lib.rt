@@ -2,17 +2,25 @@
 #![tactic(auto)]
 
 #[cfg(test)]
+mod assertions;
+#[cfg(test)]
 mod batches;
 #[cfg(test)]
 mod client;
 #[cfg(test)]
 mod grown;
 #[cfg(test)]
+mod judge;
+#[cfg(test)]
+mod made;
+#[cfg(test)]
 mod opening;
 #[cfg(test)]
 mod outside;
 #[cfg(test)]
 mod packing;
+#[cfg(test)]
+mod paged;
 #[cfg(test)]
 mod queries;
 #[cfg(test)]
@@ -25,5 +33,7 @@ mod splits;
 mod texts;
 #[cfg(test)]
 mod tree;
+#[cfg(test)]
+mod untold;
 #[cfg(test)]
 mod workloads;

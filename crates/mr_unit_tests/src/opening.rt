@@ -1,51 +1,10 @@
 //! A map file that is read short: what lies behind the bytes that come counts as zeros.
 
-use mr_outside::{Shelf, ShelfErr};
+use crate::assertions::all_hold_in_memory;
+use crate::untold::Untold;
 use mr_pages::open_plain;
 use mr_tree::{XorHash, root_of};
 use std::alloc::{AllocError, Global};
-use std::test::Fail;
-
-// Tells nothing, says that its file has two pages, and gives each read no more than these bytes.
-#[derive(Drop)]
-struct Short {
-    bytes: Vec<u8>,
-    reads: u64,
-}
-
-impl Shelf for Short {
-    ghost use Rattle.mr_outside.specs.Edge.{untold_shelf};
-
-    ghost state = { λ s. untold_shelf 0 s.reads };
-
-    fn size(&mut self, _name: &str) -> Result<u64, ShelfErr> {
-        Ok(8192)
-    }
-
-    fn read_at(&mut self, _name: &str, at: u64, into: &mut [u8]) -> Result<usize, ShelfErr> {
-        self.reads = self.reads.saturating_add(1);
-        let at = (at as usize).min(self.bytes.len());
-        let count = into.len().min(self.bytes.len() - at);
-        into[..count].copy_from_slice(&self.bytes[at..at + count]);
-        Ok(count)
-    }
-
-    fn create(&mut self, _name: &str) -> Result<(), ShelfErr> {
-        Err(ShelfErr::NoMemory)
-    }
-
-    fn append(&mut self, _name: &str, _bytes: &[u8]) -> Result<(), ShelfErr> {
-        Err(ShelfErr::NoMemory)
-    }
-
-    fn write_at(&mut self, _name: &str, _at: u64, _bytes: &[u8]) -> Result<(), ShelfErr> {
-        Err(ShelfErr::NoMemory)
-    }
-
-    fn sync(&mut self, _name: &str) -> Result<(), ShelfErr> {
-        Err(ShelfErr::NoMemory)
-    }
-}
 
 // Page 0 of the map of record 7 at (0,0), up to its seal, under the exclusive or of all bytes.
 const HEAD: &[u8] = b"MRMP\x01\0\0\0\0\0\0\0\0\0\0\0\0\0\0\0\0\x01\0\0\0\x02\0\0\0\x01\
@@ -67,23 +26,54 @@ fn front(alloc: Global, more: usize) -> Result<Vec<u8>, AllocError> {
     Ok(bytes)
 }
 
-// The last byte of the root digest of the map of which so much is read, 0 where it is refused.
-fn opened(alloc: Global, more: usize) -> Result<u8, AllocError> {
-    let bytes = front(alloc, more)?;
-    let mut shelf = Short { bytes, reads: 0 };
+// How much of the second page is read, and the last byte of the root digest of the map, none where
+// it is refused.
+#[derive(Clone, Copy)]
+struct Cut<'a> {
+    name: &'a str,
+    more: usize,
+    root: Option<u8>,
+}
+
+const CUTS: &[Cut<'static>] = &[
+    Cut {
+        name: "the number of the record is read, its rectangle and all that follows is zero",
+        more: 10,
+        root: Some(0x18),
+    },
+    Cut {
+        name: "the whole record is read",
+        more: 27,
+        root: Some(0x18),
+    },
+    Cut {
+        name: "the leaf is not read",
+        more: 0,
+        root: None,
+    },
+];
+
+fn opened(alloc: Global, bytes: Vec<u8>) -> Option<u8> {
+    let mut shelf = Untold::new(8192, bytes);
     match open_plain::<XorHash, _>(alloc, &mut shelf, "map") {
-        Ok((tree, batch)) => Ok(root_of::<XorHash>(&tree, batch)[31]),
-        Err(_) => Ok(0),
+        Ok((tree, batch)) => Some(root_of::<XorHash>(&tree, batch)[31]),
+        Err(_) => None,
     }
 }
 
+fn first_other_cut(
+    alloc: Global,
+    rows: &[Cut<'static>],
+) -> Result<Option<&'static str>, AllocError> {
+    for row in rows {
+        if opened(alloc, front(alloc, row.more)?) != row.root {
+            return Ok(Some(row.name));
+        }
+    }
+    Ok(None)
+}
+
 #[test]
-fn what_is_read_short_counts_as_zeros(rt: HostRuntime) -> Result<(), Fail> {
-    let alloc = rt.alloc();
-    // The number of the record is read, and its rectangle and all that follows is zero.
-    assert_eq!(rt; opened(alloc, 10)?, 0x18);
-    assert_eq!(rt; opened(alloc, 27)?, 0x18);
-    // The leaf is not.
-    assert_eq!(rt; opened(alloc, 0)?, 0);
-    Ok(())
+fn what_is_read_short_counts_as_zeros(rt: HostRuntime) {
+    all_hold_in_memory(&rt, first_other_cut(rt.alloc(), CUTS));
 }

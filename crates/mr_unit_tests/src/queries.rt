@@ -1,235 +1,370 @@
 //! Query words, regions and the answer of a scan, by their calls.
 
-use mr_geom::{Point, Rect, Region};
+ghost use Rattle.mr_query.specs.Word.{IsAskable};
+
+use crate::assertions::{all_hold, all_hold_in_memory, holds, holds_in_memory};
+use crate::made::{Corners, record_at, rect};
+use mr_geom::{Point, Region};
 use mr_outside::MemSink;
 use mr_query::{
     Area, Circle, Everywhere, Query, QueryFault, Window, answer, is_query, rank, read_query,
     write_query,
 };
-use mr_record::{Payload, Record};
+use mr_record::Record;
 use std::alloc::{AllocError, Global};
-use std::test::Fail;
 
-fn rect(x0: i32, y0: i32, x1: i32, y1: i32) -> Result<Rect, &'static str> {
-    Rect::new(x0, y0, x1, y1).ok_or("the sides are out of order")
+fn window(corners: Corners) -> Option<Query> {
+    Some(Query::Window(rect(corners)?))
 }
 
+fn nearest(x: i32, y: i32, k: u16) -> Query {
+    Query::Nearest {
+        center: Point { x, y },
+        k,
+    }
+}
+
+fn reads(word: &str, query: Option<Query>) -> bool {
+    match (read_query(word), query) {
+        (Ok(found), Some(query)) => found == query,
+        _ => false,
+    }
+}
+
+const WHOLE: Corners = (i32::MIN, -1, 0, i32::MAX);
+
 #[test]
-fn four_numbers_are_a_window(rt: HostRuntime) -> Result<(), Fail> {
-    let whole = rect(i32::MIN, -1, 0, i32::MAX)?;
-    assert_eq!(rt;
-        read_query("window:-2147483648,-1,0,2147483647"),
-        Ok(Query::Window(whole))
-    );
-    Ok(())
+fn four_numbers_are_a_window(rt: HostRuntime) {
+    let word = "window:-2147483648,-1,0,2147483647";
+    holds(&rt, "a window", reads(word, window(WHOLE)));
 }
 
 #[test]
 fn two_numbers_and_a_count_are_nearest_records(rt: HostRuntime) {
-    let center = Point {
-        x: i32::MIN,
-        y: i32::MAX,
-    };
-    assert_eq!(rt;
-        read_query("nearest:-2147483648,2147483647,1024"),
-        Ok(Query::Nearest { center, k: 1024 })
+    let many = Some(nearest(i32::MIN, i32::MAX, 1024));
+    holds(
+        &rt,
+        "1024",
+        reads("nearest:-2147483648,2147483647,1024", many),
     );
-    assert_eq!(rt;
-        read_query("nearest:-2147483648,2147483647,1"),
-        Ok(Query::Nearest { center, k: 1 })
-    );
+    let one = Some(nearest(i32::MIN, i32::MAX, 1));
+    holds(&rt, "1", reads("nearest:-2147483648,2147483647,1", one));
+}
+
+// A word that spells no query, and its first fault.
+#[derive(Clone, Copy)]
+struct Faulty<'a> {
+    word: &'a str,
+    fault: QueryFault,
+}
+
+const FIRST_FAULTS: &[Faulty<'static>] = &[
+    Faulty {
+        word: "neares:0,0,1",
+        fault: QueryFault::Kind,
+    },
+    Faulty {
+        word: "Nearest:0,0,1",
+        fault: QueryFault::Kind,
+    },
+    Faulty {
+        word: "window",
+        fault: QueryFault::Kind,
+    },
+    Faulty {
+        word: "",
+        fault: QueryFault::Kind,
+    },
+    Faulty {
+        word: "window:x,0,0",
+        fault: QueryFault::Parts,
+    },
+    Faulty {
+        word: "window:0,0,0,0,",
+        fault: QueryFault::Parts,
+    },
+    Faulty {
+        word: "window:1,+1,0,00",
+        fault: QueryFault::Number { part: 2 },
+    },
+    Faulty {
+        word: "window:0,0,0,2147483648",
+        fault: QueryFault::Number { part: 4 },
+    },
+    Faulty {
+        word: "window:1,0,0,0",
+        fault: QueryFault::Order,
+    },
+];
+
+const FAULTS_OF_THREE_PARTS: &[Faulty<'static>] = &[
+    Faulty {
+        word: "nearest:0,0",
+        fault: QueryFault::Parts,
+    },
+    Faulty {
+        word: "nearest:0,0,1,",
+        fault: QueryFault::Parts,
+    },
+    Faulty {
+        word: "nearest:x,y,0",
+        fault: QueryFault::Number { part: 1 },
+    },
+    Faulty {
+        word: "nearest:0,y,0",
+        fault: QueryFault::Number { part: 2 },
+    },
+];
+
+const FAULTS_OF_A_COUNT: &[Faulty<'static>] = &[
+    Faulty {
+        word: "nearest:0,0,0",
+        fault: QueryFault::Number { part: 3 },
+    },
+    Faulty {
+        word: "nearest:0,0,1025",
+        fault: QueryFault::Number { part: 3 },
+    },
+    Faulty {
+        word: "nearest:0,0,+1",
+        fault: QueryFault::Number { part: 3 },
+    },
+    Faulty {
+        word: "nearest:0,0,01",
+        fault: QueryFault::Number { part: 3 },
+    },
+    Faulty {
+        word: "nearest:0,0,18446744073709551616",
+        fault: QueryFault::Number { part: 3 },
+    },
+];
+
+fn first_unfaulted(rows: &[Faulty<'static>]) -> Option<&'static str> {
+    for row in rows {
+        if read_query(row.word) != Err(row.fault) {
+            return Some(row.word);
+        }
+    }
+    None
 }
 
 #[test]
 fn the_first_fault_of_a_word_counts(rt: HostRuntime) {
-    assert_eq!(rt; read_query("neares:0,0,1"), Err(QueryFault::Kind));
-    assert_eq!(rt; read_query("Nearest:0,0,1"), Err(QueryFault::Kind));
-    assert_eq!(rt; read_query("window"), Err(QueryFault::Kind));
-    assert_eq!(rt; read_query(""), Err(QueryFault::Kind));
-    assert_eq!(rt; read_query("window:x,0,0"), Err(QueryFault::Parts));
-    assert_eq!(rt; read_query("window:0,0,0,0,"), Err(QueryFault::Parts));
-    assert_eq!(rt;
-        read_query("window:1,+1,0,00"),
-        Err(QueryFault::Number { part: 2 })
-    );
-    assert_eq!(rt;
-        read_query("window:0,0,0,2147483648"),
-        Err(QueryFault::Number { part: 4 })
-    );
-    assert_eq!(rt; read_query("window:1,0,0,0"), Err(QueryFault::Order));
+    all_hold(&rt, first_unfaulted(FIRST_FAULTS));
 }
 
 #[test]
 fn nearest_records_want_three_parts(rt: HostRuntime) {
-    assert_eq!(rt; read_query("nearest:0,0"), Err(QueryFault::Parts));
-    assert_eq!(rt; read_query("nearest:0,0,1,"), Err(QueryFault::Parts));
-    assert_eq!(rt;
-        read_query("nearest:x,y,0"),
-        Err(QueryFault::Number { part: 1 })
-    );
-    assert_eq!(rt;
-        read_query("nearest:0,y,0"),
-        Err(QueryFault::Number { part: 2 })
-    );
+    all_hold(&rt, first_unfaulted(FAULTS_OF_THREE_PARTS));
 }
 
 #[test]
 fn a_count_is_1_to_1024(rt: HostRuntime) {
-    for word in [
-        "nearest:0,0,0",
-        "nearest:0,0,1025",
-        "nearest:0,0,+1",
-        "nearest:0,0,01",
-        "nearest:0,0,18446744073709551616",
-    ] {
-        assert_eq!(rt;
-            read_query(word),
-            Err(QueryFault::Number { part: 3 }),
-            "at {word}"
-        );
+    all_hold(&rt, first_unfaulted(FAULTS_OF_A_COUNT));
+}
+
+// Whether a query is written as this word.
+fn is_written(alloc: Global, query: &Query, word: &str) -> bool
+    requires { IsAskable query.now }
+{
+    is_query(query);
+    let mut out = MemSink::new(alloc, Vec::new(alloc));
+    let done = write_query(&mut out, query).is_ok();
+    done && out.bytes() == word.as_bytes()
+}
+
+fn whole_is_written(alloc: Global, word: &str) -> bool {
+    match rect(WHOLE) {
+        Some(whole) => is_written(alloc, &Query::Window(whole), word),
+        None => false,
     }
 }
 
 #[test]
-fn a_window_is_written_as_it_is_read(rt: HostRuntime) -> Result<(), Fail> {
-    let alloc = rt.alloc();
-    let q = Query::Window(rect(i32::MIN, -1, 0, i32::MAX)?);
-    is_query(&q);
-    let mut out = MemSink::new(alloc, vec![in alloc]?);
-    assert!(rt; write_query(&mut out, &q).is_ok());
+fn a_window_is_written_as_it_is_read(rt: HostRuntime) {
     let word = "window:-2147483648,-1,0,2147483647";
-    assert!(rt; out.bytes() == word.as_bytes());
-    assert_eq!(rt; read_query(word), Ok(q));
-    Ok(())
+    holds(&rt, "written", whole_is_written(rt.alloc(), word));
+    holds(&rt, "read", reads(word, window(WHOLE)));
 }
 
-#[test]
-fn nearest_records_are_written_as_they_are_read(rt: HostRuntime) -> Result<(), Fail> {
-    let alloc = rt.alloc();
-    let q = Query::Nearest {
+// Nearest records about a point far above.
+fn far_is_written_and_read(alloc: Global, word: &str) -> bool {
+    let far = Query::Nearest {
         center: Point { x: -7, y: i32::MAX },
         k: 1024,
     };
-    is_query(&q);
-    let mut out = MemSink::new(alloc, vec![in alloc]?);
-    assert!(rt; write_query(&mut out, &q).is_ok());
+    is_written(alloc, &far, word) && reads(word, Some(far))
+}
+
+#[test]
+fn nearest_records_are_written_as_they_are_read(rt: HostRuntime) {
     let word = "nearest:-7,2147483647,1024";
-    assert!(rt; out.bytes() == word.as_bytes());
-    assert_eq!(rt; read_query(word), Ok(q));
-    Ok(())
+    holds(
+        &rt,
+        "written and read",
+        far_is_written_and_read(rt.alloc(), word),
+    );
 }
 
-#[test]
-fn a_window_meets_what_touches_its_border(rt: HostRuntime) -> Result<(), Fail> {
+fn window_meets(window: Corners, corners: Corners) -> Option<bool> {
     let window = Window {
-        rect: rect(0, 0, 2, 2)?,
+        rect: rect(window)?,
     };
-    let at_the_corner = rect(2, 2, 3, 3)?;
-    let beside = rect(3, 0, 4, 2)?;
-    assert!(rt; window.meets(&at_the_corner));
-    assert!(rt; !window.meets(&beside));
-    Ok(())
+    Some(window.meets(&rect(corners)?))
 }
 
 #[test]
-fn a_circle_meets_what_is_at_its_radius(rt: HostRuntime) -> Result<(), Fail> {
+fn a_window_meets_what_touches_its_border(rt: HostRuntime) {
+    let at_the_corner = window_meets((0, 0, 2, 2), (2, 2, 3, 3));
+    holds(&rt, "at the corner", at_the_corner == Some(true));
+    let beside = window_meets((0, 0, 2, 2), (3, 0, 4, 2));
+    holds(&rt, "beside", beside == Some(false));
+}
+
+// A rectangle whose squared distance from (0, 0) is 25.
+const AT_25: Corners = (3, 4, 5, 6);
+
+fn circle_meets(r2: u128) -> Option<bool> {
     let center = Point { x: 0, y: 0 };
-    let at_25 = rect(3, 4, 5, 6)?;
-    assert!(rt; Circle { center, r2: 25 }.meets(&at_25));
-    assert!(rt; !Circle { center, r2: 24 }.meets(&at_25));
-    assert!(rt; Everywhere.meets(&at_25));
-    Ok(())
+    Some(Circle { center, r2 }.meets(&rect(AT_25)?))
 }
 
-// The area of one nearest record.
-fn around(radius: Option<u128>) -> Area {
-    let center = Point { x: 0, y: 0 };
-    Area {
-        query: Query::Nearest { center, k: 1 },
-        radius,
-    }
+fn everywhere_meets() -> Option<bool> {
+    Some(Everywhere.meets(&rect(AT_25)?))
 }
 
 #[test]
-fn an_area_of_nearest_records_is_a_circle_or_everything(rt: HostRuntime) -> Result<(), Fail> {
-    let at_25 = rect(3, 4, 5, 6)?;
-    assert!(rt; around(Some(25)).meets(&at_25));
-    assert!(rt; !around(Some(24)).meets(&at_25));
-    assert!(rt; around(None).meets(&at_25));
-    Ok(())
+fn a_circle_meets_what_is_at_its_radius(rt: HostRuntime) {
+    holds(&rt, "at its radius", circle_meets(25) == Some(true));
+    holds(&rt, "past its radius", circle_meets(24) == Some(false));
+    holds(&rt, "everywhere", everywhere_meets() == Some(true));
+}
+
+fn area_meets(query: Query, radius: Option<u128>, corners: Corners) -> Option<bool> {
+    Some(Area { query, radius }.meets(&rect(corners)?))
+}
+
+// Whether the area of one nearest record meets that rectangle.
+fn around(radius: Option<u128>) -> Option<bool> {
+    area_meets(nearest(0, 0, 1), radius, AT_25)
 }
 
 #[test]
-fn an_area_of_a_window_has_no_radius(rt: HostRuntime) -> Result<(), Fail> {
-    let query = Query::Window(rect(0, 0, 3, 4)?);
-    let at_the_corner = rect(3, 4, 5, 6)?;
-    let beside = rect(4, 0, 5, 6)?;
+fn an_area_of_nearest_records_is_a_circle_or_everything(rt: HostRuntime) {
+    holds(&rt, "at its radius", around(Some(25)) == Some(true));
+    holds(&rt, "past its radius", around(Some(24)) == Some(false));
+    holds(&rt, "without a radius", around(None) == Some(true));
+}
+
+fn area_of_window_meets(radius: Option<u128>, corners: Corners) -> Option<bool> {
+    area_meets(window((0, 0, 3, 4))?, radius, corners)
+}
+
+#[test]
+fn an_area_of_a_window_has_no_radius(rt: HostRuntime) {
     for radius in [None, Some(0)] {
-        assert!(rt; Area { query, radius }.meets(&at_the_corner));
-        assert!(rt; !Area { query, radius }.meets(&beside));
+        let at_the_corner = area_of_window_meets(radius, (3, 4, 5, 6));
+        holds(&rt, "at the corner", at_the_corner == Some(true));
+        let beside = area_of_window_meets(radius, (4, 0, 5, 6));
+        holds(&rt, "beside", beside == Some(false));
     }
-    Ok(())
 }
 
-fn point_record(number: u64, x: i32) -> Option<Record> {
-    let rect = Rect::new(x, 0, x, 0)?;
-    let payload = Payload::new(&[])?;
-    Some(Record {
-        number,
-        rect,
-        payload,
-    })
-}
+// A point by its number and its left side.
+type Spot = (u64, i32);
 
-// The numbers and the left sides of points: the last is nearest to (0, 0), the others are equally
-// near to it, and two of those have one number.
-const POINTS: [(u64, i32); 4] = [(5, 3), (2, 3), (2, -3), (9, 1)];
+// The last is nearest to (0, 0), the others are equally near to it, and two of those have one
+// number.
+const POINTS: &[Spot] = &[(5, 3), (2, 3), (2, -3), (9, 1)];
 
-fn points(alloc: Global) -> Result<Vec<Record>, Fail> {
+fn points(alloc: Global) -> Result<Vec<Record>, AllocError> {
     let mut list = Vec::new(alloc);
     for (number, x) in POINTS {
-        list.push(point_record(number, x).ok_or("no record")?)?;
+        if let Some(record) = record_at(*number, (*x, 0, *x, 0)) {
+            list.push(record)?;
+        }
     }
     Ok(list)
 }
 
-// The number and the left side of each record.
-fn told(alloc: Global, list: &[Record]) -> Result<Vec<(u64, i32)>, AllocError> {
-    let mut all = Vec::new(alloc);
-    for record in list {
+// Whether these are the points, in this order.
+fn are(list: &[Record], spots: &[Spot]) -> bool {
+    for (record, (number, x)) in list.iter().zip(spots) {
         let (x0, _, _, _) = record.rect.corners();
-        all.push((record.number, x0))?;
+        if record.number != *number || x0 != *x {
+            return false;
+        }
     }
-    Ok(all)
+    list.len() == spots.len()
 }
 
-#[test]
-fn equally_near_records_are_in_rising_number(rt: HostRuntime) -> Result<(), Fail> {
-    let alloc = rt.alloc();
-    let list = points(alloc)?;
-    let center = Point { x: 0, y: 0 };
-    let whole = [(9, 1), (2, 3), (2, -3), (5, 3)].as_slice();
-    for (k, want) in [(4, whole), (5, whole), (1, [(9, 1)].as_slice())] {
-        let nearest = rank(alloc, &list, &center, k)?;
-        assert!(rt; told(alloc, &nearest)?.as_slice() == want, "at {k}");
+// How many nearest points are asked for, and which they are.
+#[derive(Clone, Copy)]
+struct Ranked<'a> {
+    name: &'a str,
+    k: u16,
+    spots: &'a [Spot],
+}
+
+const RANKED: &[Ranked<'static>] = &[
+    Ranked {
+        name: "all four",
+        k: 4,
+        spots: &[(9, 1), (2, 3), (2, -3), (5, 3)],
+    },
+    Ranked {
+        name: "one more than there are",
+        k: 5,
+        spots: &[(9, 1), (2, 3), (2, -3), (5, 3)],
+    },
+    Ranked {
+        name: "the nearest",
+        k: 1,
+        spots: &[(9, 1)],
+    },
+];
+
+fn is_ranked(alloc: Global, row: &Ranked<'_>) -> Result<bool, AllocError> {
+    let nearest = rank(alloc, &points(alloc)?, &Point { x: 0, y: 0 }, row.k)?;
+    Ok(are(&nearest, row.spots))
+}
+
+fn first_unranked(
+    alloc: Global,
+    rows: &[Ranked<'static>],
+) -> Result<Option<&'static str>, AllocError> {
+    for row in rows {
+        if !is_ranked(alloc, row)? {
+            return Ok(Some(row.name));
+        }
     }
-    Ok(())
+    Ok(None)
 }
 
 #[test]
-fn a_window_is_answered_in_rising_number(rt: HostRuntime) -> Result<(), Fail> {
-    let alloc = rt.alloc();
-    let q = Query::Window(rect(-3, 0, 2, 0)?);
-    let found = answer(points(alloc)?, &q)?;
-    assert!(rt; told(alloc, &found)?.as_slice() == [(2, -3), (9, 1)].as_slice());
-    Ok(())
+fn equally_near_records_are_in_rising_number(rt: HostRuntime) {
+    all_hold_in_memory(&rt, first_unranked(rt.alloc(), RANKED));
+}
+
+// Whether the answer to a query on the points has these.
+fn is_answered(alloc: Global, query: &Query, spots: &[Spot]) -> Result<bool, AllocError> {
+    Ok(are(&answer(points(alloc)?, query)?, spots))
+}
+
+fn window_is_answered(alloc: Global) -> Result<bool, AllocError> {
+    match window((-3, 0, 2, 0)) {
+        Some(query) => is_answered(alloc, &query, &[(2, -3), (9, 1)]),
+        None => Ok(false),
+    }
 }
 
 #[test]
-fn nearest_records_are_answered_by_distance(rt: HostRuntime) -> Result<(), Fail> {
-    let alloc = rt.alloc();
-    let center = Point { x: 0, y: 0 };
-    let found = answer(points(alloc)?, &Query::Nearest { center, k: 2 })?;
-    assert!(rt; told(alloc, &found)?.as_slice() == [(9, 1), (2, 3)].as_slice());
-    Ok(())
+fn a_window_is_answered_in_rising_number(rt: HostRuntime) {
+    holds_in_memory(&rt, "a window", window_is_answered(rt.alloc()));
+}
+
+#[test]
+fn nearest_records_are_answered_by_distance(rt: HostRuntime) {
+    let two = is_answered(rt.alloc(), &nearest(0, 0, 2), &[(9, 1), (2, 3)]);
+    holds_in_memory(&rt, "two nearest", two);
 }

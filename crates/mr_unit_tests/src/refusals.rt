@@ -5,6 +5,7 @@ ghost use Rattle.std.proofs.Common.{rules};
 ghost use Rattle.mr_query.specs.Word.{IsAskable};
 ghost use Rattle.mr_record.specs.declared.version.Version.TheVariants.{One};
 
+use crate::assertions::all_hold;
 use crate::client::{OPENED, digest, window};
 use mr_clash::{AuditErr, audit};
 use mr_geom::{Point, Rect};
@@ -13,10 +14,9 @@ use mr_prove::{ProveErr, prove};
 use mr_query::Query;
 use mr_tree::{Child, NodeView, Nodes, NodesErr, Top, XorHash};
 use std::alloc::Global;
-use std::test::Fail;
 
 // Why each fetch is refused.
-#[derive(Clone, Copy, Debug)]
+#[derive(Clone, Copy)]
 enum Why {
     Changed,
     Page,
@@ -143,6 +143,26 @@ fn refusing(why: Why) -> Option<Refuser> {
     })
 }
 
+// A proof without what is known of it.
+fn proof_of(
+    alloc: Global,
+    nodes: &mut Refuser,
+    q: &Query,
+    out: &mut MemSink,
+) -> Result<(), ProveErr>
+    requires { IsAskable q.now }
+{
+    prove(alloc, nodes, q, out)
+}
+
+fn says(why: Why, answer: Result<(), ProveErr>) -> bool {
+    match answer {
+        Err(ProveErr::Nodes(error)) => is_that(why, &error),
+        Err(ProveErr::NoMemory) => is_that(why, &NodesErr::NoMemory),
+        _ => false,
+    }
+}
+
 // Whether a proof for this query is refused as the one fetch was.
 fn proof_says(alloc: Global, why: Why, q: &Query) -> bool
     requires { IsAskable q.now }
@@ -151,12 +171,18 @@ fn proof_says(alloc: Global, why: Why, q: &Query) -> bool
         return false;
     };
     let mut out = MemSink::new(alloc, Vec::new(alloc));
-    let said = match prove(alloc, &mut nodes, q, &mut out) {
-        Err(ProveErr::Nodes(error)) => is_that(why, &error),
-        Err(ProveErr::NoMemory) => is_that(why, &NodesErr::NoMemory),
-        _ => false,
-    };
-    said && nodes.fetches == 1
+    let answer = proof_of(alloc, &mut nodes, q, &mut out);
+    says(why, answer) && nodes.fetches == 1
+}
+
+// An audit of the map's own proof, without what is known of it.
+fn audit_of(alloc: Global, nodes: &mut Refuser, q: &Query) -> Option<AuditErr>
+    requires { IsAskable q.now }
+{
+    match audit(alloc, nodes, q, OPENED) {
+        Err(error) => Some(error),
+        Ok(_) => None,
+    }
 }
 
 // Whether an audit of the map's own proof is refused as the one fetch was.
@@ -166,42 +192,74 @@ fn audit_says(alloc: Global, why: Why, q: &Query) -> bool
     let Some(mut nodes) = refusing(why) else {
         return false;
     };
-    let said = match audit(alloc, &mut nodes, q, OPENED) {
-        Err(AuditErr::Nodes(error)) => is_that(why, &error),
-        Err(AuditErr::NoMemory) => is_that(why, &NodesErr::NoMemory),
-        Ok(_) => false,
+    let said = match audit_of(alloc, &mut nodes, q) {
+        Some(AuditErr::Nodes(error)) => is_that(why, &error),
+        Some(AuditErr::NoMemory) => is_that(why, &NodesErr::NoMemory),
+        None => false,
     };
     said && nodes.fetches == 1
 }
 
-const ALL: &[Why] = &[
-    Why::Changed,
-    Why::Page,
-    Why::Outside,
-    Why::Missing,
-    Why::Fault,
-    Why::NoMemory,
+const ALL: &[(&str, Why)] = &[
+    ("a page with another digest", Why::Changed),
+    ("a page that is no node", Why::Page),
+    ("a page past the last one", Why::Outside),
+    ("a file that is missing", Why::Missing),
+    ("a fault of the shelf", Why::Fault),
+    ("no memory", Why::NoMemory),
 ];
 
-#[test]
-fn proofs_are_refused_as_the_fetch_was(rt: HostRuntime) -> Result<(), Fail> {
-    let here = window(0, 0, 0, 0)?;
+fn first_other_proof(alloc: Global, rows: &[(&'static str, Why)], q: &Query) -> Option<&'static str>
+    requires { IsAskable q.now }
+{
+    for (name, why) in rows {
+        if !proof_says(alloc, *why, q) {
+            return Some(name);
+        }
+    }
+    None
+}
+
+fn first_other_of_a_window(alloc: Global) -> Option<&'static str> {
+    match window(0, 0, 0, 0) {
+        Ok(here) => first_other_proof(alloc, ALL, &here),
+        Err(name) => Some(name),
+    }
+}
+
+fn first_other_of_the_nearest(alloc: Global) -> Option<&'static str> {
     let near = Query::Nearest {
         center: Point { x: 0, y: 0 },
         k: 1,
     };
-    for why in ALL {
-        assert!(rt; proof_says(rt.alloc(), *why, &here), "{why:?}");
-        assert!(rt; proof_says(rt.alloc(), *why, &near), "{why:?}");
-    }
-    Ok(())
+    first_other_proof(alloc, ALL, &near)
 }
 
 #[test]
-fn audits_are_refused_as_the_fetch_was(rt: HostRuntime) -> Result<(), Fail> {
-    let here = window(0, 0, 0, 0)?;
-    for why in ALL {
-        assert!(rt; audit_says(rt.alloc(), *why, &here), "{why:?}");
+fn proofs_are_refused_as_the_fetch_was(rt: HostRuntime) {
+    all_hold(&rt, first_other_of_a_window(rt.alloc()));
+    all_hold(&rt, first_other_of_the_nearest(rt.alloc()));
+}
+
+fn first_other_audit(alloc: Global, rows: &[(&'static str, Why)], q: &Query) -> Option<&'static str>
+    requires { IsAskable q.now }
+{
+    for (name, why) in rows {
+        if !audit_says(alloc, *why, q) {
+            return Some(name);
+        }
     }
-    Ok(())
+    None
+}
+
+fn first_other_audit_of_a_window(alloc: Global) -> Option<&'static str> {
+    match window(0, 0, 0, 0) {
+        Ok(here) => first_other_audit(alloc, ALL, &here),
+        Err(name) => Some(name),
+    }
+}
+
+#[test]
+fn audits_are_refused_as_the_fetch_was(rt: HostRuntime) {
+    all_hold(&rt, first_other_audit_of_a_window(rt.alloc()));
 }

@@ -2,39 +2,38 @@
 
 ghost use Rattle.mr_tree.specs.WellFormed.{WellFormed};
 
-use mr_geom::Rect;
+use crate::assertions::{holds, holds_in_memory};
+use crate::client::digest;
+use crate::made::{record_at, tree_of};
 use mr_outside::Items;
-use mr_pack::pack;
-use mr_record::{Payload, Record};
-use mr_tree::{Tree, XorHash, digest_of, level_of, records_of, rect_of, root_of};
-use std::test::Fail;
+use mr_tree::{Tree, XorHash, count_of, digest_of, level_of, records_of, rect_of, root_of};
+use std::alloc::{AllocError, Global};
 
-// A digest of 31 zero bytes and this one.
-fn small(last: u8) -> [u8; 32] {
-    let mut digest = [0; 32];
-    digest[31] = last;
-    digest
-}
-
-// Record 7 at (0,0), without a payload.
-fn seven() -> Option<Record> {
-    let rect = Rect::new(0, 0, 0, 0)?;
-    let payload = Payload::new(&[])?;
-    Some(Record {
-        number: 7,
-        rect,
-        payload,
-    })
-}
-
-// The digest of a tree and the root digest of its map.
-fn digests(tree: &Tree) -> ([u8; 32], [u8; 32])
+// Whether these are the digest of a tree and the root digest of its map.
+fn has_digests(tree: &Tree, node: u8, root: u8) -> bool
     requires { WellFormed tree.now }
 {
-    let root = root_of::<XorHash>(tree, 0);
     match tree {
-        Tree::Empty => (root, root),
-        _ => (digest_of::<XorHash>(tree), root),
+        Tree::Empty => false,
+        _ => {
+            digest_of::<XorHash>(tree) == digest(node)
+                && root_of::<XorHash>(tree, 0) == digest(root)
+        }
+    }
+}
+
+fn has_root(tree: &Tree, batch: u64, root: u8) -> bool
+    requires { WellFormed tree.now }
+{
+    root_of::<XorHash>(tree, batch) == digest(root)
+}
+
+fn is_at_the_origin(tree: &Tree) -> bool
+    requires { WellFormed tree.now }
+{
+    match rect_of(tree) {
+        Some(rect) => rect.corners() == (0, 0, 0, 0),
+        None => false,
     }
 }
 
@@ -46,30 +45,55 @@ fn entries(tree: Tree) -> usize {
     }
 }
 
-#[test]
-fn the_leaf_of_one_record(rt: HostRuntime) -> Result<(), Fail> {
-    let alloc = rt.alloc();
+fn has_one(alloc: Global, tree: &Tree) -> Result<bool, AllocError>
+    requires { WellFormed tree.now }
+{
+    Ok(count_of(tree) == 1 && records_of(alloc, tree)?.len() == 1)
+}
+
+fn is_the_leaf(alloc: Global, tree: Tree) -> Result<bool, AllocError>
+    requires { WellFormed tree }
+{
+    let told = has_digests(&tree, 0x4a, 0x18) && level_of(&tree) == 0 && is_at_the_origin(&tree);
+    let listed = has_one(alloc, &tree)?;
+    Ok(told && listed && entries(tree) == 1)
+}
+
+// Of record 7 at (0,0), without a payload.
+fn leaf_of_seven(alloc: Global) -> Result<bool, AllocError> {
     let mut list = Vec::new(alloc);
-    list.push(seven().ok_or("a record")?)?;
-    let tree = pack(alloc, list).ok().ok_or("one record")?;
-    assert_eq!(rt; digests(&tree), (small(0x4a), small(0x18)));
-    assert_eq!(rt; level_of(&tree), 0);
-    match rect_of(&tree) {
-        Some(rect) => assert_eq!(rt; rect.corners(), (0, 0, 0, 0)),
-        None => assert!(rt; false),
+    if let Some(record) = record_at(7, (0, 0, 0, 0)) {
+        list.push(record)?;
     }
-    assert_eq!(rt; records_of(alloc, &tree)?.len(), 1);
-    assert_eq!(rt; entries(tree), 1);
-    Ok(())
+    match tree_of(alloc, list) {
+        Some(tree) => is_the_leaf(alloc, tree),
+        None => Ok(false),
+    }
 }
 
 #[test]
-fn the_empty_tree(rt: HostRuntime) -> Result<(), Fail> {
-    let alloc = rt.alloc();
-    let tree = pack(alloc, Vec::new(alloc)).ok().ok_or("no records")?;
-    assert_eq!(rt; level_of(&tree), 0);
-    assert!(rt; rect_of(&tree).is_none());
-    assert_eq!(rt; root_of::<XorHash>(&tree, 0), small(0x44));
-    assert_eq!(rt; root_of::<XorHash>(&tree, 1), small(0x45));
-    Ok(())
+fn the_leaf_of_one_record(rt: HostRuntime) {
+    holds_in_memory(&rt, "a leaf", leaf_of_seven(rt.alloc()));
+}
+
+fn is_the_empty_tree(tree: &Tree) -> bool
+    requires { WellFormed tree.now }
+{
+    level_of(tree) == 0
+        && count_of(tree) == 0
+        && rect_of(tree).is_none()
+        && has_root(tree, 0, 0x44)
+        && has_root(tree, 1, 0x45)
+}
+
+fn tree_of_none(alloc: Global) -> bool {
+    match tree_of(alloc, Vec::new(alloc)) {
+        Some(tree) => is_the_empty_tree(&tree),
+        None => false,
+    }
+}
+
+#[test]
+fn the_empty_tree(rt: HostRuntime) {
+    holds(&rt, "no node", tree_of_none(rt.alloc()));
 }

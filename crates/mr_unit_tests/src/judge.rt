@@ -1,0 +1,338 @@
+//! Proofs that a judge is fed in pieces: each piece has its answer, and however a proof is cut, the
+//! verdict and the records are those of the whole.
+
+ghost use Rattle.mr_query.specs.Word.{IsAskable};
+
+use crate::client::{INNER, OPENED, digest, sha_root};
+use mr_check::{CheckErr, Fed, Judge, check};
+use mr_proof::{Fault, Rule};
+use mr_query::{Query, read_query};
+use mr_tree::{Hash32, Sha, XorHash};
+use std::alloc::Global;
+use std::test::Fail;
+
+// A window's proof on the map of record 7 that prunes its leaf.
+const PRUNED: &[u8] = b"MRVO\x01W\0\0\0\0\0\0\0\0\0\0\0\0\0\0\0\x01\0\
+    P\0\0\0\0\0\0\0\0\0\0\0\0\0\0\0\0\
+    \0\0\0\0\0\0\0\0\0\0\0\0\0\0\0\0\0\0\0\0\0\0\0\0\0\0\0\0\0\0\0\x4a";
+
+// Records 1 at (3, 0) and 2 at (0, 3), with a squared radius of 9.
+const CIRCLE: &[u8] = b"MRVO\x01K\0\0\0\0\0\0\0\0\0\0\0\0\0\0\0\x02\
+    \x01\0\0\0\0\0\0\0\0\0\0\0\0\0\0\0\x09\0L\x02\
+    \0\0\0\0\0\0\0\x01\0\0\0\x03\0\0\0\0\0\0\0\x03\0\0\0\0\0\
+    \0\0\0\0\0\0\0\x02\0\0\0\0\0\0\0\x03\0\0\0\0\0\0\0\x03\0";
+
+// A leaf with record 2 at (0, 3), on the circle, and a pruned part at (3, 0), also on it.
+const HIDDEN: &[u8] = b"MRVO\x01K\0\0\0\0\0\0\0\0\0\0\0\0\0\0\0\x02\
+    \x01\0\0\0\0\0\0\0\0\0\0\0\0\0\0\0\x09\x01N\x02\
+    L\x01\0\0\0\0\0\0\0\x02\0\0\0\0\0\0\0\x03\0\0\0\0\0\0\0\x03\0\
+    P\0\0\0\x03\0\0\0\0\0\0\0\x03\0\0\0\0\
+    \0\0\0\0\0\0\0\0\0\0\0\0\0\0\0\0\0\0\0\0\0\0\0\0\0\0\0\0\0\0\0\0";
+
+// Records 1 at (1, 0), 3 at (3, 0) and 2 at (0, 2), without a squared radius.
+const FEWER: &[u8] = b"MRVO\x01K\0\0\0\0\0\0\0\0\0\0\0\0\0\0\0\x03\0\0L\x03\
+    \0\0\0\0\0\0\0\x01\0\0\0\x01\0\0\0\0\0\0\0\x01\0\0\0\0\0\
+    \0\0\0\0\0\0\0\x03\0\0\0\x03\0\0\0\0\0\0\0\x03\0\0\0\0\0\
+    \0\0\0\0\0\0\0\x02\0\0\0\0\0\0\0\x02\0\0\0\0\0\0\0\x02\0";
+
+// The same with a squared radius of 9.
+const TOO_MANY: &[u8] = b"MRVO\x01K\0\0\0\0\0\0\0\0\0\0\0\0\0\0\0\x03\
+    \x01\0\0\0\0\0\0\0\0\0\0\0\0\0\0\0\x09\0L\x03\
+    \0\0\0\0\0\0\0\x01\0\0\0\x01\0\0\0\0\0\0\0\x01\0\0\0\0\0\
+    \0\0\0\0\0\0\0\x03\0\0\0\x03\0\0\0\0\0\0\0\x03\0\0\0\0\0\
+    \0\0\0\0\0\0\0\x02\0\0\0\0\0\0\0\x02\0\0\0\0\0\0\0\x02\0";
+
+// Record 1 at the greatest point, with the greatest squared radius.
+const FARTHEST: &[u8] = b"MRVO\x01K\0\0\0\0\0\0\0\0\0\0\0\0\0\0\0\x01\
+    \x01\0\0\0\0\0\0\0\x01\xff\xff\xff\xfc\0\0\0\x02\0L\x01\
+    \0\0\0\0\0\0\0\x01\x7f\xff\xff\xff\x7f\xff\xff\xff\x7f\xff\xff\xff\x7f\xff\xff\xff\0";
+
+// `OPENED` and one byte more.
+const TRAILING: &[u8] = b"MRVO\x01W\0\0\0\0\0\0\0\0\0\0\0\0\0\0\0\x01\0\
+    L\x01\0\0\0\0\0\0\0\x07\0\0\0\0\0\0\0\0\0\0\0\0\0\0\0\0\0\0";
+
+// `INNER` below one more node.
+const DEEPER: &[u8] = b"MRVO\x01W\0\0\0\0\0\0\0\0\0\0\0\0\0\0\0\x02\x02N\x01N\x02\
+    P\0\0\0\x05\0\0\0\x05\0\0\0\x06\0\0\0\x06\
+    \0\0\0\0\0\0\0\0\0\0\0\0\0\0\0\0\0\0\0\0\0\0\0\0\0\0\0\0\0\0\0\x11\
+    L\x01\0\0\0\0\0\0\0\x07\0\0\0\0\0\0\0\0\0\0\0\0\0\0\0\0\0";
+
+// A proof for the query of a word; the last byte of a held root digest under the exclusive or; how
+// many records are handed out; and the rule that is broken and its place, if any is.
+struct Row {
+    word: &'static str,
+    proof: &'static [u8],
+    root: u8,
+    found: u64,
+    broken: Option<(Rule, u64)>,
+}
+
+// The root digest of the map of record 7.
+const HELD: [u8; 32] = [
+    0, 0, 0, 0, 0, 0, 0, 0, 0, 0, 0, 0, 0, 0, 0, 0, 0, 0, 0, 0, 0, 0, 0, 0, 0, 0, 0, 0, 0, 0, 0,
+    0x18,
+];
+
+const HERE: &str = "window:0,0,0,0";
+
+const AWAY: &str = "window:1,1,2,2";
+
+const NEAREST: &str = "nearest:0,0,1";
+
+const ROWS: &[Row] = &[
+    Row {
+        word: HERE,
+        proof: OPENED,
+        root: 0x18,
+        found: 1,
+        broken: None,
+    },
+    Row {
+        word: AWAY,
+        proof: PRUNED,
+        root: 0x18,
+        found: 0,
+        broken: None,
+    },
+    Row {
+        word: HERE,
+        proof: TRAILING,
+        root: 0x18,
+        found: 1,
+        broken: Some((Rule::Trailing, 50)),
+    },
+    Row {
+        word: AWAY,
+        proof: OPENED,
+        root: 0x18,
+        found: 0,
+        broken: Some((Rule::Needless, 49)),
+    },
+    Row {
+        word: HERE,
+        proof: PRUNED,
+        root: 0x18,
+        found: 0,
+        broken: Some((Rule::Hidden, 24)),
+    },
+    Row {
+        word: NEAREST,
+        proof: OPENED,
+        root: 0x18,
+        found: 0,
+        broken: Some((Rule::WrongKind, 5)),
+    },
+    Row {
+        word: HERE,
+        proof: OPENED,
+        root: 0x19,
+        found: 1,
+        broken: Some((Rule::WrongRoot { found: HELD }, 50)),
+    },
+    Row {
+        word: NEAREST,
+        proof: CIRCLE,
+        root: 0x1c,
+        found: 2,
+        broken: None,
+    },
+    Row {
+        word: NEAREST,
+        proof: HIDDEN,
+        root: 0,
+        found: 1,
+        broken: Some((Rule::Hidden, 70)),
+    },
+    Row {
+        word: "nearest:0,0,5",
+        proof: FEWER,
+        root: 0x1e,
+        found: 3,
+        broken: None,
+    },
+    Row {
+        word: "nearest:0,0,5",
+        proof: TOO_MANY,
+        root: 0x1e,
+        found: 3,
+        broken: Some((Rule::WrongRadius, 117)),
+    },
+    Row {
+        word: "nearest:-2147483648,-2147483648,1",
+        proof: FARTHEST,
+        root: 0x1e,
+        found: 1,
+        broken: None,
+    },
+    Row {
+        word: HERE,
+        proof: INNER,
+        root: 0x46,
+        found: 1,
+        broken: None,
+    },
+    Row {
+        word: HERE,
+        proof: DEEPER,
+        root: 0x08,
+        found: 1,
+        broken: None,
+    },
+];
+
+// How many records the piece hands out.
+fn feed<H: Hash32>(judge: &mut Judge<H>, piece: &[u8]) -> u64 {
+    let mut rest = piece;
+    let mut found = 0_u64;
+    for _ in 0..=piece.len() {
+        match judge.feed(rest) {
+            Fed::Found { taken, item: _ } => {
+                found = found.saturating_add(1);
+                let (_, behind) = rest.split_at(taken);
+                rest = behind;
+            }
+            _ => break,
+        }
+    }
+    found
+}
+
+// How many records are handed out, and the verdict, of a proof that is cut at this place, and
+// behind it into pieces of this size.
+fn judged<H: Hash32>(
+    alloc: Global,
+    root: &[u8; 32],
+    q: &Query,
+    proof: &[u8],
+    cut: usize,
+    size: usize,
+) -> Option<(u64, Option<Fault>)>
+    requires { IsAskable q.now }
+{
+    let mut judge = Judge::<H>::new(alloc, root, q).ok()?;
+    let (front, back) = proof.split_at(cut.min(proof.len()));
+    let mut found = feed(&mut judge, front);
+    for piece in back.chunks(size.max(1)) {
+        found = found.saturating_add(feed(&mut judge, piece));
+    }
+    Some((found, judge.end().err()))
+}
+
+// The fault of a whole proof.
+fn checked<H: Hash32>(alloc: Global, root: &[u8; 32], q: &Query, proof: &[u8]) -> Option<Fault>
+    requires { IsAskable q.now }
+{
+    match check::<H>(alloc, root, q, proof) {
+        Err(CheckErr::Fault(fault)) => Some(fault),
+        _ => None,
+    }
+}
+
+// Whether a proof has these records and this fault at every cut into two, and in small pieces.
+fn is_judged<H: Hash32>(
+    alloc: Global,
+    root: &[u8; 32],
+    q: &Query,
+    proof: &[u8],
+    wanted: (u64, Option<Fault>),
+) -> bool
+    requires { IsAskable q.now }
+{
+    for cut in 0..=proof.len() {
+        if judged::<H>(alloc, root, q, proof, cut, 4096) != Some(wanted) {
+            return false;
+        }
+    }
+    for size in [1, 7, 4096] {
+        if judged::<H>(alloc, root, q, proof, 0, size) != Some(wanted) {
+            return false;
+        }
+    }
+    true
+}
+
+// Whether the row holds, and under SHA-256 the verdict in pieces is that of the whole.
+fn holds(alloc: Global, row: &Row) -> bool {
+    let Ok(q) = read_query(row.word) else {
+        return false;
+    };
+    let broken = row.broken.map(|(rule, at)| Fault { rule, at });
+    let root = sha_root();
+    let fault = checked::<Sha>(alloc, &root, &q, row.proof);
+    is_judged::<XorHash>(alloc, &digest(row.root), &q, row.proof, (row.found, broken))
+        && is_judged::<Sha>(alloc, &root, &q, row.proof, (row.found, fault))
+}
+
+#[test]
+fn proofs_are_judged_however_they_are_cut(rt: HostRuntime) {
+    assert!(rt; ROWS.iter().all(|row| holds(rt.alloc(), row)));
+}
+
+// A judge that is fed this, if memory serves.
+fn fed<H: Hash32>(alloc: Global, root: &[u8; 32], word: &str, front: &[u8]) -> Option<Judge<H>> {
+    let q = read_query(word).ok()?;
+    let mut judge = Judge::<H>::new(alloc, root, &q).ok()?;
+    let _found = feed(&mut judge, front);
+    Some(judge)
+}
+
+fn is_found(fed: &Fed, count: usize, number: u64) -> bool {
+    matches!(fed, Fed::Found { taken, item } if *taken == count && item.number == number)
+}
+
+fn is_fault(fed: &Fed, rule: Rule, at: u64) -> bool {
+    matches!(fed, Fed::Fault(fault) if *fault == Fault { rule, at })
+}
+
+// One record, and its proof ends.
+fn one_record<H: Hash32>(alloc: Global, root: &[u8; 32]) -> Option<bool> {
+    let mut judge = fed::<H>(alloc, root, HERE, &[])?;
+    let found = is_found(&judge.feed(OPENED), 50, 7);
+    Some(found && judge.end().is_ok())
+}
+
+// A byte behind it.
+fn one_byte_more<H: Hash32>(alloc: Global, root: &[u8; 32]) -> Option<bool> {
+    let mut judge = fed::<H>(alloc, root, HERE, OPENED)?;
+    let (rule, at) = (Rule::Trailing, 50);
+    let trails = is_fault(&judge.feed(&[0]), rule, at);
+    Some(trails && judge.end() == Err(Fault { rule, at }))
+}
+
+// A proof that ends after so many bytes.
+fn is_short<H: Hash32>(alloc: Global, count: usize, at: u64) -> Option<bool> {
+    let (front, _) = OPENED.split_at_checked(count)?;
+    let mut judge = fed::<H>(alloc, &HELD, HERE, &[])?;
+    let more = matches!(judge.feed(front), Fed::More);
+    let rule = Rule::Short;
+    Some(more && judge.end() == Err(Fault { rule, at }))
+}
+
+// A part that is pruned though it lies on the circle, as the record before it does.
+fn hidden_at_its_last_byte<H: Hash32>(alloc: Global) -> Option<bool> {
+    let mut judge = fed::<H>(alloc, &HELD, NEAREST, &[])?;
+    let (front, behind) = HIDDEN.split_at_checked(85)?;
+    let (record, part) = front.split_at_checked(69)?;
+    let found = is_found(&judge.feed(front), record.len(), 2);
+    let more = matches!(judge.feed(part), Fed::More);
+    let (last, _) = behind.split_at_checked(1)?;
+    let (rule, at) = (Rule::Hidden, 70);
+    let hides = is_fault(&judge.feed(last), rule, at) && is_fault(&judge.feed(HIDDEN), rule, at);
+    Some(found && more && hides && judge.end() == Err(Fault { rule, at }))
+}
+
+// All of these, under one hash function.
+fn pieces_are_answered<H: Hash32>(alloc: Global, root: &[u8; 32]) -> bool {
+    one_record::<H>(alloc, root) == Some(true)
+        && one_byte_more::<H>(alloc, root) == Some(true)
+        && is_short::<H>(alloc, 49, 49) == Some(true)
+        && is_short::<H>(alloc, 10, 6) == Some(true)
+        && is_short::<H>(alloc, 0, 0) == Some(true)
+        && hidden_at_its_last_byte::<H>(alloc) == Some(true)
+}
+
+#[test]
+fn pieces_have_their_answers(rt: HostRuntime) {
+    assert!(rt; pieces_are_answered::<XorHash>(rt.alloc(), &HELD));
+    assert!(rt; pieces_are_answered::<Sha>(rt.alloc(), &sha_root()));
+}

@@ -1,0 +1,455 @@
+//! Maps that are opened and fetched page by page: their faults, the reads that they take, and pages
+//! that change between two reads.
+
+ghost use Rattle.std.specs.Prelude.{◌≡◌, ◌≤◌};
+ghost use Rattle.mr_query.specs.Word.{IsAskable};
+
+use crate::client::window;
+use mr_batch::generate;
+use mr_geom::{Point, Rect};
+use mr_outside::{MemShelf, MemSink, Shelf, ShelfErr};
+use mr_pack::pack;
+use mr_pages::{MapErr, open_plain, save_plain};
+use mr_prove::{ProveErr, prove};
+use mr_query::Query;
+use mr_record::{Payload, Record};
+use mr_store::Paged;
+use mr_tree::{NodesErr, XorHash};
+use std::alloc::{AllocError, Global};
+use std::test::Fail;
+
+fn point(number: u64, x: i32) -> Option<Record> {
+    Some(Record {
+        number,
+        rect: Rect::new(x, 0, x, 0)?,
+        payload: Payload::new(&[])?,
+    })
+}
+
+// Points on a line, one unit apart.
+fn line(alloc: Global, count: u32) -> Result<Vec<Record>, Fail>
+    requires { count ≤ 100 }
+{
+    let mut list = Vec::new(alloc);
+    for i in 1..=count {
+        list.push(point(u64::from(i), i as i32).ok_or("no record")?)?;
+    }
+    Ok(list)
+}
+
+// The bytes of the map file of these records.
+fn map_of(alloc: Global, records: Vec<Record>) -> Result<Vec<u8>, Fail> {
+    if records.len() > 1 << 20 {
+        return Err("too many".into());
+    }
+    let Ok(tree) = pack(alloc, records) else {
+        return Err("not packed".into());
+    };
+    let mut shelf = MemShelf::new(alloc, Vec::new(alloc));
+    if save_plain::<XorHash, MemShelf>(alloc, &mut shelf, "m", &tree, 0).is_err() {
+        return Err("not saved".into());
+    }
+    match shelf.file("m") {
+        Some(bytes) => Ok(bytes.to_vec(alloc)?),
+        None => Err("no file".into()),
+    }
+}
+
+fn shelf_with(alloc: Global, bytes: &[u8]) -> Result<MemShelf, AllocError> {
+    let mut shelf = MemShelf::new(alloc, Vec::new(alloc));
+    shelf.put("m", bytes)?;
+    Ok(shelf)
+}
+
+// ---- faults
+
+// A map file of 17 records that is changed: its length, and what stands from some places on; the
+// fault that it has then.
+struct Row {
+    page: u32,
+    rule: &'static str,
+    size: usize,
+    edits: &'static [(usize, &'static [u8])],
+}
+
+// A leaf of four of its nine records, with the digest and the rectangle of the whole one.
+const FOUR: &[u8] = b"L\x04\
+    \0\0\0\0\0\0\0\x09\0\0\0\x09\0\0\0\0\0\0\0\x09\0\0\0\0\0\
+    \0\0\0\0\0\0\0\x0c\0\0\0\x0c\0\0\0\0\0\0\0\x0c\0\0\0\0\0\
+    \0\0\0\0\0\0\0\x10\0\0\0\x10\0\0\0\0\0\0\0\x10\0\0\0\0\0\
+    \0\0\0\0\0\0\0\x11\0\0\0\x11\0\0\0\0\0\0\0\x11\0\0\0\0\0\
+    \0\0\0\0\0\0\0\0\0\0\0\0\0\0\0\0\0\0\0\0\0\0\0\0\0\
+    \0\0\0\0\0\0\0\0\0\0\0\0\0\0\0\0\0\0\0\0\0\0\0\0\0\
+    \0\0\0\0\0\0\0\0\0\0\0\0\0\0\0\0\0\0\0\0\0\0\0\0\0\
+    \0\0\0\0\0\0\0\0\0\0\0\0\0\0\0\0\0\0\0\0\0\0\0\0\0\
+    \0\0\0\0\0\0\0\0\0\0\0\0\0\0\0\0\0\0\0\0\0\0\0\0\0";
+
+const ROWS: &[Row] = &[
+    Row {
+        page: 0,
+        rule: "Size",
+        size: 16_383,
+        edits: &[],
+    },
+    Row {
+        page: 0,
+        rule: "Size",
+        size: 0,
+        edits: &[],
+    },
+    Row {
+        page: 0,
+        rule: "Unsealed",
+        size: 16_384,
+        edits: &[(4095, b"K")],
+    },
+    Row {
+        page: 0,
+        rule: "Header",
+        size: 16_384,
+        edits: &[(0, b"m")],
+    },
+    Row {
+        page: 2,
+        rule: "Page",
+        size: 16_384,
+        edits: &[(8192, b"X")],
+    },
+    Row {
+        page: 9,
+        rule: "Outside",
+        size: 16_384,
+        edits: &[(29, b"\x09")],
+    },
+    Row {
+        page: 2,
+        rule: "Twice",
+        size: 16_384,
+        edits: &[(4154, b"\x02")],
+    },
+    Row {
+        page: 1,
+        rule: "Digest",
+        size: 16_384,
+        edits: &[(77, b"\0")],
+    },
+    Row {
+        page: 1,
+        rule: "Rect",
+        size: 16_384,
+        edits: &[(41, b"\x12")],
+    },
+    Row {
+        page: 3,
+        rule: "Fill",
+        size: 16_384,
+        edits: &[(12_288, FOUR)],
+    },
+    Row {
+        page: 3,
+        rule: "Number",
+        size: 16_384,
+        edits: &[(12_297, b"\x01"), (12_322, b"\x02")],
+    },
+    Row {
+        page: 0,
+        rule: "Count",
+        size: 16_384,
+        edits: &[(21, b"\x12")],
+    },
+    Row {
+        page: 3,
+        rule: "Free",
+        size: 16_384,
+        edits: &[(81, b"\x03")],
+    },
+    Row {
+        page: 4,
+        rule: "Free",
+        size: 20_480,
+        edits: &[(25, b"\x05")],
+    },
+];
+
+fn put(bytes: &mut [u8], at: usize, new: &[u8]) {
+    let end = at.saturating_add(new.len());
+    if end <= bytes.len() {
+        bytes[at..end].copy_from_slice(new);
+    }
+}
+
+fn changed(alloc: Global, map: &[u8], row: &Row) -> Result<Vec<u8>, AllocError> {
+    let mut bytes = map.to_vec(alloc)?;
+    bytes.resize(row.size, 0)?;
+    for (at, new) in row.edits {
+        put(bytes.as_mut_slice(), *at, new);
+    }
+    Ok(bytes)
+}
+
+fn is_said(row: &Row, error: &MapErr) -> bool {
+    match error {
+        MapErr::Map(fault) => fault.page == row.page && fault.rule.name() == row.rule,
+        _ => false,
+    }
+}
+
+fn whole_says(alloc: Global, bytes: &[u8], row: &Row) -> Result<bool, AllocError> {
+    let mut shelf = shelf_with(alloc, bytes)?;
+    match open_plain::<XorHash, MemShelf>(alloc, &mut shelf, "m") {
+        Ok(_) => Ok(false),
+        Err(error) => Ok(is_said(row, &error)),
+    }
+}
+
+fn pages_say(alloc: Global, bytes: &[u8], row: &Row) -> Result<bool, AllocError> {
+    let shelf = shelf_with(alloc, bytes)?;
+    match Paged::<MemShelf, XorHash>::open_map(alloc, shelf, "m") {
+        Ok(map) => {
+            let _shelf = map.close();
+            Ok(false)
+        }
+        Err((_shelf, error)) => Ok(is_said(row, &error)),
+    }
+}
+
+// The first row of which one of the two ways to open a map says something else.
+fn first_other(alloc: Global, map: &[u8]) -> Result<Option<usize>, AllocError> {
+    for (k, row) in ROWS.iter().enumerate() {
+        let bytes = changed(alloc, map, row)?;
+        if !whole_says(alloc, &bytes, row)? {
+            return Ok(Some(k));
+        }
+        if !pages_say(alloc, &bytes, row)? {
+            return Ok(Some(k));
+        }
+    }
+    Ok(None)
+}
+
+#[test]
+fn a_map_has_one_fault_opened_whole_or_page_by_page(rt: HostRuntime) -> Result<(), Fail> {
+    let alloc = rt.alloc();
+    let map = map_of(alloc, line(alloc, 17)?)?;
+    assert_eq!(rt; first_other(alloc, &map)?, None);
+    Ok(())
+}
+
+// ---- reads, and pages that change
+
+// Tells nothing, and gives the bytes of a file, of which one is another after so many reads; or
+// none are left then.
+#[derive(Drop)]
+struct Turning {
+    bytes: Vec<u8>,
+    reads: u64,
+    after: u64,
+    cut: bool,
+    at: usize,
+    byte: u8,
+}
+
+impl Turning {
+    fn turn(&mut self)
+        ensures { self.new.reads ≡ self.old.reads }
+    {
+        if self.at < self.bytes.len() {
+            self.bytes[self.at] = self.byte;
+        }
+        if self.cut {
+            self.bytes.truncate(0);
+        }
+    }
+}
+
+impl Shelf for Turning {
+    ghost use Rattle.mr_outside.specs.Edge.{untold_shelf};
+
+    ghost state = { λ s. untold_shelf 0 s.reads };
+
+    fn size(&mut self, _name: &str) -> Result<u64, ShelfErr> {
+        Ok(self.bytes.len() as u64)
+    }
+
+    fn read_at(&mut self, _name: &str, at: u64, into: &mut [u8]) -> Result<usize, ShelfErr> {
+        if self.reads >= self.after {
+            self.turn();
+        }
+        self.reads = self.reads.saturating_add(1);
+        let at = (at as usize).min(self.bytes.len());
+        let count = into.len().min(self.bytes.len() - at);
+        into[..count].copy_from_slice(&self.bytes[at..at + count]);
+        Ok(count)
+    }
+
+    fn create(&mut self, _name: &str) -> Result<(), ShelfErr> {
+        Err(ShelfErr::NoMemory)
+    }
+
+    fn append(&mut self, _name: &str, _bytes: &[u8]) -> Result<(), ShelfErr> {
+        Err(ShelfErr::NoMemory)
+    }
+
+    fn write_at(&mut self, _name: &str, _at: u64, _bytes: &[u8]) -> Result<(), ShelfErr> {
+        Err(ShelfErr::NoMemory)
+    }
+
+    fn sync(&mut self, _name: &str) -> Result<(), ShelfErr> {
+        Err(ShelfErr::NoMemory)
+    }
+}
+
+// What comes of proofs from a map: the reads that were answered, and the last refusal.
+#[derive(Clone, Copy)]
+struct Came {
+    reads: u64,
+    refusal: Option<NodesErr>,
+}
+
+// Opens the map, and makes so many proofs of it for this query.
+fn proved(alloc: Global, shelf: Turning, times: u32, q: &Query) -> Result<Came, Fail>
+    requires { IsAskable q.now }
+{
+    let mut map = match Paged::<Turning, XorHash>::open_map(alloc, shelf, "m") {
+        Ok(map) => map,
+        Err((_shelf, _)) => return Err("not opened".into()),
+    };
+    let mut refusal = None;
+    for _ in 0..times {
+        let mut out = MemSink::new(alloc, Vec::new(alloc));
+        if let Err(ProveErr::Nodes(error)) = prove(alloc, &mut map, q, &mut out) {
+            refusal = Some(error);
+        }
+    }
+    let shelf = map.close();
+    Ok(Came {
+        reads: shelf.reads,
+        refusal,
+    })
+}
+
+fn still(map: &[u8], alloc: Global) -> Result<Turning, AllocError> {
+    Ok(Turning {
+        bytes: map.to_vec(alloc)?,
+        reads: 0,
+        after: u64::MAX,
+        cut: false,
+        at: 0,
+        byte: 0,
+    })
+}
+
+// How many reads are answered where so many proofs are made.
+fn reads_of(alloc: Global, map: &[u8], times: u32, q: &Query) -> Result<u64, Fail>
+    requires { IsAskable q.now }
+{
+    Ok(proved(alloc, still(map, alloc)?, times, q)?.reads)
+}
+
+#[test]
+fn a_map_of_few_pages_is_read_once(rt: HostRuntime) -> Result<(), Fail> {
+    let alloc = rt.alloc();
+    let map = map_of(alloc, generate(alloc, 2500, 3)?)?;
+    let near = Query::Nearest {
+        center: Point { x: 0, y: 0 },
+        k: 10,
+    };
+    assert_eq!(rt; map.len(), 162 * 4096);
+    assert_eq!(rt; reads_of(alloc, &map, 0, &near)?, 162);
+    assert_eq!(rt; reads_of(alloc, &map, 2, &near)?, 162);
+    Ok(())
+}
+
+// What is read of a map after a proof was made, and what the next one says of it.
+struct Turn {
+    cut: bool,
+    at: usize,
+    byte: u8,
+    says: Option<Says>,
+}
+
+#[derive(Clone, Copy)]
+enum Says {
+    Changed(u32),
+    Page(u32),
+    Outside(u32),
+}
+
+const TURNS: &[Turn] = &[
+    Turn {
+        cut: false,
+        at: 0,
+        byte: 0,
+        says: None,
+    },
+    Turn {
+        cut: false,
+        at: 12_297,
+        byte: 0xff,
+        says: Some(Says::Changed(3)),
+    },
+    Turn {
+        cut: false,
+        at: 12_288,
+        byte: 0xff,
+        says: Some(Says::Page(3)),
+    },
+    Turn {
+        cut: false,
+        at: 4100,
+        byte: 1,
+        says: Some(Says::Outside(65_538)),
+    },
+    Turn {
+        cut: true,
+        at: 0,
+        byte: 0,
+        says: Some(Says::Page(1)),
+    },
+];
+
+fn is_turned(says: Option<Says>, refusal: &Option<NodesErr>) -> bool {
+    match (says, refusal) {
+        (None, None) => true,
+        (Some(Says::Changed(wanted)), Some(NodesErr::Changed { page, held, found })) => {
+            *page == wanted && *held != *found
+        }
+        (Some(Says::Page(wanted)), Some(NodesErr::Page { page })) => *page == wanted,
+        (Some(Says::Outside(wanted)), Some(NodesErr::Outside { page })) => *page == wanted,
+        _ => false,
+    }
+}
+
+// The first turn after which the second proof says something else.
+fn first_unturned(alloc: Global, map: &[u8], after: u64, q: &Query) -> Result<Option<usize>, Fail>
+    requires { IsAskable q.now }
+{
+    for (k, turn) in TURNS.iter().enumerate() {
+        let shelf = Turning {
+            bytes: map.to_vec(alloc)?,
+            reads: 0,
+            after,
+            cut: turn.cut,
+            at: turn.at,
+            byte: turn.byte,
+        };
+        let came = proved(alloc, shelf, 2, q)?;
+        if !is_turned(turn.says, &came.refusal) {
+            return Ok(Some(k));
+        }
+    }
+    Ok(None)
+}
+
+#[test]
+fn a_page_that_is_read_again_is_checked(rt: HostRuntime) -> Result<(), Fail> {
+    let alloc = rt.alloc();
+    let map = map_of(alloc, generate(alloc, 5000, 3)?)?;
+    let all = window(-1_000_000, -1_000_000, 1_000_063, 1_000_063)?;
+    assert_eq!(rt; map.len(), 320 * 4096);
+    assert_eq!(rt; reads_of(alloc, &map, 0, &all)?, 320);
+    let after = reads_of(alloc, &map, 1, &all)?;
+    assert!(rt; after > 320 && after <= 639, "{after}");
+    assert_eq!(rt; first_unturned(alloc, &map, after, &all)?, None);
+    Ok(())
+}
