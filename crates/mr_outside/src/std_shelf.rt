@@ -37,13 +37,15 @@ struct Node {
     number: u64,
 }
 
-// An open file, the name that it was opened by, and whether it may be written.
+// An open file, the name that it was opened by, and whether it may be written; and where in the
+// file the next byte comes from, where that is known.
 #[derive(Drop)]
 struct Opened<F> {
     name: String,
     file: F,
     node: Node,
     writes: bool,
+    stands: Option<u64>,
 }
 
 /// The real file system. It tells nothing, and counts a fault at each refusal, also where there is
@@ -322,6 +324,7 @@ fn open_kept<R: rt::Files>(
             file,
             node,
             writes,
+            stands: Some(0),
         },
     )
 }
@@ -380,7 +383,18 @@ fn read_by_name<R: rt::Files>(
 {
     let place = place_to_read(rt, alloc, opened, name)?;
     make_room(alloc, chunk, CHUNK)?;
-    read_from(&mut opened[place].file, chunk.as_mut_slice(), at, into).map_err(refusal)
+    let one = &mut opened[place];
+    let answer = read_from(&mut one.file, one.stands, chunk.as_mut_slice(), at, into);
+    one.stands = place_behind(at, &answer);
+    answer.map_err(refusal)
+}
+
+// Where the next byte comes from behind a read at this place: it is not known where that failed.
+fn place_behind(at: u64, answer: &io::Result<usize>) -> Option<u64> {
+    match answer {
+        Ok(count) => at.checked_add(*count as u64),
+        Err(_) => None,
+    }
 }
 
 // Makes a buffer as long as this at its first use.
@@ -412,7 +426,7 @@ fn append_by_name<R: rt::Files>(
     bytes: &[u8],
 ) -> Result<(), ShelfErr> {
     let place = place_to_write(rt, alloc, opened, name)?;
-    write_to(&mut opened[place].file, SeekFrom::End(0), bytes).map_err(refusal)
+    write_to(&mut opened[place], SeekFrom::End(0), bytes).map_err(refusal)
 }
 
 fn write_by_name<R: rt::Files>(
@@ -424,7 +438,7 @@ fn write_by_name<R: rt::Files>(
     bytes: &[u8],
 ) -> Result<(), ShelfErr> {
     let place = place_to_write(rt, alloc, opened, name)?;
-    write_to(&mut opened[place].file, SeekFrom::Start(at), bytes).map_err(refusal)
+    write_to(&mut opened[place], SeekFrom::Start(at), bytes).map_err(refusal)
 }
 
 fn sync_by_name<R: rt::Files>(
@@ -437,14 +451,20 @@ fn sync_by_name<R: rt::Files>(
     opened[place].file.sync_data().map_err(refusal)
 }
 
-fn write_to<F: Write + Seek>(file: &mut F, to: SeekFrom, bytes: &[u8]) -> io::Result<()> {
-    file.seek(to)?;
-    file.write_all(bytes)
+fn write_to<F: Write + Seek>(one: &mut Opened<F>, to: SeekFrom, bytes: &[u8]) -> io::Result<()> {
+    one.stands = None;
+    one.file.seek(to)?;
+    one.file.write_all(bytes)
 }
 
-// Reads from a place on, which may stand behind the end of the file.
-fn read_from<F: Read + Seek + OpenFile>(
+// The last place that the system can be asked for: no file is longer.
+const LAST_PLACE: u64 = 0x7fff_ffff_ffff_ffff;
+
+// Reads from a place on, which may be behind the end of the file. A place where the file stands is
+// not sought: a page behind its neighbour takes one call of the system.
+fn read_from<F: Read + Seek>(
     file: &mut F,
+    stands: Option<u64>,
     chunk: &mut [u8],
     at: u64,
     into: &mut [u8],
@@ -452,11 +472,20 @@ fn read_from<F: Read + Seek + OpenFile>(
     requires { 0 < length chunk.old }
     ensures { IfOk result (λ n. FillsFront into.old into.new n) }
 {
-    if at >= file.metadata()?.len() {
+    if at > LAST_PLACE {
         return Ok(0);
     }
-    file.seek(SeekFrom::Start(at))?;
+    if !stands_at(stands, at) {
+        file.seek(SeekFrom::Start(at))?;
+    }
     fill(file, chunk, into)
+}
+
+fn stands_at(stands: Option<u64>, at: u64) -> bool {
+    match stands {
+        Some(place) => place == at,
+        None => false,
+    }
 }
 
 // Reads to the end of `into` or of the file, through a buffer.
