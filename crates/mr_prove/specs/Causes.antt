@@ -22,18 +22,18 @@ abbrev pub of_sink : SinkErr → ProveErr
 of_sink sink.Fault = errors.Sink
 of_sink sink.NoMemory = errors.NoMemory
 
--- Each refusal has its cause, by whether the count of faults of the nodes or of the sink rose: that
--- of a fetch, which is never handed on as one of memory, or of the sink.
-abbrev pub HasCause : Standing → (nodes_rose sink_rose : Type 0) → ProveErr → Type 0
-HasCause s nodes_rose sink_rose (errors.Nodes e) = HasSomeCause s nodes_rose e
+-- Each refusal has its cause, between these counts of faults of the nodes and by whether that of
+-- the sink rose: that of a fetch, which is never handed on as one of memory, or of the sink.
+abbrev pub HasCause : Standing → (before after : ℕ) → (sink_rose : Type 0) → ProveErr → Type 0
+HasCause s before after sink_rose (errors.Nodes e) = HasSomeCause s before after e
     × (e ≢ nodes.NoMemory)
-HasCause s nodes_rose sink_rose errors.Sink = sink_rose
-HasCause s nodes_rose sink_rose errors.NoMemory = ⊤
+HasCause s before after sink_rose errors.Sink = sink_rose
+HasCause s before after sink_rose errors.NoMemory = ⊤
 
 -- between these counts of faults of the nodes and these states of the sink
 pub record ProveCauses {A : Type 0} (s : Standing) (before after : ℕ) (from to : Sunk)
     (result : Result A ProveErr) : Type 0 where
-  pub cause : IfErr result (HasCause s (Rose before after) (Rose from.faults to.faults))
+  pub cause : IfErr result (HasCause s before after (Rose from.faults to.faults))
   pub faults : from.faults ≤ to.faults
   pub still : OnOk result (after ≡ before)
   pub quiet : OnOk result (to.faults ≡ from.faults)

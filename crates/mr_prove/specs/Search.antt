@@ -8,7 +8,6 @@ use Rattle.std.specs.Ordering.{nat_cmp, on, flip_args}
 use Rattle.std.specs.declared.cmp.Ordering.{Ordering}
 use Rattle.mr_geom.specs.Distance.{least_squared_distance}
 use Rattle.mr_geom.specs.declared.point.Point.{Point}
-use Rattle.mr_outside.specs.Faults.{Rose}
 use Rattle.mr_tree.specs.Tree.{records}
 use Rattle.mr_tree.specs.Digest.{Scheme, by}
 use Rattle.mr_tree.specs.View.{Node, records_in, children_in}
@@ -44,7 +43,7 @@ farthest = 2 * ((2 ^ 32 - 1) * (2 ^ 32 - 1))
 -- A search fails by a fetch or for want of memory, between these counts of faults of the nodes.
 pub record SearchCauses {A : Type 0} (s : Standing) (before after : ℕ)
     (result : Result A ProveErr) : Type 0 where
-  pub cause : IfErr result (HasCause s (Rose before after) ⊥)
+  pub cause : IfErr result (HasCause s before after ⊥)
   pub still : OnOk result (after ≡ before)
 
 -- ---- the queue

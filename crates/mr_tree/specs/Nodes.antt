@@ -1,6 +1,7 @@
 -- What an object stands for that hands out the nodes of a map one by one, and what a fetch shows.
 use Rattle.std.specs.Prelude.{◌≡◌, ◌≢◌, ℕ, ◌<◌, ◌≤◌, ◌↔◌, ⊤, List, [], ◌∷◌, ◌++◌, map, length, All, Option, Some, None, IfSome, IsSome, IsSomeAnd, IsNone, Result, Err, OnOk, slice_get}
 use Rattle.std.specs.List.{flat_map}
+use Rattle.mr_outside.specs.Faults.{Rose}
 use Rattle.mr_tree.specs.Limits.{count_limit, level_limit}
 use Rattle.mr_tree.specs.Tree.{records}
 use Rattle.mr_record.specs.declared.version.Version.{Version}
@@ -113,23 +114,26 @@ pub record TellsRefusal {A E : Type 0} (in_words : NodesErr → E) (before after
   pub last : (e : NodesErr) → after ≡ Some e → before ≢ Some e → result ≡ Err (in_words e)
   pub none : OnOk result (after ≡ before)
 
--- Why this child may be refused; `rose` says that the count of faults rose in the call. What was
--- read is blamed only where the tree is not told: by the child's own page, or by a page that is not
--- in the file.
-abbrev pub HasCause : Standing → Child → (rose : Type 0) → NodesErr → Type 0
-HasCause s c rose (Changed page held found) =
-    IsNone s.tree × (page ≡ c.id) × (held ≡ c.digest) × (held ≢ found)
-HasCause s c rose (Page page) = IsNone s.tree × (page ≡ c.id)
-HasCause s c rose (Outside page) = IsNone s.tree × (1 ≤ page → s.span ≤ page)
-HasCause s c rose Missing = rose
-HasCause s c rose Fault = rose
-HasCause s c rose NoMemory = ⊤
+-- Why this child may be refused, between these counts of faults. What was read is blamed only where
+-- the tree is not told: by the child's own page, or by a page that is not in the file; and then no
+-- fault was counted. Where the tree is told, its file is there.
+abbrev pub HasCause : Standing → Child → (before after : ℕ) → NodesErr → Type 0
+HasCause s c before after (Changed page held found) = IsNone s.tree × (page ≡ c.id)
+    × (held ≡ c.digest) × (held ≢ found) × (after ≡ before)
+HasCause s c before after (Page page) = IsNone s.tree × (page ≡ c.id) × (after ≡ before)
+HasCause s c before after (Outside page) = IsNone s.tree × (1 ≤ page → s.span ≤ page)
+    × (after ≡ before)
+HasCause s c before after Missing = IsNone s.tree × Rose before after
+HasCause s c before after Fault = Rose before after
+HasCause s c before after NoMemory = ⊤
 
 -- why some child may be refused that may be asked for
-abbrev pub HasSomeCause : Standing → (rose : Type 0) → NodesErr → Type 0
-HasSomeCause s rose (Changed page held found) = IsNone s.tree × IsId s page × (held ≢ found)
-HasSomeCause s rose (Page page) = IsNone s.tree × IsId s page
-HasSomeCause s rose (Outside page) = IsNone s.tree × (1 ≤ page → s.span ≤ page)
-HasSomeCause s rose Missing = rose
-HasSomeCause s rose Fault = rose
-HasSomeCause s rose NoMemory = ⊤
+abbrev pub HasSomeCause : Standing → (before after : ℕ) → NodesErr → Type 0
+HasSomeCause s before after (Changed page held found) = IsNone s.tree × IsId s page
+    × (held ≢ found) × (after ≡ before)
+HasSomeCause s before after (Page page) = IsNone s.tree × IsId s page × (after ≡ before)
+HasSomeCause s before after (Outside page) = IsNone s.tree × (1 ≤ page → s.span ≤ page)
+    × (after ≡ before)
+HasSomeCause s before after Missing = IsNone s.tree × Rose before after
+HasSomeCause s before after Fault = Rose before after
+HasSomeCause s before after NoMemory = ⊤

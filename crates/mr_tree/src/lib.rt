@@ -28,5 +28,6 @@ pub use limits::{
 pub use nodes::{Nodes, NodesErr, Top};
 pub use records::records_of;
 pub use snapshot::{Reader, Snapshot};
+pub use stored::Stored;
 pub use tree::{Tree, bounds, bounds_of, level_of, rect_of};
 pub use view::{NodeView, is_view};

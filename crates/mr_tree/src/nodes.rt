@@ -1,7 +1,7 @@
 //! Maps whose nodes are fetched one by one.
 
 ghost use Rattle.std.specs.Prelude.{◌≡◌, ℕ, ◌≤◌, Option, Some, IfSome, IfErr, OnOk};
-ghost use Rattle.mr_outside.specs.Faults.{Rose, next_count};
+ghost use Rattle.mr_outside.specs.Faults.{next_count};
 ghost use Rattle.mr_tree.specs.declared.nodes.NodesErr as error;
 ghost use Rattle.mr_tree.specs.WellFormed.{WellFormed};
 ghost use Rattle.mr_tree.specs.Nodes.{Standing, HasIds, IsTop, MayFetch, Shows, HasCause, top_version, root_entry};
@@ -93,7 +93,7 @@ pub trait Nodes {
         ensures counted { fetches self.new ≡ next_count (fetches self.old) }
         ensures shows { OnOk result (Shows Self.Hash.of (stands self.old) child.now into.new) }
         ensures cause { IfErr result
-            (HasCause (stands self.old) child.now (Rose (faults self.old) (faults self.new))) }
+            (HasCause (stands self.old) child.now (faults self.old) (faults self.new)) }
         ensures quiet { OnOk result (faults self.new ≡ faults self.old) }
         ensures refused { IfErr result (λ e. refusal self.new ≡ Some e) }
         ensures unrefused { OnOk result (refusal self.new ≡ refusal self.old) };

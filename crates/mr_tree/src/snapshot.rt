@@ -3,7 +3,7 @@
 ghost use Rattle.std.specs.Prelude.{ℕ, ◌≡◌, ◌+◌, ◌<◌, ◌≤◌, length, map, slice_get, All, IsOk, IfOk, IfErr, OnOk, Option, Some, None};
 ghost use Rattle.std.proofs.Props.{props};
 ghost use Rattle.std.specs.Coded.{Coded-set as set};
-ghost use Rattle.mr_outside.specs.Faults.{Rose, next_count};
+ghost use Rattle.mr_outside.specs.Faults.{next_count};
 ghost use Rattle.mr_tree.specs.Tree.{nodes};
 ghost use Rattle.mr_tree.specs.WellFormed.{WellFormed};
 ghost use Rattle.mr_record.specs.declared.version.Version.TheVariants.{One};
@@ -55,6 +55,19 @@ impl<H: Hash32> Snapshot<H> {
             top: Top { batch, count, root },
             hash: PhantomData,
         })
+    }
+
+    /// The map of which these are the nodes, children before their parent, and this is the head.
+    pub fn over(nodes: Vec<Stored>, top: Top) -> Snapshot<H>
+        requires whole { IsSnapshot H.of nodes.items top }
+        requires well_formed { WellFormed (tree_of nodes.items top) }
+        ensures { standing result.nodes.items result.top ≡ standing nodes.items top }
+    {
+        Snapshot {
+            nodes,
+            top,
+            hash: PhantomData,
+        }
     }
 
     /// A reader that has fetched nothing yet.
@@ -120,7 +133,7 @@ impl<'a, H: Hash32> Nodes for Reader<'a, H> {
             child.now into.new) }
         ensures cause { IfErr result (HasCause
             (standing self.old.snapshot.now.nodes.items self.old.snapshot.now.top) child.now
-            (Rose 0 0)) }
+            0 0) }
         ensures quiet { let none : ℕ = 0 in OnOk result (none ≡ none) }
         ensures refused { IfErr result (λ e. None ≡ Some e) }
         ensures unrefused { let none : Option error.NodesErr = None in OnOk result (none ≡ none) }

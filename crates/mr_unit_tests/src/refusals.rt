@@ -85,7 +85,6 @@ impl Nodes for Refuser {
 
     fn fetch(&mut self, child: &Child, _into: &mut NodeView) -> Result<(), NodesErr> {
         self.fetches = self.fetches.saturating_add(1);
-        self.faults = self.faults.saturating_add(1);
         let page = child.id;
         match self.why {
             Why::Changed if child.digest != FOUND => self.refuse(NodesErr::Changed {
@@ -95,8 +94,14 @@ impl Nodes for Refuser {
             }),
             Why::Page => self.refuse(NodesErr::Page { page }),
             Why::Outside => self.refuse(NodesErr::Outside { page: 7 }),
-            Why::Missing => self.refuse(NodesErr::Missing),
-            Why::Fault => self.refuse(NodesErr::Fault),
+            Why::Missing => {
+                self.faults = self.faults.saturating_add(1);
+                self.refuse(NodesErr::Missing)
+            }
+            Why::Fault => {
+                self.faults = self.faults.saturating_add(1);
+                self.refuse(NodesErr::Fault)
+            }
             _ => self.refuse(NodesErr::NoMemory),
         }
     }
