@@ -62,7 +62,7 @@ head_apart n ns far = recursion_from_All (λ m. n ≢ m) ns (λ k d within. far 
 tail_apart : {A : Type 0} (R : A → A → Type 0) (n : A) (ns : List A) → AllPairs R (n ∷ ns) → AllPairs R ns
 tail_apart R n ns far = λ i j d low high. far (suc i) (suc j) d (omega arith) (omega arith)
 
-records_apart : (rs : List Record) → AllPairs (λ (p q : ℕ). p ≢ q) (numbers_of rs) →
+pub records_apart : (rs : List Record) → AllPairs (λ (p q : ℕ). p ≢ q) (numbers_of rs) →
     AllPairs (λ (a b : Record). a.number ≢ b.number) rs
 records_apart [] far = λ i j d low high. absurd (omega (arith, low, high))
 records_apart (r ∷ rs) far =
@@ -71,7 +71,7 @@ records_apart (r ∷ rs) far =
     (unmap (λ m. r.number ≢ m) rs (head_apart r.number (numbers_of rs) far)))
     (records_apart rs (tail_apart (λ (p q : ℕ). p ≢ q) r.number (numbers_of rs) far))
 
-numbers_apart : (rs : List Record) → AllPairs (λ (a b : Record). a.number ≢ b.number) rs →
+pub numbers_apart : (rs : List Record) → AllPairs (λ (a b : Record). a.number ≢ b.number) rs →
     AllPairs (λ (p q : ℕ). p ≢ q) (numbers_of rs)
 numbers_apart [] far = λ i j d low high. absurd (omega (arith, low, high))
 numbers_apart (r ∷ rs) far =

@@ -121,7 +121,7 @@ abbrev pub FilledAs : Bool → Tree → Type 0
 FilledAs true t = IsFilledRoot (out-Tree t)
 FilledAs false t = every-Tree IsFilled t
 
-filled_leaf : (root : Bool) (rs : List Record) → least root (Leaf rs) ≤ length rs → length rs ≤ 16 →
+pub filled_leaf : (root : Bool) (rs : List Record) → least root (Leaf rs) ≤ length rs → length rs ≤ 16 →
     FilledAs root (tree.Leaf rs)
 filled_leaf true rs full few = subst IsFilledRoot (sym (tree.outs-Leaf rs)) (full, few)
 filled_leaf false rs full few = every-Leaf IsFilled rs (full, few)
@@ -130,7 +130,7 @@ pub leaf_filled : (root : Bool) (rs : List Record) → FilledAs root (tree.Leaf 
 leaf_filled true rs f = (subst IsFilledRoot (tree.outs-Leaf rs) f).0
 leaf_filled false rs f = (here-Leaf IsFilled rs f).0
 
-filled_inner : (root : Bool) (ls : List Link) (ts : List Tree) → length ts ≡ length ls →
+pub filled_inner : (root : Bool) (ls : List Link) (ts : List Tree) → length ts ≡ length ls →
     least root (Inner ls) ≤ length ls → length ls ≤ 64 → AllByRecursion (every-Tree IsFilled) ts →
     FilledAs root (tree.Inner ts)
 filled_inner true ls ts e full few all =
@@ -220,7 +220,7 @@ pub first_is : (n : ℕ) (ts : List Tree) → 0 < length ts → AllByRecursion (
 first_is n [] some all = absurd (omega (arith, some))
 first_is n (t ∷ ts) some all = all.0
 
-one_of : (n : ℕ) (ts : List Tree) → AllByRecursion (λ t. level t ≡ n) ts → AllByRecursion (λ t. t ≢ tree.Empty) ts →
+pub one_of : (n : ℕ) (ts : List Tree) → AllByRecursion (λ t. level t ≡ n) ts → AllByRecursion (λ t. t ≢ tree.Empty) ts →
     (m : ℕ) → m ≡ n → AllByRecursion (λ t. (t ≢ tree.Empty) × (level t ≡ m)) ts
 one_of n [] levels there m e = tt
 one_of n (t ∷ ts) levels there m e = ((there.0, levels.0 ∙ sym e), one_of n ts levels.1 there.1 m e)

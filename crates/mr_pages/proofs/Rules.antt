@@ -35,13 +35,13 @@ same_rectangle_self a =
     and_from _ _ ((Decides-int_eq a.x0 a.x0).1 refl) (and_from _ _ ((Decides-int_eq a.y0 a.y0).1 refl)
     (and_from _ _ ((Decides-int_eq a.x1 a.x1).1 refl) ((Decides-int_eq a.y1 a.y1).1 refl)))
 
-same_rect_is : (a b : Option Rectangle) → same_rect a b ≡ true → a ≡ b
+pub same_rect_is : (a b : Option Rectangle) → same_rect a b ≡ true → a ≡ b
 same_rect_is None None e = refl
 same_rect_is None (Some b) e = cc
 same_rect_is (Some a) None e = cc
 same_rect_is (Some a) (Some b) e = ap Some (same_rectangle_is a b e)
 
-same_rect_self : (a : Option Rectangle) → same_rect a a ≡ true
+pub same_rect_self : (a : Option Rectangle) → same_rect a a ≡ true
 same_rect_self None = refl
 same_rect_self (Some a) = same_rectangle_self a
 

@@ -258,9 +258,11 @@ goes_first r a b x y p one = record {
   count = p.count;
   same = p.same;
   missing = λ e. cc;
+  untold = λ e. cc;
   fault = λ e. cc;
   later = p.later;
   quiet = p.quiet;
+  more = p.more;
   few = omega (arith, p.few, one);
 }
 
@@ -282,8 +284,10 @@ goes_step r a b c x y z p q = record {
   count = q.count ∙ p.count;
   same = q.same ∙ p.same;
   missing = λ e. cc;
+  untold = λ e. cc;
   fault = λ e. cc;
   later = omega (arith, p.later, q.later);
   quiet = q.quiet ∙ p.quiet;
+  more = omega (arith, p.more, q.more);
   few = omega (arith, p.few, q.few);
 }

@@ -56,9 +56,12 @@ pub record ReadsPage {A : Type 0} (before after : Sourced) (result : Result A Sh
     pub count : after.pages ≡ before.pages
     pub same : after.file ≡ before.file
     pub missing : IsErrOf result shelf.Missing → Rose before.faults after.faults
+    -- what is told is there
+    pub untold : IsErrOf result shelf.Missing → before.origin.files ≡ None
     pub fault : IsErrOf result shelf.Fault → Rose before.faults after.faults
     pub later : before.faults ≤ after.faults
     pub quiet : OnOk result (after.faults ≡ before.faults)
+    pub more : before.reads ≤ after.reads
     pub one : after.reads ≤ before.reads + 1
 
 -- what page 0 says of a map, told or not
@@ -139,9 +142,11 @@ pub record Goes {A : Type 0} (before after : Sourced) (room rest : ℕ) (result 
   pub count : after.pages ≡ before.pages
   pub same : after.file ≡ before.file
   pub missing : IsErrOf result errors.Missing → Rose before.faults after.faults
+  pub untold : IsErrOf result errors.Missing → before.origin.files ≡ None
   pub fault : IsErrOf result errors.Fault → Rose before.faults after.faults
   pub later : before.faults ≤ after.faults
   pub quiet : Settles result (after.faults ≡ before.faults)
+  pub more : before.reads ≤ after.reads
   pub few : after.reads + rest ≤ before.reads + room
 
 -- each page that was reached in a walk is kept

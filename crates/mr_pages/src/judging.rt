@@ -20,8 +20,8 @@ pub fn entry_on<H: Hashes>(view: &NodeView) -> Entry
     view.entry::<H>()
 }
 
-// Whether a rectangle is the one that is said.
-fn is_said(found: Option<Rect>, said: Rect) -> bool
+/// Whether a rectangle is the one that is said.
+pub fn is_said(found: Option<Rect>, said: Rect) -> bool
     ensures { result ≡ same_rect found (Some said) }
 {
     match found {
@@ -45,8 +45,8 @@ fn least(view: &NodeView, root: bool) -> usize
     }
 }
 
-// Whether a node has as many entries as it has to.
-fn is_full(view: &NodeView, root: bool) -> bool
+/// Whether a node has as many entries as it has to, as a root or below it.
+pub fn is_full(view: &NodeView, root: bool) -> bool
     ensures { result ≡ Fills root view.now }
 {
     view.len() >= least(view, root)

@@ -25,8 +25,10 @@ pub use bytes::page_count;
 pub use checking::{Checked, check};
 pub use error::MapErr;
 pub use head::MapHead;
+pub use judging::{is_full, is_said};
 pub use layout::{FIRST, Layout, PAGE_SIZE};
 pub use node::Node;
+pub use numbers::Numbers;
 pub use opening::{Opened, open_plain};
 pub use page::{
     read_free_page, read_head, read_page, write_free_page, write_head_page, write_page,
@@ -34,4 +36,5 @@ pub use page::{
 pub use reading::read_filled;
 pub use rule::{MapFault, MapRule};
 pub use saving::save_plain;
+pub use seen::Seen;
 pub use source::Source;

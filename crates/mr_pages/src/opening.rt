@@ -1,6 +1,7 @@
 //! Opening a map.
 
-ghost use Rattle.std.specs.Prelude.{◌≡◌, ◌≤◌, ⊤, ℕ, List, Some, Err, IfOk};
+ghost use Rattle.std.specs.Prelude.{◌≡◌, ◌≤◌, ◌+◌, ⊤, ℕ, List, length, Some, Err, IfOk};
+ghost use Rattle.mr_outside.specs.Reading.{piece_count};
 ghost use Rattle.mr_outside.specs.Told.{OfFile};
 ghost use Rattle.mr_record.specs.Bytes.{AreBytes};
 ghost use Rattle.mr_pages.specs.PageBytes.{form_of, first_form, IsLayout};
@@ -94,6 +95,10 @@ fn open_named<H: Hashes, S: Shelf>(
     ensures causes { MapCauses name.now (S.state shelf.old) (S.state shelf.new) result }
     ensures files { (S.state shelf.new).files ≡ (S.state shelf.old).files }
     ensures reads { (S.state shelf.old).reads ≤ (S.state shelf.new).reads }
+    ensures once { let before = (S.state shelf.old).reads in
+        let after = (S.state shelf.new).reads in
+        OfFile (S.state shelf.old).files name.now (after ≡ before)
+        (λ bytes. after ≤ before + piece_count (length bytes)) }
 {
     let size = shelf.size(name)?;
     if page_count(layout, size).is_none() {
@@ -134,6 +139,10 @@ pub fn open_plain<H: Hash32, S: Shelf>(
     ensures causes { MapCauses name.now (S.state shelf.old) (S.state shelf.new) (opened result) }
     ensures files { (S.state shelf.new).files ≡ (S.state shelf.old).files }
     ensures reads { (S.state shelf.old).reads ≤ (S.state shelf.new).reads }
+    ensures once { let before = (S.state shelf.old).reads in
+        let after = (S.state shelf.new).reads in
+        OfFile (S.state shelf.old).files name.now (after ≡ before)
+        (λ bytes. after ≤ before + piece_count (length bytes)) }
 {
     let map = open_named::<H, S>(alloc, FIRST, shelf, name)?;
     Ok((map.tree, map.batch))

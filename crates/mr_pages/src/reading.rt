@@ -3,6 +3,7 @@
 ghost use Rattle.std.specs.Prelude.{◌≡◌, ◌+◌, ◌-◌, ◌≤◌, ◌<◌, length, take, drop, replicate, IfOk};
 ghost use Rattle.mr_outside.specs.Told.{OfFile};
 ghost use Rattle.mr_outside.specs.Causes.{ShelfCauses, CountsRead};
+ghost use Rattle.mr_outside.specs.Reading.{piece_count};
 
 use crate::page::fill;
 use mr_outside::{Shelf, ShelfErr};
@@ -26,6 +27,7 @@ pub fn read_whole<S: Shelf>(
     ensures causes { ShelfCauses name.now (S.state shelf.old) (S.state shelf.new) result }
     ensures files { (S.state shelf.new).files ≡ (S.state shelf.old).files }
     ensures reads { (S.state shelf.old).reads ≤ (S.state shelf.new).reads }
+    ensures pieces { (S.state shelf.new).reads ≤ (S.state shelf.old).reads + piece_count size }
 {
     let mut bytes = Vec::new(alloc);
     while bytes.len() < size {
@@ -53,6 +55,7 @@ fn read_on<S: Shelf>(
     ensures causes { ShelfCauses name.now (S.state shelf.old) (S.state shelf.new) result }
     ensures files { (S.state shelf.new).files ≡ (S.state shelf.old).files }
     ensures reads { (S.state shelf.old).reads ≤ (S.state shelf.new).reads }
+    ensures one { (S.state shelf.new).reads ≤ (S.state shelf.old).reads + 1 }
 {
     let at = bytes.len();
     bytes.resize(end, 0)?;
@@ -75,6 +78,7 @@ fn read_into<S: Shelf>(
     ensures causes { ShelfCauses name.now (S.state shelf.old) (S.state shelf.new) result }
     ensures files { (S.state shelf.new).files ≡ (S.state shelf.old).files }
     ensures reads { (S.state shelf.old).reads ≤ (S.state shelf.new).reads }
+    ensures one { (S.state shelf.new).reads ≤ (S.state shelf.old).reads + 1 }
 {
     read_filled(shelf, name, at as u64, &mut into[at..])
 }

@@ -2,7 +2,7 @@ use Rattle.std.proofs.Common.{◌≡◌, false, arith, ◌∙◌}
 use Rattle.std.specs.Prelude.{Option, Some, None, Err, MatchOption}
 use Rattle.std.specs.Option.{is_some}
 use Rattle.std.proofs.lemmas.Result.{err_from_is_err_and}
-use Rattle.mr_outside.proofs.Pieces.{ShelfCauses-later}
+use Rattle.mr_outside.proofs.Pieces.{ShelfCauses-later, OfFile-no_read, OfFile-pieces}
 use Rattle.mr_pages.specs.Opening.{of_shelf}
 use Rattle.mr_pages.specs.PageBytes.{form_of}
 use Rattle.mr_pages.proofs.HeadLaws.{form_is}
@@ -32,6 +32,7 @@ returns-in_err-size g c =
       causes = causes_failed _ _ _ e c.in_err-size.ensures.causes;
       files = c.in_err-size.ensures.files;
       reads = omega (arith, c.in_err-size.ensures.reads);
+      once = OfFile-no_read _ _ _ _ c.in_err-size.ensures.reads;
     }
 
 pub returns-then-is_none : goal.returns-then-is_none
@@ -50,6 +51,7 @@ returns-then-is_none g c = record {
   causes = causes_quiet _ _ _ _ tt c.in_ok-size.ensures.causes.quiet;
   files = c.in_ok-size.ensures.files;
   reads = omega (arith, c.in_ok-size.ensures.reads);
+  once = OfFile-no_read _ _ _ _ c.in_ok-size.ensures.reads;
 }
 
 pub returns-in_err-bytes : goal.returns-in_err-bytes
@@ -72,6 +74,8 @@ returns-in_err-bytes g c =
           c.in_err-bytes.ensures.causes);
       files = c.in_err-bytes.ensures.files ∙ c.in_ok-size.ensures.files;
       reads = omega (arith, c.in_ok-size.ensures.reads, c.in_err-bytes.ensures.reads);
+      once = OfFile-pieces _ _ c.in_ok-size.size _ _
+          (omega (arith, c.in_ok-size.ensures.reads, c.in_err-bytes.ensures.pieces)) c.in_ok-size.ensures.length;
     }
 
 pub returns : goal.returns
@@ -90,4 +94,6 @@ returns g c = record {
       (c.in_ok-bytes.ensures.causes.quiet ∙ c.in_ok-size.ensures.causes.quiet);
   files = c.in_ok-bytes.ensures.files ∙ c.in_ok-size.ensures.files;
   reads = omega (arith, c.in_ok-size.ensures.reads, c.in_ok-bytes.ensures.reads);
+  once = OfFile-pieces _ _ c.in_ok-size.size _ _
+      (omega (arith, c.in_ok-size.ensures.reads, c.in_ok-bytes.ensures.pieces)) c.in_ok-size.ensures.length;
 }

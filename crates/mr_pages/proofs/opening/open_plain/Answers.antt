@@ -25,6 +25,7 @@ returns-in_err-map g c =
       causes = c.in_err-map.ensures.causes;
       files = c.in_err-map.ensures.files;
       reads = c.in_err-map.ensures.reads;
+      once = c.in_err-map.ensures.once;
     }
 
 pub returns : goal.returns
@@ -44,4 +45,5 @@ returns g c =
       causes = c.in_ok-map.ensures.causes;
       files = c.in_ok-map.ensures.files;
       reads = c.in_ok-map.ensures.reads;
+      once = c.in_ok-map.ensures.once;
     }

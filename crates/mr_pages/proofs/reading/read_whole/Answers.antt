@@ -1,5 +1,6 @@
 use Rattle.std.proofs.Common.{arith, refl, ℕ, ◌≡◌, ◌+◌, ◌≤◌, ◌∙◌, length}
 use Rattle.std.proofs.lemmas.Result.{err_from_is_err_and}
+use Rattle.mr_outside.proofs.Pieces.{piece_count-read}
 use Rattle.mr_pages.proofs.Filled.{OfFile-none, OfFile-further, OfFile-whole, then_refused}
 use Rattle.mr_pages.proofs.reading.read_whole.Goals as goal
 
@@ -10,6 +11,7 @@ loop-bytes-init g c = record {
   faults = refl;
   reads = omega arith;
   within = rw c.new-bytes.ensures.items (omega arith);
+  pieces = rw c.new-bytes.ensures.items (omega arith);
 }
 
 pub loop-bytes-preserved : goal.loop-bytes-preserved
@@ -24,6 +26,12 @@ loop-bytes-preserved g c =
       faults = c.in_ok-read_on.ensures.causes.quiet ∙ c.loop-bytes.invariant.faults;
       reads = omega (arith, c.in_ok-read_on.ensures.reads, c.loop-bytes.invariant.reads);
       within = omega (arith, long, near);
+      pieces = piece_count-read c.args.size (length c.loop-bytes.bytes.items) (length c.read_on.new.bytes.items)
+          c.min.result c.min.result (g.S.Shelf.state c.loop-bytes.shelf).reads
+          (g.S.Shelf.state c.read_on.new.shelf).reads _ (omega (arith, c.loop-bytes-test.true, c.loop-bytes.bytes.ok))
+          (omega (arith, c.min.ensures, c.loop-bytes.bytes.ok)) (omega arith)
+          (omega (arith, long, c.loop-bytes.bytes.ok))
+          c.in_ok-read_on.ensures.one c.loop-bytes.invariant.pieces;
     }
 
 pub returns-in_err-read_on : goal.returns-in_err-read_on
@@ -37,6 +45,13 @@ returns-in_err-read_on g c =
           c.in_err-read_on.ensures.causes;
       files = c.in_err-read_on.ensures.files ∙ c.loop-bytes.invariant.files;
       reads = omega (arith, c.in_err-read_on.ensures.reads);
+      pieces = omega (
+        arith,
+        c.in_err-read_on.ensures.one,
+        c.loop-bytes.invariant.pieces,
+        c.loop-bytes-test.true,
+        c.loop-bytes.bytes.ok,
+      );
     }
 
 pub returns : goal.returns
@@ -52,4 +67,5 @@ returns g c = record {
   };
   files = c.loop-bytes.invariant.files;
   reads = c.loop-bytes.invariant.reads;
+  pieces = omega (arith, c.loop-bytes.invariant.pieces);
 }

@@ -1,5 +1,6 @@
-use Rattle.std.proofs.Common.{◌≡◌, ◌-◌, ◌≤◌, ℕ, List, length}
+use Rattle.std.proofs.Common.{◌≡◌, ◌-◌, ◌+◌, ◌≤◌, ℕ, List, length}
 use Rattle.mr_outside.specs.State.{Shelved}
+use Rattle.mr_outside.specs.Reading.{piece_count}
 use Rattle.mr_outside.specs.Told.{OfFile}
 use Rattle.mr_pages.proofs.Filled.{IsFront}
 use Rattle.mr_pages.proofs.reading.read_whole.Given as goal
@@ -11,6 +12,7 @@ pub record ReadsOn (before now : Shelved) (name : List ℕ) (size : ℕ) (so_far
   pub faults : now.faults ≡ before.faults
   pub reads : before.reads ≤ now.reads
   pub within : length so_far ≤ size
+  pub pieces : now.reads + piece_count (size - length so_far) ≤ before.reads + piece_count size
 
 abbrev pub invariant-loop-bytes : goal.invariant-loop-bytes
 invariant-loop-bytes g l =
