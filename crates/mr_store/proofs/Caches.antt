@@ -8,7 +8,7 @@ use Rattle.std.proofs.lemmas.Bool.{eqb-true}
 use Rattle.std.proofs.lemmas.List.{take_all}
 use Rattle.lru.specs.LruCache.{LruCache, promoted, put_entries}
 use Rattle.lru.proofs.Pairs.{lookup-lookup_entry}
-use Rattle.lru.proofs.CallerLemmas.{Contains-promoted, Contains-put_entries, Contains-lookup, lookup-put_entries}
+use Rattle.lru.proofs.CallerLemmas.{Contains-lookup_entry, Contains-promoted, Contains-put_entries, Contains-lookup, lookup-put_entries}
 use Rattle.mr_tree.specs.View.{Node}
 use Rattle.mr_tree.specs.declared.child.Child.{Child}
 use Rattle.mr_store.specs.declared.kept.Kept.{Kept}
@@ -94,6 +94,7 @@ gains_put c child n k that is = record {
     })
   ];
   put = subst (IsSome {T = Kept}) (sym (lookup-put_entries nat_eq c child.id k nat_eq_equiv)) refl;
+  held = subst (λ o. IsSomeAnd o (IsThat child)) (sym (lookup-put_entries nat_eq c child.id k nat_eq_equiv)) that;
   none_lost = λ room page some. put_keeps c child.id k (nat_eq page) room some;
 }
 
@@ -123,3 +124,20 @@ pub not_found : (es es' : Entries) (c : Child) (b : Bool) (n : Node) → b ≡ f
     (b ≡ false → es' ≡ es) → IsHeld es' c → ⊥
 not_found es es' c true n e f same h = cc
 not_found es es' c false n e f same h = f (subst (λ xs. IsHeld xs c) (same refl) h)
+
+-- ---- what was found is there after a move to the front
+
+module _ {K V : Type 0} (test : K → Bool) (es : List (K × V)) where
+  first : (o : Option (K × V)) → lookup_entry test es ≡ o →
+      lookup test (option_map_or (λ e. e ∷ remove_entry test es) o es) ≡ lookup test es
+  first None h = refl
+  first (Some e) h =
+      rw ((Contains-lookup_entry test es e h).1)
+      (sym (sym (lookup-lookup_entry test es) ∙ ap (option_map (λ (f : K × V). f.1)) h))
+
+  promoted_finds : lookup test (promoted test es) ≡ lookup test es
+  promoted_finds = first (lookup_entry test es) refl
+
+pub held_promoted : (es : Entries) (c : Child) (n : Node) → IsFound es c n → IsHeld (promoted (nat_eq c.id) es) c
+held_promoted es c n f =
+    subst (λ o. IsSomeAnd o (IsThat c)) (sym (promoted_finds (nat_eq c.id) es ∙ f.there)) f.that

@@ -1,5 +1,5 @@
 -- What a fetch shows, why it may refuse, and what stands afterwards.
-use Rattle.std.proofs.Common.{◌≡◌, ℕ, ◌+◌, ◌<◌, ◌≤◌, Bool, true, false, List, [], ◌∷◌, length, inl, inr, refl, sym, ap, subst, ◌∙◌, arith}
+use Rattle.std.proofs.Common.{◌≡◌, ℕ, ◌+◌, ◌<◌, ◌≤◌, Bool, true, false, List, [], ◌∷◌, inl, inr, refl, sym, ap, subst, ◌∙◌, arith}
 use Rattle.std.specs.Prelude.{⊤, ltb, nat_eq, Contains, Option, Some, None, option_map, Result, Ok, Err, IfSome, is_some, IsSome, IsNone, IsSomeAnd, MatchOption}
 use Rattle.std.specs.Map.{lookup}
 use Rattle.std.proofs.lemmas.Bool.{eqb-true, ltb-true, ltb-false}
@@ -16,7 +16,7 @@ use Rattle.mr_record.specs.declared.version.Version.TheVariants.{One}
 use Rattle.mr_tree.specs.declared.entry.Entry.{Entry}
 use Rattle.mr_tree.specs.Digest.{by, entry}
 use Rattle.mr_tree.specs.View as view
-use Rattle.mr_tree.specs.Nodes.{Standing, IsEntry, MayFetch, Shows, HasCause, IsTop}
+use Rattle.mr_tree.specs.Nodes.{Standing, IsEntry, MayFetch, Shows, HasCause}
 use Rattle.mr_tree.specs.Snapshot.{HasShape}
 use Rattle.mr_tree.specs.declared.child.Child.{Child}
 use Rattle.mr_tree.specs.declared.nodes.NodesErr.{NodesErr}
@@ -26,21 +26,17 @@ use Rattle.mr_pages.specs.declared.head.MapHead.{MapHead}
 use Rattle.mr_pages.specs.Page.{Node, entry_of}
 use Rattle.mr_pages.specs.PageBytes.{first_form}
 use Rattle.mr_pages.specs.File.{file_of}
-use Rattle.mr_pages.specs.Stands.{Placed, tree_of, whole_tree, whole_pages}
-use Rattle.mr_pages.specs.Walking.{page_node, head_of}
-use Rattle.mr_pages.proofs.HeadLaws.{first_form_is}
-use Rattle.mr_pages.proofs.Agreement.{spelled_as_read}
+use Rattle.mr_pages.specs.Stands.{Placed, tree_of, whole_pages}
+use Rattle.mr_pages.specs.Walking.{page_node}
 use Rattle.mr_pages.proofs.Lists.{has_contains}
 use Rattle.mr_pages.proofs.Building.{level_is}
 use Rattle.mr_store.specs.declared.kept.Kept.{Kept}
 use Rattle.mr_store.specs.Parts.{whole_parts, untold}
 use Rattle.mr_store.specs.Kept.{Entries, node_of, IsThat, IsHeld, IsShown, AreInside, IsGood, IsFound, Stays, IsKeptOf, Gains}
 use Rattle.mr_store.specs.Again.{IsRead, IsSaid, TellsNode, TellsAgain, IsRefused}
-use Rattle.mr_store.specs.Stored.{told_bytes, placed, stands_for, room, IsOpen, IsRootOf, IsStore, IsMapOf}
-use Rattle.mr_pages.proofs.Answered.{tells_read}
-use Rattle.mr_store.specs.Opening.{TellsMap}
+use Rattle.mr_store.specs.Stored.{told_bytes, placed, stands_for, room, IsOpen, IsStore}
 use Rattle.mr_store.specs.PartLaws.{whole_has}
-use Rattle.mr_store.specs.Told.{IsOn, is_on, root_on, level_known, digest_known}
+use Rattle.mr_store.specs.Told.{IsOn, is_on, level_known, digest_known}
 use Rattle.mr_store.specs.Laws.{opened}
 
 -- ---- what may be fetched of a map that is told
@@ -213,21 +209,16 @@ module _ (hash : List ℕ → List ℕ) (told : Option Files) (name : List ℕ) 
             on.shows n (told_node (Ok a) n bytes op on may.within t) r.shape may.low
 
     -- a file that is told is not missing
-    missing : (before after : ℕ) → MayMiss told name before after → Rose before after
+    missing : (before after : ℕ) → MayMiss told name before after →
+        IsNone (stands_for h (told_bytes told name)).tree × Rose before after
     missing before after m = by_files told s.there m
       where
-        by_bytes : (o : Option (List ℕ)) → IsSome o → o ≡ None → Rose before after
-        by_bytes None some e = let none : IsSome {T = List ℕ} None = some in cc
-        by_bytes (Some bytes) some e = absurd (no e)
-          where
-            no : ◌≡◌ {A = Option (List ℕ)} (Some bytes) None → ⊥
-            no h = cc
-
         by_files : (o : Option Files) → MatchOption o ⊤ (λ files. IsSome (file files name)) →
             MayMiss o name before after →
-            Rose before after
-        by_files None there m = m
-        by_files (Some files) there m = by_bytes (file files name) there m
+            IsNone (stands_for h (told_bytes o name)).tree × Rose before after
+        by_files None there m = (refl, m)
+        by_files (Some files) there m =
+            let none : IsSome {T = List ℕ} None = subst (IsSome {T = List ℕ}) m there in cc
 
     -- what is blamed on the file is not told
     blamed : (A : Type 0) (e : NodesErr) (n : view.Node) →
@@ -253,13 +244,15 @@ module _ (hash : List ℕ → List ℕ) (told : Option Files) (name : List ℕ) 
     pub read_cause : (A : Type 0) (before after : Shelved) (e : NodesErr) (n : view.Node) → before.files ≡ told →
         OfFile told name ⊤ (TellsAgain {A = A} hash h.pages c (Err e) n) →
         IsRefused h.pages name c before after e →
-        HasCause (stands_for h (told_bytes told name)) c (Rose before.faults after.faults) e
+        HasCause (stands_for h (told_bytes told name)) c before.faults after.faults e
     read_cause A before after (errors.Changed page held found) n same t r =
-        (blamed A (errors.Changed page held found) n t (λ m other. other), r.0.0, r.0.1, r.0.2)
-    read_cause A before after (errors.Page page) n same t r = (blamed A (errors.Page page) n t (λ m other. other), r.0)
+        (blamed A (errors.Changed page held found) n t (λ m other. other), r.0.0, r.0.1, r.0.2, r.2)
+    read_cause A before after (errors.Page page) n same t r =
+        (blamed A (errors.Page page) n t (λ m other. other), r.0, r.2)
     read_cause A before after (errors.Outside page) n same t r = (
       blamed A (errors.Outside page) n t (λ m other. other),
       λ some. omega (arith, r.0 some, span),
+      r.2,
     )
     read_cause A before after errors.Missing n same t r =
         missing before.faults after.faults (subst (λ o. MayMiss o name before.faults after.faults) same r)
@@ -349,106 +342,3 @@ module _ (hash : List ℕ → List ℕ) (told : Option Files) (name : List ℕ) 
         by_files None there op may t large = tt
         by_files (Some files) there op may t large =
             at_bytes (file files name) there op may t (large refl)
-
--- ---- the top
-
-pub top_is : (hash : List ℕ → List ℕ) (told : Option Files) (name : List ℕ) (h : MapHead) (es : Entries) (cap : ℕ) →
-    IsStore hash told name h es cap →
-    IsTop hash (stands_for h (told_bytes told name)) (record { batch = h.batch; count = h.count; root = h.root })
-top_is hash told name h es cap s = by_bytes (told_bytes told name) s.open_
-  where
-    untold_root : (root : Option Child) → IfSome root (IsRootOf h.pages) →
-        IfSome root (MayFetch hash (untold h.batch h.pages))
-    untold_root None r = tt
-    untold_root (Some c) r = record {
-      positive = r.positive;
-      within = r.within;
-      low = r.low;
-      known = λ is. let none : IsSome {T = Tree} None = is in cc;
-    }
-
-    by_bytes : (o : Option (List ℕ)) → IfSome o (IsOpen hash h es) →
-        IsTop hash (stands_for h o) (record { batch = h.batch; count = h.count; root = h.root })
-    by_bytes None op = record {
-      version = refl;
-      batch = refl;
-      few = s.few;
-      none = s.none;
-      root = untold_root h.root s.root;
-      count = tt;
-      tree = tt;
-    }
-    by_bytes (Some bytes) op =
-        let p = opened hash h es bytes op in
-        let r = root_on hash (file_of first_form bytes).node h.batch h.pages h.root p.reads.root p.pages s.root in
-        record {
-          version = refl;
-          batch = refl;
-          few = s.few;
-          none = s.none;
-          root = r.may;
-          count = p.reads.count;
-          tree = r.tree;
-        }
-
--- ---- the map
-
-map_of : (hash : List ℕ → List ℕ) (h : MapHead) (es : Entries) (bytes : List ℕ) → IsOpen hash h es bytes →
-    IsMapOf hash (stands_for h (Some bytes)) bytes
-map_of hash h es bytes op =
-    let r = (opened hash h es bytes op).reads in (
-      whole_tree (placed h bytes),
-      refl,
-      record {
-        well = r.well;
-        stands = spelled_as_read first_form first_form_is hash bytes op.are (whole_tree (placed h bytes)) h.batch
-            (record {
-              head = head_of h;
-              sealed = op.head;
-              at_batch = refl;
-              count = r.count;
-              placed = placed h bytes;
-              tree = refl;
-              root = r.root;
-              lies = r.lies;
-            });
-      },
-    )
-
--- what is told of its file's bytes
-pub tells_map_of : (hash : List ℕ → List ℕ) → ((xs : List ℕ) → length (hash xs) ≡ 32) → (told : Option Files)
-    (name : List ℕ) (h : MapHead) (es : Entries) (cap : ℕ) → IsStore hash told name h es cap →
-    OfFile told name ⊥ (TellsMap hash (stands_for h (told_bytes told name)))
-tells_map_of hash sized told name h es cap s = by_files told s.there s.open_
-  where
-    by_bytes : (o : Option (List ℕ)) → IsSome o → IfSome o (IsOpen hash h es) →
-        MatchOption o ⊥ (TellsMap hash (stands_for h o))
-    by_bytes None some op = let none : IsSome {T = List ℕ} None = some in cc
-    by_bytes (Some bytes) some op =
-        let m = map_of hash h es bytes op in (
-          m.0,
-          m.1,
-          tells_read first_form first_form_is hash sized bytes op.are
-              (Ok (record { tree = m.0; batch = h.batch })) m.2,
-        )
-
-    by_files : (o : Option Files) → MatchOption o ⊤ (λ files. IsSome (file files name)) →
-        IfSome (told_bytes o name) (IsOpen hash h es) →
-        OfFile o name ⊥ (TellsMap hash (stands_for h (told_bytes o name)))
-    by_files None there op = tt
-    by_files (Some files) there op = by_bytes (file files name) there op
-
-pub is_map_of : (hash : List ℕ → List ℕ) (told : Option Files) (name : List ℕ) (h : MapHead) (es : Entries) (cap : ℕ) →
-    IsStore hash told name h es cap → OfFile told name ⊥ (IsMapOf hash (stands_for h (told_bytes told name)))
-is_map_of hash told name h es cap s = by_files told s.there s.open_
-  where
-    by_bytes : (o : Option (List ℕ)) → IsSome o → IfSome o (IsOpen hash h es) →
-        MatchOption o ⊥ (IsMapOf hash (stands_for h o))
-    by_bytes None some op = let none : IsSome {T = List ℕ} None = some in cc
-    by_bytes (Some bytes) some op = map_of hash h es bytes op
-
-    by_files : (o : Option Files) → MatchOption o ⊤ (λ files. IsSome (file files name)) →
-        IfSome (told_bytes o name) (IsOpen hash h es) →
-        OfFile o name ⊥ (IsMapOf hash (stands_for h (told_bytes o name)))
-    by_files None there op = tt
-    by_files (Some files) there op = by_bytes (file files name) there op

@@ -6,7 +6,7 @@ use Rattle.mr_outside.specs.State.{Shelved}
 use Rattle.mr_tree.specs.declared.child.Child.{Child}
 use Rattle.mr_pages.specs.declared.head.MapHead.{MapHead}
 use Rattle.mr_pages.specs.declared.checking.Checked.{Checked}
-use Rattle.mr_pages.specs.Page.{IsRoot}
+use Rattle.mr_pages.specs.Page.{IsRoot, page_limit}
 use Rattle.mr_pages.specs.PageBytes.{first_form}
 use Rattle.mr_pages.specs.File.{File, file_of, is_odd_size}
 use Rattle.mr_pages.specs.Faults.{has, mapfault}
@@ -28,7 +28,8 @@ use Rattle.mr_pages.specs.declared.rule.MapRule.TheVariants as rule
 use Rattle.mr_pages.specs.Opening.{of_shelf, Fails, Tells}
 use Rattle.mr_pages.proofs.Answered.{told_failed, tells_read, odd_fault}
 use Rattle.mr_store.specs.Opening.{HasPages, WasChecked, IsFaultOf, Refused, TellsMap, IsOpened, IsRefused, OpensMap, RefusesMap}
-use Rattle.mr_outside.specs.Told.{OfFile}
+use Rattle.mr_outside.specs.Told.{OfFile, MayMiss}
+use Rattle.mr_outside.specs.Faults.{Rose}
 use Rattle.mr_pages.specs.declared.error.MapErr.{MapErr}
 use Rattle.mr_pages.specs.declared.error.MapErr.TheVariants as errors
 
@@ -111,7 +112,7 @@ pub shelf_refuses : {A : Type 0} (hash : List ℕ → List ℕ) (name : List ℕ
     ShelfCauses {A = A} name before after (Err e) → Refused hash name before after (of_shelf e)
 shelf_refuses hash name before after shelf.Missing c = record {
   fault = tt;
-  why = record { missing = λ is. inl (c.missing refl); failed = λ is. absurd (cc); quiet = inr tt; once = tt };
+  why = record { missing = λ is. c.missing refl; failed = λ is. absurd (cc); quiet = inr tt; once = tt };
 }
 shelf_refuses hash name before after shelf.Fault c = record {
   fault = tt;
@@ -214,7 +215,7 @@ of_pages (Some files) name pages P Q h f = here (file files name) h
 module _ (hash : List ℕ → List ℕ) (name : List ℕ) (pages : ℕ) (before middle : Shelved)
     (files : middle.files ≡ before.files)
     (faults : middle.faults ≡ before.faults) (reads : middle.reads ≡ before.reads)
-    (has_pages : OfFile before.files name ⊥ (HasPages pages)) where
+    (has_pages : OfFile before.files name ⊥ (HasPages pages)) (limit : pages ≤ page_limit) where
   pub opens_from : (n n' : List ℕ) (h : MapHead) (after : Shelved) (f : ℕ) → n ≡ name →
       IsOpened hash n pages middle n' h after f → OpensMap hash name before n' h after f
   opens_from n n' h after f same o = record {
@@ -223,8 +224,11 @@ module _ (hash : List ℕ → List ℕ) (name : List ℕ) (pages : ℕ) (before 
         (subst (λ told. OfFile told n' ⊥ (TellsMap hash (stands_for h (told_bytes after.files n'))))
         (o.files ∙ files) o.answers);
     same = o.same ∙ same;
+    pages = of_pages before.files name pages _ ⊥ has_pages (λ bytes p. o.count ∙ p.count);
     files = o.files ∙ files;
     quiet = o.quiet ∙ faults;
+    more = omega (arith, o.more, reads);
+    few = omega (arith, o.few, reads, o.count);
     reads = of_pages before.files name pages _ ⊥ has_pages
         (λ bytes p. omega (arith, o.few, reads, p.count));
     none = o.none;
@@ -242,6 +246,8 @@ module _ (hash : List ℕ → List ℕ) (name : List ℕ) (pages : ℕ) (before 
         why = refused.why;
         files = r.files ∙ files;
         later = omega (arith, r.later, faults);
+        more = omega (arith, r.more, reads);
+        few = omega (arith, r.few, reads, limit);
         reads = of_pages before.files name pages _ _ has_pages (λ bytes p. omega (arith, r.few, reads, p.count));
       }
 
@@ -262,3 +268,9 @@ none_read before after name same = by_files before.files
 
 pub err_is : (a b : MapErr) → a ≡ b → ◌≡◌ {A = Result (Checked (Unit {0})) MapErr} (Err a) (Err b)
 err_is a b e = λ i. Err (e i)
+
+-- what is not told may be missing where a fault was counted
+pub misses : (told : Option Files) (name : List ℕ) (before after : ℕ) → told ≡ None → Rose before after →
+    MayMiss told name before after
+misses told name before after none rose =
+    subst (λ o. MayMiss o name before after) (sym none) rose

@@ -1,16 +1,13 @@
 -- What a read of a page gives, and what is judged of it.
 use Rattle.std.proofs.Common.{◌≡◌, ℕ, ◌+◌, ◌*◌, ◌≤◌, Bool, true, false, List, length, take, drop, sym, ap, ◌∙◌, arith}
 use Rattle.std.specs.Prelude.{◌==◌, ⊤, Option, Some, None, Result, MatchOption, if◌then◌else◌}
-use Rattle.std.proofs.lemmas.List.Elements.{All-nil}
 use Rattle.mr_outside.specs.Files.{Files, file}
 use Rattle.mr_pages.proofs.Filled.{IsPiece}
 use Rattle.mr_outside.specs.Told.{OfFile}
 use Rattle.mr_tree.specs.View as view
-use Rattle.mr_tree.specs.Snapshot.{HasShape}
 use Rattle.mr_tree.specs.declared.child.Child.{Child}
 use Rattle.mr_tree.specs.declared.nodes.NodesErr.{NodesErr}
-use Rattle.mr_tree.specs.declared.tree.Tree.TheOpen.{Empty, Leaf, Inner}
-use Rattle.mr_pages.specs.Page.{Node, level_of, entry_of, IsNode}
+use Rattle.mr_pages.specs.Page.{Node, level_of, entry_of}
 use Rattle.mr_pages.specs.PageBytes.{first_form, SpellsNode}
 use Rattle.mr_pages.specs.Faults.{of_level}
 use Rattle.mr_pages.specs.Walking.{page_node, Shows}

@@ -69,14 +69,14 @@ IsBlamed pages c errors.Missing = ⊥
 IsBlamed pages c errors.Fault = ⊥
 IsBlamed pages c errors.NoMemory = ⊥
 
--- why it is not shown; what was read is blamed only where a read was counted
+-- why it is not shown; what was read is blamed only where a read was counted, and no fault
 abbrev pub IsRefused : (pages : ℕ) → List ℕ → Child → Shelved → Shelved → NodesErr → Type 0
 IsRefused pages name c before after errors.Missing =
     MayMiss before.files name before.faults after.faults
 IsRefused pages name c before after errors.Fault = Rose before.faults after.faults
 IsRefused pages name c before after errors.NoMemory = ⊤
-IsRefused pages name c before after e =
-    IsBlamed pages c e × (after.reads ≡ next_count before.reads)
+IsRefused pages name c before after e = IsBlamed pages c e
+    × (after.reads ≡ next_count before.reads) × (after.faults ≡ before.faults)
 
 -- at most one read is counted, and no count falls
 pub record ReadsOne (before after : Shelved) : Type 0 where

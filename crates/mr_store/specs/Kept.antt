@@ -67,6 +67,7 @@ pub record IsKeptOf (c : Child) (n : Node) (e : ℕ × Kept) : Type 0 where
 pub record Gains (room : ℕ) (before after : Entries) (c : Child) (n : Node) : Type 0 where
   pub each : (e : ℕ × Kept) → Contains after e → Contains before e ⊎ IsKeptOf c n e
   pub put : IsSome (lookup (nat_eq c.id) after)
+  pub held : IsHeld after c
   -- no page is dropped where it was there before, or there is room
   pub none_lost : IsSome (lookup (nat_eq c.id) before) ⊎ (length before < room) → (page : ℕ) →
       IsSome (lookup (nat_eq page) before) →

@@ -75,6 +75,7 @@ keeps_self n h s f = record {
   faults = omega arith;
   reads = omega arith;
   few = inl (omega arith);
+  most = omega arith;
   still = λ told small. refl;
 }
 
@@ -94,6 +95,7 @@ keeps_on n n' n'' h h' h'' s s' s'' f f' f'' a b = record {
   faults = omega (arith, a.faults, b.faults);
   reads = omega (arith, a.reads, b.reads);
   few = few_on s.reads f s'.reads f' s''.reads f'' a.few b.few b.fetches;
+  most = omega (arith, a.most, b.most);
   still = λ told small. b.still (subst (IsSome {T = Files}) (sym a.files) told)
       (subst (λ (k : MapHead). k.pages ≤ room + 1) (sym a.head) small) ∙ a.still told small;
 }

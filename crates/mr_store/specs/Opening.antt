@@ -7,6 +7,7 @@ use Rattle.mr_record.specs.Bytes.{AreBytes}
 use Rattle.mr_pages.specs.declared.error.MapErr.{MapErr}
 use Rattle.mr_pages.specs.declared.error.MapErr.TheVariants as errors
 use Rattle.mr_pages.specs.declared.head.MapHead.{MapHead}
+use Rattle.mr_pages.specs.Page.{page_limit}
 use Rattle.mr_pages.specs.PageBytes.{first_form}
 use Rattle.mr_pages.specs.File.{File, file_of, is_odd_size}
 use Rattle.mr_pages.specs.Faults.{mapfault}
@@ -42,8 +43,7 @@ IsFaultOf hash s name _ = ⊤
 
 -- each failure has its cause, and what says something of the file counts no fault
 pub record HasWhy (name : List ℕ) (before after : Shelved) (e : MapErr) : Type 0 where
-  pub missing : e ≡ errors.Missing →
-      MayMiss before.files name before.faults after.faults ⊎ Rose before.faults after.faults
+  pub missing : e ≡ errors.Missing → MayMiss before.files name before.faults after.faults
   pub failed : e ≡ errors.Fault → Rose before.faults after.faults
   pub quiet : (after.faults ≡ before.faults) ⊎ Fails (Err e)
   -- and no rule of a page that is read again
@@ -69,6 +69,7 @@ pub record IsOpened (hash : List ℕ → List ℕ) (name : List ℕ) (pages : �
   pub count : h.pages ≡ pages
   pub files : after.files ≡ before.files
   pub quiet : after.faults ≡ before.faults
+  pub more : before.reads ≤ after.reads
   pub few : after.reads ≤ before.reads + pages
   pub none : fetches ≡ 0
 
@@ -78,22 +79,26 @@ pub record IsRefused (hash : List ℕ → List ℕ) (name : List ℕ) (pages : �
   pub refused : Refused hash name before after e
   pub files : after.files ≡ before.files
   pub later : before.faults ≤ after.faults
+  pub more : before.reads ≤ after.reads
   pub few : after.reads ≤ before.reads + pages
 
 -- how many pages a file of these bytes has
 abbrev pub pages_in : List ℕ → ℕ
 pages_in bytes = length bytes / 4096
 
--- The map was opened, under this name: it stands for the one map that the file stands for. Each
--- page
--- was read once at most, no fault was counted, and nothing was fetched yet.
+-- The map was opened, under this name: it stands for the one map that the file stands for, and has
+-- as many pages. Each of them was read once at most, no fault was counted, and nothing was fetched
+-- yet.
 pub record OpensMap (hash : List ℕ → List ℕ) (name : List ℕ) (before : Shelved) (name' : List ℕ)
     (h : MapHead) (after : Shelved) (fetches : ℕ) : Type 0 where
   pub answers : OfFile before.files name ⊥
       (TellsMap hash (stands_for h (told_bytes after.files name')))
   pub same : name' ≡ name
+  pub pages : OfFile before.files name ⊥ (λ bytes. h.pages ≡ pages_in bytes)
   pub files : after.files ≡ before.files
   pub quiet : after.faults ≡ before.faults
+  pub more : before.reads ≤ after.reads
+  pub few : after.reads ≤ before.reads + h.pages
   pub reads : OfFile before.files name ⊥ (λ bytes. after.reads ≤ before.reads + pages_in bytes)
   pub none : fetches ≡ 0
 
@@ -106,5 +111,7 @@ pub record RefusesMap (hash : List ℕ → List ℕ) (name : List ℕ) (before a
   pub why : HasWhy name before after e
   pub files : after.files ≡ before.files
   pub later : before.faults ≤ after.faults
+  pub more : before.reads ≤ after.reads
+  pub few : after.reads ≤ before.reads + page_limit
   pub reads : OfFile before.files name (after.reads ≡ before.reads)
       (λ bytes. after.reads ≤ before.reads + pages_in bytes)

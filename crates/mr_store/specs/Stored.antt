@@ -1,5 +1,5 @@
 -- What is known of an opened map, and what its calls leave of it.
-use Rattle.std.specs.Prelude.{◌≡◌, ℕ, ◌+◌, ◌<◌, ◌≤◌, ◌↔◌, ◌⊎◌, ⊤, List, Contains, Option, Some, None, option_map, IfSome, IsSome, IsNone, MatchOption, Ok, nat_eq}
+use Rattle.std.specs.Prelude.{◌≡◌, ℕ, ◌+◌, ◌<◌, ◌≤◌, ◌↔◌, ◌⊎◌, ⊤, List, max, Contains, Option, Some, None, option_map, IfSome, IsSome, IsNone, MatchOption, Ok, nat_eq}
 use Rattle.std.specs.Map.{lookup}
 use Rattle.mr_outside.specs.Files.{Files, file}
 use Rattle.mr_outside.specs.Faults.{last_count}
@@ -7,6 +7,9 @@ use Rattle.mr_outside.specs.State.{Shelved}
 use Rattle.mr_record.specs.Bytes.{AreBytes}
 use Rattle.mr_tree.specs.Limits.{count_limit, level_limit}
 use Rattle.mr_tree.specs.Nodes.{Standing}
+use Rattle.mr_tree.specs.Snapshot.{standing, standing_of}
+use Rattle.mr_tree.specs.declared.nodes.Top.{Top}
+use Rattle.mr_tree.specs.declared.stored.Stored.{Stored}
 use Rattle.mr_tree.specs.declared.tree.Tree.{Tree}
 use Rattle.mr_pages.specs.Law.{IsMap}
 use Rattle.mr_tree.specs.declared.child.Child.{Child}
@@ -88,6 +91,7 @@ pub record Keeps (n n' : List ℕ) (h h' : MapHead) (s s' : Shelved) (f f' : ℕ
   pub faults : s.faults ≤ s'.faults
   pub reads : s.reads ≤ s'.reads
   pub few : ReadsFew s.reads f s'.reads f'
+  pub most : s'.reads ≤ max s.reads last_count
   -- where all nodes are kept, nothing is read
   pub still : IsSome s.files → h.pages ≤ room + 1 → s'.reads ≡ s.reads
 
@@ -96,6 +100,11 @@ pub record IsSameMap (n n' : List ℕ) (h h' : MapHead) (s s' : Shelved) : Type 
   pub name : n' ≡ n
   pub head : h' ≡ h
   pub files : s'.files ≡ s.files
+
+-- the snapshot with these nodes and this head is of the map, where its tree is told
+abbrev pub StandsFor : Standing → List Stored → Top → Type 0
+StandsFor s nodes top = (t : Tree) → s.tree ≡ Some t →
+    standing nodes top ≡ standing_of s.version s.batch t
 
 -- the file of these bytes stands for the map
 abbrev pub IsMapOf : (List ℕ → List ℕ) → Standing → List ℕ → Type 0

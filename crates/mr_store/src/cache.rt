@@ -1,8 +1,8 @@
 //! The cache of node pages.
 
-ghost use Rattle.std.specs.Prelude.{◌≡◌, ℕ, false, OnOk, OnErr, Contains};
+ghost use Rattle.std.specs.Prelude.{◌≡◌, ℕ, true, false, OnOk, OnErr, Contains};
 ghost use Rattle.mr_store.specs.declared.kept.Kept.{Kept};
-ghost use Rattle.mr_store.specs.Kept.{node_of, IsShown, Finds, Stays, Gains};
+ghost use Rattle.mr_store.specs.Kept.{node_of, IsHeld, IsShown, Finds, Stays, Gains};
 
 use crate::kept::{Kept, show};
 use crate::reading::are_same;
@@ -38,6 +38,7 @@ pub(crate) fn recall(cache: &mut LruCache<u32, Kept>, child: &Child, into: &mut 
     ensures finds { Finds cache.old.entries child.now result into.new }
     ensures stays { Stays cache.old.entries cache.new.entries }
     ensures same { result ≡ false → cache.new.entries ≡ cache.old.entries }
+    ensures caches { result ≡ true → IsHeld cache.new.entries child.now }
     ensures cap { cache.new.cap ≡ cache.old.cap }
 {
     if !find(cache, child, into) {

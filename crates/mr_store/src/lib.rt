@@ -2,12 +2,15 @@
 #![tactic(auto)]
 
 mod cache;
+mod copying;
 mod fetching;
 mod kept;
+mod memory;
 mod opening;
 mod paged;
 mod paging;
 mod reading;
+mod stop;
 
 pub use kept::Kept;
 pub use paged::Paged;

@@ -1,7 +1,7 @@
 //! A map on disk whose nodes are fetched page by page.
 
 ghost use Rattle.std.specs.Prelude.{◌≡◌, ◌≤◌, ◌+◌, length, Some, IfOk, IfErr, OnOk, IsOk};
-ghost use Rattle.mr_outside.specs.Faults.{Rose, next_count};
+ghost use Rattle.mr_outside.specs.Faults.{next_count};
 ghost use Rattle.mr_tree.specs.Nodes.{MayFetch, Shows, HasCause};
 ghost use Rattle.mr_store.specs.Kept.{IsHeld};
 ghost use Rattle.mr_store.specs.Again.{ReadsOne, Reread};
@@ -73,7 +73,7 @@ impl<S: Shelf, H: Hash32> Nodes for Paged<S, H> {
             child.now into.new) }
         ensures cause { IfErr result (HasCause (stands_for self.old.head
             (told_bytes (S.state self.old.shelf).files (string_bytes self.old.name))) child.now
-            (Rose (S.state self.old.shelf).faults (S.state self.new.shelf).faults)) }
+            (S.state self.old.shelf).faults (S.state self.new.shelf).faults) }
         ensures quiet { OnOk result
             ((S.state self.new.shelf).faults ≡ (S.state self.old.shelf).faults) }
         ensures refused { IfErr result (λ e. self.new.refusal ≡ Some e) }
@@ -85,6 +85,8 @@ impl<S: Shelf, H: Hash32> Nodes for Paged<S, H> {
         // What was read is blamed only where a read was counted.
         ensures read { IfErr result
             (Reread (S.state self.old.shelf).reads (S.state self.new.shelf).reads) }
+        // The page is kept.
+        ensures caches { OnOk result (IsHeld self.new.cache.entries child.now) }
     {
         self.fetches = self.fetches.saturating_add(1);
         let result = show_node::<H, S>(
@@ -147,6 +149,7 @@ impl<S: Shelf, H: Hash32> Paged<S, H> {
             let after = (S.state self.new.shelf).reads in
             OfFile (S.state self.old.shelf).files name.now (after ≡ before)
             (λ bytes. after ≤ before + piece_count (length bytes)) }
+        ensures refusal { self.new.refusal ≡ self.old.refusal }
     {
         read_all(self.alloc, &mut self.shelf, name)
     }

@@ -1,10 +1,10 @@
-use Rattle.std.proofs.Common.{arith, ap, subst, sym, inr, ◌∙◌}
+use Rattle.std.proofs.Common.{arith, ap, subst, sym, ◌∙◌}
 use Rattle.mr_pages.specs.declared.error.MapErr.TheVariants as errors
 use Rattle.std.specs.String.{string_bytes}
 use Rattle.mr_pages.specs.declared.checking.Checked.{Checked}
 use Rattle.mr_pages.specs.Source.{Origin}
 use Rattle.mr_store.specs.Opening.{IsRefused}
-use Rattle.mr_store.proofs.Openings.{fault_of, err_is, quiet_or}
+use Rattle.mr_store.proofs.Openings.{fault_of, err_is, misses, quiet_or}
 use Rattle.mr_store.proofs.opening.checked.Goals as goal
 
 pub returns-in-Ok : goal.returns-in-Ok
@@ -17,6 +17,11 @@ returns-in-Ok g c = record {
     files = ap (λ s. (g.S.Shelf.state s).files) c.over.ensures.shelf
         ∙ ap (λ (o : Origin). o.files) c.in-Ok.ensures.goes.from_;
     quiet = ap (λ s. (g.S.Shelf.state s).faults) c.over.ensures.shelf ∙ c.in-Ok.ensures.goes.quiet;
+    more = omega (
+      arith,
+      ap (λ s. (g.S.Shelf.state s).reads) c.over.ensures.shelf,
+      c.in-Ok.ensures.goes.more,
+    );
     few = omega (
       arith,
       ap (λ s. (g.S.Shelf.state s).reads) c.over.ensures.shelf,
@@ -36,7 +41,9 @@ returns-in-Err g c =
               fault = fault_of g.H.Hashes.of (g.S.Shelf.state s.shelf) (string_bytes s.name) s.pages s.cache.entries
                   c.in-Err.error s.paging.there s.paging.file_ c.in-Err.ensures.told;
               why = record {
-                missing = λ e. inr (c.in-Err.ensures.goes.missing (err_is c.in-Err.error errors.Missing e));
+                missing = λ e. misses _ _ _ _
+                    (c.in-Err.ensures.goes.untold (err_is c.in-Err.error errors.Missing e))
+                    (c.in-Err.ensures.goes.missing (err_is c.in-Err.error errors.Missing e));
                 failed = λ e. c.in-Err.ensures.goes.fault (err_is c.in-Err.error errors.Fault e);
                 quiet = quiet_or (Checked (Unit {0})) c.in-Err.error _ c.in-Err.ensures.goes.quiet;
                 once = c.in-Err.ensures.once;
@@ -44,6 +51,7 @@ returns-in-Err g c =
             };
             files = ap (λ (o : Origin). o.files) c.in-Err.ensures.goes.from_;
             later = c.in-Err.ensures.goes.later;
+            more = c.in-Err.ensures.goes.more;
             few = omega (arith, c.in-Err.ensures.goes.few);
           });
     }

@@ -1,5 +1,5 @@
 use Rattle.std.specs.String.{string_bytes}
-use Rattle.mr_store.proofs.Fetched.{tells_map_of}
+use Rattle.mr_store.proofs.Maps.{tells_map_of}
 use Rattle.mr_store.proofs.Openings.{store_of}
 use Rattle.mr_store.proofs.opening.over.Goals as goal
 

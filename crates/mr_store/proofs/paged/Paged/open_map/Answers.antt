@@ -1,3 +1,4 @@
+use Rattle.std.proofs.Common.{arith}
 use Rattle.std.specs.String.{string_bytes}
 use Rattle.mr_store.proofs.Openings.{answers_of, none_read, matched, opens_from, refuses_from}
 use Rattle.mr_store.proofs.paged.Paged.open_map.Goals as goal
@@ -10,6 +11,8 @@ returns-in-Err g c = record {
     why = c.in-Err.ensures.refused.why;
     files = c.make_ready.ensures.files;
     later = c.make_ready.ensures.faults;
+    more = omega (arith, c.make_ready.ensures.reads);
+    few = omega (arith, c.make_ready.ensures.reads);
     reads = none_read (g.S.Shelf.state c.args.shelf) (g.S.Shelf.state c.make_ready.new.shelf) c.args.name.now
         c.make_ready.ensures.reads;
   };
@@ -23,10 +26,12 @@ returns-in-Ok g c =
     record {
       opened = matched c.checked.result _ _ _ _
           (λ p o. opens_from g.H.Hashes.of c.args.name.now pages before middle c.make_ready.ensures.files
-          c.in-Ok.ensures.quiet c.make_ready.ensures.reads c.in-Ok.ensures.pages (string_bytes c.in-Ok.made.name)
+          c.in-Ok.ensures.quiet c.make_ready.ensures.reads c.in-Ok.ensures.pages c.in-Ok.ensures.few
+          (string_bytes c.in-Ok.made.name)
           (string_bytes p.name) p.head (g.S.Shelf.state p.shelf) p.fetches c.in-Ok.ensures.name o)
           (λ r o. refuses_from g.H.Hashes.of c.args.name.now pages before middle c.make_ready.ensures.files
-          c.in-Ok.ensures.quiet c.make_ready.ensures.reads c.in-Ok.ensures.pages c.are_sized.ensures
+          c.in-Ok.ensures.quiet c.make_ready.ensures.reads c.in-Ok.ensures.pages c.in-Ok.ensures.few
+          c.are_sized.ensures
           c.make_ready.ensures.are (string_bytes c.in-Ok.made.name) (g.S.Shelf.state r.0) r.1 c.in-Ok.ensures.name o)
           c.checked.ensures.opened;
     }

@@ -1,0 +1,15 @@
+use Rattle.std.proofs.Common.{◌≡◌, take}
+use Rattle.mr_store.specs.Copying.{AreCopied}
+use Rattle.mr_store.proofs.copying.+copy.Given as goal
+
+abbrev pub decreases-copy : goal.decreases-copy
+decreases-copy g l = l.child.now.level
+
+-- the children so far stand behind the others
+abbrev pub invariant-loop-one : goal.invariant-loop-one
+invariant-loop-one g l = record {
+  kept : g.N.Nodes.kept l.fn.nodes l.nodes;
+  quiet : g.N.Nodes.faults l.nodes ≡ g.N.Nodes.faults l.fn.nodes;
+  all : AreCopied g.N.Hash.Hashes.of (g.N.Nodes.stands l.fn.nodes) (take l.one-index l.one-items) l.below.items
+      l.fn.list.items l.list.items l.fn.seen l.seen;
+}

@@ -1,0 +1,56 @@
+use Rattle.std.proofs.Common.{subst, sym, ◌∙◌}
+use Rattle.std.specs.Prelude.{IfSome}
+use Rattle.std.proofs.lemmas.Result.{err_from_is_err_and}
+use Rattle.mr_tree.specs.Nodes.{MayFetch}
+use Rattle.mr_store.proofs.Wholes.{none_linked, whole_well, whole_snapshot, whole_stands, miscounted, stops_all}
+use Rattle.mr_store.proofs.copying.copied_from.Goals as goal
+
+pub copy-requires-clause-may : goal.copy-requires-clause-may
+copy-requires-clause-may g c κs within =
+    subst (λ o. IfSome o (MayFetch g.N.Hash.Hashes.of (g.N.Nodes.stands c.args.nodes.now))) c.requires.root
+    c.requires.top.root
+
+pub copy-requires-clause-linked : goal.copy-requires-clause-linked
+copy-requires-clause-linked g c κs within =
+    none_linked g.N.Hash.Hashes.of c.new-list.result.items c.new-list.ensures.items
+
+pub returns-in_err-copied-clause-cause : goal.returns-in_err-copied-clause-cause
+returns-in_err-copied-clause-cause g c =
+    let p = err_from_is_err_and c.from_residual-in_err-copied.result c.from_residual-in_err-copied.ensures.1 in
+    rw (p.1, p.2) (stops_all g.N.Hash.Hashes.of (g.N.Nodes.stands c.args.nodes.now) c.args.top.now c.args.root.now
+    c.in_ok-seen.seen c.args.pages c.requires.top c.requires.root c.in_ok-seen.ensures.told
+    (g.N.Nodes.faults c.args.nodes.now) (g.N.Nodes.faults c.copy.new.nodes) c.in_err-copied.field-0.0
+    (g.met.N.Nodes.well_formed c.args.nodes.now) c.in_err-copied.ensures.cause)
+
+pub over-requires-clause-whole : goal.over-requires-clause-whole
+over-requires-clause-whole g c κs within =
+    whole_snapshot g.N.Hash.Hashes.of (g.N.Nodes.stands c.args.nodes.now) c.args.top.now c.args.root.now
+    c.in_ok-copied.copied c.new-list.result.items c.copy.new.list.items c.in_ok-seen.seen c.copy.new.seen c.args.pages
+    c.requires.top c.requires.root c.new-list.ensures.items c.in_ok-seen.ensures.told c.in_ok-copied.ensures.copied
+    (sym c.if-count-top.false ∙ c.count.ensures)
+
+pub over-requires-clause-well_formed : goal.over-requires-clause-well_formed
+over-requires-clause-well_formed g c κs within =
+    whole_well g.N.Hash.Hashes.of (g.N.Nodes.stands c.args.nodes.now) c.args.top.now c.args.root.now
+    c.in_ok-copied.copied c.new-list.result.items c.copy.new.list.items c.in_ok-seen.seen c.copy.new.seen c.args.pages
+    c.requires.top c.requires.root c.new-list.ensures.items c.in_ok-seen.ensures.told c.in_ok-copied.ensures.copied
+    (sym c.if-count-top.false ∙ c.count.ensures)
+
+pub returns-then-count-top-clause-cause : goal.returns-then-count-top-clause-cause
+returns-then-count-top-clause-cause g c =
+    let may = subst (λ o. IfSome o (MayFetch g.N.Hash.Hashes.of (g.N.Nodes.stands c.args.nodes.now))) c.requires.root
+    c.requires.top.root in (
+      miscounted g.N.Hash.Hashes.of (g.N.Nodes.stands c.args.nodes.now) c.args.top.now c.args.root.now
+          c.in_ok-copied.copied c.new-list.result.items c.copy.new.list.items c.in_ok-seen.seen c.copy.new.seen
+          c.args.pages c.requires.top c.requires.root c.new-list.ensures.items c.in_ok-seen.ensures.told
+          c.in_ok-copied.ensures.copied (λ e. c.if-count-top.true (c.count.ensures ∙ sym e)),
+      (may.positive, may.within),
+      c.in_ok-copied.ensures.quiet,
+    )
+
+pub returns-clause-stands : goal.returns-clause-stands
+returns-clause-stands g c = λ u told.
+    c.over.ensures ∙ whole_stands g.N.Hash.Hashes.of (g.N.Nodes.stands c.args.nodes.now) c.args.top.now c.args.root.now
+    c.in_ok-copied.copied c.new-list.result.items c.copy.new.list.items c.in_ok-seen.seen c.copy.new.seen c.args.pages
+    c.requires.top c.requires.root c.new-list.ensures.items c.in_ok-seen.ensures.told c.in_ok-copied.ensures.copied
+    u told

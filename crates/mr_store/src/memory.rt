@@ -1,0 +1,39 @@
+//! Maps that are taken into memory whole.
+
+ghost use Rattle.std.specs.Prelude.{◌≡◌, IfOk, IfErr, OnOk};
+ghost use Rattle.std.specs.String.{string_bytes};
+ghost use Rattle.mr_tree.specs.Nodes.{HasSomeCause};
+ghost use Rattle.mr_store.specs.Stored.{told_bytes, stands_for, Keeps, StandsFor};
+
+use crate::copying::copied;
+use crate::paged::Paged;
+use crate::stop::refusal;
+use mr_outside::Shelf;
+use mr_tree::{Hash32, NodesErr, Snapshot};
+
+impl<S: Shelf, H: Hash32> Paged<S, H> {
+    /// The whole map in memory, made as its nodes are fetched, with no tree beside it.
+    ///
+    /// Where the tree is not told, `Page` names besides a node whose rectangle is not the one that
+    /// its parent tells of, a node with too few entries, or one with a record's number that was
+    /// met before; and the root, where the map has another number of records than it tells.
+    pub fn snapshot(&mut self) -> Result<Snapshot<H>, NodesErr>
+        ensures kept { Keeps (string_bytes self.old.name) (string_bytes self.new.name)
+            self.old.head self.new.head (S.state self.old.shelf) (S.state self.new.shelf)
+            self.old.fetches self.new.fetches }
+        ensures stands { IfOk result (λ p. StandsFor (stands_for self.old.head
+            (told_bytes (S.state self.old.shelf).files (string_bytes self.old.name)))
+            p.nodes.items p.top) }
+        ensures cause { IfErr result (HasSomeCause (stands_for self.old.head
+            (told_bytes (S.state self.old.shelf).files (string_bytes self.old.name)))
+            (S.state self.old.shelf).faults (S.state self.new.shelf).faults) }
+        ensures quiet { OnOk result
+            ((S.state self.new.shelf).faults ≡ (S.state self.old.shelf).faults) }
+    {
+        let pages = self.head.pages;
+        match copied::<Paged<S, H>>(self.alloc, self, pages) {
+            Ok(snapshot) => Ok(snapshot),
+            Err(stop) => Err(refusal(stop)),
+        }
+    }
+}
