@@ -1,5 +1,5 @@
 -- A piece of a proof, record by record.
-use Rattle.std.proofs.Common.{◌≡◌, ℕ, ◌+◌, ◌≤◌, List, [], ◌∷◌, ◌++◌, length, take, drop, Result, Ok, Err, sym, ap, subst, ◌∙◌, arith}
+use Rattle.std.proofs.Common.{◌≡◌, ℕ, ◌+◌, ◌≤◌, List, [], ◌∷◌, ◌++◌, length, take, drop, Ok, Err, sym, ap, subst, ◌∙◌, arith}
 use Rattle.std.proofs.lemmas.List.{append-nil, append_assoc, take-append-drop}
 use Rattle.mr_record.specs.declared.record.Record.{Record}
 use Rattle.mr_query.specs.declared.query.Query.{Query}
@@ -12,9 +12,7 @@ use Rattle.mr_tree.specs.declared.hash.Hashes.{Ghosts}
 use Rattle.mr_check.specs.declared.error.CheckErr.{CheckErr}
 use Rattle.mr_check.specs.declared.error.CheckErr.TheVariants as errors
 use Rattle.mr_check.specs.declared.judge.Judge.{Judge}
-use Rattle.std.specs.Prelude.{OnOk, IfErr}
-use Rattle.mr_check.specs.declared.intake.Intake.{Intake}
-use Rattle.mr_check.specs.Judged.{StandsFor, Took, IsTaken, IsStopped, Takes, TookSoFar}
+use Rattle.mr_check.specs.Judged.{StandsFor, Took, IsStopped, TookSoFar}
 use Rattle.mr_check.specs.Answers.{Checks}
 use Rattle.mr_check.proofs.Pieces.{take_both}
 use Rattle.mr_check.proofs.Judging.{none_out}
@@ -111,23 +109,3 @@ pub stopped : (hash : List ℕ → List ℕ) (root : List ℕ) (q : Query) (byte
 stopped hash root q bytes (errors.Fault f) stops =
     ap (verdict hash root q) (sym (append-nil bytes)) ∙ stops []
 stopped hash root q bytes errors.NoMemory stops = tt
-
--- ---- an intake
-
-module _ {H X : Type 0} {G : Ghosts H} (hash : List ℕ → List ℕ) (holds : H → List ℕ → Type 0) (old new : Intake H G)
-    (piece : List ℕ) (same : new.query ≡ old.query) where
-  pub piece_taken : (result : Result X CheckErr)
-      → Takes hash holds old.judge new.judge piece old.kept.items new.kept.items result
-      → OnOk result ((root : List ℕ) (q : Query) (bytes : List ℕ) → IsTaken hash holds root q old bytes
-      → IsTaken hash holds root q new (bytes ++ piece) × IsUnsettled hash root q (bytes ++ piece))
-  piece_taken (Ok x) takes = λ root q bytes is.
-      let now = takes root q bytes is.took in (record { asked = same ∙ is.asked; took = now.0 }, now.1)
-  piece_taken (Err e) takes = tt
-
-pub piece_refused : {H X : Type 0} {G : Ghosts H} (hash : List ℕ → List ℕ) (holds : H → List ℕ → Type 0)
-    (old : Intake H G) (after : Judge H G) (kept : List Record) (piece : List ℕ) (result : Result X CheckErr)
-    → Takes hash holds old.judge after piece old.kept.items kept result
-    → IfErr result (λ e. (root : List ℕ) (q : Query) (bytes : List ℕ) → IsTaken hash holds root q old bytes
-    → IsStopped hash root q (bytes ++ piece) e)
-piece_refused hash holds old after kept piece (Ok x) takes = tt
-piece_refused hash holds old after kept piece (Err e) takes = λ root q bytes is. takes root q bytes is.took

@@ -11,3 +11,4 @@ pub mod Pieces
 pub mod Judging
 pub mod Bytes
 pub mod Gathering
+pub mod Differing

@@ -6,4 +6,5 @@ pub mod Stages
 pub mod Standing
 pub mod Heads
 pub mod Reads
+pub mod Differing
 pub mod Judged

@@ -31,9 +31,9 @@ fn answered_by<H: Hash32>(
     requires { IsAskable q.now }
     ensures { Checks result (verdict H.of root.now q.now proof.now) }
 {
-    let mut intake = Intake::<H>::new(alloc, root, q)?;
-    intake.take(proof)?;
-    intake.end()
+    let intake = Intake::<H>::new(alloc, root, q)?;
+    let taken = intake.take(proof)?;
+    taken.end()
 }
 
 /// The records that the proof proves to be the answer to the query on the map with this root

@@ -1,6 +1,6 @@
 //! The check of a proof that comes in pieces.
 
-ghost use Rattle.std.specs.Prelude.{◌++◌, [], List, ℕ, IfOk, IfErr, OnOk};
+ghost use Rattle.std.specs.Prelude.{◌++◌, [], List, ℕ, IfOk, IfErr};
 ghost use Rattle.mr_query.specs.Word.{IsAskable};
 ghost use Rattle.mr_query.specs.declared.query.Query as queries;
 ghost use Rattle.mr_proof.specs.Feeding.{IsUnsettled};
@@ -8,6 +8,7 @@ ghost use Rattle.mr_proof.specs.Reading.{verdict};
 ghost use Rattle.mr_check.specs.Answers.{Checks};
 ghost use Rattle.mr_check.specs.Judged.{Took, Takes, IsStopped};
 
+use crate::arranging::arrange;
 use crate::{CheckErr, Fed, Judge};
 use mr_query::{Query, answer};
 use mr_record::Record;
@@ -64,18 +65,20 @@ impl<H: Hash32> Intake<H> {
     }
 
     /// Takes the next piece of the proof. A fault is answered just where it is that of every proof
-    /// that begins with the bytes so far, so that no more need be read. After a refusal nothing is
-    /// said of the intake any more: it is to be dropped.
-    pub fn take(&mut self, piece: &[u8]) -> Result<(), CheckErr>
-        ensures taken { OnOk result ((root : List ℕ) (q : queries.Query) (bytes : List ℕ)
-            → IsTaken H.of H.holds root q self.old bytes
-            → IsTaken H.of H.holds root q self.new (bytes ++ piece.now)
+    /// that begins with the bytes so far, so that no more need be read. An intake that refused a
+    /// piece is gone.
+    pub fn take(self, piece: &[u8]) -> Result<Intake<H>, CheckErr>
+        ensures taken { IfOk result (λ i. (root : List ℕ) (q : queries.Query) (bytes : List ℕ)
+            → IsTaken H.of H.holds root q self bytes
+            → IsTaken H.of H.holds root q i (bytes ++ piece.now)
             × IsUnsettled H.of root q (bytes ++ piece.now)) }
         ensures refused { IfErr result (λ e. (root : List ℕ) (q : queries.Query) (bytes : List ℕ)
-            → IsTaken H.of H.holds root q self.old bytes
+            → IsTaken H.of H.holds root q self bytes
             → IsStopped H.of root q (bytes ++ piece.now) e) }
     {
-        gather(&mut self.judge, piece, &mut self.kept)
+        let mut intake = self;
+        gather(&mut intake.judge, piece, &mut intake.kept)?;
+        Ok(intake)
     }
 
     /// What `check` answers for the bytes that were taken.
@@ -85,6 +88,8 @@ impl<H: Hash32> Intake<H> {
             → Checks result (verdict H.of root q bytes) }
     {
         self.judge.end()?;
-        Ok(answer(self.kept, &self.query)?)
+        let mut kept = self.kept;
+        arrange(&mut kept, &self.query)?;
+        Ok(answer(kept, &self.query)?)
     }
 }

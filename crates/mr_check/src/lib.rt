@@ -2,6 +2,7 @@
 //! judged as its bytes come or as one piece.
 #![tactic(auto)]
 
+mod arranging;
 mod client;
 mod closing;
 mod ending;

@@ -1,12 +1,12 @@
-use Rattle.std.proofs.Common.{refl}
-use Rattle.mr_check.proofs.Gathering.{piece_taken, piece_refused}
+use Rattle.std.proofs.lemmas.Result.{err_from_is_err_and}
 use Rattle.mr_check.proofs.intake.Intake.take.Goals as goal
 
 pub returns-clause-taken : goal.returns-clause-taken
-returns-clause-taken g c =
-    piece_taken g.H.Hashes.of g.H.Hashes.holds c.args.self.now _ c.args.piece.now refl c.gather.result c.gather.ensures
+returns-clause-taken g c = λ root q bytes is.
+    let now = c.in_ok-gather.ensures root q bytes is.took in
+    (record { asked = is.asked; took = now.0 }, now.1)
 
-pub returns-clause-refused : goal.returns-clause-refused
-returns-clause-refused g c =
-    piece_refused g.H.Hashes.of g.H.Hashes.holds c.args.self.now c.gather.new.judge c.gather.new.kept.items
-    c.args.piece.now c.gather.result c.gather.ensures
+pub returns-in_err-gather-clause-refused : goal.returns-in_err-gather-clause-refused
+returns-in_err-gather-clause-refused g c =
+    let p = err_from_is_err_and c.from_residual.result c.from_residual.ensures.1 in
+    rw (p.1, p.2) (λ root q bytes is. c.in_err-gather.ensures root q bytes is.took)

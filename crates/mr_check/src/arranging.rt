@@ -1,0 +1,81 @@
+//! The records that were kept, put in rising number where they lie.
+
+ghost use Rattle.std.specs.Prelude.{◌≡◌, true, IfOk, OnOk};
+ghost use Rattle.std.specs.List.Sorted.{IsPermutation};
+ghost use Rattle.mr_query.specs.Scan.{scan};
+ghost use Rattle.mr_query.specs.declared.query.Query.TheVariants as queries;
+ghost use Rattle.mr_check.specs.Differing.{rise, rise_after, numbers_of, EachOnce};
+
+use mr_geom::Rect;
+use mr_query::Query;
+use mr_record::Record;
+use std::alloc::{AllocError, Global};
+
+// The numbers of these records, in rising order.
+fn numbers(alloc: Global, records: &[Record]) -> Result<Vec<u64>, AllocError>
+    ensures { IfOk result (λ v. IsPermutation (numbers_of records.now) v.items) }
+{
+    let mut numbers: Vec<u64> = records.iter().map(|record| record.number).collect(alloc)?;
+    numbers.sort_unstable();
+    Ok(numbers)
+}
+
+// Whether each number is above the one before it, where `last` stands before the others.
+fn rise_after(mut last: u64, numbers: &[u64]) -> bool
+    ensures { result ≡ rise_after last numbers.now }
+{
+    for number in numbers {
+        if *number <= last {
+            return false;
+        }
+        last = *number;
+    }
+    true
+}
+
+fn rise(numbers: &[u64]) -> bool
+    ensures { result ≡ rise numbers.now }
+{
+    match numbers.split_first() {
+        None => true,
+        Some((first, others)) => rise_after(*first, others),
+    }
+}
+
+// Whether no two records have one number.
+fn differ(alloc: Global, records: &[Record]) -> Result<bool, AllocError>
+    ensures { IfOk result (λ b. b ≡ true → EachOnce records.now) }
+{
+    let numbers = numbers(alloc, records)?;
+    Ok(rise(&numbers))
+}
+
+// Sorts with no room beside the records.
+fn sort(records: &mut Vec<Record>)
+    ensures { IsPermutation records.old.items records.new.items }
+{
+    records.sort_unstable_by_key(|record| record.number);
+}
+
+fn arrange_window(records: &mut Vec<Record>, window: &Rect) -> Result<(), AllocError>
+    ensures { OnOk result (scan records.new.items (queries.Window window.now)
+        ≡ scan records.old.items (queries.Window window.now)) }
+{
+    let alloc = *records.allocator();
+    if differ(alloc, records)? {
+        sort(records);
+    }
+    Ok(())
+}
+
+// Puts records among which a window's answer is sought in rising number, if no two have one number.
+// A sort that keeps equal ones in their order takes room for as many records again, unless it finds
+// them in order.
+pub(crate) fn arrange(records: &mut Vec<Record>, q: &Query) -> Result<(), AllocError>
+    ensures { OnOk result (scan records.new.items q.now ≡ scan records.old.items q.now) }
+{
+    match q {
+        Query::Window(window) => arrange_window(records, window),
+        Query::Nearest { center: _, k: _ } => Ok(()),
+    }
+}
