@@ -1,13 +1,16 @@
 -- Bytes, records and cuts taken from the front of what is left.
-use Rattle.std.proofs.Common.{◌≡◌, ℕ, zero, suc, ◌+◌, ◌-◌, ◌≤◌, ◌<◌, List, [], ◌∷◌, ◌++◌, length, map, take, drop, refl, sym, ap, subst, ◌∙◌, append_assoc, arith}
-use Rattle.std.specs.Prelude.{All, Option, Some, None, Result, Ok, Err}
-use Rattle.std.specs.Int.{w128, to_be_bytes}
+use Rattle.std.proofs.Common.{◌≡◌, ℕ, zero, suc, ◌+◌, ◌≤◌, ◌<◌, List, [], ◌∷◌, ◌++◌, length, map, take, drop, refl, sym, ap, subst, ◌∙◌, append_assoc, arith}
+use Rattle.std.specs.Prelude.{All, Option, Some, None}
+use Rattle.std.specs.Int.{w64, w128, to_be_bytes}
 use Rattle.std.specs.List.{flat_map, AllByRecursion}
 use Rattle.std.proofs.lemmas.List.Elements.{recursion_from_All}
-use Rattle.std.proofs.Math.Seq.{take-append_seam, drop-append_seam}
-use Rattle.mr_record.specs.Record.{IsRecord, record_bytes}
+use Rattle.std.proofs.Math.Seq.{take-append_seam}
+use Rattle.mr_geom.specs.Rectangle.{Rectangle, join}
+use Rattle.mr_geom.proofs.Rectangles.{join_assoc, join_none, fold_join}
+use Rattle.mr_record.specs.Record.{IsRecord, record_bytes, rectangle_bytes}
 use Rattle.mr_record.specs.declared.record.Record.{Record}
-use Rattle.mr_record.specs.declared.record_fault.RecordFault.{RecordFault}
+use Rattle.mr_tree.specs.Tree.{rect_step}
+use Rattle.mr_tree.specs.declared.tree.Tree.TheOpen as node
 use Rattle.mr_tree.specs.declared.entry.Entry.{Entry}
 use Rattle.mr_proof.specs.declared.head.Kind.{Kind}
 use Rattle.mr_proof.specs.declared.head.Kind.TheVariants as kind
@@ -18,9 +21,6 @@ use Rattle.mr_clash.specs.Steps.{scheme, Passed, PassedAll}
 
 pub take_front : (n : ℕ) (x rest : List ℕ) → length x ≡ n → take n (x ++ rest) ≡ x
 take_front n x rest e = subst (λ k. take k (x ++ rest) ≡ x) e (take-append_seam x rest)
-
-pub drop_front : (n : ℕ) (x rest : List ℕ) → length x ≡ n → drop n (x ++ rest) ≡ rest
-drop_front n x rest e = subst (λ k. drop k (x ++ rest) ≡ rest) e (drop-append_seam x rest)
 
 take-all : {X : Type 0} (i : ℕ) (xs : List X) → length xs ≤ i → take i xs ≡ xs
 take-all zero [] le = refl
@@ -36,75 +36,80 @@ drop-all (suc i) (x ∷ xs) le = drop-all i xs (omega arith)
 
 -- ---- records
 
+-- the bytes of a record, field by field
+fields : (number rect payload rest : List ℕ) (size : ℕ)
+    → (number ++ rect ++ size ∷ payload) ++ rest ≡ number ++ (rect ++ (size ∷ (payload ++ rest)))
+fields number rect payload rest size =
+    append_assoc (number ++ rect) (size ∷ payload) rest ∙ append_assoc number rect (size ∷ (payload ++ rest))
+
+pub record_fields : (r : Record) (rest : List ℕ) → record_bytes r ++ rest
+    ≡ to_be_bytes w64 r.number ++ (rectangle_bytes r.rect ++ (length r.payload ∷ (r.payload ++ rest)))
+unfolding record_bytes
+record_fields r rest = fields (to_be_bytes w64 r.number) (rectangle_bytes r.rect) r.payload rest (length r.payload)
+
+-- so many of them were passed over, and this is the rectangle round them
+pub record PassedRecords (rs : List Record) (rest : List ℕ) (i : ℕ) (all : Option Rectangle) (bytes : List ℕ)
+    : Type 0 where
+  pub round : rect_step (node.Leaf rs) ≡ join all (rect_step (node.Leaf (drop i rs)))
+  pub left_is : bytes ≡ flat_map record_bytes (drop i rs) ++ rest
+
 -- the record at this place
-pub record Next (rs : List Record) (i : ℕ) : Type 0 where
+pub record NextRecord (rs : List Record) (rest : List ℕ) (i : ℕ) (bytes : List ℕ) : Type 0 where
   pub one : Record
   pub is : IsRecord one
-  pub here : drop i rs ≡ one ∷ drop (suc i) rs
-  pub more : take (suc i) rs ≡ take i rs ++ one ∷ []
+  pub more : drop i rs ≡ one ∷ drop (i + 1) rs
+  pub here : bytes ≡ record_bytes one ++ (flat_map record_bytes (drop (i + 1) rs) ++ rest)
+
+record Next (rs : List Record) (i : ℕ) : Type 0 where
+  one : Record
+  is : IsRecord one
+  more : drop i rs ≡ one ∷ drop (suc i) rs
 
 next : (rs : List Record) (i : ℕ) → i < length rs → AllByRecursion IsRecord rs → Next rs i
 next [] i lt all = absurd (omega arith)
-next (r ∷ rs) zero lt all = record { one = r; is = all.0; here = refl; more = refl }
+next (r ∷ rs) zero lt all = record { one = r; is = all.0; more = refl }
 next (r ∷ rs) (suc i) lt all =
     let n = next rs i (omega arith) all.1 in
-    record { one = n.one; is = n.is; here = n.here; more = ap (λ xs. r ∷ xs) n.more }
+    record { one = n.one; is = n.is; more = n.more }
 
--- so many of them were taken
-pub record TookSome (rs : List Record) (rest : List ℕ) (i : ℕ) (list : List Record) (bytes : List ℕ)
-    : Type 0 where
-  pub list_is : list ≡ take i rs
-  pub left_is : bytes ≡ flat_map record_bytes (drop i rs) ++ rest
-
-pub record NextLeft (rs : List Record) (rest : List ℕ) (i : ℕ) (bytes : List ℕ) : Type 0 where
-  pub one : Record
-  pub is : IsRecord one
-  pub here : bytes ≡ record_bytes one ++ (flat_map record_bytes (drop (i + 1) rs) ++ rest)
-  pub more : take (i + 1) rs ≡ take i rs ++ one ∷ []
-
-pub next_left : (rs : List Record) (rest : List ℕ) (i : ℕ) (bytes : List ℕ) → i < length rs → All IsRecord rs
-    → bytes ≡ flat_map record_bytes (drop i rs) ++ rest → NextLeft rs rest i bytes
-next_left rs rest i bytes lt all e =
+pub next_record : (rs : List Record) (rest : List ℕ) (i : ℕ) (bytes : List ℕ) → i < length rs → All IsRecord rs
+    → bytes ≡ flat_map record_bytes (drop i rs) ++ rest → NextRecord rs rest i bytes
+next_record rs rest i bytes lt all e =
     let n = next rs i lt (recursion_from_All IsRecord rs all) in
     let plus : suc i ≡ i + 1 = omega arith in
+    let more : drop i rs ≡ n.one ∷ drop (i + 1) rs = n.more ∙ ap (λ k. n.one ∷ drop k rs) plus in
     record {
       one = n.one;
       is = n.is;
-      here = e ∙ ap (λ xs. flat_map record_bytes xs ++ rest) n.here
-          ∙ append_assoc (record_bytes n.one) (flat_map record_bytes (drop (suc i) rs)) rest
-          ∙ ap (λ k. record_bytes n.one ++ (flat_map record_bytes (drop k rs) ++ rest)) plus;
-      more = ap (λ k. take k rs) (sym plus) ∙ n.more;
+      more = more;
+      here = e ∙ ap (λ xs. flat_map record_bytes xs ++ rest) more
+          ∙ append_assoc (record_bytes n.one) (flat_map record_bytes (drop (i + 1) rs)) rest;
     }
 
-same_read : (a b : Record) (m n : ℕ) → ◌≡◌ {A = Result (Record × ℕ) RecordFault} (Ok (a, m)) (Ok (b, n))
-    → (a ≡ b) × (m ≡ n)
-same_read a b m n e =
-    let p : ◌≡◌ {A = Record × ℕ} (a, m) (b, n) = cc in
-    (ap (λ (q : Record × ℕ). q.0) p, ap (λ (q : Record × ℕ). q.1) p)
+round_first : (r : Record) (rs : List Record)
+    → rect_step (node.Leaf (r ∷ rs)) ≡ join (Some r.rect) (rect_step (node.Leaf rs))
+round_first r rs = fold_join (Some r.rect) (map (λ (r : Record). Some r.rect) rs)
 
--- one more was taken
-pub took_more : (rs : List Record) (rest : List ℕ) (i : ℕ) (list more : List Record) (bytes after : List ℕ)
-    (one : Record) (size : ℕ) (read : Result (Record × ℕ) RecordFault) → TookSome rs rest i list bytes
-    → (n : NextLeft rs rest i bytes) → read ≡ Ok (one, size) → read ≡ Ok (n.one, length (record_bytes n.one))
-    → more ≡ list ++ one ∷ []
-    → ((x behind : List ℕ) → length x ≡ size → bytes ≡ x ++ behind → after ≡ behind)
-    → TookSome rs rest (i + 1) more after
-took_more rs rest i list more bytes after one size read so n e f pushed took =
-    let same = same_read one n.one size (length (record_bytes n.one)) (sym e ∙ f) in
+-- one more was passed over
+pub record_more : (rs : List Record) (rest : List ℕ) (i : ℕ) (all more one : Option Rectangle) (bytes after : List ℕ)
+    → PassedRecords rs rest i all bytes → (n : NextRecord rs rest i bytes) → one ≡ Some n.one.rect → more ≡ join all one
+    → after ≡ flat_map record_bytes (drop (i + 1) rs) ++ rest → PassedRecords rs rest (i + 1) more after
+record_more rs rest i all more one bytes after so n is joined behind =
+    let others = rect_step (node.Leaf (drop (i + 1) rs)) in
     record {
-      list_is = pushed ∙ (λ j. so.list_is j ++ same.0 j ∷ []) ∙ sym n.more;
-      left_is = took (record_bytes n.one) (flat_map record_bytes (drop (i + 1) rs) ++ rest) (sym same.1) n.here;
+      round = so.round ∙ ap (λ xs. join all (rect_step (node.Leaf xs))) n.more
+          ∙ ap (join all) (round_first n.one (drop (i + 1) rs)) ∙ sym (join_assoc all (Some n.one.rect) others)
+          ∙ ap (λ o. join o others) (sym (joined ∙ ap (join all) is));
+      left_is = behind;
     }
 
-pub not_refused : {A : Type 0} (n : Record × ℕ) (f : RecordFault) (read : Result (Record × ℕ) RecordFault)
-    → read ≡ Err f → read ≡ Ok n → A
-not_refused n f read e g = absurd cc
-
--- all of them were taken
-pub all_taken : (rs : List Record) (rest : List ℕ) (i : ℕ) (list : List Record) (bytes : List ℕ) → length rs ≤ i
-    → TookSome rs rest i list bytes → (list ≡ rs) × (bytes ≡ rest)
-all_taken rs rest i list bytes le so =
-    (so.list_is ∙ take-all i rs le, so.left_is ∙ ap (λ xs. flat_map record_bytes xs ++ rest) (drop-all i rs le))
+-- all of them were passed over
+pub all_records : (rs : List Record) (rest : List ℕ) (i : ℕ) (all : Option Rectangle) (bytes : List ℕ)
+    → length rs ≤ i → PassedRecords rs rest i all bytes → (all ≡ rect_step (node.Leaf rs)) × (bytes ≡ rest)
+all_records rs rest i all bytes le so = (
+  sym (so.round ∙ ap (λ xs. join all (rect_step (node.Leaf xs))) (drop-all i rs le) ∙ join_none all),
+  so.left_is ∙ ap (λ xs. flat_map record_bytes xs ++ rest) (drop-all i rs le),
+)
 
 -- ---- a radius
 

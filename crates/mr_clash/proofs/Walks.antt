@@ -1,32 +1,33 @@
 -- A node of the map beside the cut of it that a proof shows.
-use Rattle.std.proofs.Common.{◌≡◌, ◌≢◌, ℕ, zero, suc, ◌+◌, ◌-◌, ◌≤◌, ◌<◌, Bool, true, false, List, [], ◌∷◌, ◌++◌, length, map, take, drop, get_or, refl, sym, ap, subst, ◌∙◌, append_assoc, inl, inr, arith}
+use Rattle.std.proofs.Common.{◌≡◌, ℕ, ◌+◌, ◌-◌, true, false, List, [], ◌∷◌, ◌++◌, length, map, refl, sym, ap, subst, ◌∙◌, inl, inr, arith}
 use Rattle.std.specs.Prelude.{Option, Some, None, IfSome, IsSome, IsSomeAnd, option_map, All, Result, Ok, Err, IfOk, bytes_eq}
 use Rattle.std.proofs.lemmas.Bool.{cases_Bool}
 use Rattle.std.proofs.lemmas.List.Elements.{recursion_from_All}
 use Rattle.std.specs.List.{flat_map, AllByRecursion}
-use Rattle.std.proofs.lemmas.List.{length-map}
 use Rattle.mr_record.specs.declared.record.Record.{Record}
 use Rattle.mr_record.specs.declared.version.Version.{Version}
 use Rattle.mr_tree.specs.Digest.{by, entry_bytes, level_over, node_preimage}
 use Rattle.mr_tree.specs.declared.entry.Entry.{Entry}
 use Rattle.mr_tree.specs.Digest as digests
 use Rattle.mr_tree.specs.Nodes.{Standing, IsEntry, IsNodeOf, MayFetch, Shows}
-use Rattle.mr_tree.specs.View.{Node, IsChild, IsInner, IsView, children_in, entry_of, level_of, preimage_of, over_entries}
+use Rattle.mr_tree.specs.View.{Node, IsChild, IsInner, IsView, children_in, entry_of, level_of, preimage_of}
 use Rattle.mr_tree.specs.declared.child.Child.{Child}
 use Rattle.mr_tree.specs.declared.tree.Tree.{Tree}
 use Rattle.mr_tree.specs.declared.tree.Tree.TheVariants as tree
 use Rattle.mr_tree.specs.declared.tree.Tree.TheOpen as node
-use Rattle.mr_proof.specs.Cut.{Cut, Cuts, Pruned, Leaf, Inner, no_more, first, count_of, entry, entries, preimage}
-use Rattle.mr_proof.specs.Spelling.{cut_bytes, cuts_bytes, FitsCut, FitCuts}
+use Rattle.mr_proof.specs.declared.shown.Shown.{Shown}
+use Rattle.mr_proof.specs.Cut.{Cut, Cuts, Pruned, Leaf, Inner, no_more, first, entry, entries, preimage}
+use Rattle.mr_proof.specs.Spelling.{cut_bytes, FitsCut, FitCuts}
 use Rattle.mr_proof.specs.Clash.{Pair, differ, or_else, children, children_in as trees_in, node_clash, children_clash, IsCollision, NoneAnd}
-use Rattle.mr_proof.proofs.Full.{IsThere}
 use Rattle.mr_proof.proofs.Values.{same_bytes}
-use Rattle.mr_proof.proofs.SameNodes.{IsNamed, SameEntry, entry_front, named_cut, none_differ, preimage-Leaf, preimage-Inner}
-use Rattle.mr_clash.specs.Steps.{scheme, pair_of, Compared, ComparedAll, is_pruned}
+use Rattle.mr_proof.proofs.SameNodes.{IsNamed, entry_front, named_cut, none_differ, preimage-Leaf, preimage-Inner}
+use Rattle.mr_clash.specs.Steps.{scheme, pair_of, is_pruned, string_over, Passed, Compared, ComparedAll, WalkedOne, WalkedAll, WalkedLeaf, Closed}
 use Rattle.mr_clash.specs.declared.finding.Clash.{Clash}
+use Rattle.mr_clash.specs.declared.walked.Row.{Row}
+use Rattle.mr_clash.specs.declared.walked.Walked.{Walked}
 use Rattle.mr_record.proofs.Versions.{only_version}
 use Rattle.mr_clash.proofs.Levels.{entry_at_level}
-use Rattle.mr_clash.proofs.Taking.{drop_cuts, drop_all, length-entries}
+use Rattle.mr_clash.proofs.Nodes.{inner_passed, inner_string_shown, item_pruned}
 
 -- ---- two lists of entries with one string
 
@@ -95,10 +96,10 @@ same_children hash sized w cs Ps are levels fits e =
 
 -- ---- a node whose tree is told
 
-head_is : {A : Type 0} (a b : A) (xs ys : List A) → a ∷ xs ≡ b ∷ ys → a ≡ b
+pub head_is : {A : Type 0} (a b : A) (xs ys : List A) → a ∷ xs ≡ b ∷ ys → a ≡ b
 head_is a b xs ys e = cc
 
-tail_is : {A : Type 0} (a b : A) (xs ys : List A) → a ∷ xs ≡ b ∷ ys → xs ≡ ys
+pub tail_is : {A : Type 0} (a b : A) (xs ys : List A) → a ∷ xs ≡ b ∷ ys → xs ≡ ys
 tail_is a b xs ys e = cc
 
 entries_told : (hash : List ℕ → List ℕ) (s : Standing) (cs : List Child) (ts : List Tree)
@@ -233,84 +234,6 @@ module _ (hash : List ℕ → List ℕ) (s : Standing) (c : Child) (n : Node) (s
           all.told told inner.0 inner.2
           ∙ sym (λ i. or_else (none i) (children_clash (scheme hash) (c.level - 1) (own i) Ps))
 
--- ---- nodes side by side
-
--- the child at this place, and the cut of it
-pub record ChildCut (hash : List ℕ → List ℕ) (w : ℕ) (Ps : Cuts) (i : ℕ) (c : Child) : Type 0 where
-  pub cut : Cut
-  pub fits : FitsCut w cut
-  pub here : drop_cuts i Ps ≡ first cut (drop_cuts (suc i) Ps)
-  pub same : entry_of c ≡ entry (scheme hash) w cut
-
-pub child_cut : (hash : List ℕ → List ℕ) (w : ℕ) (cs : List Child) (Ps : Cuts) (i : ℕ) (c : Child) → i < length cs
-    → c ≡ get_or cs i c → map entry_of cs ≡ entries (scheme hash) w Ps → FitCuts w Ps → ChildCut hash w Ps i c
-child_cut hash w [] Ps i c lt is e fits = absurd (omega arith)
-child_cut hash w (d ∷ cs) no_more i c lt is e fits = absurd cc
-child_cut hash w (d ∷ cs) (first P Ps) zero c lt is e fits = record {
-  cut = P;
-  fits = fits.0;
-  here = refl;
-  same = ap entry_of is ∙ head_is (entry_of d) (entry (scheme hash) w P) _ _ e;
-}
-child_cut hash w (d ∷ cs) (first P Ps) (suc i) c lt is e fits =
-    let n = child_cut hash w cs Ps i c (omega arith) is (tail_is (entry_of d) (entry (scheme hash) w P) _ _ e) fits.1 in
-    record { cut = n.cut; fits = n.fits; here = n.here; same = n.same }
-
--- and the tree under it
-record ChildTree (s : Standing) (ts : List Tree) (i : ℕ) (c : Child) : Type 0 where
-  tree_at : Tree
-  node_at : s.node c.id ≡ Some tree_at
-  here : drop i ts ≡ tree_at ∷ drop (suc i) ts
-
-child_tree : (s : Standing) (cs : List Child) (ts : List Tree) (i : ℕ) (c : Child) → i < length cs
-    → c ≡ get_or cs i c → map (λ (c : Child). s.node c.id) cs ≡ map Some ts → ChildTree s ts i c
-child_tree s [] ts i c lt is e = absurd (omega arith)
-child_tree s (d ∷ cs) [] i c lt is e = absurd cc
-child_tree s (d ∷ cs) (t ∷ ts) zero c lt is e = record {
-  tree_at = t;
-  node_at = ap (λ (c : Child). s.node c.id) is ∙ head_is (s.node d.id) (Some t) _ _ e;
-  here = refl;
-}
-child_tree s (d ∷ cs) (t ∷ ts) (suc i) c lt is e =
-    let n = child_tree s cs ts i c (omega arith) is (tail_is (s.node d.id) (Some t) _ _ e) in
-    record { tree_at = n.tree_at; node_at = n.node_at; here = n.here }
-
--- so many of them were compared, and no pair was found
-pub record NoneYet (hash : List ℕ → List ℕ) (s : Standing) (w : ℕ) (cs : List Child) (Ps : Cuts) (rest : List ℕ)
-    (i : ℕ) (bytes : List ℕ) : Type 0 where
-  pub left_is : bytes ≡ cuts_bytes (drop_cuts i Ps) ++ rest
-  pub told : IsSome s.tree → (ts : List Tree) → map (λ (c : Child). s.node c.id) cs ≡ map Some ts
-      → children_clash (scheme hash) w ts Ps ≡ children_clash (scheme hash) w (drop i ts) (drop_cuts i Ps)
-
-pub none_begin : (hash : List ℕ → List ℕ) (s : Standing) (w : ℕ) (cs : List Child) (Ps : Cuts) (rest bytes : List ℕ)
-    → bytes ≡ cuts_bytes Ps ++ rest → NoneYet hash s w cs Ps rest 0 bytes
-none_begin hash s w cs Ps rest bytes e = record { left_is = e; told = λ told ts is. refl }
-
-pub record NextChild (hash : List ℕ → List ℕ) (w : ℕ) (Ps : Cuts) (rest : List ℕ) (i : ℕ) (c : Child)
-    (bytes : List ℕ) : Type 0 where
-  pub cut : Cut
-  pub fits : FitsCut w cut
-  pub same : entry_of c ≡ entry (scheme hash) w cut
-  pub left_is : bytes ≡ cut_bytes cut ++ (cuts_bytes (drop_cuts (i + 1) Ps) ++ rest)
-  pub here : drop_cuts i Ps ≡ first cut (drop_cuts (i + 1) Ps)
-
-pub next_child : (hash : List ℕ → List ℕ) (s : Standing) (w : ℕ) (cs : List Child) (Ps : Cuts) (rest : List ℕ)
-    (i : ℕ) (c : Child) (bytes : List ℕ) → i < length cs → c ≡ get_or cs i c
-    → map entry_of cs ≡ entries (scheme hash) w Ps → FitCuts w Ps → NoneYet hash s w cs Ps rest i bytes
-    → NextChild hash w Ps rest i c bytes
-next_child hash s w cs Ps rest i c bytes lt is e fits none =
-    let n = child_cut hash w cs Ps i c lt is e fits in
-    let plus : suc i ≡ i + 1 = omega arith in
-    let here = n.here ∙ ap (λ k. first n.cut (drop_cuts k Ps)) plus in
-    record {
-      cut = n.cut;
-      fits = n.fits;
-      same = n.same;
-      left_is = none.left_is ∙ ap (λ Qs. cuts_bytes Qs ++ rest) here
-          ∙ append_assoc (cut_bytes n.cut) (cuts_bytes (drop_cuts (i + 1) Ps)) rest;
-      here = here;
-    }
-
 pub some_node : (o : Option Tree) (t : Tree) (Q : Tree → Type 0) → o ≡ Some t → IfSome o Q → Q t
 some_node None t Q e h = absurd cc
 some_node (Some u) t Q e h = subst Q (same u t e) h
@@ -318,70 +241,7 @@ some_node (Some u) t Q e h = subst Q (same u t e) h
     same : (u t : Tree) → ◌≡◌ {A = Option Tree} (Some u) (Some t) → u ≡ t
     same u t e = cc
 
--- the pair of this child is that of what was left
-child_pair : (hash : List ℕ → List ℕ) (s : Standing) (w : ℕ) (cs : List Child) (Ps : Cuts) (rest : List ℕ) (i : ℕ)
-    (c : Child) (bytes : List ℕ) (pair : Option Pair) → i < length cs → c ≡ get_or cs i c
-    → NoneYet hash s w cs Ps rest i bytes → (x : NextChild hash w Ps rest i c bytes)
-    → Compared hash s c.id w x.cut pair → IsSome s.tree → (ts : List Tree)
-    → map (λ (c : Child). s.node c.id) cs ≡ map Some ts
-    → children_clash (scheme hash) w ts Ps
-    ≡ or_else pair (children_clash (scheme hash) w (drop (i + 1) ts) (drop_cuts (i + 1) Ps))
-child_pair hash s w cs Ps rest i c bytes pair lt is none x so told ts e =
-    let t = child_tree s cs ts i c lt is e in
-    let plus : suc i ≡ i + 1 = omega arith in
-    let here : drop i ts ≡ t.tree_at ∷ drop (i + 1) ts = t.here ∙ ap (λ k. t.tree_at ∷ drop k ts) plus in
-    let own : pair ≡ node_clash (scheme hash) w t.tree_at x.cut =
-    some_node (s.node c.id) t.tree_at (λ t. pair ≡ node_clash (scheme hash) w t x.cut) t.node_at (so.told told) in
-    none.told told ts e ∙ (λ j. children_clash (scheme hash) w (here j) (x.here j))
-    ∙ ap (λ o. or_else o (children_clash (scheme hash) w (drop (i + 1) ts) (drop_cuts (i + 1) Ps))) (sym own)
-
-pub none_more_yet : (hash : List ℕ → List ℕ) (s : Standing) (w : ℕ) (cs : List Child) (Ps : Cuts) (rest : List ℕ)
-    (i : ℕ) (c : Child) (bytes after : List ℕ) → i < length cs → c ≡ get_or cs i c
-    → NoneYet hash s w cs Ps rest i bytes → (x : NextChild hash w Ps rest i c bytes)
-    → Compared hash s c.id w x.cut None → after ≡ cuts_bytes (drop_cuts (i + 1) Ps) ++ rest
-    → NoneYet hash s w cs Ps rest (i + 1) after
-none_more_yet hash s w cs Ps rest i c bytes after lt is none x so behind = record {
-  left_is = behind;
-  told = λ told ts e. child_pair hash s w cs Ps rest i c bytes None lt is none x so told ts e;
-}
-
-pub pair_among : (hash : List ℕ → List ℕ) (s : Standing) (w : ℕ) (cs : List Child) (Ps : Cuts) (rest : List ℕ)
-    (i : ℕ) (c : Child) (bytes : List ℕ) (p : Pair) → i < length cs → c ≡ get_or cs i c
-    → NoneYet hash s w cs Ps rest i bytes → (x : NextChild hash w Ps rest i c bytes)
-    → Compared hash s c.id w x.cut (Some p) → ComparedAll hash s w cs Ps (Some p)
-pair_among hash s w cs Ps rest i c bytes p lt is none x so = record {
-  collides = so.collides;
-  told = λ told ts e. sym (child_pair hash s w cs Ps rest i c bytes (Some p) lt is none x so told ts e);
-}
-
--- all of them were compared
-drop_cuts_end : (hash : List ℕ → List ℕ) (w : ℕ) (ts : List Tree) (Ps : Cuts) (i : ℕ) → count_of Ps ≤ i
-    → children_clash (scheme hash) w (drop i ts) (drop_cuts i Ps) ≡ None
-drop_cuts_end hash w ts no_more zero le = refl
-drop_cuts_end hash w ts no_more (suc i) le = refl
-drop_cuts_end hash w ts (first P Ps) zero le = absurd (omega arith)
-drop_cuts_end hash w [] (first P Ps) (suc i) le = none_of_none (drop_cuts i Ps)
-  where
-    none_of_none : (Qs : Cuts) → children_clash (scheme hash) w [] Qs ≡ None
-    none_of_none no_more = refl
-    none_of_none (first Q Qs) = refl
-drop_cuts_end hash w (t ∷ ts) (first P Ps) (suc i) le = drop_cuts_end hash w ts Ps i (omega arith)
-
-pub none_among : (hash : List ℕ → List ℕ) (s : Standing) (w : ℕ) (cs : List Child) (Ps : Cuts) (rest : List ℕ)
-    (i : ℕ) (bytes : List ℕ) → length cs ≤ i → map entry_of cs ≡ entries (scheme hash) w Ps
-    → NoneYet hash s w cs Ps rest i bytes → ComparedAll hash s w cs Ps None
-none_among hash s w cs Ps rest i bytes le e none =
-    let count = ap length e in
-    let all : count_of Ps ≤ i = omega (arith, le, count, length-entries hash w Ps, length-map cs entry_of) in
-    record {
-      collides = tt;
-      told = λ told ts is. sym (none.told told ts is ∙ drop_cuts_end hash w ts Ps i all);
-    }
-
 -- ---- what a walk comes to
-
-same_some : (a b : List ℕ) → ◌≡◌ {A = Option (List ℕ)} (Some a) (Some b) → a ≡ b
-same_some a b e = cc
 
 pub same_strings : (x y : List ℕ) → None ≡ differ x (Some y) → x ≡ y
 same_strings x y e = elim (cases_Bool (bytes_eq x y)) [
@@ -392,69 +252,90 @@ same_strings x y e = elim (cases_Bool (bytes_eq x y)) [
     not_none : (x y : List ℕ) → bytes_eq x y ≡ false → None ≡ differ x (Some y) → ⊥
     not_none x y f e = let d : differ x (Some y) ≡ Some (record { owned = x; shown = y }) = rw f refl in cc
 
--- the string of a cut that is not pruned
-pub record Opened (hash : List ℕ → List ℕ) (v : ℕ) (P : Cut) : Type 0 where
-  pub string : List ℕ
-  pub is : preimage (scheme hash) v P ≡ Some string
+-- two strings that were compared, under other names
+pub pair_as : {E : Type 0} (r : Result (Option Clash) E) (a b y z : List ℕ) → a ≡ b → y ≡ z
+    → IfOk r (λ o. option_map pair_of o ≡ differ a (Some y)) → IfOk r (λ o. option_map pair_of o ≡ differ b (Some z))
+pair_as (Ok o) a b y z p q h = h ∙ (λ i. differ (p i) (Some (q i)))
+pair_as (Err f) a b y z p q h = tt
 
-pub opened : (hash : List ℕ → List ℕ) (v : ℕ) (P : Cut) → is_pruned P ≡ false → Opened hash v P
-opened hash v (Pruned part) is = absurd cc
-opened hash v (Leaf rs) is = record { string = node_preimage (node.Leaf rs); is = refl }
-opened hash v (Inner cuts) is =
-    record { string = node_preimage (node.Inner (entries (scheme hash) (v - 1) cuts)); is = refl }
+-- the digest of a string beside the owner's
+pub digest_beside : (hash : List ℕ → List ℕ) (owned shown held digest : List ℕ) (o : Option Clash) → o ≡ None
+    → hash owned ≡ held → option_map pair_of o ≡ differ owned (Some shown) → digest ≡ held → digest ≡ hash shown
+digest_beside hash owned shown held digest o none is pair own =
+    own ∙ sym is ∙ ap hash (same_strings owned shown (sym (ap (option_map pair_of) none) ∙ pair))
+
+-- what is pruned
+pub pruned_walked : (hash : List ℕ → List ℕ) (s : Standing) (c : Child) (P : Cut) (rest before after : List ℕ)
+    (x : Entry) → is_pruned P ≡ true → before ≡ cut_bytes P ++ rest → FitsCut c.level P
+    → ((part : Shown) → FitsCut c.level (Pruned part) → before ≡ cut_bytes (Pruned part) ++ rest
+    → Passed hash c.level (Pruned part) rest x after)
+    → WalkedOne hash s c c.level P rest (record { entry = x; clash = None }) after
+pruned_walked hash s c P rest before after x is e fits passed =
+    let p = item_pruned hash c.level P rest before after x is e fits passed in
+    record { says = p.says; behind = p.behind; compared = λ same. pruned_compared hash s c P is }
 
 module _ (hash : List ℕ → List ℕ) (s : Standing) (c : Child) (n : Node) (shows : Shows hash s c n) where
   may_all : AllByRecursion (MayFetch hash s) (children_in n)
   may_all = recursion_from_All (MayFetch hash s) (children_in n) shows.children
 
-  -- the two strings of the node differ
-  pub walk_clash : (P : Cut) (x : Opened hash c.level P) (o : Option Clash) (clash : Clash)
-      → entry_of c ≡ entry (scheme hash) c.level P → o ≡ Some clash
-      → option_map pair_of o ≡ differ (preimage_of n) (Some x.string)
-      → Compared hash s c.id c.level P (Some (pair_of clash))
-  walk_clash P x o clash same is d =
-      clash_compared hash s c n shows may_all P x.string (pair_of clash) x.is same
-      (sym (ap (option_map pair_of) is) ∙ d)
-
-  -- the two strings of a leaf are one
-  pub walk_leaf : (P : Cut) (x : Opened hash c.level P) (o : Option Clash) → FitsCut c.level P → c.level ≡ 0
-      → is_pruned P ≡ false → o ≡ None → option_map pair_of o ≡ differ (preimage_of n) (Some x.string)
-      → Compared hash s c.id c.level P None
-  walk_leaf (Pruned part) x o fits flat not_pruned is d = absurd cc
-  walk_leaf (Leaf rs) x o fits flat not_pruned is d =
-      let string : x.string ≡ node_preimage (node.Leaf rs) = same_some x.string _ (sym x.is) in
-      leaf_compared hash s c n shows may_all rs
-      (sym (ap (option_map pair_of) is) ∙ d ∙ ap (λ y. differ (preimage_of n) (Some y)) string)
-  walk_leaf (Inner cuts) x o fits flat not_pruned is d =
+  -- a leaf
+  pub leaf_walked : (P : Cut) (rest before after owned : List ℕ) (w : Walked) → FitsCut c.level P → c.level ≡ 0
+      → is_pruned P ≡ false → before ≡ cut_bytes P ++ rest → owned ≡ preimage_of n
+      → ((rs : List Record) → FitsCut 0 (Leaf rs) → before ≡ cut_bytes (Leaf rs) ++ rest
+      → WalkedLeaf hash rs rest owned w after)
+      → WalkedOne hash s c c.level P rest w after
+  leaf_walked (Pruned part) rest before after owned w fits flat not_pruned e is walked = absurd cc
+  leaf_walked (Inner Ps) rest before after owned w fits flat not_pruned e is walked =
       let above = fits.0.above in absurd (omega (arith, above, flat))
+  leaf_walked (Leaf rs) rest before after owned w fits flat not_pruned e is walked =
+      let y = node_preimage (node.Leaf rs) in
+      let x = walked rs (record { at_leaf = refl; some = fits.some; few = fits.few; each = fits.each }) e in
+      record {
+        says = x.says;
+        behind = x.behind;
+        compared = λ same. subst (Compared hash s c.id c.level (Leaf rs))
+            (sym (x.pair ∙ ap (λ o. differ o (Some y)) is)) (by_pair (differ (preimage_of n) (Some y)) refl same);
+      }
+    where
+      by_pair : (o : Option Pair) → differ (preimage_of n) (Some (node_preimage (node.Leaf rs))) ≡ o
+          → entry_of c ≡ entry (scheme hash) c.level (Leaf rs) → Compared hash s c.id c.level (Leaf rs) o
+      by_pair None d same = leaf_compared hash s c n shows may_all rs (sym d)
+      by_pair (Some p) d same =
+          clash_compared hash s c n shows may_all (Leaf rs) (node_preimage (node.Leaf rs)) p refl same (sym d)
 
-  -- those of an inner node are one, and its children were walked
-  pub walk_inner : {E : Type 0} → ((m : List ℕ) → length (hash m) ≡ 32) → (P : Cut) (x : Opened hash c.level P)
-      (o : Option Clash) (cs : List Child) (rest after : List ℕ) (r : Result (Option Clash) E) → FitsCut c.level P
-      → (c.level ≡ 0 → ⊥) → is_pruned P ≡ false → o ≡ None
-      → option_map pair_of o ≡ differ (preimage_of n) (Some x.string) → IsView n → n ≡ node.Inner (children_in n)
-      → cs ≡ children_in n
+  -- an inner node
+  pub inner_walked : ((m : List ℕ) → length (hash m) ≡ 32) → (P : Cut) (cs : List Child)
+      (rest before after owned : List ℕ) (row : Row) (w : Walked) → FitsCut c.level P → (c.level ≡ 0 → ⊥)
+      → is_pruned P ≡ false → before ≡ cut_bytes P ++ rest → owned ≡ preimage_of n → IsView n
+      → n ≡ node.Inner (children_in n) → cs ≡ children_in n
       → All (λ (d : Child). d.level + 1 ≡ level_of n) (children_in n)
-      → ((Ps : Cuts) → P ≡ Inner Ps → FitCuts (c.level - 1) Ps → map entry_of cs
-      ≡ entries (scheme hash) (c.level - 1) Ps
-      → IfOk r (λ o. ComparedAll hash s (c.level - 1) cs Ps (option_map pair_of o) × (o ≡ None → after ≡ rest)))
-      → IfOk r (λ o. Compared hash s c.id c.level P (option_map pair_of o) × (o ≡ None → after ≡ rest))
-  walk_inner sized (Pruned part) x o cs rest after r fits above not_pruned is d view inner own alike walked = absurd cc
-  walk_inner sized (Leaf rs) x o cs rest after r fits above not_pruned is d view inner own alike walked =
-      absurd (above fits.at_leaf)
-  walk_inner sized (Inner Ps) x o cs rest after r fits above not_pruned is d view inner own alike walked =
-      let w = c.level - 1 in
-      let string : x.string ≡ node_preimage (node.Inner (entries (scheme hash) w Ps)) = same_some x.string _
-      (sym x.is) in
-      let none : None ≡ differ (preimage_of n) (Some (node_preimage (node.Inner (entries (scheme hash) w Ps)))) =
-      sym (ap (option_map pair_of) is) ∙ d ∙ ap (λ y. differ (preimage_of n) (Some y)) string in
+      → ((Ps : Cuts) → FitsCut c.level (Inner Ps) → before ≡ cut_bytes (Inner Ps) ++ rest
+      → WalkedAll hash s (c.level - 1) cs Ps rest row after)
+      → Closed hash c.level owned row w → WalkedOne hash s c c.level P rest w after
+  inner_walked sized (Pruned part) cs rest before after owned row w fits above not_pruned e is view inner own alike
+      walked closed = absurd cc
+  inner_walked sized (Leaf rs) cs rest before after owned row w fits above not_pruned e is view inner own alike
+      walked closed = absurd (above fits.at_leaf)
+  inner_walked sized (Inner Ps) cs rest before after owned row w fits above not_pruned e is view inner own alike
+      walked closed =
+      let v = c.level - 1 in
+      let es = row.entries.items in
+      let all = walked Ps fits e in
+      let above = fits.0.above in
+      let up : c.level ≡ v + 1 = omega (arith, above) in
+      let shown : string_over c.level es ≡ node_preimage (node.Inner (entries (scheme hash) v Ps)) =
+      inner_string_shown hash v c.level Ps es up fits.0.some fits.1 all.say in
+      let passed = inner_passed hash v c.level Ps rest es es w.entry after up fits.0.some fits.1 all.say refl
+      closed.at_level closed.place closed.digest all.behind in
       let is_inner : n ≡ node.Inner cs = inner ∙ ap node.Inner (sym own) in
-      let strings = sym (ap preimage_of is_inner) ∙ same_strings _ _ none in
-      let each = recursion_from_All IsChild cs (children_of n cs is_inner view) in
-      let levels = below_all (children_in n) cs own
-      (recursion_from_All (λ (d : Child). d.level + 1 ≡ level_of n) (children_in n) alike) in
-      let same = same_children hash sized w cs Ps each levels fits.1 strings in
-      through r (walked Ps refl fits.1 same) is_inner none
+      record {
+        says = passed.says;
+        behind = passed.behind;
+        compared = λ same. subst (Compared hash s c.id c.level (Inner Ps))
+            (sym (closed.pair ∙ (λ i. or_else (differ (is i) (Some (shown i))) (option_map pair_of row.clash))))
+            (by_pair (differ (preimage_of n) (Some (node_preimage (node.Inner (entries (scheme hash) v Ps))))) refl
+            is_inner all.compared same);
+      }
     where
       children_of : (n : Node) (cs : List Child) → n ≡ node.Inner cs → IsView n → All IsChild cs
       children_of n cs e view = let v : IsInner cs = subst IsView e view in v.each
@@ -468,72 +349,19 @@ module _ (hash : List ℕ → List ℕ) (s : Standing) (c : Child) (n : Node) (s
           lower [] all = tt
           lower (d ∷ ds) all = (omega (arith, all.0, shows.level), lower ds all.1)
 
-      through : {E : Type 0} (r : Result (Option Clash) E)
-          → IfOk r (λ o. ComparedAll hash s (c.level - 1) cs Ps (option_map pair_of o) × (o ≡ None → after ≡ rest))
+      by_pair : (o : Option Pair)
+          → differ (preimage_of n) (Some (node_preimage (node.Inner (entries (scheme hash) (c.level - 1) Ps)))) ≡ o
           → n ≡ node.Inner cs
-          → None ≡ differ (preimage_of n) (Some (node_preimage (node.Inner (entries (scheme hash) (c.level - 1) Ps))))
-          → IfOk r (λ o. Compared hash s c.id c.level (Inner Ps) (option_map pair_of o) × (o ≡ None → after ≡ rest))
-      through (Ok o) h e none =
-          (inner_compared hash s c n shows may_all cs Ps (option_map pair_of o) e none h.0, h.1)
-      through (Err f) h e none = tt
-
--- ---- one of several
-
-pub child_level : (w : ℕ) (cs : List Child) (i : ℕ) (c : Child) → i < length cs → c ≡ get_or cs i c
-    → All (λ (d : Child). d.level ≡ w) cs → c.level ≡ w
-child_level w cs i c lt is all = at cs i lt is (recursion_from_All (λ (d : Child). d.level ≡ w) cs all)
-  where
-    at : (cs : List Child) (i : ℕ) → i < length cs → c ≡ get_or cs i c
-        → AllByRecursion (λ (d : Child). d.level ≡ w) cs → c.level ≡ w
-    at [] i lt is all = absurd (omega arith)
-    at (d ∷ cs) zero lt is all = ap (λ (d : Child). d.level) is ∙ all.0
-    at (d ∷ cs) (suc i) lt is all = at cs i (omega arith) is all.1
-
--- what a walk of a node comes to, at its level
-abbrev pub WalkedOne : (List ℕ → List ℕ) → Standing → Child → ℕ → (before after : List ℕ) → Option Clash → Type 0
-WalkedOne hash s c v before after o =
-    (P : Cut) (rest : List ℕ) → FitsCut v P → before ≡ cut_bytes P ++ rest → entry_of c ≡ entry (scheme hash) v P
-    → Compared hash s c.id v P (option_map pair_of o) × (o ≡ None → after ≡ rest)
-
-pub walked_at : (hash : List ℕ → List ℕ) (s t : Standing) (c : Child) (w : ℕ) (before after : List ℕ)
-    (o : Option Clash) → s ≡ t → c.level ≡ w → WalkedOne hash s c c.level before after o
-    → WalkedOne hash t c w before after o
-walked_at hash s t c w before after o same level walked =
-    subst (λ v. WalkedOne hash t c v before after o) level
-    (subst (λ (s : Standing). WalkedOne hash s c c.level before after o) same walked)
-
-some_pair : (clash : Clash) (o : Option Clash) → o ≡ Some clash → option_map pair_of o ≡ Some (pair_of clash)
-some_pair clash o e = ap (option_map pair_of) e
-
--- a pair was found under this child
-pub found_among : (hash : List ℕ → List ℕ) (s : Standing) (w : ℕ) (cs : List Child) (Ps : Cuts) (rest : List ℕ)
-    (i : ℕ) (c : Child) (bytes after : List ℕ) (o : Option Clash) (clash : Clash) → i < length cs
-    → c ≡ get_or cs i c → map entry_of cs ≡ entries (scheme hash) w Ps → FitCuts w Ps
-    → NoneYet hash s w cs Ps rest i bytes → WalkedOne hash s c w bytes after o → o ≡ Some clash
-    → ComparedAll hash s w cs Ps (Some (pair_of clash))
-found_among hash s w cs Ps rest i c bytes after o clash lt is same fits none walked e =
-    let x = next_child hash s w cs Ps rest i c bytes lt is same fits none in
-    let one = walked x.cut (cuts_bytes (drop_cuts (i + 1) Ps) ++ rest) x.fits x.left_is x.same in
-    pair_among hash s w cs Ps rest i c bytes (pair_of clash) lt is none x
-    (subst (Compared hash s c.id w x.cut) (some_pair clash o e) one.0)
-
--- none was found
-pub none_found : (hash : List ℕ → List ℕ) (s : Standing) (w : ℕ) (cs : List Child) (Ps : Cuts) (rest : List ℕ)
-    (i : ℕ) (c : Child) (bytes after : List ℕ) (o : Option Clash) → i < length cs
-    → c ≡ get_or cs i c → map entry_of cs ≡ entries (scheme hash) w Ps → FitCuts w Ps
-    → NoneYet hash s w cs Ps rest i bytes → WalkedOne hash s c w bytes after o → o ≡ None
-    → NoneYet hash s w cs Ps rest (i + 1) after
-none_found hash s w cs Ps rest i c bytes after o lt is same fits none walked e =
-    let x = next_child hash s w cs Ps rest i c bytes lt is same fits none in
-    let one = walked x.cut (cuts_bytes (drop_cuts (i + 1) Ps) ++ rest) x.fits x.left_is x.same in
-    none_more_yet hash s w cs Ps rest i c bytes after lt is none x
-    (subst (Compared hash s c.id w x.cut) (ap (option_map pair_of) e) one.0) (one.1 e)
-
--- what is left behind all of them
-pub left_behind : (hash : List ℕ → List ℕ) (s : Standing) (w : ℕ) (cs : List Child) (Ps : Cuts) (rest : List ℕ)
-    (i : ℕ) (bytes : List ℕ) → length cs ≤ i → map entry_of cs ≡ entries (scheme hash) w Ps
-    → NoneYet hash s w cs Ps rest i bytes → bytes ≡ rest
-left_behind hash s w cs Ps rest i bytes le e none =
-    let count = ap length e in
-    none.left_is ∙ ap (λ Qs. cuts_bytes Qs ++ rest)
-    (drop_all Ps i (omega (arith, le, count, length-entries hash w Ps, length-map cs entry_of)))
+          → (map entry_of cs ≡ entries (scheme hash) (c.level - 1) Ps
+          → ComparedAll hash s (c.level - 1) cs Ps (option_map pair_of row.clash))
+          → entry_of c ≡ entry (scheme hash) c.level (Inner Ps)
+          → Compared hash s c.id c.level (Inner Ps) (or_else o (option_map pair_of row.clash))
+      by_pair (Some p) d is_inner all same = clash_compared hash s c n shows may_all (Inner Ps)
+          (node_preimage (node.Inner (entries (scheme hash) (c.level - 1) Ps))) p refl same (sym d)
+      by_pair None d is_inner all same =
+          let strings = sym (ap preimage_of is_inner) ∙ same_strings _ _ (sym d) in
+          let each = recursion_from_All IsChild cs (children_of n cs is_inner view) in
+          let levels = below_all (children_in n) cs own
+          (recursion_from_All (λ (d : Child). d.level + 1 ≡ level_of n) (children_in n) alike) in
+          let one = same_children hash sized (c.level - 1) cs Ps each levels fits.1 strings in
+          inner_compared hash s c n shows may_all cs Ps (option_map pair_of row.clash) is_inner (sym d) (all one)

@@ -1,23 +1,23 @@
 -- What the auditor's private functions do, one by one. Nothing of this has to be believed: no
 -- public contract cites it.
-use Rattle.std.specs.Prelude.{◌≡◌, ℕ, ◌++◌, List, length, map, All, Option, Some, None, option_map, IfOk, IfSome, IsSome, Result, Ok, Err, Bool, true, false}
+use Rattle.std.specs.Prelude.{◌≡◌, ℕ, ◌-◌, ◌∷◌, ◌++◌, List, length, map, Option, Some, None, option_map, IfOk, IfSome, IsSome, Result, Ok, Err, Bool, true, false}
 use Rattle.std.specs.Global.{Vec}
 use Rattle.std.specs.List.{flat_map}
-use Rattle.mr_record.specs.Record.{IsRecord, record_bytes}
 use Rattle.mr_record.specs.declared.record.Record.{Record}
 use Rattle.mr_record.specs.declared.version.Version.TheVariants.{One}
-use Rattle.mr_tree.specs.Digest.{Scheme, by, root_preimage}
+use Rattle.mr_tree.specs.Tree.{union_of}
+use Rattle.mr_tree.specs.Digest.{Scheme, by, inner_tag, entry_bytes, root_preimage}
 use Rattle.mr_tree.specs.Nodes.{Standing, top_version, root_entry}
 use Rattle.mr_tree.specs.declared.entry.Entry.{Entry}
-use Rattle.mr_tree.specs.View.{Node, entry_of, preimage_of}
+use Rattle.mr_tree.specs.View.{entry_of}
 use Rattle.mr_tree.specs.declared.child.Child.{Child}
 use Rattle.mr_tree.specs.declared.nodes.Top.{Top}
 use Rattle.mr_tree.specs.declared.tree.Tree.{Tree}
 use Rattle.mr_proof.specs.declared.head.Head.{Head}
 use Rattle.mr_proof.specs.Cut.{Cut, Cuts, Pruned, Leaf, Inner, count_of, entry, entries, preimage}
-use Rattle.mr_proof.specs.Spelling.{version_of, cut_bytes, cuts_bytes, part_bytes, FitsCut, FitCuts, FitsPart, IsSpelled}
+use Rattle.mr_proof.specs.Spelling.{version_of, cut_bytes, cuts_bytes, part_bytes, FitsCut, FitCuts, IsSpelled}
 use Rattle.mr_proof.specs.Accepted.{root_bytes, root_found}
-use Rattle.mr_proof.specs.Clash.{Pair, differ, node_clash, children_clash, clash, IsCollision}
+use Rattle.mr_proof.specs.Clash.{Pair, differ, or_else, node_clash, children_clash, clash, IsCollision}
 use Rattle.mr_check.specs.declared.error.CheckErr.{CheckErr}
 use Rattle.mr_check.specs.declared.error.CheckErr.TheVariants as errors
 use Rattle.mr_clash.specs.declared.error.AuditErr.{AuditErr}
@@ -27,6 +27,8 @@ use Rattle.mr_clash.specs.declared.finding.Finding.{Finding}
 use Rattle.mr_clash.specs.declared.finding.Finding.TheVariants as findings
 use Rattle.mr_clash.specs.declared.rest.Rest.{Rest}
 use Rattle.mr_clash.specs.declared.root.Said.{Said}
+use Rattle.mr_clash.specs.declared.walked.Row.{Row}
+use Rattle.mr_clash.specs.declared.walked.Walked.{Walked}
 
 -- ---- values
 
@@ -42,13 +44,6 @@ abbrev pub scheme : (List ℕ → List ℕ) → Scheme
 scheme hash = by One hash
 
 -- ---- the bytes of a proof, taken from the front
-
-abbrev pub GivesRecords : ℕ → (before after : List ℕ) → {E : Type 0}
-    → Result (Vec Record) E → Type 0
-GivesRecords count before after result =
-    (rs : List Record) (rest : List ℕ) → length rs ≡ count → All IsRecord rs
-    → before ≡ flat_map record_bytes rs ++ rest
-    → IfOk result (λ v. (v.items ≡ rs) × (after ≡ rest))
 
 -- an item was passed over, and this is said of its node
 pub record Passed (hash : List ℕ → List ℕ) (level : ℕ) (P : Cut) (rest : List ℕ) (x : Entry)
@@ -75,12 +70,6 @@ PassesAll hash level count before after result =
     → before ≡ cuts_bytes Ps ++ rest
     → IfOk result (λ v. PassedAll hash level Ps rest v.items after)
 
--- the string of the opened node that stands next
-abbrev pub Strings : {E : Type 0} → (List ℕ → List ℕ) → ℕ → List ℕ → Result (Vec ℕ) E → Type 0
-Strings hash level before result =
-    (P : Cut) (rest y : List ℕ) → FitsCut level P → before ≡ cut_bytes P ++ rest
-    → preimage (scheme hash) level P ≡ Some y → IfOk result (λ v. v.items ≡ y)
-
 -- ---- a node of the map and a cut of it
 
 abbrev pub is_pruned : Cut → Bool
@@ -95,15 +84,6 @@ pub record Compared (hash : List ℕ → List ℕ) (s : Standing) (id level : �
   pub collides : IfSome pair (IsCollision hash)
   pub told : IsSome s.tree → IfSome (s.node id) (λ t. pair ≡ node_clash (scheme hash) level t P)
 
--- without a pair the item was passed over
-abbrev pub Compares : {E : Type 0} → (List ℕ → List ℕ) → Standing → Child
-    → (before after : List ℕ) → Result (Option Clash) E → Type 0
-Compares hash s c before after result =
-    (P : Cut) (rest : List ℕ) → FitsCut c.level P → before ≡ cut_bytes P ++ rest
-    → entry_of c ≡ entry (scheme hash) c.level P
-    → IfOk result (λ o. Compared hash s c.id c.level P (option_map pair_of o)
-    × (o ≡ None → after ≡ rest))
-
 pub record ComparedAll (hash : List ℕ → List ℕ) (s : Standing) (level : ℕ) (cs : List Child)
     (Ps : Cuts) (pair : Option Pair) : Type 0 where
   pub collides : IfSome pair (IsCollision hash)
@@ -111,22 +91,64 @@ pub record ComparedAll (hash : List ℕ → List ℕ) (s : Standing) (level : �
       → map (λ (c : Child). s.node c.id) cs ≡ map Some ts
       → pair ≡ children_clash (scheme hash) level ts Ps
 
--- the same of some nodes of this level, side by side
-abbrev pub ComparesAll : {E : Type 0} → (List ℕ → List ℕ) → Standing → ℕ → List Child
-    → (before after : List ℕ) → Result (Option Clash) E → Type 0
-ComparesAll hash s level cs before after result =
-    (Ps : Cuts) (rest : List ℕ) → FitCuts level Ps → before ≡ cuts_bytes Ps ++ rest
-    → map entry_of cs ≡ entries (scheme hash) level Ps
-    → IfOk result (λ o. ComparedAll hash s level cs Ps (option_map pair_of o)
-    × (o ≡ None → after ≡ rest))
+-- An item of this level was passed over beside the node of the map of which the child is the entry.
+-- The pair is that of the two, where what is said of them is one.
+pub record WalkedOne (hash : List ℕ → List ℕ) (s : Standing) (c : Child) (level : ℕ) (P : Cut)
+    (rest : List ℕ) (w : Walked) (after : List ℕ) : Type 0 where
+  pub says : w.entry ≡ entry (scheme hash) level P
+  pub behind : after ≡ rest
+  pub compared : entry_of c ≡ entry (scheme hash) level P
+      → Compared hash s c.id level P (option_map pair_of w.clash)
 
--- of a node that was fetched, and the opened cut of it that stands next: the two strings alone
-abbrev pub ComparesNode : {E : Type 0} → (List ℕ → List ℕ) → Child → Node → List ℕ
-    → Result (Option Clash) E → Type 0
-ComparesNode hash c n before result =
-    (P : Cut) (rest y : List ℕ) → FitsCut c.level P → before ≡ cut_bytes P ++ rest
-    → preimage (scheme hash) c.level P ≡ Some y
-    → IfOk result (λ o. option_map pair_of o ≡ differ (preimage_of n) (Some y))
+abbrev pub Walks : {E : Type 0} → (List ℕ → List ℕ) → Standing → Child → (before after : List ℕ)
+    → Result Walked E → Type 0
+Walks hash s c before after result =
+    (P : Cut) (rest : List ℕ) → FitsCut c.level P → before ≡ cut_bytes P ++ rest
+    → IfOk result (λ w. WalkedOne hash s c c.level P rest w after)
+
+-- the same of some items of this level, side by side
+pub record WalkedAll (hash : List ℕ → List ℕ) (s : Standing) (level : ℕ) (cs : List Child)
+    (Ps : Cuts) (rest : List ℕ) (row : Row) (after : List ℕ) : Type 0 where
+  pub say : row.entries.items ≡ entries (scheme hash) level Ps
+  pub behind : after ≡ rest
+  pub compared : map entry_of cs ≡ entries (scheme hash) level Ps
+      → ComparedAll hash s level cs Ps (option_map pair_of row.clash)
+
+abbrev pub WalksAll : {E : Type 0} → (List ℕ → List ℕ) → Standing → ℕ → List Child
+    → (before after : List ℕ) → Result Row E → Type 0
+WalksAll hash s level cs before after result =
+    (Ps : Cuts) (rest : List ℕ) → FitCuts level Ps → count_of Ps ≡ length cs
+    → before ≡ cuts_bytes Ps ++ rest
+    → IfOk result (λ row. WalkedAll hash s level cs Ps rest row after)
+
+-- of the children of an inner node of this level, as many as they are
+abbrev pub WalksChildren : {E : Type 0} → (List ℕ → List ℕ) → Standing → ℕ → List Child
+    → (before after : List ℕ) → Result Row E → Type 0
+WalksChildren hash s level cs before after result =
+    (Ps : Cuts) (rest : List ℕ) → FitsCut level (Inner Ps) → before ≡ cut_bytes (Inner Ps) ++ rest
+    → IfOk result (λ row. WalkedAll hash s (level - 1) cs Ps rest row after)
+
+-- a leaf was passed over, and its string compared with the owner's
+pub record WalkedLeaf (hash : List ℕ → List ℕ) (rs : List Record) (rest owned : List ℕ)
+    (w : Walked) (after : List ℕ) : Type 0 where
+  pub says : w.entry ≡ entry (scheme hash) 0 (Leaf rs)
+  pub behind : after ≡ rest
+  pub pair : option_map pair_of w.clash ≡ differ owned (preimage (scheme hash) 0 (Leaf rs))
+
+-- the string of an inner node of this level, by what is said of its children
+abbrev pub string_over : ℕ → List Entry → List ℕ
+string_over level children =
+    inner_tag ∷ level ∷ length children ∷ flat_map entry_bytes children
+
+-- so many items made an inner node of this level, and its string was compared with the owner's
+pub record Closed (hash : List ℕ → List ℕ) (level : ℕ) (owned : List ℕ) (row : Row) (w : Walked)
+    : Type 0 where
+  pub at_level : w.entry.level ≡ level
+  pub place : w.entry.rect ≡ union_of (map (λ (e : Entry). e.rect) row.entries.items)
+  pub digest : w.entry.digest ≡ hash (string_over level row.entries.items)
+  pub pair : option_map pair_of w.clash
+      ≡ or_else (differ owned (Some (string_over level row.entries.items)))
+      (option_map pair_of row.clash)
 
 -- ---- the whole
 
@@ -142,19 +164,12 @@ pub record SaysOf (h : Head) (rest : List ℕ) (said : Said) (after : List ℕ) 
 abbrev pub root_at : Top → List ℕ
 root_at top = root_preimage (top_version top) top.batch top.count (root_entry top.root)
 
--- what is said of the root node of whatever cut stands next gives the string of its root
-abbrev pub KnowsRoot : {E : Type 0} → (List ℕ → List ℕ) → Said → List ℕ → Result Entry E → Type 0
-KnowsRoot hash said before result =
-    (h : Head) (P : Option Cut) → FitsPart h P → said.count ≡ h.count → said.level ≡ h.level
-    → before ≡ part_bytes P
-    → IfOk result (λ x. root_preimage (version_of h) h.batch h.count x ≡ root_bytes hash h P)
-
--- the two strings of the roots alone
-abbrev pub ComparesRoots : {E : Type 0} → (List ℕ → List ℕ) → Top → Said → List ℕ
+-- the two strings of the roots, by what is said of the root node of a cut
+abbrev pub ComparesRoots : {E : Type 0} → (List ℕ → List ℕ) → Top → Said → Entry
     → Result (Option Clash) E → Type 0
-ComparesRoots hash top said before result =
-    (h : Head) (P : Option Cut) → FitsPart h P → said.version ≡ version_of h
-    → said.batch ≡ h.batch → said.count ≡ h.count → said.level ≡ h.level → before ≡ part_bytes P
+ComparesRoots hash top said x result =
+    (h : Head) (P : Option Cut) → said.version ≡ version_of h → said.batch ≡ h.batch
+    → said.count ≡ h.count → root_preimage (version_of h) h.batch h.count x ≡ root_bytes hash h P
     → IfOk result (λ o. option_map pair_of o ≡ differ (root_at top) (Some (root_bytes hash h P)))
 
 -- what was found of the map and the head and cut that bytes spell
@@ -162,6 +177,27 @@ pub record ComparedMap (hash : List ℕ → List ℕ) (s : Standing) (bytes : Li
     (pair : Option Pair) : Type 0 where
   pub collides : IfSome pair (IsCollision hash)
   pub told : IfSome s.tree (λ t. pair ≡ clash (by s.version hash) t s.batch bytes)
+
+-- the root item was passed over beside no node
+abbrev pub PassesRoot : {E : Type 0} → (List ℕ → List ℕ) → ℕ → List ℕ → Result Walked E → Type 0
+PassesRoot hash level before result =
+    (P : Cut) → FitsCut level P → before ≡ cut_bytes P
+    → IfOk result (λ w. w.entry ≡ entry (scheme hash) level P)
+
+-- The root item was passed over, if there is one. What is said of it gives the string of the root,
+-- and where the strings of the roots are one, the pair is that of the whole.
+pub record WalkedRoot (hash : List ℕ → List ℕ) (s : Standing) (top : Top) (h : Head)
+    (P : Option Cut) (bytes : List ℕ) (w : Walked) : Type 0 where
+  pub root : root_preimage (version_of h) h.batch h.count w.entry ≡ root_bytes hash h P
+  pub compared : None ≡ differ (root_at top) (Some (root_bytes hash h P))
+      → ComparedMap hash s bytes (option_map pair_of w.clash)
+
+abbrev pub WalksRoot : {E : Type 0} → (List ℕ → List ℕ) → Standing → Top → Said → List ℕ
+    → Result Walked E → Type 0
+WalksRoot hash s top said before result =
+    (h : Head) (P : Option Cut) (bytes : List ℕ) → IsSpelled h P bytes → said.count ≡ h.count
+    → said.level ≡ h.level → before ≡ part_bytes P
+    → IfOk result (λ w. WalkedRoot hash s top h P bytes w)
 
 abbrev pub ComparesMap : {E : Type 0} → (List ℕ → List ℕ) → Standing → Top → List ℕ
     → Result (Option Clash) E → Type 0

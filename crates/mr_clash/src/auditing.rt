@@ -9,13 +9,14 @@ ghost use Rattle.mr_tree.specs.declared.tree.Tree as trees;
 ghost use Rattle.mr_query.specs.Word.{IsAskable};
 ghost use Rattle.mr_clash.specs.Causes.{AuditCauses, IsHandedOn, of_nodes};
 ghost use Rattle.mr_clash.specs.Finding.{found, finding_by as by_pair, Collides, FindsHonest};
-ghost use Rattle.mr_clash.specs.Steps.{left, pair_of, ComparesMap, ComparesRoots, KnowsRoot, Refuses, root_at};
+ghost use Rattle.mr_clash.specs.Steps.{left, pair_of, root_at, ComparesMap, ComparesRoots, PassesRoot, Refuses, WalksRoot};
 
-use crate::finding::Clash;
+use crate::finding::{Clash, clash_of, first_of};
 use crate::items::pass_item;
 use crate::rest::Rest;
 use crate::root::{Said, read_head, root_string};
-use crate::walking::{clash_of, digests_are_sized, walk};
+use crate::walked::Walked;
+use crate::walking::{digests_are_sized, walk};
 use crate::{AuditErr, Finding};
 use mr_check::{CheckErr, check};
 use mr_geom::Rect;
@@ -33,31 +34,19 @@ fn root_of<H: Hashes>(top: &Top) -> [u8; 32]
     root_digest::<H>(top.version(), top.batch, top.count, &top.root_entry())
 }
 
-// What is said of the root node of the cut that stands next, if there is one.
-fn root_node<H: Hashes>(alloc: Global, said: &Said, from: &Rest<'_>) -> Result<Entry, AllocError>
-    ensures { KnowsRoot H.of said.now (left from.now) result }
-{
-    if said.count == 0 {
-        return Ok(Entry::none());
-    }
-    let mut ahead = *from;
-    pass_item::<H>(alloc, said.level, &mut ahead)
-}
-
-// The strings of the two roots, where they differ.
-fn compare_roots<H: Hashes>(
+// The strings of the two roots, where they differ, by what is said of the root node of a proof.
+fn compare_roots(
     alloc: Global,
     top: &Top,
     said: &Said,
-    from: &Rest<'_>,
+    node: &Entry,
 ) -> Result<Option<Clash>, AllocError>
-    ensures { ComparesRoots H.of top.now said.now (left from.now) result }
+    ensures { (hash : List ℕ → List ℕ) → ComparesRoots hash top.now said.now node.now result }
 {
     let root = top.root_entry();
     let owned = root_string(alloc, top.version(), top.batch, top.count, &root)?;
-    let node = root_node::<H>(alloc, said, from)?;
-    let shown = root_string(alloc, said.version, said.batch, said.count, &node)?;
-    Ok(clash_of(owned, shown))
+    let shown = root_string(alloc, said.version, said.batch, said.count, node)?;
+    clash_of(alloc, owned, &shown)
 }
 
 // What the types tell of their values.
@@ -71,6 +60,54 @@ fn is_rect(one: &Rect)
     ensures fits { FitsMap one.now }
 {
     let _corners = one.corners();
+}
+
+// The root item behind the head, beside no node of the map.
+fn pass_root<H: Hashes>(alloc: Global, level: u8, from: &mut Rest<'_>) -> Result<Walked, AllocError>
+    ensures { PassesRoot H.of level (left from.old) result }
+{
+    let entry = pass_item::<H>(alloc, level, from)?;
+    Ok(Walked { entry, clash: None })
+}
+
+// The root item behind the head, if there is one, beside the root node of the map. Where the two
+// have not one level, the strings of the roots differ, and so do they where only one is there.
+fn walk_root<N: Nodes>(
+    alloc: Global,
+    nodes: &mut N,
+    top: &Top,
+    said: &Said,
+    from: &mut Rest<'_>,
+) -> Result<Walked, AuditErr>
+    requires { IsTop N.Hash.of (N.stands nodes.old) top.now }
+    ensures kept { N.kept nodes.old nodes.new }
+    ensures causes { AuditCauses (N.stands nodes.old) (N.faults nodes.old) (N.faults nodes.new)
+        result }
+    ensures refused { IfErr result (IsHandedOn (N.refusal nodes.new)) }
+    ensures answered { TellsRefusal of_nodes (N.refusal nodes.old) (N.refusal nodes.new) result }
+    ensures walked { WalksRoot N.Hash.of (N.stands nodes.old) top.now said.now (left from.old)
+        result }
+{
+    if said.count == 0 {
+        let entry = Entry::none();
+        return Ok(Walked { entry, clash: None });
+    }
+    match top.root {
+        None => {
+            let alone = pass_root::<N::Hash>(alloc, said.level, from)?;
+            Ok(alone)
+        }
+        Some(root) => {
+            are_words(top.batch, top.count);
+            digests_are_sized::<N::Hash>();
+            is_rect(&root.rect);
+            if root.level == said.level {
+                return walk(alloc, nodes, &root, from);
+            }
+            let alone = pass_root::<N::Hash>(alloc, said.level, from)?;
+            Ok(alone)
+        }
+    }
 }
 
 // The first pair of the map and the head and cut that these bytes spell.
@@ -88,20 +125,11 @@ fn compare_map<N: Nodes>(
     ensures answered { TellsRefusal of_nodes (N.refusal nodes.old) (N.refusal nodes.new) result }
     ensures compared { ComparesMap N.Hash.of (N.stands nodes.old) top.now proof.now result }
 {
-    are_words(top.batch, top.count);
-    digests_are_sized::<N::Hash>();
     let mut from = Rest { bytes: proof };
     let said = read_head(&mut from);
-    if let Some(clash) = compare_roots::<N::Hash>(alloc, top, &said, &from)? {
-        return Ok(Some(clash));
-    }
-    match top.root {
-        None => Ok(None),
-        Some(root) => {
-            is_rect(&root.rect);
-            walk(alloc, nodes, &root, &mut from)
-        }
-    }
+    let node = walk_root(alloc, nodes, top, &said, &mut from)?;
+    let roots = compare_roots(alloc, top, &said, &node.entry)?;
+    Ok(first_of(roots, node.clash))
 }
 
 // The finding of bytes that are not accepted.
@@ -128,10 +156,12 @@ fn finding_by(answer: Vec<Record>, pair: Option<Clash>) -> Finding
 /// honest proof of the answer to the query, or show a collision.
 ///
 /// The proof is checked as a client checks it, against the root digest of the map. Bytes that are
-/// accepted are then compared with the map, a node before its children and children from left to
-/// right: the first two strings that stand at one place and differ have one hash. The walk fetches
-/// what the proof opens, and keeps the nodes on the path, at most eight, what is known of their
-/// children, and two strings.
+/// accepted are then compared with the map: of the strings that stand at one place and differ, a
+/// node's before its children's and children's from left to right, the first two have one hash.
+///
+/// The walk goes over the map and the bytes once, side by side. It fetches what the proof opens,
+/// and hashes only strings that differ from the map's or have none beside them. It keeps the nodes
+/// on the path, at most eight, what is known of their children, and a pair for each of them.
 pub fn audit<N: Nodes>(
     alloc: Global,
     nodes: &mut N,

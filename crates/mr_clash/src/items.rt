@@ -1,25 +1,27 @@
-//! The items of a proof whose bytes are spelled, one inside another: what is said of their nodes.
+//! Items of a proof with no node of the map at their place, one inside another: what is said of
+//! their nodes.
 
-ghost use Rattle.std.specs.Prelude.{◌≡◌, ◌≤◌, ◌<◌, ◌-◌, ◌++◌, ◌∷◌, ℕ, List, IfOk, length};
-ghost use Rattle.mr_proof.specs.Cut.{Cut, Pruned, Leaf, Inner, Cuts, count_of};
-ghost use Rattle.mr_proof.specs.Spelling.{FitsCut, cuts_bytes, shown_bytes};
+ghost use Rattle.std.specs.Prelude.{◌≡◌, ◌≤◌, ◌<◌, ◌++◌, ℕ, List, IfOk, length};
+ghost use Rattle.mr_proof.specs.Cut.{Cut, Pruned, Leaf, Inner, Cuts};
+ghost use Rattle.mr_proof.specs.Spelling.{FitsCut, cut_bytes};
 ghost use Rattle.mr_proof.specs.declared.shown.Shown as shown;
 ghost use Rattle.mr_record.specs.declared.record.Record as types;
-ghost use Rattle.mr_record.specs.Record.{record_bytes};
-ghost use Rattle.std.specs.List.{flat_map};
-ghost use Rattle.mr_clash.specs.Steps.{left, Passes, PassesAll, Passed, PassedAll};
+ghost use Rattle.mr_clash.specs.Steps.{left, Passes, PassesAll, Passed};
 
-use crate::entry::inner_entry;
-use crate::rest::{Rest, at_most, byte, digest, records, rect};
-use mr_tree::{Entry, Hashes, leaf_entry};
+use crate::entry::{bounds, digest_of};
+use crate::leaf::leaf_rect;
+use crate::rest::{Rest, byte, digest, is_pruned, passed, rect};
+use crate::strings::inner_string;
+use mr_tree::{Entry, Hashes};
 use std::alloc::{AllocError, Global};
 
-// The pruned part of this level that stands next, behind its tag.
-fn pass_pruned(level: u8, from: &mut Rest<'_>) -> Entry
+// The pruned part of this level that stands next.
+pub(crate) fn pass_pruned(level: u8, from: &mut Rest<'_>) -> Entry
     ensures { (hash : List ℕ → List ℕ) (part : shown.Shown) (rest : List ℕ)
-        → FitsCut level (Pruned part) → left from.old ≡ shown_bytes part ++ rest
+        → FitsCut level (Pruned part) → left from.old ≡ cut_bytes (Pruned part) ++ rest
         → Passed hash level (Pruned part) rest result (left from.new) }
 {
+    let _tag = byte(from);
     let rect = rect(from);
     let digest = digest(from);
     Entry {
@@ -29,49 +31,44 @@ fn pass_pruned(level: u8, from: &mut Rest<'_>) -> Entry
     }
 }
 
-// The leaf that stands next, behind its tag.
-fn pass_leaf<H: Hashes>(alloc: Global, from: &mut Rest<'_>) -> Result<Entry, AllocError>
+// The leaf that stands next.
+fn pass_leaf<H: Hashes>(from: &mut Rest<'_>) -> Entry
     ensures { (rs : List types.Record) (rest : List ℕ) → FitsCut 0 (Leaf rs)
-        → left from.old ≡ length rs ∷ flat_map record_bytes rs ++ rest
-        → IfOk result (λ x. Passed H.of 0 (Leaf rs) rest x (left from.new)) }
+        → left from.old ≡ cut_bytes (Leaf rs) ++ rest
+        → Passed H.of 0 (Leaf rs) rest result (left from.new) }
 {
-    let count = at_most(byte(from), 16);
-    let records = records(alloc, count, from)?;
-    Ok(leaf_entry::<H>(&records))
+    let whole = from.bytes;
+    let rect = leaf_rect(from);
+    let digest = digest_of::<H>(passed(whole, from));
+    Entry {
+        level: 0,
+        rect,
+        digest,
+    }
 }
 
-// The children of the inner node of this level that stands next, behind its tag.
-#[cycle(items)]
-pub(crate) fn pass_children<H: Hashes>(
-    alloc: Global,
-    level: u8,
-    from: &mut Rest<'_>,
-) -> Result<Vec<Entry>, AllocError>
-    requires { 0 < level }
-    ensures passed { (Ps : Cuts) (rest : List ℕ) → FitsCut level (Inner Ps)
-        → left from.old ≡ count_of Ps ∷ cuts_bytes Ps ++ rest
-        → IfOk result (λ v. PassedAll H.of (level - 1) Ps rest v.items (left from.new)) }
-    ensures few { IfOk result (λ v. length v.items ≤ 64) }
-{
-    let count = at_most(byte(from), 64);
-    pass_items::<H>(alloc, level - 1, count, from)
-}
-
-// The inner node of this level that stands next, behind its tag.
+// The inner node of this level that stands next.
 #[cycle(items)]
 fn pass_inner<H: Hashes>(alloc: Global, level: u8, from: &mut Rest<'_>) -> Result<Entry, AllocError>
     requires { 0 < level }
     ensures { (Ps : Cuts) (rest : List ℕ) → FitsCut level (Inner Ps)
-        → left from.old ≡ count_of Ps ∷ cuts_bytes Ps ++ rest
+        → left from.old ≡ cut_bytes (Inner Ps) ++ rest
         → IfOk result (λ x. Passed H.of level (Inner Ps) rest x (left from.new)) }
 {
-    let children = pass_children::<H>(alloc, level, from)?;
-    Ok(inner_entry::<H>(level, &children))
+    let _tag = byte(from);
+    let count = byte(from);
+    let children = pass_items::<H>(alloc, level - 1, count, from)?;
+    let string = inner_string(alloc, level, &children)?;
+    Ok(Entry {
+        level,
+        rect: bounds(&children),
+        digest: digest_of::<H>(&string),
+    })
 }
 
 // So many items of this level, side by side.
 #[cycle(items)]
-fn pass_items<H: Hashes>(
+pub(crate) fn pass_items<H: Hashes>(
     alloc: Global,
     level: u8,
     count: u8,
@@ -97,12 +94,11 @@ pub(crate) fn pass_item<H: Hashes>(
 ) -> Result<Entry, AllocError>
     ensures { Passes H.of level (left from.old) (left from.new) result }
 {
-    if byte(from) == b'P' {
+    if is_pruned(from) {
         return Ok(pass_pruned(level, from));
     }
     if level == 0 {
-        pass_leaf::<H>(alloc, from)
-    } else {
-        pass_inner::<H>(alloc, level, from)
+        return Ok(pass_leaf::<H>(from));
     }
+    pass_inner::<H>(alloc, level, from)
 }

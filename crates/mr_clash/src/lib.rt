@@ -6,9 +6,11 @@ mod entry;
 mod error;
 mod finding;
 mod items;
+mod leaf;
 mod rest;
 mod root;
 mod strings;
+mod walked;
 mod walking;
 
 pub use auditing::audit;

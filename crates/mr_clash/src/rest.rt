@@ -1,14 +1,15 @@
 //! What is left of the bytes of a proof.
 
-ghost use Rattle.std.specs.Prelude.{◌≡◌, ◌<◌, ◌≤◌, ◌^◌, ◌∷◌, ◌++◌, ℕ, List, length, Some, IfOk};
+ghost use Rattle.std.specs.Prelude.{◌≡◌, ◌<◌, ◌^◌, ◌∷◌, ◌++◌, ℕ, List, length, Some};
 ghost use Rattle.std.specs.Int.{w64, to_be_bytes};
 ghost use Rattle.mr_geom.specs.Rectangle.{Rectangle, IsOrdered, FitsMap};
 ghost use Rattle.mr_record.specs.Record.{rectangle_bytes};
-ghost use Rattle.mr_clash.specs.Steps.{left, GivesRecords};
+ghost use Rattle.mr_proof.specs.Cut.{Cut};
+ghost use Rattle.mr_proof.specs.Spelling.{cut_bytes};
+ghost use Rattle.mr_clash.specs.Steps.{left, is_pruned as pruned};
 
 use mr_geom::Rect;
-use mr_record::{Record, read_record, rect_of_bytes, u64_of_bytes};
-use std::alloc::{AllocError, Global};
+use mr_record::{rect_of_bytes, u64_of_bytes};
 
 // What is left of the bytes of a proof.
 #[derive(Clone, Copy)]
@@ -39,14 +40,6 @@ pub(crate) fn byte(from: &mut Rest<'_>) -> u8
         }
         None => 0,
     }
-}
-
-// A count, cut down to a limit.
-pub(crate) fn at_most(count: u8, limit: u8) -> u8
-    ensures few { result ≤ limit }
-    ensures same { count ≤ limit → result ≡ count }
-{
-    count.min(limit)
 }
 
 // Takes a number; 0 where 8 bytes are not left.
@@ -88,24 +81,19 @@ pub(crate) fn digest(from: &mut Rest<'_>) -> [u8; 32]
     digest
 }
 
-// Takes so many records, or as many as stand there.
-pub(crate) fn records(
-    alloc: Global,
-    count: u8,
-    from: &mut Rest<'_>,
-) -> Result<Vec<Record>, AllocError>
-    ensures gives { GivesRecords count (left from.old) (left from.new) result }
-    ensures few { IfOk result (λ v. length v.items ≤ count) }
+// The bytes before those that are left.
+pub(crate) fn passed<'a>(whole: &'a [u8], from: &Rest<'_>) -> &'a [u8]
+    ensures { (x rest : List ℕ) → whole.now ≡ x ++ rest → left from.now ≡ rest
+        → result.now ≡ x }
 {
-    let mut list = Vec::new(alloc);
-    for _ in 0..count {
-        match read_record(from.bytes) {
-            Ok((one, size)) => {
-                let _front = take(from, size);
-                list.push(one)?;
-            }
-            Err(_) => return Ok(list),
-        }
-    }
-    Ok(list)
+    let size = whole.len().saturating_sub(from.bytes.len());
+    &whole[..size]
+}
+
+// Whether the item that stands next is pruned.
+pub(crate) fn is_pruned(from: &Rest<'_>) -> bool
+    ensures { (P : Cut) (rest : List ℕ) → left from.now ≡ cut_bytes P ++ rest
+        → result ≡ pruned P }
+{
+    from.bytes.first() == Some(&b'P')
 }

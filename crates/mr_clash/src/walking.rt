@@ -1,60 +1,33 @@
-//! The nodes of the map and the cut that a proof shows, one after the other.
+//! The nodes of the map and the items of a proof, side by side.
 
-ghost use Rattle.std.specs.Prelude.{◌≡◌, ◌++◌, ℕ, List, length, All, OnOk, IfErr, Some, option_map, bytes_eq};
+ghost use Rattle.std.specs.Prelude.{◌≡◌, ◌+◌, ◌^◌, ◌<◌, ◌≤◌, ℕ, List, length, All, OnOk, IfOk, IfErr};
 ghost use Rattle.mr_tree.specs.Nodes.{MayFetch, Shows, TellsRefusal};
+ghost use Rattle.mr_tree.specs.View.{preimage_of};
 ghost use Rattle.mr_tree.specs.declared.child.Child as types;
-ghost use Rattle.mr_proof.specs.Clash.{differ};
-ghost use Rattle.mr_proof.specs.Cut.{Cut, Cuts, Inner};
-ghost use Rattle.mr_proof.specs.Spelling.{cut_bytes, cuts_bytes};
 ghost use Rattle.mr_clash.specs.Causes.{AuditCauses, IsHandedOn, of_nodes};
-ghost use Rattle.mr_clash.specs.Steps.{left, pair_of, is_pruned as pruned, Compares, ComparesAll, ComparesNode};
+ghost use Rattle.mr_clash.specs.Steps.{left, Walks, WalksAll, WalksChildren};
 
 use crate::AuditErr;
-use crate::finding::Clash;
-use crate::items::pass_item;
-use crate::rest::{Rest, byte};
-use crate::strings::{owned_string, shown_string};
+use crate::finding::first_of;
+use crate::items::{pass_items, pass_pruned};
+use crate::rest::{Rest, byte, is_pruned};
+use crate::strings::owned_string;
+use crate::walked::{Row, Walked, close_inner, walk_leaf};
 use mr_tree::{Child, Hashes, NodeView, Nodes, is_view};
-use std::alloc::Global;
+use std::alloc::{AllocError, Global};
 
 // What the hash function's laws tell.
 pub(crate) fn digests_are_sized<H: Hashes>()
     ensures { (bytes : List ℕ) → length (H.of bytes) ≡ 32 }
 {}
 
-fn are_same(one: &[u8], other: &[u8]) -> bool
-    ensures { result ≡ bytes_eq one.now other.now }
-{
-    one == other
-}
-
-// The two strings at one place, where they differ.
-pub(crate) fn clash_of(owned: Vec<u8>, shown: Vec<u8>) -> Option<Clash>
-    ensures { option_map pair_of result ≡ differ owned.items (Some shown.items) }
-{
-    if are_same(&owned, &shown) {
-        None
-    } else {
-        Some(Clash { owned, shown })
-    }
-}
-
-// Whether what stands next is pruned.
-fn is_pruned(from: &Rest<'_>) -> bool
-    ensures { (P : Cut) (rest : List ℕ) → left from.now ≡ cut_bytes P ++ rest
-        → result ≡ pruned P }
-{
-    from.bytes.first() == Some(&b'P')
-}
-
-// Fetches a node, and compares its string with that of the opened cut of it that stands next.
-fn compare<N: Nodes>(
+// Fetches a node, and gives its string.
+fn fetch<N: Nodes>(
     alloc: Global,
     nodes: &mut N,
     child: &Child,
     view: &mut NodeView,
-    from: &Rest<'_>,
-) -> Result<Option<Clash>, AuditErr>
+) -> Result<Vec<u8>, AuditErr>
     requires { MayFetch N.Hash.of (N.stands nodes.old) child.now }
     ensures kept { N.kept nodes.old nodes.new }
     ensures causes { AuditCauses (N.stands nodes.old) (N.faults nodes.old) (N.faults nodes.new)
@@ -62,24 +35,50 @@ fn compare<N: Nodes>(
     ensures refused { IfErr result (IsHandedOn (N.refusal nodes.new)) }
     ensures answered { TellsRefusal of_nodes (N.refusal nodes.old) (N.refusal nodes.new) result }
     ensures shows { OnOk result (Shows N.Hash.of (N.stands nodes.old) child.now view.new) }
-    ensures compared { ComparesNode N.Hash.of child.now view.new (left from.now) result }
+    ensures owned { IfOk result (λ v. v.items ≡ preimage_of view.new) }
 {
     nodes.fetch(child, view)?;
     let owned = owned_string(alloc, view)?;
-    let shown = shown_string::<N::Hash>(alloc, child.level, from)?;
-    Ok(clash_of(owned, shown))
+    Ok(owned)
 }
 
-// Comes behind the tag and the count of an inner node.
-fn enter(from: &mut Rest<'_>)
-    ensures { (Ps : Cuts) (rest : List ℕ) → left from.old ≡ cut_bytes (Inner Ps) ++ rest
-        → left from.new ≡ cuts_bytes Ps ++ rest }
+// The items behind the tag and the count of the inner node of this level that stands next, beside
+// the children of a node of the map. Where they are not as many, the two strings differ, so that
+// nothing below matters but what is said of the items.
+#[cycle(walk)]
+fn walk_children<N: Nodes>(
+    alloc: Global,
+    nodes: &mut N,
+    level: u8,
+    children: &[Child],
+    from: &mut Rest<'_>,
+) -> Result<Row, AuditErr>
+    requires above { 0 < level }
+    requires few { length children.now ≤ 64 }
+    requires may { All (MayFetch N.Hash.of (N.stands nodes.old)) children.now }
+    requires alike { All (λ (c : types.Child). c.level + 1 ≡ level) children.now }
+    ensures kept { N.kept nodes.old nodes.new }
+    ensures causes { AuditCauses (N.stands nodes.old) (N.faults nodes.old) (N.faults nodes.new)
+        result }
+    ensures refused { IfErr result (IsHandedOn (N.refusal nodes.new)) }
+    ensures answered { TellsRefusal of_nodes (N.refusal nodes.old) (N.refusal nodes.new) result }
+    ensures walked { WalksChildren N.Hash.of (N.stands nodes.old) level children.now
+        (left from.old) (left from.new) result }
+    ensures few { IfOk result (λ row. length row.entries.items < 2 ^ 8) }
 {
     let _tag = byte(from);
-    let _count = byte(from);
+    let count = byte(from);
+    if usize::from(count) == children.len() {
+        return walk_all(alloc, nodes, level - 1, children, from);
+    }
+    let entries = pass_items::<N::Hash>(alloc, level - 1, count, from)?;
+    Ok(Row {
+        entries,
+        clash: None,
+    })
 }
 
-// The first pair of some nodes of this level, side by side, and the cuts of them that stand next.
+// The items of this level that stand next, beside as many nodes of the map.
 #[cycle(walk)]
 fn walk_all<N: Nodes>(
     alloc: Global,
@@ -87,7 +86,8 @@ fn walk_all<N: Nodes>(
     level: u8,
     children: &[Child],
     from: &mut Rest<'_>,
-) -> Result<Option<Clash>, AuditErr>
+) -> Result<Row, AuditErr>
+    requires few { length children.now ≤ 64 }
     requires may { All (MayFetch N.Hash.of (N.stands nodes.old)) children.now }
     requires alike { All (λ (c : types.Child). c.level ≡ level) children.now }
     ensures kept { N.kept nodes.old nodes.new }
@@ -95,49 +95,54 @@ fn walk_all<N: Nodes>(
         result }
     ensures refused { IfErr result (IsHandedOn (N.refusal nodes.new)) }
     ensures answered { TellsRefusal of_nodes (N.refusal nodes.old) (N.refusal nodes.new) result }
-    ensures compared { ComparesAll N.Hash.of (N.stands nodes.old) level children.now
+    ensures walked { WalksAll N.Hash.of (N.stands nodes.old) level children.now
         (left from.old) (left from.new) result }
+    ensures few { IfOk result (λ row. length row.entries.items ≡ length children.now) }
 {
+    let mut entries = Vec::new(alloc);
+    let mut clash = None;
     for child in children {
-        if let Some(clash) = walk(alloc, nodes, child, from)? {
-            return Ok(Some(clash));
+        let one = walk(alloc, nodes, child, from)?;
+        match entries.push(one.entry) {
+            Ok(()) => {}
+            Err(error) => return Err(AllocError::from(error).into()),
         }
+        clash = first_of(clash, one.clash);
     }
-    Ok(None)
+    Ok(Row { entries, clash })
 }
 
-// The first pair of a node of the map, of which the child is the entry, and all below it, and the
-// cut of it that stands next.
+// The item that stands next, beside the node of the map of which the child is the entry. Nothing
+// is fetched for what is pruned.
 #[cycle(walk)]
 pub(crate) fn walk<N: Nodes>(
     alloc: Global,
     nodes: &mut N,
     child: &Child,
     from: &mut Rest<'_>,
-) -> Result<Option<Clash>, AuditErr>
+) -> Result<Walked, AuditErr>
     requires { MayFetch N.Hash.of (N.stands nodes.old) child.now }
     ensures kept { N.kept nodes.old nodes.new }
     ensures causes { AuditCauses (N.stands nodes.old) (N.faults nodes.old) (N.faults nodes.new)
         result }
     ensures refused { IfErr result (IsHandedOn (N.refusal nodes.new)) }
     ensures answered { TellsRefusal of_nodes (N.refusal nodes.old) (N.refusal nodes.new) result }
-    ensures compared { Compares N.Hash.of (N.stands nodes.old) child.now (left from.old)
+    ensures walked { Walks N.Hash.of (N.stands nodes.old) child.now (left from.old)
         (left from.new) result }
 {
     if is_pruned(from) {
-        let _part = pass_item::<N::Hash>(alloc, child.level, from)?;
-        return Ok(None);
+        let entry = pass_pruned(child.level, from);
+        return Ok(Walked { entry, clash: None });
     }
     let mut view = NodeView::new();
-    if let Some(clash) = compare(alloc, nodes, child, &mut view, from)? {
-        return Ok(Some(clash));
-    }
+    let owned = fetch(alloc, nodes, child, &mut view)?;
     if child.level == 0 {
-        let _leaf = pass_item::<N::Hash>(alloc, 0, from)?;
-        return Ok(None);
+        let leaf = walk_leaf::<N::Hash>(alloc, child, owned, from)?;
+        return Ok(leaf);
     }
     is_view(&view);
     digests_are_sized::<N::Hash>();
-    enter(from);
-    walk_all(alloc, nodes, child.level - 1, view.children(), from)
+    let row = walk_children(alloc, nodes, child.level, view.children(), from)?;
+    let inner = close_inner::<N::Hash>(alloc, child, owned, row)?;
+    Ok(inner)
 }

@@ -1,4 +1,4 @@
-use Rattle.std.proofs.Common.{sym, ◌∙◌}
+use Rattle.std.proofs.Common.{◌∙◌}
 use Rattle.std.specs.Prelude.{Ok, option_map}
 use Rattle.mr_clash.specs.declared.error.AuditErr.{AuditErr}
 use Rattle.mr_clash.specs.Steps.{pair_of}

@@ -1,37 +1,42 @@
-use Rattle.std.proofs.Common.{arith, ap, length, length-append, [], ◌∷◌, ◌++◌, ◌-◌, sym, ◌∙◌}
+use Rattle.std.proofs.Common.{arith, ap, length, length-append, refl, map, [], ◌∷◌, ◌++◌, ◌-◌, sym, ◌∙◌}
+use Rattle.mr_tree.specs.Tree.{union_of}
+use Rattle.mr_tree.specs.declared.entry.Entry.{Entry}
 use Rattle.mr_proof.specs.Cut.{count_of}
+use Rattle.mr_proof.specs.Fields.{inner_tag}
 use Rattle.mr_proof.specs.Spelling.{cuts_bytes}
+use Rattle.mr_clash.specs.Steps.{string_over}
 use Rattle.mr_clash.proofs.Taking.{next_item, passed_more, all_passed}
 use Rattle.mr_clash.proofs.Nodes.{inner_passed, item_pruned, item_leaf, item_inner}
 use Rattle.mr_clash.proofs.items.+items.Goals as goal
 
-pub pass_children-returns-clause-passed : goal.pass_children-returns-clause-passed
-pass_children-returns-clause-passed g t c = λ Ps rest fits is.
-    let b = c.byte.ensures (count_of Ps) (cuts_bytes Ps ++ rest) is in
-    let n = c.at_most-count.ensures.same (omega (arith, b.0, fits.0.few)) in
-    c.pass_items.ensures.passed Ps rest fits.1 (sym (n ∙ b.0)) b.1
-
 pub pass_inner-returns : goal.pass_inner-returns
 pass_inner-returns g t c = λ Ps rest fits is.
-    let p = c.in_ok-children.ensures.passed Ps rest fits is in
+    let a = c.byte-tag.ensures inner_tag (count_of Ps ∷ cuts_bytes Ps ++ rest) is in
+    let n = c.byte-count.ensures (count_of Ps) (cuts_bytes Ps ++ rest) a.1 in
+    let p = c.in_ok-children.ensures.passed Ps rest fits.1 (sym n.0) n.1 in
     inner_passed g.H.Hashes.of (c.args.level - 1) c.args.level Ps rest c.in_ok-children.children.items
-    c.deref.result.now c.inner_entry.result _ (omega (arith, c.requires)) fits.0.some fits.1 p.say
-    c.deref.ensures.value c.inner_entry.ensures.level c.inner_entry.ensures.rect c.inner_entry.ensures.digest p.behind
+    c.in_ok-children.children.items _ _ (omega (arith, c.requires)) fits.0.some fits.1 p.say refl refl
+    (c.bounds.ensures ∙ ap (λ xs. union_of (map (λ (e : Entry). e.rect) xs)) c.deref-2.ensures.value)
+    (c.digest_of.ensures ∙ ap g.H.Hashes.of (c.deref-3.ensures.value ∙ c.in_ok-string.ensures
+    ∙ ap (string_over c.args.level) c.deref.ensures.value)) p.behind
 
-pub pass_item-returns-then-byte-eq80 : goal.pass_item-returns-then-byte-eq80
-pass_item-returns-then-byte-eq80 g t c = λ P rest fits is.
-    item_pruned g.H.Hashes.of c.args.level P rest _ _ c.byte.result _ c.pass_pruned.result c.byte.ensures
-    c.if-byte-eq80.true is fits (λ part here. c.pass_pruned.ensures g.H.Hashes.of part rest here)
+pub pass_item-returns-then-is_pruned : goal.pass_item-returns-then-is_pruned
+pass_item-returns-then-is_pruned g t c = λ P rest fits is.
+    item_pruned g.H.Hashes.of c.args.level P rest _ _ c.pass_pruned.result
+    (sym (c.is_pruned.ensures P rest is) ∙ c.if-is_pruned.true) is fits
+    (λ part fit here. c.pass_pruned.ensures g.H.Hashes.of part rest fit here)
 
 pub pass_item-returns-then-level-eq0 : goal.pass_item-returns-then-level-eq0
 pass_item-returns-then-level-eq0 g t c = λ P rest fits is.
-    item_leaf g.H.Hashes.of c.args.level P rest _ _ c.byte.result _ c.pass_leaf.result c.if-level-eq0.true
-    c.byte.ensures c.if-byte-eq80.false is fits (λ rs here. c.pass_leaf.ensures rs rest here)
+    item_leaf g.H.Hashes.of c.args.level P rest _ _ c.pass_leaf.result c.if-level-eq0.true
+    (sym (c.is_pruned.ensures P rest is) ∙ c.if-is_pruned.false) is fits
+    (λ rs fit here. c.pass_leaf.ensures rs rest fit here)
 
-pub pass_item-returns-else-level-eq0 : goal.pass_item-returns-else-level-eq0
-pass_item-returns-else-level-eq0 g t c = λ P rest fits is.
-    item_inner g.H.Hashes.of c.args.level P rest _ _ c.byte.result _ c.pass_inner.result c.byte.ensures
-    c.if-byte-eq80.false is fits c.if-level-eq0.false (λ Ps here. c.pass_inner.ensures Ps rest here)
+pub pass_item-returns : goal.pass_item-returns
+pass_item-returns g t c = λ P rest fits is.
+    item_inner g.H.Hashes.of c.args.level P rest _ _ c.pass_inner.result c.if-level-eq0.false
+    (sym (c.is_pruned.ensures P rest is) ∙ c.if-is_pruned.false) is fits
+    (λ Ps fit here. c.pass_inner.ensures Ps rest fit here)
 
 pub pass_items-loop-preserved : goal.pass_items-loop-preserved
 pass_items-loop-preserved g t c = record {

@@ -5,17 +5,14 @@ use Rattle.mr_clash.specs.Steps.{left}
 use Rattle.mr_clash.proofs.Taking.{PassedSome}
 use Rattle.mr_clash.proofs.items.+items.Given as goal
 
-abbrev pub decreases-pass_children : goal.decreases-pass_children
-decreases-pass_children g l = 4 * l.level + 1
-
 abbrev pub decreases-pass_inner : goal.decreases-pass_inner
-decreases-pass_inner g l = 4 * l.level + 2
+decreases-pass_inner g l = 3 * l.level
 
 abbrev pub decreases-pass_item : goal.decreases-pass_item
-decreases-pass_item g l = 4 * l.level + 3
+decreases-pass_item g l = 3 * l.level + 1
 
 abbrev pub decreases-pass_items : goal.decreases-pass_items
-decreases-pass_items g l = 4 * l.level + 4
+decreases-pass_items g l = 3 * l.level + 2
 
 -- so many items were passed over
 abbrev pub invariant-pass_items-loop : goal.invariant-pass_items-loop

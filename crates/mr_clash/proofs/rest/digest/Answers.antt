@@ -1,4 +1,4 @@
-use Rattle.std.proofs.Common.{arith, ap, length, sym, ◌∙◌}
+use Rattle.std.proofs.Common.{arith, ap, length, ◌∙◌}
 use Rattle.mr_clash.proofs.rest.digest.Goals as goal
 
 pub returns-then-bytes-ne32 : goal.returns-then-bytes-ne32

@@ -1,4 +1,4 @@
-use Rattle.std.proofs.Common.{arith, ap, length, sym, ◌∙◌}
+use Rattle.std.proofs.Common.{arith, ap, length}
 use Rattle.mr_record.specs.Record.{rectangle_bytes}
 use Rattle.mr_record.proofs.RecordFields.{length-rectangle_bytes}
 use Rattle.mr_clash.proofs.rest.rect.Goals as goal

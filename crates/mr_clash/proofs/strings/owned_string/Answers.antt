@@ -1,4 +1,4 @@
-use Rattle.std.proofs.Common.{◌≡◌, zero, suc, ◌<◌, arith, ap, map, sym, ◌∙◌}
+use Rattle.std.proofs.Common.{ap, map, ◌∙◌}
 use Rattle.mr_tree.specs.View.{entry_of}
 use Rattle.mr_clash.proofs.Nodes.{ok_as, owned_inner, above_zero}
 use Rattle.mr_clash.proofs.strings.owned_string.Goals as goal

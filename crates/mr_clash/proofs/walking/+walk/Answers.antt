@@ -1,66 +1,61 @@
-use Rattle.std.proofs.Common.{arith, ap, ◌++◌, ◌-◌, ◌+◌, ◌<◌, sym, subst, ◌∙◌}
-use Rattle.std.specs.Prelude.{IfOk, None, option_map}
+use Rattle.std.proofs.Common.{arith, ap, length, length-append, [], ◌∷◌, ◌++◌, ◌-◌, sym, subst, ◌∙◌}
+use Rattle.std.specs.Prelude.{Ok, option_map}
 use Rattle.mr_tree.specs.Nodes.{Standing}
-use Rattle.mr_proof.specs.Cut.{Inner}
-use Rattle.mr_proof.specs.Spelling.{cut_bytes, FitsCut}
-use Rattle.mr_clash.specs.Steps.{left, ComparesAll}
+use Rattle.mr_proof.specs.Cut.{count_of}
+use Rattle.mr_proof.specs.Fields.{inner_tag}
+use Rattle.mr_proof.specs.Spelling.{cuts_bytes}
+use Rattle.mr_clash.specs.Steps.{left, WalksChildren, pair_of}
+use Rattle.mr_clash.specs.declared.error.AuditErr.{AuditErr}
 use Rattle.mr_clash.proofs.Nodes.{above_zero}
-use Rattle.mr_clash.proofs.Walks.{opened, walk_clash, walk_leaf, walk_inner, child_level, walked_at, found_among, none_found, none_among, left_behind}
+use Rattle.mr_clash.proofs.Rows.{child_level, walked_at, walked_more, all_walked, other_count}
+use Rattle.mr_clash.proofs.Walks.{pruned_walked, leaf_walked, inner_walked}
 use Rattle.mr_clash.proofs.walking.+walk.Goals as goal
 
-pub walk-returns-in-Some-clause-compared : goal.walk-returns-in-Some-clause-compared
-walk-returns-in-Some-clause-compared g t c = λ P rest fits is same.
-    let hash = g.N.Hash.Hashes.of in
-    let x = opened hash c.args.child.now.level P (sym (c.is_pruned.ensures P rest is) ∙ c.if-is_pruned.false) in (
-      walk_clash hash (g.N.Nodes.stands c.args.nodes.now) c.args.child.now c.compare.new.view
-          c.in_ok-clash.ensures.shows P x c.in_ok-clash.field-0 c.in-Some.clash same c.in-Some.is
-          (c.in_ok-clash.ensures.compared P rest x.string fits is x.is),
-      λ e. absurd (cc),
-    )
+pub walk_children-returns-then-from-children-clause-walked : goal.walk_children-returns-then-from-children-clause-walked
+walk_children-returns-then-from-children-clause-walked g t c = λ Ps rest fits is.
+    let a = c.byte-tag.ensures inner_tag (count_of Ps ∷ cuts_bytes Ps ++ rest) is in
+    let n = c.byte-count.ensures (count_of Ps) (cuts_bytes Ps ++ rest) a.1 in
+    c.walk_all.ensures.walked Ps rest fits.1 (sym n.0 ∙ sym c.from.ensures ∙ c.if-from-children.true) n.1
 
-pub walk-returns-then-child-eq0-clause-compared : goal.walk-returns-then-child-eq0-clause-compared
-walk-returns-then-child-eq0-clause-compared g t c = λ P rest fits is same.
-    let hash = g.N.Hash.Hashes.of in
-    let not_pruned = sym (c.is_pruned.ensures P rest is) ∙ c.if-is_pruned.false in
-    let x = opened hash c.args.child.now.level P not_pruned in (
-      walk_leaf hash (g.N.Nodes.stands c.args.nodes.now) c.args.child.now c.compare.new.view
-          c.in_ok-clash.ensures.shows P x c.in_ok-clash.field-0 fits c.if-child-eq0.true not_pruned c.in_default.is
-          (c.in_ok-clash.ensures.compared P rest x.string fits is x.is),
-      λ e. (c.in_ok-_leaf.ensures P rest (subst (λ v. FitsCut v P) c.if-child-eq0.true fits) is).behind,
-    )
+pub walk_children-returns-clause-walked : goal.walk_children-returns-clause-walked
+walk_children-returns-clause-walked g t c = λ Ps rest fits is.
+    let a = c.byte-tag.ensures inner_tag (count_of Ps ∷ cuts_bytes Ps ++ rest) is in
+    let n = c.byte-count.ensures (count_of Ps) (cuts_bytes Ps ++ rest) a.1 in
+    other_count g.N.Hash.Hashes.of (g.N.Nodes.stands c.args.nodes.now) (c.args.level - 1) c.args.children.now Ps rest
+    _ _ (λ e. c.if-from-children.false (c.from.ensures ∙ n.0 ∙ e))
+    (c.in_ok-entries.ensures.passed Ps rest fits.1 (sym n.0) n.1)
 
-pub walk-returns-clause-compared : goal.walk-returns-clause-compared
-walk-returns-clause-compared g t c = λ P rest fits is same.
-    let hash = g.N.Hash.Hashes.of in
-    let not_pruned = sym (c.is_pruned.ensures P rest is) ∙ c.if-is_pruned.false in
-    let x = opened hash c.args.child.now.level P not_pruned in
-    let shows = c.in_ok-clash.ensures.shows in
-    let above = above_zero _ c.args.child.now.level (sym shows.level) c.if-child-eq0.false in
-    let stands = g.met.N.Nodes.kept_stands c.args.nodes.now c.compare.new.nodes c.in_ok-clash.ensures.kept in
-    let walked = subst (λ (s : Standing). ComparesAll hash s (c.args.child.now.level - 1) c.children.result.now
-    (left c.enter.new.from) (left c.walk_all.new.from) c.walk_all.result) stands c.walk_all.ensures.compared in
-    walk_inner hash (g.N.Nodes.stands c.args.nodes.now) c.args.child.now c.compare.new.view shows
-    c.digests_are_sized.ensures P x c.in_ok-clash.field-0 c.children.result.now rest (left c.walk_all.new.from)
-    c.walk_all.result fits c.if-child-eq0.false not_pruned c.in_default.is
-    (c.in_ok-clash.ensures.compared P rest x.string fits is x.is) c.is_view.ensures (c.children.ensures.inner above)
-    c.children.ensures.value c.children.ensures.alike
-    (λ Ps e fit entries. walked Ps rest fit (c.enter.ensures Ps rest (is ∙ ap (λ P. cut_bytes P ++ rest) e)) entries)
+pub walk-returns-then-is_pruned-clause-walked : goal.walk-returns-then-is_pruned-clause-walked
+walk-returns-then-is_pruned-clause-walked g t c = λ P rest fits is.
+    pruned_walked g.N.Hash.Hashes.of (g.N.Nodes.stands c.args.nodes.now) c.args.child.now P rest
+    (left c.args.from.now) _ c.pass_pruned-entry.result (sym (c.is_pruned.ensures P rest is) ∙ c.if-is_pruned.true) is
+    fits (λ part fit here. c.pass_pruned-entry.ensures g.N.Hash.Hashes.of part rest fit here)
 
-pub walk_all-returns-in-Some-clause-compared : goal.walk_all-returns-in-Some-clause-compared
-walk_all-returns-in-Some-clause-compared g t c = λ Ps rest fits is same.
+pub walk-returns-then-child-eq0-clause-walked : goal.walk-returns-then-child-eq0-clause-walked
+walk-returns-then-child-eq0-clause-walked g t c = λ P rest fits is.
+    let shows = c.in_ok-owned.ensures.shows in
+    let owned = c.in_ok-owned.ensures.owned in
+    leaf_walked g.N.Hash.Hashes.of (g.N.Nodes.stands c.args.nodes.now) c.args.child.now c.fetch.new.view shows P rest
+    (left c.args.from.now) _ c.in_ok-owned.owned.items c.in_ok-leaf.leaf fits c.if-child-eq0.true
+    (sym (c.is_pruned.ensures P rest is) ∙ c.if-is_pruned.false) is owned
+    (λ rs fit here. c.in_ok-leaf.ensures (ap g.N.Hash.Hashes.of owned ∙ shows.digest) rs rest fit here)
+
+pub walk-returns-clause-walked : goal.walk-returns-clause-walked
+walk-returns-clause-walked g t c = λ P rest fits is.
     let hash = g.N.Hash.Hashes.of in
     let s = g.N.Nodes.stands c.args.nodes.now in
-    let child = c.child-item.result in
-    let stands = g.met.N.Nodes.kept_stands c.args.nodes.now c.loop-child.nodes c.loop-child.invariant.kept in
-    let level = child_level c.args.level c.args.children.now c.loop-child.child-index child c.loop-child-test.true
-    c.child-item.is c.requires.alike in
-    let walked = walked_at hash (g.N.Nodes.stands c.loop-child.nodes) s child c.args.level (left c.loop-child.from)
-    (left c.walk.new.from) c.in_ok-clash.field-0 stands level c.in_ok-clash.ensures.compared in (
-      found_among hash s c.args.level c.args.children.now Ps rest c.loop-child.child-index child
-          (left c.loop-child.from) (left c.walk.new.from) c.in_ok-clash.field-0 c.in-Some.clash c.loop-child-test.true
-          c.child-item.is same fits (c.loop-child.invariant.none Ps rest fits is same) walked c.in-Some.is,
-      λ e. absurd (cc),
-    )
+    let shows = c.in_ok-owned.ensures.shows in
+    let owned = c.in_ok-owned.ensures.owned in
+    let above = above_zero _ c.args.child.now.level (sym shows.level) c.if-child-eq0.false in
+    let stands = g.met.N.Nodes.kept_stands c.args.nodes.now c.fetch.new.nodes c.in_ok-owned.ensures.kept in
+    let walked = subst (λ (s : Standing). WalksChildren {E = AuditErr} hash s c.args.child.now.level
+    c.children.result.now (left c.args.from.now) (left c.walk_children.new.from) (Ok c.in_ok-row.row)) stands
+    c.in_ok-row.ensures.walked in
+    inner_walked hash s c.args.child.now c.fetch.new.view shows c.digests_are_sized.ensures P c.children.result.now rest
+    (left c.args.from.now) (left c.walk_children.new.from) c.in_ok-owned.owned.items c.in_ok-row.row c.in_ok-inner.inner
+    fits c.if-child-eq0.false (sym (c.is_pruned.ensures P rest is) ∙ c.if-is_pruned.false) is owned c.is_view.ensures
+    (c.children.ensures.inner above) c.children.ensures.value c.children.ensures.alike
+    (λ Ps fit here. walked Ps rest fit here) (c.in_ok-inner.ensures (ap hash owned ∙ shows.digest))
 
 pub walk_all-loop-child-preserved : goal.walk_all-loop-child-preserved
 walk_all-loop-child-preserved g t c =
@@ -71,25 +66,28 @@ walk_all-loop-child-preserved g t c =
     let level = child_level c.args.level c.args.children.now c.loop-child.child-index child c.loop-child-test.true
     c.child-item.is c.requires.alike in
     let walked = walked_at hash (g.N.Nodes.stands c.loop-child.nodes) s child c.args.level (left c.loop-child.from)
-    (left c.walk.new.from) c.in_ok-clash.field-0 stands level c.in_ok-clash.ensures.compared in
+    (left c.walk.new.from) c.in_ok-one.one stands level c.in_ok-one.ensures.walked in
     record {
       kept = g.met.N.Nodes.kept_on c.args.nodes.now c.loop-child.nodes c.walk.new.nodes c.loop-child.invariant.kept
-          c.in_ok-clash.ensures.kept;
-      still = c.in_ok-clash.ensures.causes.quiet ∙ c.loop-child.invariant.still;
-      unrefused = c.in_ok-clash.ensures.answered.none ∙ c.loop-child.invariant.unrefused;
-      none = λ Ps rest fits is same.
-          none_found hash s c.args.level c.args.children.now Ps rest c.loop-child.child-index child
-          (left c.loop-child.from) (left c.walk.new.from) c.in_ok-clash.field-0 c.loop-child-test.true c.child-item.is
-          same fits (c.loop-child.invariant.none Ps rest fits is same) walked c.in_default.is;
+          c.in_ok-one.ensures.kept;
+      still = c.in_ok-one.ensures.causes.quiet ∙ c.loop-child.invariant.still;
+      unrefused = c.in_ok-one.ensures.answered.none ∙ c.loop-child.invariant.unrefused;
+      count = ap length c.in-Ok.ensures.items
+          ∙ omega (
+            arith,
+            c.loop-child.invariant.count,
+            length-append c.loop-child.entries.items (c.in_ok-one.one.entry ∷ []),
+          );
+      some = λ Ps rest fits count is.
+          walked_more hash s c.args.level c.args.children.now Ps rest c.loop-child.child-index child
+          c.loop-child.entries.items c.push.new.self.items (option_map pair_of c.loop-child.clash) _
+          (left c.loop-child.from) (left c.walk.new.from) c.in_ok-one.one c.loop-child-test.true c.child-item.is count
+          fits (c.loop-child.invariant.some Ps rest fits count is) walked c.in-Ok.ensures.items
+          c.first_of-clash.ensures;
     }
 
-pub walk_all-returns-clause-compared : goal.walk_all-returns-clause-compared
-walk_all-returns-clause-compared g t c = λ Ps rest fits is same.
-    let hash = g.N.Hash.Hashes.of in
-    let s = g.N.Nodes.stands c.args.nodes.now in
-    let none = c.loop-child.invariant.none Ps rest fits is same in (
-      none_among hash s c.args.level c.args.children.now Ps rest c.loop-child.child-index (left c.loop-child.from)
-          c.loop-child-test.false same none,
-      λ e. left_behind hash s c.args.level c.args.children.now Ps rest c.loop-child.child-index
-          (left c.loop-child.from) c.loop-child-test.false same none,
-    )
+pub walk_all-returns-clause-walked : goal.walk_all-returns-clause-walked
+walk_all-returns-clause-walked g t c = λ Ps rest fits count is.
+    all_walked g.N.Hash.Hashes.of (g.N.Nodes.stands c.args.nodes.now) c.args.level c.args.children.now Ps rest
+    c.loop-child.child-index _ (left c.loop-child.from) c.loop-child-test.false count
+    (c.loop-child.invariant.some Ps rest fits count is)

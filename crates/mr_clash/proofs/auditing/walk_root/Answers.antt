@@ -1,0 +1,43 @@
+use Rattle.std.proofs.Common.{refl, sym, ◌∙◌}
+use Rattle.std.specs.Prelude.{Ok}
+use Rattle.mr_clash.specs.Steps.{left}
+use Rattle.mr_clash.specs.declared.error.AuditErr.{AuditErr}
+use Rattle.mr_clash.proofs.Roots.{none_walked, root_alone, other_level, root_walked}
+use Rattle.mr_clash.proofs.auditing.walk_root.Goals as goal
+
+pub returns-then-said-eq0-clause-walked : goal.returns-then-said-eq0-clause-walked
+returns-then-said-eq0-clause-walked g c = λ h P bytes spelled count level here.
+    none_walked g.N.Hash.Hashes.of (g.N.Nodes.stands c.args.nodes.now) c.args.top.now h P bytes c.none-entry.result
+    c.requires spelled (sym count ∙ c.if-said-eq0.true)
+
+pub returns-in_ok-alone-in-None-clause-walked : goal.returns-in_ok-alone-in-None-clause-walked
+returns-in_ok-alone-in-None-clause-walked g c = λ h P bytes spelled count level here.
+    root_alone {E = AuditErr} g.N.Hash.Hashes.of (g.N.Nodes.stands c.args.nodes.now) c.args.top.now h P bytes
+    c.args.said.now.level (left c.args.from.now) (Ok c.in_ok-alone-in-None.alone) c.requires c.in-None.is spelled
+    (λ z. c.if-said-eq0.false (count ∙ z)) level here c.in_ok-alone-in-None.ensures
+
+pub returns-in_ok-alone-in-Some-clause-walked : goal.returns-in_ok-alone-in-Some-clause-walked
+returns-in_ok-alone-in-Some-clause-walked g c = λ h P bytes spelled count level here.
+    other_level {E = AuditErr} g.N.Hash.Hashes.of c.digests_are_sized.ensures (g.N.Nodes.stands c.args.nodes.now)
+    c.args.top.now c.in-Some.root h P bytes c.args.said.now.level (left c.args.from.now)
+    (Ok c.in_ok-alone-in-Some.alone) c.requires c.in-Some.is c.are_words.ensures.batch c.are_words.ensures.count
+    (record {
+      at = c.in-Some.root.rect;
+      is = refl;
+      ordered = c.is_rect.ensures.ordered;
+      fits = c.is_rect.ensures.fits;
+    })
+    c.if-root-said.false spelled (λ z. c.if-said-eq0.false (count ∙ z)) level here c.in_ok-alone-in-Some.ensures
+
+pub returns-then-root-said-clause-walked : goal.returns-then-root-said-clause-walked
+returns-then-root-said-clause-walked g c = λ h P bytes spelled count level here.
+    root_walked g.N.Hash.Hashes.of c.digests_are_sized.ensures (g.N.Nodes.stands c.args.nodes.now) c.args.top.now
+    c.in-Some.root h P bytes c.args.said.now.level (left c.args.from.now) _ c.walk.result c.requires
+    c.in-Some.is c.are_words.ensures.batch c.are_words.ensures.count
+    (record {
+      at = c.in-Some.root.rect;
+      is = refl;
+      ordered = c.is_rect.ensures.ordered;
+      fits = c.is_rect.ensures.fits;
+    })
+    c.if-root-said.true spelled (λ z. c.if-said-eq0.false (count ∙ z)) level here c.walk.ensures.walked

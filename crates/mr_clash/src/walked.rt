@@ -1,0 +1,92 @@
+//! What is found of an item and the node of the map at its place.
+
+ghost use Rattle.std.specs.Prelude.{◌≡◌, ◌<◌, ◌^◌, ◌++◌, ℕ, List, IfOk, Some, length, option_map};
+ghost use Rattle.mr_record.specs.declared.record.Record as types;
+ghost use Rattle.mr_proof.specs.Clash.{differ};
+ghost use Rattle.mr_proof.specs.Cut.{Leaf};
+ghost use Rattle.mr_proof.specs.Spelling.{FitsCut, cut_bytes};
+ghost use Rattle.mr_clash.specs.Steps.{left, pair_of, Closed, WalkedLeaf};
+
+use crate::entry::{bounds, digest_of};
+use crate::finding::{Clash, clash_of, first_of};
+use crate::leaf::leaf_rect;
+use crate::rest::{Rest, passed};
+use crate::strings::inner_string;
+use mr_tree::{Child, Entry, Hashes};
+use std::alloc::{AllocError, Global};
+
+// What is said of an item, and the first pair of it and all below it.
+#[derive(Drop)]
+pub(crate) struct Walked {
+    pub(crate) entry: Entry,
+    pub(crate) clash: Option<Clash>,
+}
+
+// The same of some items side by side.
+#[derive(Drop)]
+pub(crate) struct Row {
+    pub(crate) entries: Vec<Entry>,
+    pub(crate) clash: Option<Clash>,
+}
+
+// The digest of a string that was compared with the owner's. Where the two are one it is the
+// digest that is held of the owner's, and nothing is hashed.
+fn digest_beside<H: Hashes>(clash: &Option<Clash>, held: [u8; 32], shown: &[u8]) -> [u8; 32]
+    ensures { (owned : List ℕ) → H.of owned ≡ held
+        → option_map pair_of clash.now ≡ differ owned (Some shown.now)
+        → result ≡ H.of shown.now }
+{
+    match clash {
+        None => held,
+        Some(_) => digest_of::<H>(shown),
+    }
+}
+
+// The leaf that stands next beside a leaf of the map, of which this is the string.
+pub(crate) fn walk_leaf<H: Hashes>(
+    alloc: Global,
+    child: &Child,
+    owned: Vec<u8>,
+    from: &mut Rest<'_>,
+) -> Result<Walked, AllocError>
+    ensures { H.of owned.items ≡ child.now.digest → (rs : List types.Record) (rest : List ℕ)
+        → FitsCut 0 (Leaf rs) → left from.old ≡ cut_bytes (Leaf rs) ++ rest
+        → IfOk result (λ w. WalkedLeaf H.of rs rest owned.items w (left from.new)) }
+{
+    let whole = from.bytes;
+    let rect = leaf_rect(from);
+    let shown = passed(whole, from);
+    let clash = clash_of(alloc, owned, shown)?;
+    let digest = digest_beside::<H>(&clash, child.digest, shown);
+    let entry = Entry {
+        level: 0,
+        rect,
+        digest,
+    };
+    Ok(Walked { entry, clash })
+}
+
+// An inner node beside one of the map, of which this is the string, by what its children came to.
+pub(crate) fn close_inner<H: Hashes>(
+    alloc: Global,
+    child: &Child,
+    owned: Vec<u8>,
+    row: Row,
+) -> Result<Walked, AllocError>
+    requires { length row.entries.items < 2 ^ 8 }
+    ensures { H.of owned.items ≡ child.now.digest
+        → IfOk result (λ w. Closed H.of child.now.level owned.items row w) }
+{
+    let shown = inner_string(alloc, child.level, &row.entries)?;
+    let clash = clash_of(alloc, owned, &shown)?;
+    let digest = digest_beside::<H>(&clash, child.digest, &shown);
+    let entry = Entry {
+        level: child.level,
+        rect: bounds(&row.entries),
+        digest,
+    };
+    Ok(Walked {
+        entry,
+        clash: first_of(clash, row.clash),
+    })
+}
