@@ -1,12 +1,16 @@
 -- What a command comes to behind a step of it.
-use Rattle.std.proofs.Common.{◌≡◌, ℕ, ◌≤◌, ◌<◌, ◌^◌, List, length, refl, sym, ap, subst, ◌∙◌, inl, inr, arith}
-use Rattle.std.specs.Prelude.{Option, Some, None, MatchOption, IsErrAnd, ⊤, ◌⊎◌, Result, Ok, Err}
+use Rattle.std.proofs.Common.{◌≡◌, ℕ, ◌+◌, ◌≤◌, ◌<◌, ◌^◌, List, length, refl, sym, ap, subst, ◌∙◌, inl, inr, arith}
+use Rattle.std.specs.Prelude.{Option, Some, None, MatchOption, IfOk, IsErrAnd, ⊤, ◌⊎◌, Result, Ok, Err}
 use Rattle.std.specs.Global.{Vec}
+use Rattle.mr_outside.specs.Causes.{ShelfCauses}
 use Rattle.mr_outside.specs.Faults.{Rose}
 use Rattle.mr_outside.specs.Files.{Files, file, with_file}
+use Rattle.mr_outside.specs.Reading.{piece_count}
 use Rattle.mr_outside.specs.State.{Shelved}
 use Rattle.mr_outside.specs.Told.{OfFile, MayMiss}
 use Rattle.mr_outside.specs.Writing.{IsChanged}
+use Rattle.mr_outside.specs.declared.shelf.ShelfErr.{ShelfErr}
+use Rattle.mr_outside.specs.declared.shelf.ShelfErr.TheVariants as shelf
 use Rattle.mr_record.specs.Bytes.{AreBytes}
 use Rattle.mr_tree.specs.WellFormed.{WellFormed}
 use Rattle.mr_tree.specs.declared.tree.Tree.{Tree}
@@ -17,7 +21,7 @@ use Rattle.mr_pages.specs.Opening.{Answers, Fails, MapCauses, OrFails, SomeBytes
 use Rattle.mr_pages.specs.declared.error.MapErr.{MapErr}
 use Rattle.mr_pages.specs.declared.error.MapErr.TheVariants as errors
 use Rattle.mr_pages.specs.declared.rule.MapFault.{MapFault}
-use Rattle.mr_tool.specs.Ending.{Gives, GivesOrStops, Misses, Comes, Came, Stops, Ends, GivesUp, AreJudged, IsJudged, GoesOn, Blames, IsCalm, NoneFalls, IsWell, WasFound, Reads, HoldsMap, Opens, Saves, printed_of}
+use Rattle.mr_tool.specs.Ending.{Gives, GivesOrStops, Misses, Comes, Came, Stops, Ends, GivesUp, AreJudged, IsJudged, GoesOn, Blames, IsCalm, NoneFalls, IsWell, WasFound, IsAsRead, Reads, ReadsOnce, HoldsMap, Opens, Saves, SaysRefusal, printed_of}
 use Rattle.mr_tool.specs.Found.{Found, Shows, bad_map_line}
 use Rattle.mr_tool.specs.Outcome.{Outcome, Content, Nothing, File, map_of, IsLaidOut, IsLeft, MayLeave}
 use Rattle.mr_tool.specs.Plan.{Plan, comes, opens, Input, IsInput, IsAbsent, LacksInput}
@@ -27,6 +31,7 @@ use Rattle.mr_tool.specs.declared.ending.Halt.{Halt}
 use Rattle.mr_tool.specs.declared.ending.Halt.TheVariants as halts
 use Rattle.mr_pages.specs.declared.opening.Opened.{Opened}
 use Rattle.mr_tool.specs.declared.status.Status.TheVariants.{BadMap, Outside}
+use Rattle.mr_tool.proofs.Counting.{AllowsFrom, few_behind, few_stopped, few_none, few_found, once_of}
 use Rattle.mr_pages.proofs.HeadLaws.{first_form_is}
 use Rattle.mr_pages.proofs.SavedStands.{saved_stands}
 
@@ -64,7 +69,8 @@ judged_map hash name next told judged goes (Some bytes) is =
 
 -- what came of the rest came of the whole
 module _ (name : List ℕ) (next : List ℕ → Plan) (bytes : List ℕ) (before between after : Shelved)
-    (step : IsStep before between) (input : IsInput before.files name (Some bytes)) (are : AreBytes bytes)
+    (step : IsStep before between) (once : ReadsOnce name before between)
+    (input : IsInput before.files name (Some bytes)) (are : AreBytes bytes)
     (judged : AreJudged (needs name next) before.files) where
   came_on : (result : Result Ending Halt) → Came (next bytes) between after result
       → Came (needs name next) before after result
@@ -102,6 +108,8 @@ module _ (name : List ℕ) (next : List ℕ → Plan) (bytes : List ℕ) (before
     came = came_on result on.came;
     outside = blames_on result on.outside;
     quiet = calm_on result on.quiet;
+    few = few_behind before.files name next bytes before.reads between.reads after.reads input once
+        (subst (λ told. AllowsFrom told (next bytes) between.reads after.reads) step.files on.few);
   }
 
 -- bytes that were read, and what came of them
@@ -113,8 +121,8 @@ comes_read name said before between after bytes read result was got on =
     let was_read : Reads name before between (Ok (Some bytes)) =
     subst (λ r. Reads name before between (Ok r)) was got in
     comes_on name (λ b. comes (said b)) bytes.items before between after
-    (record { counts = was_read.counts; files = was_read.files; faults = was_read.read.2 }) was_read.read.0
-    was_read.read.1 (judged_needs name said before.files) result on
+    (record { counts = was_read.counts; files = was_read.files; faults = was_read.read.2 }) was_read.once
+    was_read.read.0 was_read.read.1 (judged_needs name said before.files) result on
 
 -- an outcome that writes no file, at once
 pub comes_at_once : (said : Outcome) (at : Shelved) (ending : Ending) → said.written ≡ Nothing → Gives said ending
@@ -129,6 +137,7 @@ comes_at_once said at ending writes gives = record {
   );
   outside = λ e. absurd (gives.settled.0 e);
   quiet = λ settled. refl;
+  few = few_none at.files said at.reads at.reads refl;
 }
 
 -- the same where memory may have run out
@@ -144,6 +153,7 @@ comes_given said at (Err halt) writes is = record {
   );
   outside = tt;
   quiet = tt;
+  few = few_none at.files said at.reads at.reads refl;
 }
 
 -- a refusal for want of memory
@@ -165,6 +175,7 @@ comes_found hash bytes next found before after (Ok ending) judged is well on = r
   came = (found, is, well, on.came);
   outside = λ outside. elim (on.outside outside) [ inl rose ↦ inl rose | inr lacks ↦ inr (found, is.0, lacks) ];
   quiet = on.quiet;
+  few = few_found before.files hash bytes next found before.reads after.reads is.0 on.few;
 }
 comes_found hash bytes next found before after (Err halt) judged is well on = record {
   counts = on.counts;
@@ -172,6 +183,7 @@ comes_found hash bytes next found before after (Err halt) judged is well on = re
   came = (on.came.0, (found, is.0, on.came.1));
   outside = tt;
   quiet = tt;
+  few = few_found before.files hash bytes next found before.reads after.reads is.0 on.few;
 }
 
 -- the bytes of a file that was opened, and what was found in them
@@ -182,11 +194,11 @@ record Holds (hash : List ℕ → List ℕ) (told : Option Files) (name : List �
   pub is : WasFound told hash bytes found
 
 comes_opened : (hash : List ℕ → List ℕ) (name : List ℕ) (next : Opened → Plan) (before between after : Shelved)
-    (found : Found) (result : Result Ending Halt) → IsStep before between → IsJudged hash before.files name
-    → GoesOn next before.files → Holds hash before.files name found → IsWell found
+    (found : Found) (result : Result Ending Halt) → IsStep before between → ReadsOnce name before between
+    → IsJudged hash before.files name → GoesOn next before.files → Holds hash before.files name found → IsWell found
     → Comes (given_map next found) between after result → Comes (needs_map hash name next) before after result
-comes_opened hash name next before between after found result step judged goes holds well on =
-    comes_on name (λ bytes. opens hash bytes (given_map next)) holds.bytes before between after step holds.input
+comes_opened hash name next before between after found result step once judged goes holds well on =
+    comes_on name (λ bytes. opens hash bytes (given_map next)) holds.bytes before between after step once holds.input
     holds.are (judged_map hash name next before.files judged goes) result
     (comes_found hash holds.bytes (given_map next) found between after result
     (subst (AreJudged (opens hash holds.bytes (given_map next))) (sym step.files)
@@ -198,43 +210,97 @@ pub comes_map : (hash : List ℕ → List ℕ) (name : List ℕ) (next : Opened 
     → Comes (next map) between after result → Comes (needs_map hash name next) before after result
 comes_map hash name next before between after map result holds goes on =
     comes_opened hash name next before between after (Ok map) result
-    (record { counts = holds.counts; files = holds.files; faults = holds.quiet }) holds.judged goes
+    (record { counts = holds.counts; files = holds.files; faults = holds.quiet }) holds.once holds.judged goes
     (record { bytes = holds.bytes; input = holds.input; are = holds.are; is = holds.found }) (holds.well, holds.low) on
 
 -- the same where the file stands for no map
 comes_bad : (hash : List ℕ → List ℕ) (name : List ℕ) (next : Opened → Plan) (before after : Shelved)
-    (fault : MapFault) (ending : Ending) → IsStep before after → IsJudged hash before.files name
-    → GoesOn next before.files → Holds hash before.files name (Err fault)
+    (fault : MapFault) (ending : Ending) → IsStep before after → ReadsOnce name before after
+    → IsJudged hash before.files name → GoesOn next before.files → Holds hash before.files name (Err fault)
     → Gives (ends BadMap (bad_map_line fault)) ending → Comes (needs_map hash name next) before after (Ok ending)
-comes_bad hash name next before after fault ending step judged goes holds gives =
-    comes_opened hash name next before after after (Err fault) (Ok ending) step judged goes holds tt
+comes_bad hash name next before after fault ending step once judged goes holds gives =
+    comes_opened hash name next before after after (Err fault) (Ok ending) step once judged goes holds tt
     (comes_at_once (ends BadMap (bad_map_line fault)) after ending refl gives)
 
 -- where it is missing
-misses : (told : Option Files) (name : List ℕ) (before after : ℕ) → MayMiss told name before after
+pub misses : (told : Option Files) (name : List ℕ) (before after : ℕ) → MayMiss told name before after
     → IsInput told name None × (Rose before after ⊎ IsAbsent told name)
 misses None name before after miss = (tt, inl miss)
 misses (Some files) name before after miss = (miss, inr miss)
 
+input_is : (told : Option Files) (name : List ℕ) (bytes : List ℕ) → AreBytes bytes
+    → OfFile told name ⊥ (λ held. bytes ≡ held) → IsInput told name (Some bytes)
+input_is None name bytes are is = are
+input_is (Some files) name bytes are is = by_found (file files name) is
+  where
+    by_found : (o : Option (List ℕ)) → MatchOption o ⊥ (λ held. bytes ≡ held) → o ≡ Some bytes
+    by_found None is = absurd is
+    by_found (Some held) is = ap (λ b. Some b) (sym is)
+
+-- what was read, by the answer of the call that read it
+pub reads_of : (name : List ℕ) (before after : Shelved) (read : Result (Vec ℕ) ShelfErr)
+    (result : Result (Option (Vec ℕ)) Halt) → IfOk read (λ v. OfFile before.files name ⊥ (λ bytes. v.items ≡ bytes))
+    → ShelfCauses name before after read → after.files ≡ before.files → before.reads ≤ after.reads
+    → OfFile before.files name (after.reads ≡ before.reads)
+    (λ bytes. after.reads ≤ before.reads + piece_count (length bytes))
+    → IsAsRead read result → Reads name before after result
+reads_of name before after (Ok bytes) result held causes files reads pieces is =
+    subst (Reads name before after) (sym is.0) (record {
+      counts = record { faults = causes.faults; reads = reads };
+      files = files;
+      read = (input_is before.files name bytes.items is.1 held, is.1, causes.quiet);
+      once = once_of before.files name before.reads after.reads pieces;
+    })
+reads_of name before after (Err shelf.Missing) result held causes files reads pieces is =
+    subst (Reads name before after) (sym is) (record {
+      counts = record { faults = causes.faults; reads = reads };
+      files = files;
+      read = misses before.files name before.faults after.faults (causes.missing refl);
+      once = once_of before.files name before.reads after.reads pieces;
+    })
+reads_of name before after (Err shelf.Fault) result held causes files reads pieces is =
+    subst (Reads name before after) (sym is) (record {
+      counts = record { faults = causes.faults; reads = reads };
+      files = files;
+      read = causes.fault refl;
+      once = once_of before.files name before.reads after.reads pieces;
+    })
+reads_of name before after (Err shelf.NoMemory) result held causes files reads pieces is =
+    subst (Reads name before after) (sym is) (record {
+      counts = record { faults = causes.faults; reads = reads };
+      files = files;
+      read = tt;
+      once = once_of before.files name before.reads after.reads pieces;
+    })
+
 comes_missing : (name : List ℕ) (next : List ℕ → Plan) (before after : Shelved) (ending : Ending)
-    → NoneFalls before after → after.files ≡ before.files → AreJudged (needs name next) before.files
+    → NoneFalls before after → ReadsOnce name before after → after.files ≡ before.files
+    → AreJudged (needs name next) before.files
     → IsInput before.files name None × (Rose before.faults after.faults ⊎ IsAbsent before.files name)
     → ending.status ≡ Outside → printed_of ending ≡ (says_missing name).printed
     → Comes (needs name next) before after (Ok ending)
-comes_missing name next before after ending counts files judged misses status printed = record {
+comes_missing name next before after ending counts once files judged misses status printed = record {
   counts = counts;
   judged = judged;
   came = (None, misses.0, tt, (status, printed, files));
   outside = λ e. elim misses.1 [ inl rose ↦ inl rose | inr absent ↦ inr (inl absent) ];
   quiet = λ settled. absurd (settled.0 status);
+  few = few_stopped before.files name next before.reads after.reads once;
 }
 
 -- and where the command stopped
 comes_halted : (name : List ℕ) (next : List ℕ → Plan) (before after : Shelved) (halt : Halt)
-    → NoneFalls before after → after.files ≡ before.files → AreJudged (needs name next) before.files
-    → Stops before after halt → Comes (needs name next) before after (Err halt)
-comes_halted name next before after halt counts files judged stops =
-    record { counts = counts; judged = judged; came = (stops, inl files); outside = tt; quiet = tt }
+    → NoneFalls before after → ReadsOnce name before after → after.files ≡ before.files
+    → AreJudged (needs name next) before.files → Stops before after halt
+    → Comes (needs name next) before after (Err halt)
+comes_halted name next before after halt counts once files judged stops = record {
+  counts = counts;
+  judged = judged;
+  came = (stops, inl files);
+  outside = tt;
+  quiet = tt;
+  few = few_stopped before.files name next before.reads after.reads once;
+}
 
 -- where the one file that is read is missing
 pub comes_missed : (name : List ℕ) (said : List ℕ → Outcome) (before after : Shelved) (read : Option (Vec ℕ))
@@ -242,16 +308,18 @@ pub comes_missed : (name : List ℕ) (said : List ℕ → Outcome) (before after
     → Comes (needs name (λ b. comes (said b))) before after result
 comes_missed name said before after read (Ok ending) was got gives =
     let missed : Reads name before after (Ok None) = subst (λ r. Reads name before after (Ok r)) was got in
-    comes_missing name (λ b. comes (said b)) before after ending missed.counts missed.files
+    comes_missing name (λ b. comes (said b)) before after ending missed.counts missed.once missed.files
     (judged_needs name said before.files) missed.read gives.0 gives.1
 comes_missed name said before after read (Err halt) was got is =
-    comes_halted name (λ b. comes (said b)) before after halt got.counts got.files (judged_needs name said before.files)
+    comes_halted name (λ b. comes (said b)) before after halt got.counts got.once got.files
+    (judged_needs name said before.files)
     (subst (Stops before after) (sym is) tt)
 
 pub comes_unread : (name : List ℕ) (said : List ℕ → Outcome) (before after : Shelved) (halt : Halt)
     → Reads name before after (Err halt) → Comes (needs name (λ b. comes (said b))) before after (Err halt)
 comes_unread name said before after halt got =
-    comes_halted name (λ b. comes (said b)) before after halt got.counts got.files (judged_needs name said before.files)
+    comes_halted name (λ b. comes (said b)) before after halt got.counts got.once got.files
+    (judged_needs name said before.files)
     got.read
 
 -- ---- what opening a file answers
@@ -264,6 +332,8 @@ Answered hash name before after result =
     × MapCauses name before after result
     × (after.files ≡ before.files)
     × (before.reads ≤ after.reads)
+    × OfFile before.files name (after.reads ≡ before.reads)
+    (λ bytes. after.reads ≤ before.reads + piece_count (length bytes))
 
 told_bytes : (hash : List ℕ → List ℕ) (files : Files) (name : List ℕ) (found : Found) (result : Result Opened MapErr)
     → (Fails result → ⊥)
@@ -291,7 +361,7 @@ holds_found hash (Some files) name found result not shows only exact some =
     told_bytes hash files name found result not shows only (file files name) refl exact
 
 -- the one answer, as what is found
-found_only : (map other : Opened) → OrFails (Ok map) (Ok other) → ◌≡◌ {A = Found} (Ok map) (Ok other)
+pub found_only : (map other : Opened) → OrFails (Ok map) (Ok other) → ◌≡◌ {A = Found} (Ok map) (Ok other)
 found_only map other (inl e) = cc
 found_only map other (inr fails) = absurd fails
 
@@ -313,6 +383,9 @@ is_judged hash None name agrees law bytes is = law bytes is
 is_judged hash (Some files) name agrees law bytes is =
     subst (λ input. MatchOption input ⊤ (Agrees first_form hash)) is agrees
 
+halt_is : (halt other : Halt) → ◌≡◌ {A = Result Ending Halt} (Err halt) (Err other) → halt ≡ other
+halt_is halt other is = cc
+
 counts_of : (hash : List ℕ → List ℕ) (name : List ℕ) (before after : Shelved) (result : Result Opened MapErr)
     → Answered hash name before after result → NoneFalls before after
 counts_of hash name before after result on = record { faults = on.2.faults; reads = on.4 }
@@ -328,6 +401,7 @@ module _ (hash : List ℕ → List ℕ) (name : List ℕ) (before after : Shelve
         counts = counts_of hash name before after (Ok map) on;
         files = on.3;
         quiet = no_fault_rose before after name (Ok map) (λ f. f) on.2;
+        once = once_of before.files name before.reads after.reads on.5;
         bytes = holds.bytes;
         input = holds.input;
         are = holds.are;
@@ -345,7 +419,7 @@ module _ (hash : List ℕ → List ℕ) (name : List ℕ) (before after : Shelve
         counts = counts_of hash name before after (Err (errors.Map fault)) on;
         files = on.3;
         faults = no_fault_rose before after name (Err (errors.Map fault)) (λ f. f) on.2;
-      }) judged goes
+      }) (once_of before.files name before.reads after.reads on.5) judged goes
       (holds_found hash before.files name (Err fault) (Err (errors.Map fault)) (λ f. f) (λ bytes a. a)
       (fault_only fault) on.0 on.1) gives
 
@@ -354,15 +428,43 @@ module _ (hash : List ℕ → List ℕ) (name : List ℕ) (before after : Shelve
       → Opens hash name before after (Ok (Err ending))
   opens_missing ending on status printed next goes =
       comes_missing name (λ bytes. opens hash bytes (given_map next)) before after ending
-      (counts_of hash name before after (Err errors.Missing) on) on.3
+      (counts_of hash name before after (Err errors.Missing) on)
+      (once_of before.files name before.reads after.reads on.5) on.3
       (judged_map hash name next before.files judged goes)
       (misses before.files name before.faults after.faults (on.2.missing refl)) status printed
 
-  pub opens_halted : (halt : Halt) → NoneFalls before after → after.files ≡ before.files → Stops before after halt
-      → Opens hash name before after (Err halt)
-  opens_halted halt counts files stops next goes =
-      comes_halted name (λ bytes. opens hash bytes (given_map next)) before after halt counts files
+  pub opens_halted : (halt : Halt) → NoneFalls before after
+      → OfFile before.files name (after.reads ≡ before.reads)
+      (λ bytes. after.reads ≤ before.reads + piece_count (length bytes))
+      → after.files ≡ before.files → Stops before after halt → Opens hash name before after (Err halt)
+  opens_halted halt counts few files stops next goes =
+      comes_halted name (λ bytes. opens hash bytes (given_map next)) before after halt counts
+      (once_of before.files name before.reads after.reads few) files
       (judged_map hash name next before.files judged goes) stops
+
+  -- by its refusal
+  pub opens_refused : (error : MapErr) (ending : Ending) → Answered hash name before after (Err error)
+      → SaysRefusal name error (Ok ending) → Opens hash name before after (Ok (Err ending))
+  opens_refused (errors.Map fault) ending on says = opens_bad fault ending on says
+  opens_refused errors.Missing ending on says = opens_missing ending on says.0 says.1
+  opens_refused errors.Fault ending on says = absurd (cc)
+  opens_refused errors.NoMemory ending on says = absurd (cc)
+
+  -- memory ran out, or the shelf failed
+  out : (error : MapErr) (halt : Halt) → Answered hash name before after (Err error) → Stops before after halt
+      → Opens hash name before after (Err halt)
+  out error halt on stops =
+      opens_halted halt (counts_of hash name before after (Err error) on) on.5 on.3 stops
+
+  pub opens_given_up : (error : MapErr) (halt : Halt) → Answered hash name before after (Err error)
+      → SaysRefusal name error (Err halt) → Opens hash name before after (Err halt)
+  opens_given_up (errors.Map fault) halt on says =
+      out (errors.Map fault) halt on (subst (Stops before after) (sym says) tt)
+  opens_given_up errors.Missing halt on says = out errors.Missing halt on (subst (Stops before after) (sym says) tt)
+  opens_given_up errors.Fault halt on says =
+      out errors.Fault halt on (subst (Stops before after) (sym (halt_is halt halts.Shelf says)) (on.2.fault refl))
+  opens_given_up errors.NoMemory halt on says =
+      out errors.NoMemory halt on (subst (Stops before after) (sym (halt_is halt halts.NoMemory says)) tt)
 
 -- a refusal that is handed on
 pub halted_is : {A : Type 0} (result : Result A Halt) (halt : Halt) → IsErrAnd result (λ h. h ≡ halt)
@@ -385,6 +487,7 @@ comes_saved name content said before after ending done writes gives saves = reco
   );
   outside = λ e. absurd (gives.settled.0 e);
   quiet = λ settled. saves.saved.1;
+  few = few_none before.files said before.reads after.reads saves.unread;
 }
 
 pub comes_unsaved : (name : List ℕ) (content : Content) (said : Outcome) (before after : Shelved) (halt : Halt)
@@ -396,6 +499,7 @@ comes_unsaved name content said before after halt writes saves = record {
   came = (saves.saved.0, subst (λ w. MayLeave w before.files after.files) (sym writes) saves.saved.1);
   outside = tt;
   quiet = tt;
+  few = few_none before.files said before.reads after.reads saves.unread;
 }
 
 -- each digest has 32 bytes
@@ -420,6 +524,7 @@ module _ (hash : List ℕ → List ℕ) (sized : IsSized hash) (name : List ℕ)
       → Saves name (map_of hash tree batch) before after (Ok done)
   saved_so done faults same quiet changed = record {
     counts = record { faults = faults; reads = omega (arith, same) };
+    unread = same;
     saved = (
       (saved first_form hash tree batch, laid_out (saved first_form hash tree batch) refl, changed),
       quiet,
@@ -431,6 +536,7 @@ module _ (hash : List ℕ → List ℕ) (sized : IsSized hash) (name : List ℕ)
       → Saves name (map_of hash tree batch) before after (Err halt)
   unsaved halt faults same stops left = record {
     counts = record { faults = faults; reads = omega (arith, same) };
+    unread = same;
     saved = (
       stops,
       elim left [

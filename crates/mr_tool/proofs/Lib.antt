@@ -2,13 +2,17 @@ pub mod Showing
 pub mod Plans
 pub mod Runs
 pub mod Endings
+pub mod Counting
 pub mod Going
+pub mod Rereading
 pub mod Texts
+pub mod Pages
 pub mod Numbered
 pub mod Digests
 pub mod Spelling
 pub mod Batches
 pub mod Taking
 pub mod Verdicts
+pub mod Audits
 pub mod Promises
 pub mod WholeRuns

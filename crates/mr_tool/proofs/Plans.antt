@@ -5,7 +5,9 @@ use Rattle.mr_outside.specs.Files.{Files, file}
 use Rattle.mr_outside.specs.Told.{OfFiles}
 use Rattle.mr_tool.specs.Ending.{AreJudged, Ends, GivesUp}
 use Rattle.mr_tool.specs.Outcome.{Outcome, Written, Nothing, File, IsLeft, MayLeave}
-use Rattle.mr_tool.specs.Plan.{Plan, comes, reads, opens, Input, IsInput, Leads, IsOutcomeOver}
+use Rattle.mr_tool.specs.Plan.{Plan, comes, reads, opens, rereads, Input, IsInput, Leads, IsOutcomeOver}
+use Rattle.mr_tool.specs.Rereading.{Rereading, proving, auditing, MaySay}
+use Rattle.mr_tool.specs.Saying.{says_missing}
 use Rattle.mr_tool.specs.declared.status.Status.{Status}
 use Rattle.mr_tool.proofs.Showing.{found_in, one_found}
 
@@ -13,6 +15,11 @@ use Rattle.mr_tool.proofs.Showing.{found_in, one_found}
 input_of : (told : Option Files) (name : List ℕ) → (input : Input) × IsInput told name input
 input_of None name = (None, tt)
 input_of (Some files) name = (file files name, refl)
+
+-- a map that is not told may be missing
+may_miss : (reading : Rereading) → (said : Outcome) × MaySay reading said
+may_miss (proving hash map query proof) = (says_missing map, inl (inl refl))
+may_miss (auditing hash map query proof) = (says_missing map, inl (inl refl))
 
 -- each plan leads to an outcome
 pub leads_on : (plan : Plan) (told : Option Files) → AreJudged plan told → (said : Outcome) × Leads plan told said
@@ -25,6 +32,8 @@ leads_on (opens hash bytes next) told judged =
     let found = found_in hash bytes judged.0 in
     let on = leads_on (next found.0) told (judged.1 found.0 found.1) in
     (on.0, (found.0, found.1, on.1))
+leads_on (rereads reading next) None judged = may_miss reading
+leads_on (rereads reading next) (Some files) judged = leads_on next (Some files) judged
 
 -- and over files that are told, to one
 one_outcome : (plan : Plan) (files : Files) → AreJudged plan (Some files) → (said : Outcome)
@@ -36,6 +45,7 @@ one_outcome (reads name next) files judged said leads =
 one_outcome (opens hash bytes next) files judged said leads = λ found shown.
     one_outcome (next found) files (judged.1 found shown) said
     (subst (λ f. Leads (next f) (Some files) said) (one_found hash bytes judged.0 leads.0 found leads.1 shown) leads.2)
+one_outcome (rereads reading next) files judged said leads = one_outcome next files judged said leads
 
 pub told_outcome : (plan : Plan) (told : Option Files) → AreJudged plan told → (said : Outcome)
     → Leads plan told said → OfFiles told (λ files. IsOutcomeOver plan files said)
@@ -73,6 +83,17 @@ ended_so (opens hash bytes next) before after status text ends =
       text_is = on.text_is;
       files = on.files;
     }
+ended_so (rereads reading next) None after status text ends = record
+    { said = ends.0; leads = ends.1; status_is = ends.2; text_is = ends.3; files = ends.4 }
+ended_so (rereads reading next) (Some files) after status text ends =
+    let on = ended_so next (Some files) after status text ends in
+    record {
+      said = on.said;
+      leads = on.leads;
+      status_is = on.status_is;
+      text_is = on.text_is;
+      files = on.files;
+    }
 
 -- an outcome that was not reached, with the files left as it allows
 pub record HasGivenUp (plan : Plan) (before after : Option Files) : Type 0 where
@@ -97,3 +118,9 @@ given_up (reads name next) before after judged (inr up) =
 given_up (opens hash bytes next) before after judged up =
     let on = given_up (next up.0) before after (judged.1 up.0 up.1) up.2 in
     record { said = on.said; leads = (up.0, up.1, on.leads); files = on.files }
+given_up (rereads reading next) None after judged up =
+    let on = may_miss reading in
+    record { said = on.0; leads = on.1; files = stays on.0.written None after up }
+given_up (rereads reading next) (Some files) after judged up =
+    let on = given_up next (Some files) after judged up in
+    record { said = on.said; leads = on.leads; files = on.files }

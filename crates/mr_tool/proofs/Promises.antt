@@ -32,7 +32,9 @@ use Rattle.mr_proof.proofs.Halves.{accepts_just}
 use Rattle.mr_proof.proofs.SameNodes.{none_more}
 use Rattle.mr_proof.proofs.NoClash.{honest_quiet}
 use Rattle.mr_proof.proofs.Worth.{headline, accepted_headline}
-use Rattle.mr_clash.specs.Finding.{finding_of}
+use Rattle.mr_clash.specs.Finding.{finding_of, Collides}
+use Rattle.mr_clash.specs.declared.finding.Finding.{Finding}
+use Rattle.mr_clash.specs.declared.finding.Finding.TheVariants as findings
 use Rattle.mr_pages.specs.PageBytes.{first_form}
 use Rattle.mr_pages.specs.Law.{IsMap}
 use Rattle.mr_pages.proofs.PageLaws.{from_bytes}
@@ -42,7 +44,8 @@ use Rattle.mr_tool.specs.Ending.{Comes, Ends, Finishes, FindsMap, IsWell, printe
 use Rattle.mr_tool.specs.First.{first}
 use Rattle.mr_tool.specs.Found.{Found}
 use Rattle.mr_tool.specs.Outcome.{Outcome}
-use Rattle.mr_tool.specs.Plan.{Plan, comes, opens, Input, IsInput}
+use Rattle.mr_tool.specs.Plan.{Plan, comes, opens, rereads, Input, IsInput}
+use Rattle.mr_tool.specs.Rereading.{Rereading, proving, auditing, MaySay}
 use Rattle.mr_tool.specs.Promises.{Holds, HoldsRecords, HoldsMap, HoldsProof, HoldsBatch, IsInOrder, CompletesWords, AnswersHonest, PrintsScan, IsWorth, AcceptsHonestOrCollides, Delivers, SaysWorth, AuditsAccepted, CollidesRightly}
 use Rattle.mr_tool.specs.Say.{given, given_map, needs, needs_map, prints, say, say_root_of, say_build_of, say_list_of, say_apply, say_apply_of, say_prove_of, say_check, say_check_of, say_audit, say_audit_of, say_finding, say_make_of}
 use Rattle.mr_tool.specs.Lines.{sound_line, collision_lines}
@@ -103,6 +106,13 @@ of_told : (told : Option Files) (name bytes : List ℕ) (P : Type 0) → Holds t
 of_told None name bytes P held of = absurd held
 of_told (Some files) name bytes P held of = of
 
+-- a command that reads pages of this file again came to its end by its plan
+told_ends : (told after : Option Files) (name bytes : List ℕ) (reading : Rereading) (next : Plan) (status : Status)
+    (text : List ℕ) → Holds told name bytes → Ends (rereads reading next) told after status text
+    → Ends next told after status text
+told_ends None after name bytes reading next status text held ends = absurd held
+told_ends (Some files) after name bytes reading next status text held ends = ends
+
 -- a command that reads this file came to its end by its bytes
 module _ (name bytes : List ℕ) (before after : Option Files) (status : Status) (text : List ℕ)
     (held : Holds before name bytes) where
@@ -145,7 +155,9 @@ module _ (hash : List ℕ → List ℕ) (before after : Option Files) (status : 
       → Ends (comes (say_audit_of hash q (map_at t batch) bytes)) before after status text
   audited_ends ends =
       let next : Opened → Plan = λ m. needs name (λ bytes. comes (say_audit_of hash q m bytes)) in
-      let mapped = map_on hash map held t batch before after status text map_held stands next ends in
+      let mapped = map_on hash map held t batch before after status text map_held stands next
+      (told_ends before after map held (auditing hash map q name) (needs_map hash map next) status text map_held ends)
+      in
       ends_on name bytes before after status text name_held
       (λ bytes. comes (say_audit_of hash q (map_at t batch) bytes)) mapped
 
@@ -258,8 +270,40 @@ module _ (hash : List ℕ → List ℕ) (sized : IsSized hash) (q : Query) (may 
   shown_opened map None ends = other_status status Outside is ends.0 (λ c. cc)
   shown_opened map (Some bytes) ends = shown_found ends.0 ends.2 ends.3
 
+  -- over files that are not told, by what was found
+  shown_finding : (f : Finding) (said : Outcome) → Collides hash f → said ≡ say_finding f → status ≡ said.status
+      → text ≡ said.printed → Shown hash text
+  shown_finding (findings.Refused fault) said collides e st tx =
+      other_status status Refused is (st ∙ ap (λ (o : Outcome). o.status) e) (λ c. cc)
+  shown_finding (findings.Sound answer) said collides e st tx =
+      other_status status Done is (st ∙ ap (λ (o : Outcome). o.status) e) (λ c. cc)
+  shown_finding (findings.Collision owned shown) said collides e st tx = record {
+    pair = record { owned = owned; shown = shown };
+    collides = collides;
+    is = tx ∙ ap (λ (o : Outcome). o.printed) e;
+  }
+
+  shown_untold : (map : List ℕ) (said : Outcome) → MaySay (auditing hash map q name) said → status ≡ said.status
+      → text ≡ said.printed → Shown hash text
+  shown_untold map said (inl (inl e)) st tx =
+      other_status status Outside is (st ∙ ap (λ (o : Outcome). o.status) e) (λ c. cc)
+  shown_untold map said (inl (inr bad)) st tx =
+      other_status status BadMap is (st ∙ ap (λ (o : Outcome). o.status) bad.2) (λ c. cc)
+  shown_untold map said (inr (inl e)) st tx =
+      other_status status Outside is (st ∙ ap (λ (o : Outcome). o.status) e) (λ c. cc)
+  shown_untold map said (inr (inr found)) st tx = shown_finding found.0 said found.1 found.2 st tx
+
   shown_audit : (map : List ℕ) → Ends (say_audit hash map q name) before after status text → Shown hash text
-  shown_audit map ends = shown_opened map ends.0 ends.3
+  shown_audit map ends = by_files before refl
+    where
+      by_files : (o : Option Files) → before ≡ o → Shown hash text
+      by_files None e =
+          let on = subst (λ o. Ends (say_audit hash map q name) o after status text) e ends in
+          shown_untold map on.0 on.1 on.2 on.3
+      by_files (Some files) e =
+          let on = subst (λ o. Ends (needs_map hash map proof_plan) o after status text) (sym e)
+          (subst (λ o. Ends (say_audit hash map q name) o after status text) e ends) in
+          shown_opened map on.0 on.3
 
 -- what stopped a run was no collision
 not_collided : {A : Type 0} (before after : World) (status : Status) → status ≡ Collision
@@ -324,7 +368,9 @@ module _ (hash : List ℕ → List ℕ) (before after : Option Files) (status : 
       map_done map.now (λ held. say_list_of held.tree) (λ held. refl) holds ends
   done sized (commands.Apply old name new) each holds ends = apply_done old.now name.now new.now holds ends
   done sized (commands.Prove map q name) each holds ends =
-      map_done map.now (say_prove_of hash q name.now) (prove_done hash q name.now) holds ends
+      map_done map.now (say_prove_of hash q name.now) (prove_done hash q name.now) holds
+      (told_ends before after map.now holds.bytes (proving hash map.now q name.now)
+      (needs_map hash map.now (λ m. comes (say_prove_of hash q name.now m))) status text holds.held ends)
   done sized (commands.Check root q name) each holds ends =
       check_done root q name.now (askable q each.1.1.0) holds ends
   done sized (commands.Audit map q name) each holds ends =

@@ -1,24 +1,19 @@
 -- A proof in a file that is read in pieces and judged as they come.
-use Rattle.std.proofs.Common.{◌≡◌, ℕ, ◌+◌, ◌-◌, ◌≤◌, ◌<◌, min, List, [], ◌++◌, length, take, drop, Option, Some, None, MatchOption, Result, Ok, Err, refl, sym, ap, subst, ◌∙◌, inl, inr, arith, length-append}
+use Rattle.std.proofs.Common.{◌≡◌, ℕ, ◌+◌, ◌-◌, ◌≤◌, ◌<◌, min, List, [], ◌++◌, length, take, drop, Option, Some, None, MatchOption, Ok, Err, refl, sym, ap, subst, ◌∙◌, inl, inr, arith, length-append}
 use Rattle.std.specs.Prelude.{◌⊎◌, ◌^◌, ⊤}
 use Rattle.std.proofs.lemmas.List.{append-nil, take-append-drop, take-append-le}
 use Rattle.std.proofs.lemmas.List.Elements.{All-append}
-use Rattle.std.specs.Global.{Vec}
 use Rattle.mr_outside.specs.Faults.{Rose}
 use Rattle.mr_outside.specs.Files.{Files, file}
-use Rattle.mr_outside.specs.State.{Shelved}
 use Rattle.mr_outside.specs.Told.{OfFile, MayMiss}
 use Rattle.mr_outside.proofs.Pieces.{HasFront, FrontOfFile, FrontOfFile-none, FrontOfFile-more, FrontOfFile-short, FrontOfFile-whole, OfFile-map}
 use Rattle.mr_record.specs.Bytes.{AreBytes}
-use Rattle.mr_record.specs.declared.record.Record.{Record}
 use Rattle.mr_tree.specs.declared.hash.Hashes.{Ghosts}
 use Rattle.mr_query.specs.declared.query.Query.{Query}
-use Rattle.mr_proof.specs.declared.rule.Fault.{Fault}
 use Rattle.mr_proof.specs.Reading.{verdict}
 use Rattle.mr_check.specs.Judged.{IsTaken}
 use Rattle.mr_check.specs.declared.intake.Intake.{Intake}
-use Rattle.mr_tool.specs.Ending.{Comes, NoneFalls, Stops}
-use Rattle.mr_tool.specs.Plan.{Input, IsInput, IsAbsent}
+use Rattle.mr_tool.specs.Plan.{IsInput, IsAbsent}
 use Rattle.mr_outside.specs.Reading.{FillsFront, GivesFrom}
 use Rattle.mr_check.specs.Answers.{Checks}
 use Rattle.mr_check.specs.Judged.{IsStopped}
@@ -26,7 +21,7 @@ use Rattle.mr_check.specs.declared.error.CheckErr.{CheckErr}
 use Rattle.mr_check.specs.declared.error.CheckErr.TheVariants as errors
 use Rattle.std.proofs.Common.{length-take-le, length-drop}
 use Rattle.std.proofs.Math.Seq.{take-append_seam}
-use Rattle.mr_tool.specs.Taking.{IsPiece, StopsNext, TakesNext, StopsFile, IsAllTaken, HasVerdict, stop_of_check}
+use Rattle.mr_tool.specs.Taking.{IsPiece, StopsNext, TakesNext, StopsFile, IsAllTaken, stop_of_check}
 use Rattle.mr_tool.specs.declared.pieces.Stop.{Stop}
 use Rattle.mr_tool.specs.declared.pieces.Stop.TheVariants as stops
 
@@ -98,7 +93,7 @@ module _ {H : Type 0} {G : Ghosts H} (hash : List ℕ → List ℕ) (holds : H �
 
   -- and the piece that follows
   pub piece_taken : (i j : Intake H G) (at wanted count : ℕ) (had : HasTaken hash holds root q told name size at i)
-      → TakesNext hash holds root q told name at wanted j had.front (Ok count)
+      → TakesNext hash holds root q told name at wanted had.front (Ok (j, count))
       → HasTaken hash holds root q told name size (at + count) j
   piece_taken i j at wanted count had next =
       let front = had.front in
@@ -130,7 +125,7 @@ module _ {H : Type 0} {G : Ghosts H} (hash : List ℕ → List ℕ) (holds : H �
 
   pub short_taken : (i j : Intake H G) (at wanted count : ℕ) (had : HasTaken hash holds root q told name size at i)
       → wanted ≤ size - at → count < wanted
-      → TakesNext hash holds root q told name at wanted j had.front (Ok count)
+      → TakesNext hash holds root q told name at wanted had.front (Ok (j, count))
       → IsAllTaken hash holds root q told name j
   short_taken i j at wanted count had room short next =
       let now = piece_taken i j at wanted count had next in

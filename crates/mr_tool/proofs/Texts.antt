@@ -57,6 +57,7 @@ module _ (name bytes : List ℕ) (before : Shelved) where
       → Saves name (text bytes) before after (Err (halt_of error))
   text_unmade after error same reads never c = record {
     counts = record { faults = c.faults; reads = omega (arith, reads) };
+    unread = reads;
     saved = (
       stops_by before after error
           (λ e. subst (λ o. MayMiss o name before.faults after.faults) (never e) (c.missing e))
@@ -73,6 +74,7 @@ module _ (name bytes : List ℕ) (before : Shelved) where
       → Saves name (text bytes) before after (Err (halt_of error))
   text_begun made after error create quiet reads part more c = record {
     counts = record { faults = omega (arith, quiet, c.faults); reads = omega (arith, reads, more) };
+    unread = more ∙ reads;
     saved = (
       stops_there name [] before made after error create quiet c,
       inr (
@@ -96,6 +98,7 @@ module _ (name bytes : List ℕ) (before : Shelved) where
       → Saves name (text bytes) before after (Err (halt_of error))
   text_unsynced full after error put quiet reads same more c = record {
     counts = record { faults = omega (arith, quiet, c.faults); reads = omega (arith, reads, more) };
+    unread = more ∙ reads;
     saved = (
       stops_there name bytes before full after error put quiet c,
       inr (bytes, inr refl, same ∙ put),
@@ -107,6 +110,7 @@ module _ (name bytes : List ℕ) (before : Shelved) where
       → Saves name (text bytes) before after (Ok done)
   text_saved after done put quiet reads = record {
     counts = record { faults = omega (arith, quiet); reads = omega (arith, reads) };
+    unread = reads;
     saved = ((bytes, refl, put), quiet);
   }
 

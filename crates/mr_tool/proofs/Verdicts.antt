@@ -56,7 +56,7 @@ pub check_writes : (hash : List ℕ → List ℕ) (root : List ℕ) (q : Query) 
 unfolding say_check_of
 check_writes hash root q bytes = verdict_writes (verdict hash root q bytes)
 
-finding_writes : (f : Finding) → (say_finding f).written ≡ Nothing
+pub finding_writes : (f : Finding) → (say_finding f).written ≡ Nothing
 finding_writes (findings.Refused fault) = refl
 finding_writes (findings.Sound answer) = refl
 finding_writes (findings.Collision owned shown) = refl

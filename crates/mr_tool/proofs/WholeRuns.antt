@@ -7,7 +7,8 @@ use Rattle.mr_tool.specs.Answer.{World, HasOutsideCause, IsAnswer, IsQuiet}
 use Rattle.mr_tool.specs.Ending.{Comes, Finishes, Prints}
 use Rattle.mr_tool.specs.Lines.{bad_words_line}
 use Rattle.mr_tool.specs.Run.{IsRun}
-use Rattle.mr_tool.specs.Say.{say}
+use Rattle.mr_tool.specs.Counting.{ReadsFew}
+use Rattle.mr_tool.specs.Say.{ends, say}
 use Rattle.mr_tool.specs.Spelling.{IsSpelled}
 use Rattle.mr_tool.specs.declared.ending.Ending.{Ending}
 use Rattle.mr_tool.specs.declared.ending.Halt.{Halt}
@@ -16,6 +17,7 @@ use Rattle.mr_tool.specs.declared.status.Status.{Status}
 use Rattle.mr_tool.specs.declared.status.Status.TheVariants.{BadWords}
 use Rattle.mr_tool.specs.declared.words.Command.{Command}
 use Rattle.mr_tool.specs.declared.words.Command.TheVariants as commands
+use Rattle.mr_tool.proofs.Counting.{few_none}
 use Rattle.mr_tool.proofs.Promises.{completes, honest_answered, accepted_worth, accepted_audited, collided_rightly}
 use Rattle.mr_tool.proofs.Runs.{answer_of, from_sink, outside_of, quiet_of, words_answered}
 
@@ -46,6 +48,7 @@ module _ (hash : List ℕ → List ℕ) (words : List (List ℕ)) (before after 
           sink_faults = ended.faults;
         };
         quiet = quiet_of plan before after status came comes ended;
+        reads = λ c spelled. subst (λ p. ReadsFew p before.shelf after.shelf) (sym (read c spelled)) comes.few;
         complete = completes hash words before after status plan came same comes ended sized;
         honest = honest_answered hash words before after status plan came same comes ended sized;
         worth = accepted_worth hash words before after status plan came same comes ended sized;
@@ -75,6 +78,9 @@ module _ (hash : List ℕ → List ℕ) (words : List (List ℕ)) (before after 
       sink_faults = ended.faults;
     };
     quiet = quiet_words same ended.printed;
+    reads = λ c spelled. subst (λ p. ReadsFew p before.shelf after.shelf) (sym (read c spelled))
+        (few_none before.shelf.files (ends BadWords bad_words_line) before.shelf.reads after.shelf.reads
+        (ap (λ s. s.reads) same));
     complete = λ command spells order. absurd (none command spells);
     honest = λ v t batch root q name well low is_root spells held. absurd (none (commands.Check root q name) spells);
     worth = λ v t batch root q name bytes well low is_root spells held done.

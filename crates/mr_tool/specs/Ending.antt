@@ -1,9 +1,9 @@
 -- What a command comes to before it is printed, and how it is printed. This serves private
 -- functions.
-use Rattle.std.specs.Prelude.{◌≡◌, ◌⊎◌, ℕ, ◌^◌, ◌<◌, ◌≤◌, List, ◌++◌, Option, Some, None, IfSome, ⊤, Result, Ok, Err}
+use Rattle.std.specs.Prelude.{◌≡◌, ◌⊎◌, ℕ, ◌+◌, ◌^◌, ◌<◌, ◌≤◌, List, ◌++◌, Option, Some, None, IfSome, ⊤, Result, Ok, Err}
 use Rattle.std.specs.Global.{Vec}
 use Rattle.std.specs.String.{string_bytes}
-use Rattle.mr_outside.specs.Files.{Files}
+use Rattle.mr_outside.specs.Files.{Files, file}
 use Rattle.mr_outside.specs.Faults.{Rose}
 use Rattle.mr_outside.specs.State.{Shelved, Sunk}
 use Rattle.mr_outside.specs.Told.{OfFiles, Takes, TakesFront}
@@ -15,17 +15,23 @@ use Rattle.mr_pages.specs.PageBytes.{first_form}
 use Rattle.mr_pages.specs.Law.{Agrees, IsMap}
 use Rattle.mr_tool.specs.Answer.{IsSettled}
 use Rattle.mr_tree.specs.WellFormed.{WellFormed}
-use Rattle.mr_tool.specs.Found.{Found, Shows}
+use Rattle.mr_pages.specs.declared.error.MapErr.{MapErr}
+use Rattle.mr_pages.specs.declared.error.MapErr.TheVariants as errors
+use Rattle.mr_tree.specs.declared.nodes.NodesErr.{NodesErr}
+use Rattle.mr_tool.specs.Found.{Found, Shows, as_map_error, bad_map_line}
 use Rattle.mr_tool.specs.Lines.{bad_words_line, shelf_fault_line}
 use Rattle.mr_tool.specs.Outcome.{Outcome, Content, File, IsLeft, MayLeave}
-use Rattle.mr_tool.specs.Plan.{Plan, comes, reads, opens, Input, IsInput, IsAbsent, LacksInput}
-use Rattle.mr_tool.specs.Say.{needs_map, says_missing}
+use Rattle.mr_tool.specs.Counting.{pieces_of, ReadsFew}
+use Rattle.mr_tool.specs.Plan.{Plan, comes, reads, opens, rereads, Input, IsInput, IsAbsent, LacksInput}
+use Rattle.mr_tool.specs.Rereading.{Rereading, MaySay}
+use Rattle.mr_tool.specs.Say.{ends, needs_map, says_missing, say_written}
 use Rattle.mr_tool.specs.declared.ending.Ending.{Ending}
 use Rattle.mr_tool.specs.declared.ending.Halt.{Halt}
 use Rattle.mr_tool.specs.declared.ending.Halt.TheVariants as halts
 use Rattle.mr_pages.specs.declared.opening.Opened.{Opened}
 use Rattle.mr_tool.specs.declared.status.Status.{Status}
-use Rattle.mr_tool.specs.declared.status.Status.TheVariants.{BadWords, Outside, NoMemory}
+use Rattle.mr_tool.specs.declared.text.Text.{Text}
+use Rattle.mr_tool.specs.declared.status.Status.TheVariants.{BadWords, BadMap, Outside, NoMemory}
 
 -- the text of an ending: its line, then a line for each record
 abbrev pub printed_of : Ending → List ℕ
@@ -47,6 +53,14 @@ abbrev pub Misses : List ℕ → Result Ending Halt → Type 0
 Misses name (Ok ending) = (ending.status ≡ Outside)
     × (printed_of ending ≡ (says_missing name).printed)
 Misses name (Err halt) = halt ≡ halts.NoMemory
+
+-- what is said where a map was not opened, by its refusal
+abbrev pub SaysRefusal : List ℕ → MapErr → Result Ending Halt → Type 0
+SaysRefusal name (errors.Map fault) result =
+    GivesOrStops (ends BadMap (bad_map_line fault)) result
+SaysRefusal name errors.Missing result = Misses name result
+SaysRefusal name errors.Fault result = result ≡ Err halts.Shelf
+SaysRefusal name errors.NoMemory result = result ≡ Err halts.NoMemory
 
 -- ---- before it is printed
 
@@ -78,6 +92,10 @@ Ends (reads name next) before after status text = (input : Input) × IsInput bef
     × IfSome input AreBytes × Ends (next input) before after status text
 Ends (opens hash bytes next) before after status text = (found : Found)
     × WasFound before hash bytes found × IsWell found × Ends (next found) before after status text
+Ends (rereads reading next) None after status text = (said : Outcome) × MaySay reading said
+    × (status ≡ said.status) × (text ≡ said.printed) × IsLeft said.written None after
+Ends (rereads reading next) (Some files) after status text =
+    Ends next (Some files) after status text
 
 -- the plan was given up, and the files are left as its outcome allows
 abbrev pub GivesUp : Plan → Option Files → Option Files → Type 0
@@ -86,6 +104,8 @@ GivesUp (reads name next) before after = (after ≡ before)
     ⊎ ((input : Input) × IsInput before name input × GivesUp (next input) before after)
 GivesUp (opens hash bytes next) before after = (found : Found) × Shows hash bytes found
     × GivesUp (next found) before after
+GivesUp (rereads reading next) None after = after ≡ None
+GivesUp (rereads reading next) (Some files) after = GivesUp next (Some files) after
 
 -- the bytes that the plan opens stand for one map or have one fault, whichever
 abbrev pub AreJudged : Plan → Option Files → Type 0
@@ -94,6 +114,8 @@ AreJudged (reads name next) told =
     (input : Input) → IsInput told name input → AreJudged (next input) told
 AreJudged (opens hash bytes next) told = Agrees first_form hash bytes
     × ((found : Found) → Shows hash bytes found → AreJudged (next found) told)
+AreJudged (rereads reading next) None = ⊤
+AreJudged (rereads reading next) (Some files) = AreJudged next (Some files)
 
 -- why a command is not carried out to its end
 abbrev pub Stops : Shelved → Shelved → Halt → Type 0
@@ -124,6 +146,7 @@ pub record Comes (plan : Plan) (before after : Shelved) (result : Result Ending 
   pub came : Came plan before after result
   pub outside : Blames plan before after result
   pub quiet : IsCalm before after result
+  pub few : ReadsFew plan before after
 
 abbrev pub Read : List ℕ → Shelved → Shelved → Result (Option (Vec ℕ)) Halt → Type 0
 Read name before after (Ok None) = IsInput before.files name None
@@ -132,12 +155,52 @@ Read name before after (Ok (Some bytes)) = IsInput before.files name (Some bytes
     × AreBytes bytes.items × (after.faults ≡ before.faults)
 Read name before after (Err halt) = Stops before after halt
 
+-- the same shelf with this count of reads
+abbrev pub with_reads : ℕ → Shelved → Shelved
+with_reads n s = record { files = s.files; faults = s.faults; reads = n }
+
+-- a command comes to what is said, but for what it reads, which is counted apart
+abbrev pub ComesBut : Plan → Shelved → Shelved → Result Ending Halt → Type 0
+ComesBut plan before after result = Comes plan (with_reads after.reads before) after result
+
+-- over files that are not told, what is said may be said, each failure has its cause, and what is
+-- settled counts no fault
+abbrev pub SaysUntold : Rereading → Shelved → Shelved → Result Ending Halt → Type 0
+SaysUntold reading before after (Ok ending) = (said : Outcome) × MaySay reading said
+    × (ending.status ≡ said.status) × (printed_of ending ≡ said.printed)
+    × IsLeft said.written before.files after.files
+    × (ending.status ≡ Outside → Rose before.faults after.faults)
+    × (IsSettled ending.status → after.faults ≡ before.faults)
+SaysUntold reading before after (Err halt) = Stops before after halt
+    × (after.files ≡ before.files)
+
+-- what is made of a proof, or of why a node of the map was not fetched
+abbrev pub KeepsProof : (map name : List ℕ) → Result Text NodesErr → Shelved → Shelved
+    → Result Ending Halt → Type 0
+KeepsProof map name (Ok text) before after result =
+    Comes (comes (say_written name text.bytes.items)) before after result
+KeepsProof map name (Err e) before after result = (after ≡ before)
+    × SaysRefusal map (as_map_error e) result
+
+-- what is made of the answer of a read
+abbrev pub IsAsRead : Result (Vec ℕ) ShelfErr → Result (Option (Vec ℕ)) Halt → Type 0
+IsAsRead (Ok bytes) result = (result ≡ Ok (Some bytes)) × AreBytes bytes.items
+IsAsRead (Err shelf.Missing) result = result ≡ Ok None
+IsAsRead (Err shelf.Fault) result = result ≡ Err halts.Shelf
+IsAsRead (Err shelf.NoMemory) result = result ≡ Err halts.NoMemory
+
+-- where the files are told, this one was read once
+abbrev pub ReadsOnce : List ℕ → Shelved → Shelved → Type 0
+ReadsOnce name before after = OfFiles before.files
+    (λ files. after.reads ≤ before.reads + pieces_of (file files name))
+
 -- an input was read, or is missing
 pub record Reads (name : List ℕ) (before after : Shelved) (result : Result (Option (Vec ℕ)) Halt)
     : Type 0 where
   pub counts : NoneFalls before after
   pub files : after.files ≡ before.files
   pub read : Read name before after result
+  pub once : ReadsOnce name before after
 
 -- whatever bytes may be there, they stand for one map or have one fault
 abbrev pub IsJudged : (List ℕ → List ℕ) → Option Files → List ℕ → Type 0
@@ -150,6 +213,7 @@ pub record HoldsMap (hash : List ℕ → List ℕ) (name : List ℕ) (before aft
   pub counts : NoneFalls before after
   pub files : after.files ≡ before.files
   pub quiet : after.faults ≡ before.faults
+  pub once : ReadsOnce name before after
   pub bytes : List ℕ
   pub input : IsInput before.files name (Some bytes)
   pub are : AreBytes bytes
@@ -190,6 +254,7 @@ Saved name content before after (Err halt) = Stops before after halt
 pub record Saves (name : List ℕ) (content : Content) (before after : Shelved)
     (result : Result Unit Halt) : Type 0 where
   pub counts : NoneFalls before after
+  pub unread : after.reads ≡ before.reads
   pub saved : Saved name content before after result
 
 -- ---- while it is printed

@@ -3,11 +3,14 @@ pub mod First
 pub mod Words
 pub mod Found
 pub mod Outcome
-pub mod Plan
 pub mod Lines
 pub mod Refusal
+pub mod Saying
+pub mod Rereading
+pub mod Plan
 pub mod Demo
 pub mod Say
+pub mod Counting
 pub mod Spelling
 pub mod Answer
 pub mod Promises

@@ -2,6 +2,7 @@
 use Rattle.std.specs.Prelude.{◌≡◌, ℕ, List, Option}
 use Rattle.mr_tool.specs.Answer.{World, Counts, HasOutsideCause, IsAnswer, IsQuiet}
 use Rattle.mr_tool.specs.Promises.{CompletesWords, AnswersHonest, AcceptsHonestOrCollides, AuditsAccepted, CollidesRightly}
+use Rattle.mr_tool.specs.Counting.{ReadsFew}
 use Rattle.mr_tool.specs.Say.{say}
 use Rattle.mr_tool.specs.Spelling.{IsSpelled}
 use Rattle.mr_tool.specs.Status.{code_of}
@@ -21,12 +22,18 @@ BlamesRightly hash words before after status =
     (command : Option Command) → IsSpelled words command → status ≡ Outside
     → HasOutsideCause (say hash command) before after
 
+-- where the files are told, no more is read than the plan takes
+abbrev pub ReadsFewWords : (List ℕ → List ℕ) → List (List ℕ) → World → World → Type 0
+ReadsFewWords hash words before after = (command : Option Command) → IsSpelled words command
+    → ReadsFew (say hash command) before.shelf after.shelf
+
 pub record IsRun (hash : List ℕ → List ℕ) (words : List (List ℕ)) (before after : World)
     (status : Status) : Type 0 where
   pub answer : AnswersWords hash words before after status
   pub outside : BlamesRightly hash words before after status
   pub counts : Counts before after
   pub quiet : IsQuiet status before after
+  pub reads : ReadsFewWords hash words before after
   pub complete : CompletesWords hash words before after status
   pub honest : AnswersHonest hash words before after status
   pub worth : AcceptsHonestOrCollides hash words before after status

@@ -1,5 +1,5 @@
 -- What each command says. The hash function is any one.
-use Rattle.std.specs.Prelude.{ℕ, List, [], ◌∷◌, ◌++◌, length, Option, Some, None, Result, Ok, Err}
+use Rattle.std.specs.Prelude.{ℕ, List, [], ◌∷◌, length, Option, Some, None, Result, Ok, Err}
 use Rattle.mr_record.specs.declared.record.Record.{Record}
 use Rattle.mr_record.specs.declared.text_fault.TextFault.{TextFault}
 use Rattle.mr_record.specs.RecordText.{records_of_text, text_of}
@@ -19,33 +19,19 @@ use Rattle.mr_proof.specs.declared.rule.Fault.{Fault}
 use Rattle.mr_proof.specs.Honest as honest
 use Rattle.mr_proof.specs.Reading.{verdict}
 use Rattle.mr_clash.specs.Finding.{found}
-use Rattle.mr_clash.specs.declared.finding.Finding.{Finding}
-use Rattle.mr_clash.specs.declared.finding.Finding.TheVariants as findings
 use Rattle.mr_tool.specs.Demo.{demo_lines}
 use Rattle.mr_tool.specs.First.{first}
 use Rattle.mr_tool.specs.Found.{Found, bad_map_line}
-use Rattle.mr_tool.specs.Lines.{digest_line, bad_words_line, bad_text_line, bad_batch_line, missing_line, proof_line, made_line, sound_line, collision_lines}
-use Rattle.mr_tool.specs.Outcome.{Outcome, Nothing, File, map_of}
-use Rattle.mr_tool.specs.Outcome as content
-use Rattle.mr_tool.specs.Plan.{Input, Plan, comes, reads, opens}
+use Rattle.mr_tool.specs.Lines.{digest_line, bad_words_line, bad_text_line, bad_batch_line, made_line}
+use Rattle.mr_tool.specs.Outcome.{Outcome, File, map_of}
+use Rattle.mr_tool.specs.Plan.{Input, Plan, comes, reads, opens, rereads}
+use Rattle.mr_tool.specs.Rereading.{proving, auditing}
+pub use Rattle.mr_tool.specs.Saying.{ends, prints, says_missing, say_text, say_written, say_finding}
 use Rattle.mr_tool.specs.Refusal.{refused_line}
 use Rattle.mr_pages.specs.declared.opening.Opened.{Opened}
-use Rattle.mr_tool.specs.declared.status.Status.{Status}
-use Rattle.mr_tool.specs.declared.status.Status.TheVariants.{Done, BadWords, Refused, BadText, BadMap, BadBatch, Collision, Outside}
+use Rattle.mr_tool.specs.declared.status.Status.TheVariants.{Done, BadWords, Refused, BadText, BadMap, BadBatch}
 use Rattle.mr_tool.specs.declared.words.Command.{Command}
 use Rattle.mr_tool.specs.declared.words.Command.TheVariants as commands
-
--- a command that ends so, prints this text and writes no file
-abbrev pub ends : Status → List ℕ → Outcome
-ends status text = record { status = status; printed = text; written = Nothing }
-
--- all was done
-abbrev pub prints : List ℕ → Outcome
-prints text = ends Done text
-
--- a file that is missing, by its name
-abbrev pub says_missing : List ℕ → Outcome
-says_missing name = ends Outside (missing_line name)
 
 -- what follows on a file's bytes, or the line on a missing file
 abbrev pub given : List ℕ → (List ℕ → Plan) → Input → Plan
@@ -122,18 +108,6 @@ abbrev pub say_apply : (List ℕ → List ℕ) → (old batch new : List ℕ) �
 say_apply hash old batch new = needs_map hash old
     (λ map. needs batch (λ text. comes (say_apply_of hash new map (batch_of_text text))))
 
--- these bytes in a file, and a line on them
-abbrev pub say_text : (line name bytes : List ℕ) → Outcome
-say_text line name bytes = record {
-  status = Done;
-  printed = line;
-  written = File name (content.text bytes);
-}
-
--- these bytes in a file, and their number
-abbrev pub say_written : List ℕ → List ℕ → Outcome
-say_written proof bytes = say_text (proof_line (length bytes)) proof bytes
-
 -- the honest proof for a query on a map in a file, and its length
 unfoldable pub say_prove_of : (List ℕ → List ℕ) → Query → List ℕ → Opened → Outcome
 say_prove_of hash query proof map =
@@ -141,8 +115,8 @@ say_prove_of hash query proof map =
 
 -- `prove MAP QUERY PROOF`: the proof for a query on the map in a file, written to another one
 abbrev pub say_prove : (List ℕ → List ℕ) → List ℕ → Query → List ℕ → Plan
-say_prove hash name query proof =
-    needs_map hash name (λ map. comes (say_prove_of hash query proof map))
+say_prove hash name query proof = rereads (proving hash name query proof)
+    (needs_map hash name (λ map. comes (say_prove_of hash query proof map)))
 
 -- the answer that a proof proves, a line for each record, or its fault
 abbrev pub say_verdict : Result (List Record) Fault → Outcome
@@ -157,21 +131,15 @@ say_check_of hash root query proof = say_verdict (verdict hash root query proof)
 abbrev pub say_check : (List ℕ → List ℕ) → List ℕ → Query → List ℕ → Plan
 say_check hash root query proof = needs proof (λ bytes. comes (say_check_of hash root query bytes))
 
--- what was found of the bytes of a proof: its fault; that it is the honest proof, and then the
--- answer, a line for each record; or the two strings
-abbrev pub say_finding : Finding → Outcome
-say_finding (findings.Refused fault) = ends Refused (refused_line fault)
-say_finding (findings.Sound answer) = prints (sound_line ++ text_of answer)
-say_finding (findings.Collision owned shown) = ends Collision (collision_lines owned shown)
-
 -- what is said of the bytes of a proof and of a map
 unfoldable pub say_audit_of : (List ℕ → List ℕ) → Query → Opened → List ℕ → Outcome
 say_audit_of hash query map bytes = say_finding (found (first hash) map.tree map.batch query bytes)
 
 -- `audit MAP QUERY PROOF`: what the proof in a file is worth against the map in another one
 abbrev pub say_audit : (List ℕ → List ℕ) → List ℕ → Query → List ℕ → Plan
-say_audit hash name query proof = needs_map hash name
-    (λ map. needs proof (λ bytes. comes (say_audit_of hash query map bytes)))
+say_audit hash name query proof = rereads (auditing hash name query proof)
+    (needs_map hash name
+    (λ map. needs proof (λ bytes. comes (say_audit_of hash query map bytes))))
 
 -- the text of generated records in a file, and how many they are
 unfoldable pub say_make_of : (count seed : ℕ) → List ℕ → Outcome

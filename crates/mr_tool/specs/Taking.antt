@@ -1,7 +1,6 @@
 -- A proof in a file that is read in pieces and judged as they come. This serves private functions.
-use Rattle.std.specs.Prelude.{◌≡◌, ◌⊎◌, ℕ, ◌-◌, ◌≤◌, min, List, ◌++◌, length, take, drop, Option, Some, None, ⊤, Result, Ok, Err}
+use Rattle.std.specs.Prelude.{◌≡◌, ℕ, ◌-◌, ◌≤◌, min, List, ◌++◌, length, take, drop, Option, Some, ⊤, Result, Ok, Err}
 use Rattle.std.specs.Global.{Vec}
-use Rattle.mr_outside.specs.Faults.{Rose}
 use Rattle.mr_outside.specs.Files.{Files}
 use Rattle.mr_outside.specs.State.{Shelved}
 use Rattle.mr_outside.specs.Told.{OfFile, MayMiss}
@@ -14,7 +13,7 @@ use Rattle.mr_proof.specs.Reading.{verdict}
 use Rattle.mr_check.specs.Judged.{IsTaken}
 use Rattle.mr_check.specs.declared.intake.Intake.{Intake}
 use Rattle.mr_tool.specs.Ending.{NoneFalls, Stops}
-use Rattle.mr_tool.specs.Plan.{Input, IsInput, IsAbsent}
+use Rattle.mr_tool.specs.Plan.{IsInput}
 use Rattle.mr_outside.specs.declared.shelf.ShelfErr.{ShelfErr}
 use Rattle.mr_outside.specs.declared.shelf.ShelfErr.TheVariants as shelf
 use Rattle.mr_check.specs.declared.error.CheckErr.{CheckErr}
@@ -57,12 +56,12 @@ StopsNext hash root q told name at wanted front (stops.Halted halt) = ⊤
 
 -- the next piece of the file, where the proof was taken so far, is taken too; or that is so
 abbrev pub TakesNext : {H : Type 0} {G : Ghosts H} → (List ℕ → List ℕ) → (H → List ℕ → Type 0)
-    → List ℕ → Query → Option Files → (name : List ℕ) (at wanted : ℕ) → Intake H G → List ℕ
-    → Result ℕ Stop → Type 0
-TakesNext hash holds root q told name at wanted i front (Ok count) =
-    (piece : List ℕ) × IsPiece told name at wanted count piece
-    × IsTaken hash holds root q i (front ++ piece)
-TakesNext hash holds root q told name at wanted i front (Err e) =
+    → List ℕ → Query → Option Files → (name : List ℕ) (at wanted : ℕ) → List ℕ
+    → Result (Intake H G × ℕ) Stop → Type 0
+TakesNext hash holds root q told name at wanted front (Ok next) =
+    (piece : List ℕ) × IsPiece told name at wanted next.1 piece
+    × IsTaken hash holds root q next.0 (front ++ piece)
+TakesNext hash holds root q told name at wanted front (Err e) =
     StopsNext hash root q told name at wanted front e
 
 -- the file holds some bytes with this verdict: where it is told, those that it holds
@@ -89,10 +88,10 @@ pub record IsAllTaken {H : Type 0} {G : Ghosts H} (hash : List ℕ → List ℕ)
   pub taken : IsTaken hash holds root q i bytes
 
 -- all of the file was taken, or it has a fault
-abbrev pub TakesFile : {X H : Type 0} {G : Ghosts H} → (List ℕ → List ℕ) → (H → List ℕ → Type 0)
-    → List ℕ → Query → Option Files → List ℕ → Intake H G → Result X Stop → Type 0
-TakesFile hash holds root q told name i (Ok x) = IsAllTaken hash holds root q told name i
-TakesFile hash holds root q told name i (Err e) = StopsFile hash root q told name e
+abbrev pub TakesFile : {H : Type 0} {G : Ghosts H} → (List ℕ → List ℕ) → (H → List ℕ → Type 0)
+    → List ℕ → Query → Option Files → List ℕ → Result (Intake H G) Stop → Type 0
+TakesFile hash holds root q told name (Ok i) = IsAllTaken hash holds root q told name i
+TakesFile hash holds root q told name (Err e) = StopsFile hash root q told name e
 
 -- what the proof in a file proves, or its fault
 abbrev pub JudgesFile : (List ℕ → List ℕ) → List ℕ → Query → Option Files → List ℕ

@@ -1,43 +1,27 @@
 //! The command `audit`.
 
-ghost use Rattle.std.specs.Prelude.{◌≡◌, IfOk};
-ghost use Rattle.mr_tree.specs.WellFormed.{WellFormed};
+ghost use Rattle.std.specs.Prelude.{◌≡◌, ◌≤◌, ◌+◌, None, IfSome, IsSome};
+ghost use Rattle.std.specs.String.{string_bytes};
 ghost use Rattle.mr_query.specs.Word.{IsAskable};
-ghost use Rattle.mr_clash.specs.Finding.{found};
-ghost use Rattle.mr_tool.specs.Ending.{Comes, GivesOrStops};
-ghost use Rattle.mr_tool.specs.First.{first};
+ghost use Rattle.mr_store.specs.Stored.{IsSameMap, room, stands_for, told_bytes};
+ghost use Rattle.mr_tool.specs.Ending.{Comes, ComesBut, GivesOrStops, NoneFalls, Reads, ReadsOnce, SaysUntold};
 ghost use Rattle.mr_tool.specs.Plan.{comes};
+ghost use Rattle.mr_tool.specs.Rereading.{auditing};
 ghost use Rattle.mr_tool.specs.Say.{needs, say_audit, say_audit_of, say_finding};
 
 use crate::Status;
 use crate::checking::refused;
 use crate::ending::{Ending, Halt};
-use crate::input::{missing, read};
+use crate::fetching::{finding_of_nodes, unfetched};
+use crate::input::{as_input, missing};
 use crate::lines::{collision_lines, sound_line};
-use crate::memory::finding_of_nodes;
-use crate::opening::open_map;
+use crate::opening::unopened;
 use mr_clash::Finding;
 use mr_outside::Shelf;
-use mr_pages::Opened;
 use mr_query::Query;
-use mr_tree::{Hash32, Snapshot};
-use std::alloc::{AllocError, Global};
-
-// What is found of the bytes of a proof, by a map in memory.
-fn finding_of<H: Hash32>(
-    alloc: Global,
-    map: &Opened,
-    query: &Query,
-    bytes: &[u8],
-) -> Result<Finding, AllocError>
-    requires well_formed { WellFormed map.now.tree }
-    requires askable { IsAskable query.now }
-    ensures { IfOk result
-        (λ f. f ≡ found (first H.of) map.now.tree map.now.batch query.now bytes.now) }
-{
-    let snapshot = Snapshot::<H>::of(alloc, &map.tree, map.batch)?;
-    finding_of_nodes(alloc, &mut snapshot.reader(), query, bytes)
-}
+use mr_store::Paged;
+use mr_tree::Hash32;
+use std::alloc::Global;
 
 // The ending over a finding.
 fn say_found(alloc: Global, finding: Finding) -> Result<Ending, Halt>
@@ -58,55 +42,96 @@ fn say_found(alloc: Global, finding: Finding) -> Result<Ending, Halt>
     }
 }
 
-// What the bytes of a proof are worth.
-fn audit_bytes<H: Hash32>(
+// What the bytes of a proof are worth, or what the command comes to without a node of the map.
+fn audit_bytes<H: Hash32, S: Shelf>(
     alloc: Global,
-    map: &Opened,
+    map: &str,
     query: &Query,
+    proof: &str,
     bytes: &[u8],
+    paged: &mut Paged<S, H>,
 ) -> Result<Ending, Halt>
-    requires well_formed { WellFormed map.now.tree }
-    requires askable { IsAskable query.now }
-    ensures { GivesOrStops (say_audit_of H.of query.now map.now bytes.now) result }
+    requires { IsAskable query.now }
+    ensures told { let before = S.state paged.old.shelf in
+        let stands = stands_for paged.old.head
+        (told_bytes before.files (string_bytes paged.old.name)) in
+        IfSome stands.tree (λ t. ComesBut (comes (say_audit_of H.of query.now
+        (record { tree = t; batch = stands.batch }) bytes.now)) before (S.state paged.new.shelf)
+        result) }
+    ensures untold { (S.state paged.old.shelf).files ≡ None →
+        SaysUntold (auditing H.of map.now query.now proof.now) (S.state paged.old.shelf)
+        (S.state paged.new.shelf) result }
+    ensures files { (S.state paged.new.shelf).files ≡ (S.state paged.old.shelf).files }
+    ensures counts { NoneFalls (S.state paged.old.shelf) (S.state paged.new.shelf) }
+    ensures still { IsSome (S.state paged.old.shelf).files → paged.old.head.pages ≤ room + 1 →
+        (S.state paged.new.shelf).reads ≡ (S.state paged.old.shelf).reads }
 {
-    let finding = finding_of::<H>(alloc, map, query, bytes)?;
-    say_found(alloc, finding)
+    match finding_of_nodes(alloc, paged, query, bytes) {
+        Ok(finding) => say_found(alloc, finding),
+        Err(error) => unfetched(alloc, map, &error),
+    }
 }
 
-// What the proof in a file is worth against a map.
+// The bytes of a file beside the map's, or none where it is missing.
+fn read_beside<H: Hash32, S: Shelf>(
+    name: &str,
+    paged: &mut Paged<S, H>,
+) -> Result<Option<Vec<u8>>, Halt>
+    ensures reads { Reads name.now (S.state paged.old.shelf) (S.state paged.new.shelf) result }
+    ensures same { IsSameMap (string_bytes paged.old.name) (string_bytes paged.new.name)
+        paged.old.head paged.new.head (S.state paged.old.shelf) (S.state paged.new.shelf) }
+{
+    as_input(paged.read_file(name))
+}
+
+// What the proof in a file is worth against an opened map.
 fn audit_file<H: Hash32, S: Shelf>(
     alloc: Global,
-    map: &Opened,
+    map: &str,
     query: &Query,
-    name: &str,
-    shelf: &mut S,
+    proof: &str,
+    paged: &mut Paged<S, H>,
 ) -> Result<Ending, Halt>
-    requires well_formed { WellFormed map.now.tree }
-    requires askable { IsAskable query.now }
-    ensures { Comes (needs name.now (λ bytes. comes (say_audit_of H.of query.now map.now bytes)))
-        (S.state shelf.old) (S.state shelf.new) result }
+    requires { IsAskable query.now }
+    ensures told { let before = S.state paged.old.shelf in
+        let stands = stands_for paged.old.head
+        (told_bytes before.files (string_bytes paged.old.name)) in
+        IfSome stands.tree (λ t. ComesBut (needs proof.now (λ bytes. comes (say_audit_of H.of
+        query.now (record { tree = t; batch = stands.batch }) bytes))) before
+        (S.state paged.new.shelf) result) }
+    ensures untold { (S.state paged.old.shelf).files ≡ None →
+        SaysUntold (auditing H.of map.now query.now proof.now) (S.state paged.old.shelf)
+        (S.state paged.new.shelf) result }
+    ensures counts { NoneFalls (S.state paged.old.shelf) (S.state paged.new.shelf) }
+    ensures few { IsSome (S.state paged.old.shelf).files → paged.old.head.pages ≤ room + 1 →
+        ReadsOnce proof.now (S.state paged.old.shelf) (S.state paged.new.shelf) }
 {
-    match read(alloc, name, shelf) {
-        Ok(Some(bytes)) => audit_bytes::<H>(alloc, map, query, &bytes),
-        Ok(None) => missing(alloc, name),
+    match read_beside::<H, S>(proof, paged) {
+        Ok(Some(bytes)) => audit_bytes::<H, S>(alloc, map, query, proof, &bytes, paged),
+        Ok(None) => missing(alloc, proof),
         Err(halt) => Err(halt),
     }
 }
 
-// What the proof in a file is worth against the map in another one, for a query.
+// What the proof in a file is worth against the map in another one, for a query. The shelf is
+// handed back.
 pub(crate) fn audit_query<H: Hash32, S: Shelf>(
     alloc: Global,
     map: &str,
     query: &Query,
     proof: &str,
-    shelf: &mut S,
-) -> Result<Ending, Halt>
+    shelf: S,
+) -> (Result<Ending, Halt>, S)
     requires { IsAskable query.now }
-    ensures { Comes (say_audit H.of map.now query.now proof.now) (S.state shelf.old)
-        (S.state shelf.new) result }
+    ensures { Comes (say_audit H.of map.now query.now proof.now) (S.state shelf)
+        (S.state result.1) result.0 }
 {
-    match open_map::<H, S>(alloc, map, shelf)? {
-        Ok(map) => audit_file::<H, S>(alloc, &map, query, proof, shelf),
-        Err(ending) => Ok(ending),
+    match Paged::<S, H>::open_map(alloc, shelf, map) {
+        Err((shelf, error)) => (unopened(alloc, map, &error), shelf),
+        Ok(paged) => {
+            let mut paged = paged;
+            let came = audit_file::<H, S>(alloc, map, query, proof, &mut paged);
+            (came, paged.close())
+        }
     }
 }

@@ -1,6 +1,6 @@
 //! The command `demo`.
 
-ghost use Rattle.std.specs.Prelude.{◌≡◌, ◌<◌, ◌≤◌, ◌^◌, length, All, None, IfOk};
+ghost use Rattle.std.specs.Prelude.{◌≡◌, ◌<◌, ◌≤◌, ◌^◌, length, All, IfOk};
 ghost use Rattle.std.specs.String.{string_bytes};
 ghost use Rattle.mr_record.specs.declared.version.Version.TheVariants.{One};
 ghost use Rattle.mr_tree.specs.Digest.{root as root_digest};
@@ -11,14 +11,14 @@ ghost use Rattle.mr_query.specs.Scan.{scan};
 ghost use Rattle.mr_query.specs.Word.{IsAskable};
 ghost use Rattle.mr_proof.specs.Honest.{proof};
 ghost use Rattle.mr_tool.specs.Demo.{all_answers, all_bytes, tried_lines, demo_lines as lines_of};
-ghost use Rattle.mr_tool.specs.Ending.{Gives};
+ghost use Rattle.mr_tool.specs.Ending.{GivesOrStops};
 ghost use Rattle.mr_tool.specs.First.{first};
 ghost use Rattle.mr_tool.specs.Say.{prints};
 
 use crate::Status;
-use crate::ending::Ending;
+use crate::ending::{Ending, Halt};
+use crate::fetching::proof_of_nodes;
 use crate::lines::{map_lines, push_queries, push_totals};
-use crate::memory::proof_of_nodes;
 use mr_batch::{generate, generate_queries};
 use mr_check::{CheckErr, check};
 use mr_outside::Gate;
@@ -69,7 +69,6 @@ fn try_query<N: Nodes>(
     query: &Query,
 ) -> Result<Totals, AllocError>
     requires stands { N.stands nodes.old ≡ standing_of One 0 tree.now }
-    requires calm { (n : N) → N.refusal n ≡ None }
     requires well_formed { WellFormed tree.now }
     requires root { root.now ≡ root_digest (first N.Hash.of) tree.now 0 }
     requires askable { IsAskable query.now }
@@ -81,7 +80,10 @@ fn try_query<N: Nodes>(
     ensures few_answers { IfOk result (λ all. all.answers < 2 ^ 64) }
     ensures few_bytes { IfOk result (λ all. all.bytes < 2 ^ 64) }
 {
-    let out = proof_of_nodes(alloc, nodes, query)?;
+    // nodes in memory refuse for want of memory alone
+    let Ok(out) = proof_of_nodes(alloc, nodes, query) else {
+        return Err(AllocError);
+    };
     let size = answer_size::<N::Hash>(alloc, tree, root, query, out.bytes())?;
     Ok(Totals {
         answers: size as u128,
@@ -98,7 +100,6 @@ fn try_queries<N: Nodes>(
     queries: &[Query],
 ) -> Result<Totals, AllocError>
     requires stands { N.stands nodes.old ≡ standing_of One 0 tree.now }
-    requires calm { (n : N) → N.refusal n ≡ None }
     requires well_formed { WellFormed tree.now }
     requires root { root.now ≡ root_digest (first N.Hash.of) tree.now 0 }
     requires askable { All IsAskable queries.now }
@@ -182,9 +183,9 @@ pub(crate) fn demo<H: Hash32, G: Gate, R: Threads + Sync>(
     count: u32,
     seed: u64,
     gate: &G,
-) -> Result<Ending, AllocError>
+) -> Result<Ending, Halt>
     requires { count ≤ 2 ^ 16 }
-    ensures { IfOk result (λ e. Gives (prints (lines_of H.of count seed)) e) }
+    ensures { GivesOrStops (prints (lines_of H.of count seed)) result }
 {
     let lines = demo_lines::<H, G, R>(rt, alloc, count, seed, gate)?;
     Ok(Ending::line(alloc, Status::Done, lines))

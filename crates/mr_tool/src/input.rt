@@ -4,7 +4,7 @@ ghost use Rattle.std.specs.Prelude.{IfOk};
 ghost use Rattle.mr_record.specs.Answer.{Answers};
 ghost use Rattle.mr_record.specs.Bytes.{AreBytes};
 ghost use Rattle.mr_record.specs.RecordText.{IsRecordList, records_of_text};
-ghost use Rattle.mr_tool.specs.Ending.{GivesOrStops, Misses, Reads};
+ghost use Rattle.mr_tool.specs.Ending.{GivesOrStops, IsAsRead, Misses, Reads};
 ghost use Rattle.mr_tool.specs.Lines.{bad_text_line as line_of};
 ghost use Rattle.mr_tool.specs.Say.{ends};
 
@@ -20,15 +20,11 @@ pub(crate) fn are_bytes(_bytes: &[u8])
     ensures { AreBytes _bytes.now }
 {}
 
-// The bytes of an input, or none where it is missing.
-pub(crate) fn read<S: Shelf>(
-    alloc: Global,
-    name: &str,
-    shelf: &mut S,
-) -> Result<Option<Vec<u8>>, Halt>
-    ensures { Reads name.now (S.state shelf.old) (S.state shelf.new) result }
+// What was read of an input, or none where it is missing.
+pub(crate) fn as_input(read: Result<Vec<u8>, ShelfErr>) -> Result<Option<Vec<u8>>, Halt>
+    ensures { IsAsRead read result }
 {
-    match read_all(alloc, shelf, name) {
+    match read {
         Ok(bytes) => {
             are_bytes(&bytes);
             Ok(Some(bytes))
@@ -37,6 +33,17 @@ pub(crate) fn read<S: Shelf>(
         Err(ShelfErr::Fault) => Err(Halt::Shelf),
         Err(ShelfErr::NoMemory) => Err(Halt::NoMemory),
     }
+}
+
+// The bytes of an input, or none where it is missing.
+pub(crate) fn read<S: Shelf>(
+    alloc: Global,
+    name: &str,
+    shelf: &mut S,
+) -> Result<Option<Vec<u8>>, Halt>
+    ensures { Reads name.now (S.state shelf.old) (S.state shelf.new) result }
+{
+    as_input(read_all(alloc, shelf, name))
 }
 
 // The records of a text, which is given up for them: both would be held while a tree is built.

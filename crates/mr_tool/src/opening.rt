@@ -1,7 +1,7 @@
 //! A map file as an input.
 
 ghost use Rattle.std.specs.Prelude.{◌≡◌, ◌<◌, ◌^◌, IfOk};
-ghost use Rattle.mr_tool.specs.Ending.{Gives, Opens};
+ghost use Rattle.mr_tool.specs.Ending.{Gives, Opens, SaysRefusal};
 ghost use Rattle.mr_tool.specs.Found.{bad_map_line as line_of};
 ghost use Rattle.mr_tool.specs.Say.{ends};
 
@@ -27,6 +27,18 @@ fn bad_map(alloc: Global, fault: &MapFault) -> Result<Ending, AllocError>
     Ok(Ending::line(alloc, Status::BadMap, line))
 }
 
+// What a command comes to without the map in a file, by why that was not opened.
+pub(crate) fn unopened(alloc: Global, name: &str, error: &MapErr) -> Result<Ending, Halt>
+    ensures { SaysRefusal name.now error.now result }
+{
+    match error {
+        MapErr::Map(fault) => Ok(bad_map(alloc, fault)?),
+        MapErr::Missing => missing(alloc, name),
+        MapErr::Fault => Err(Halt::Shelf),
+        MapErr::NoMemory => Err(Halt::NoMemory),
+    }
+}
+
 // The map in a file, or what the command comes to without it.
 pub(crate) fn open_map<H: Hash32, S: Shelf>(
     alloc: Global,
@@ -40,9 +52,6 @@ pub(crate) fn open_map<H: Hash32, S: Shelf>(
             is_word(batch);
             Ok(Ok(Opened { tree, batch }))
         }
-        Err(MapErr::Map(fault)) => Ok(Err(bad_map(alloc, &fault)?)),
-        Err(MapErr::Missing) => Ok(Err(missing(alloc, name)?)),
-        Err(MapErr::Fault) => Err(Halt::Shelf),
-        Err(MapErr::NoMemory) => Err(Halt::NoMemory),
+        Err(error) => Ok(Err(unopened(alloc, name, &error)?)),
     }
 }

@@ -1,11 +1,13 @@
 //! A proof in a file, read in pieces and judged as they come.
 
-ghost use Rattle.std.specs.Prelude.{◌≡◌, ◌≤◌, ⊤, ℕ, List, length, [], IfOk};
+ghost use Rattle.std.specs.Prelude.{◌≡◌, ◌+◌, ◌≤◌, ⊤, ℕ, List, length, [], IfOk};
 ghost use Rattle.mr_outside.specs.Bytes.{AreBytes};
+ghost use Rattle.mr_outside.specs.Reading.{piece_count};
 ghost use Rattle.mr_outside.specs.Told.{OfFile};
 ghost use Rattle.mr_query.specs.Word.{IsAskable};
 ghost use Rattle.mr_query.specs.declared.query.Query as queries;
 ghost use Rattle.mr_check.specs.Judged.{IsTaken};
+ghost use Rattle.mr_tool.specs.Ending.{ReadsOnce};
 ghost use Rattle.mr_tool.specs.Taking.{HasCauses, TakesNext, TakesFile, JudgesFile};
 
 use crate::ending::Halt;
@@ -28,6 +30,7 @@ pub(crate) enum Stop {
 }
 
 impl From<ShelfErr> for Stop {
+    ghost use Rattle.mr_tool.specs.Ending.{ReadsOnce};
     ghost use Rattle.mr_tool.specs.Taking.{stop_of_shelf};
 
     ghost from_gives = { λ e s. s ≡ stop_of_shelf e };
@@ -42,6 +45,7 @@ impl From<ShelfErr> for Stop {
 }
 
 impl From<CheckErr> for Stop {
+    ghost use Rattle.mr_tool.specs.Ending.{ReadsOnce};
     ghost use Rattle.mr_tool.specs.Taking.{stop_of_check};
 
     ghost from_gives = { λ e s. s ≡ stop_of_check e };
@@ -65,57 +69,62 @@ impl From<AllocError> for Stop {
     }
 }
 
-// Reads so many bytes of a file, from this place on, and takes them in.
+// Reads so many bytes of a file, from this place on, and takes them in: the intake that took them,
+// and how many came.
 fn take_next<H: Hash32, S: Shelf>(
-    intake: &mut Intake<H>,
+    intake: Intake<H>,
     name: &str,
     at: u64,
     wanted: usize,
     buffer: &mut [u8],
     shelf: &mut S,
-) -> Result<usize, Stop>
+) -> Result<(Intake<H>, usize), Stop>
     requires { wanted ≤ length buffer.old }
-    ensures within { IfOk result (λ count. count ≤ wanted) }
+    ensures within { IfOk result (λ next. next.1 ≤ wanted) }
+    ensures one { (S.state shelf.new).reads ≤ (S.state shelf.old).reads + 1 }
     ensures causes { HasCauses name.now (S.state shelf.old) (S.state shelf.new) result }
     ensures takes { (root : List ℕ) (q : queries.Query) (front : List ℕ)
-        → IsTaken H.of H.holds root q intake.old front
-        → TakesNext H.of H.holds root q (S.state shelf.old).files name.now at wanted intake.new
-        front result }
+        → IsTaken H.of H.holds root q intake front
+        → TakesNext H.of H.holds root q (S.state shelf.old).files name.now at wanted front
+        result }
 {
     let count = shelf.read_at(name, at, &mut buffer[..wanted])?;
     let piece = &buffer[..count];
     are_bytes(piece);
-    intake.take(piece)?;
-    Ok(count)
+    let next = intake.take(piece)?;
+    Ok((next, count))
 }
 
 // Takes in a file of this length, in pieces of as many bytes as the buffer has room for. It stops
 // at the first fault, and at the first read that gives fewer bytes than were asked for.
 fn take_file<H: Hash32, S: Shelf>(
-    intake: &mut Intake<H>,
+    intake: Intake<H>,
     name: &str,
     size: u64,
     buffer: &mut [u8],
     shelf: &mut S,
-) -> Result<(), Stop>
+) -> Result<Intake<H>, Stop>
     requires size { OfFile (S.state shelf.old).files name.now ⊥ (λ bytes. size ≡ length bytes) }
     requires bytes { OfFile (S.state shelf.old).files name.now ⊤ AreBytes }
-    requires room { 1 ≤ length buffer.old }
+    requires room { length buffer.old ≡ 65536 }
+    ensures pieces { (S.state shelf.new).reads ≤ (S.state shelf.old).reads + piece_count size }
     ensures causes { HasCauses name.now (S.state shelf.old) (S.state shelf.new) result }
     ensures takes { (root : List ℕ) (q : queries.Query)
-        → IsTaken H.of H.holds root q intake.old []
-        → TakesFile H.of H.holds root q (S.state shelf.old).files name.now intake.new result }
+        → IsTaken H.of H.holds root q intake []
+        → TakesFile H.of H.holds root q (S.state shelf.old).files name.now result }
 {
+    let mut taken = intake;
     let mut at = 0;
     while at < size {
         let wanted = (size - at).min(buffer.len() as u64) as usize;
-        let count = take_next::<H, S>(intake, name, at, wanted, buffer, shelf)?;
+        let (next, count) = take_next::<H, S>(taken, name, at, wanted, buffer, shelf)?;
+        taken = next;
         if count < wanted {
-            return Ok(());
+            return Ok(taken);
         }
         at += count as u64;
     }
-    Ok(())
+    Ok(taken)
 }
 
 fn zeros(alloc: Global, size: usize) -> Result<Vec<u8>, AllocError>
@@ -133,12 +142,13 @@ pub(crate) fn judge_file<H: Hash32, S: Shelf>(
     shelf: &mut S,
 ) -> Result<Vec<Record>, Stop>
     requires { IsAskable query.now }
+    ensures once { ReadsOnce name.now (S.state shelf.old) (S.state shelf.new) }
     ensures causes { HasCauses name.now (S.state shelf.old) (S.state shelf.new) result }
     ensures judges { JudgesFile H.of root.now query.now (S.state shelf.old).files name.now result }
 {
     let size = shelf.size(name)?;
     let mut buffer = zeros(alloc, PIECE)?;
-    let mut intake = Intake::<H>::new(alloc, root, query)?;
-    take_file::<H, S>(&mut intake, name, size, buffer.as_mut_slice(), shelf)?;
-    Ok(intake.end()?)
+    let intake = Intake::<H>::new(alloc, root, query)?;
+    let taken = take_file::<H, S>(intake, name, size, buffer.as_mut_slice(), shelf)?;
+    Ok(taken.end()?)
 }

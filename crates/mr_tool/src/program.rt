@@ -6,7 +6,7 @@ ghost use Rattle.mr_record.specs.Bytes.{AreBytes};
 ghost use Rattle.mr_tool.specs.Answer.{Counts, IsQuiet, world};
 ghost use Rattle.mr_tool.specs.Ending.{Comes};
 ghost use Rattle.mr_tool.specs.Promises.{CompletesWords, AnswersHonest, AcceptsHonestOrCollides, AuditsAccepted, CollidesRightly};
-ghost use Rattle.mr_tool.specs.Run.{AnswersWords, BlamesRightly, IsRun};
+ghost use Rattle.mr_tool.specs.Run.{AnswersWords, BlamesRightly, IsRun, ReadsFewWords};
 ghost use Rattle.mr_tool.specs.Say.{say};
 ghost use Rattle.mr_tool.specs.Spelling.{IsSpelled, MayBeAsked};
 
@@ -27,39 +27,7 @@ use mr_tree::Hash32;
 use std::alloc::Global;
 use std::thread::Threads;
 
-// Carries out a command that borrows the shelf.
-fn lend<H: Hash32, S: Shelf, G: Gate, R: Threads + Sync>(
-    rt: &R,
-    alloc: Global,
-    command: &Command<'_>,
-    shelf: &mut S,
-    gate: &G,
-) -> Result<Ending, Halt>
-    requires { MayBeAsked command.now }
-    ensures { Comes (say H.of (Some command.now)) (S.state shelf.old) (S.state shelf.new) result }
-{
-    match command {
-        Command::Root(records) => root::<H, S, G, R>(rt, alloc, *records, shelf, gate),
-        Command::Build(map, records) => {
-            build::<H, S, G, R>(rt, alloc, *map, *records, shelf, gate)
-        }
-        Command::List(map) => list::<H, S>(alloc, *map, shelf),
-        Command::Apply(old, batch, new) => apply::<H, S>(alloc, *old, *batch, *new, shelf),
-        Command::Prove(map, query, proof) => {
-            prove_query::<H, S>(alloc, *map, query, *proof, shelf)
-        }
-        Command::Check(digest, query, proof) => {
-            check_proof::<H, S>(alloc, digest, query, *proof, shelf)
-        }
-        Command::Audit(map, query, proof) => {
-            audit_query::<H, S>(alloc, *map, query, *proof, shelf)
-        }
-        Command::Make(count, seed, records) => make(alloc, *count, *seed, *records, shelf),
-        Command::Demo(count, seed) => Ok(demo::<H, G, R>(rt, alloc, *count, *seed, gate)?),
-    }
-}
-
-// Carries out a command.
+// Carries out a command, and hands the shelf back.
 fn carry_out<H: Hash32, S: Shelf, G: Gate, R: Threads + Sync>(
     rt: &R,
     alloc: Global,
@@ -68,15 +36,54 @@ fn carry_out<H: Hash32, S: Shelf, G: Gate, R: Threads + Sync>(
     gate: &G,
 ) -> (Result<Ending, Halt>, S)
     requires { MayBeAsked command.now }
-    ensures comes { Comes (say H.of (Some command.now)) (S.state shelf) (S.state result.1)
-        result.0 }
+    ensures { Comes (say H.of (Some command.now)) (S.state shelf) (S.state result.1) result.0 }
+{
+    match command {
+        Command::Root(records) => {
+            let mut shelf = shelf;
+            let came = root::<H, S, G, R>(rt, alloc, *records, &mut shelf, gate);
+            (came, shelf)
+        }
+        Command::Build(map, records) => {
+            let mut shelf = shelf;
+            let came = build::<H, S, G, R>(rt, alloc, *map, *records, &mut shelf, gate);
+            (came, shelf)
+        }
+        Command::List(map) => {
+            let mut shelf = shelf;
+            let came = list::<H, S>(alloc, *map, &mut shelf);
+            (came, shelf)
+        }
+        Command::Apply(old, batch, new) => {
+            let mut shelf = shelf;
+            let came = apply::<H, S>(alloc, *old, *batch, *new, &mut shelf);
+            (came, shelf)
+        }
+        Command::Prove(map, query, proof) => {
+            prove_query::<H, S>(alloc, *map, query, *proof, shelf)
+        }
+        Command::Check(digest, query, proof) => {
+            let mut shelf = shelf;
+            let came = check_proof::<H, S>(alloc, digest, query, *proof, &mut shelf);
+            (came, shelf)
+        }
+        Command::Audit(map, query, proof) => {
+            audit_query::<H, S>(alloc, *map, query, *proof, shelf)
+        }
+        Command::Make(count, seed, records) => {
+            let mut shelf = shelf;
+            let came = make(alloc, *count, *seed, *records, &mut shelf);
+            (came, shelf)
+        }
+        Command::Demo(count, seed) => { (demo::<H, G, R>(rt, alloc, *count, *seed, gate), shelf) }
+    }
+}
+
+// What every hash function keeps to.
+fn gives_digests<H: Hash32>()
     ensures sized { (bytes : List ℕ) → length (H.of bytes) ≡ 32 }
     ensures bytes { (bytes : List ℕ) → AreBytes bytes → AreBytes (H.of bytes) }
-{
-    let mut shelf = shelf;
-    let came = lend::<H, S, G, R>(rt, alloc, command, &mut shelf, gate);
-    (came, shelf)
-}
+{}
 
 // Runs the program, with all that is promised of a run as one.
 fn answered<H: Hash32, S: Shelf, W: Sink, G: Gate, R: Threads + Sync>(
@@ -94,6 +101,7 @@ fn answered<H: Hash32, S: Shelf, W: Sink, G: Gate, R: Threads + Sync>(
 {
     match read_words(words) {
         Some(command) => {
+            gives_digests::<H>();
             let (came, shelf) = carry_out::<H, S, G, R>(rt, alloc, &command, shelf, gate);
             (finish(out, came), shelf)
         }
@@ -130,6 +138,11 @@ pub fn run<H: Hash32, S: Shelf, W: Sink, G: Gate, R: Threads + Sync>(
     ensures quiet { let before = world (S.state shelf) (W.state out.old) in
         let after = world (S.state result.1) (W.state out.new) in
         IsQuiet result.0 before after }
+    // Where the files are told, no input that is read whole is read twice; a map that is read page
+    // by page takes its pages once, and for `prove` a large one the nodes of its proof besides.
+    ensures reads { let before = world (S.state shelf) (W.state out.old) in
+        let after = world (S.state result.1) (W.state out.new) in
+        ReadsFewWords H.of (map string_bytes words.now) before after }
     // Words that spell no command leave the shelf alone.
     ensures unspoken { IsSpelled (map string_bytes words.now) None → result.1 ≡ shelf }
     // Inputs that are in order are dealt with to the end.

@@ -1,10 +1,12 @@
 //! A text in memory.
 
-ghost use Rattle.std.specs.Prelude.{◌≡◌, [], Some};
+ghost use Rattle.std.specs.Prelude.{◌≡◌, [], Some, IfOk};
 ghost use Rattle.mr_outside.specs.State.{Sunk};
+ghost use Rattle.mr_record.specs.RecordText.{text_of};
 
 use mr_outside::{Sink, SinkErr};
-use std::alloc::Global;
+use mr_record::{Record, write_lines};
+use std::alloc::{AllocError, Global};
 
 // A text in memory. It takes all that it is given, and refuses for want of memory alone.
 #[derive(Drop)]
@@ -34,5 +36,17 @@ impl Sink for Text {
     fn write(&mut self, bytes: &[u8]) -> Result<usize, SinkErr> {
         self.bytes.extend_from_slice(bytes)?;
         Ok(bytes.len())
+    }
+}
+
+// The text of some records.
+pub(crate) fn text_of_records(alloc: Global, list: &[Record]) -> Result<Text, AllocError>
+    ensures { IfOk result (λ t. t.bytes.items ≡ text_of list.now) }
+{
+    let mut out = Text::new(alloc);
+    match write_lines(&mut out, list) {
+        Ok(()) => Ok(out),
+        Err(SinkErr::NoMemory) => Err(AllocError),
+        Err(SinkErr::Fault) => unreachable!(),
     }
 }

@@ -1,30 +1,75 @@
-use Rattle.std.proofs.Common.{subst}
+use Rattle.std.proofs.Common.{◌≤◌, ◌+◌, ℕ, List, sym, subst, ◌∙◌}
+use Rattle.std.specs.Prelude.{IfSome, IsSome}
+use Rattle.std.specs.String.{string_bytes}
+use Rattle.mr_tree.specs.Nodes.{Standing}
+use Rattle.mr_pages.specs.declared.head.MapHead.{MapHead}
+use Rattle.mr_store.specs.Stored.{room, stands_for, told_bytes}
+use Rattle.mr_tool.specs.Ending.{ComesBut}
+use Rattle.mr_tool.specs.Plan.{comes}
 use Rattle.mr_tool.specs.Say.{say_audit_of}
-use Rattle.mr_tool.specs.Ending.{GivesOrStops}
-use Rattle.mr_tool.proofs.Going.{comes_given, comes_read, comes_missed, comes_unread}
-use Rattle.mr_tool.proofs.Verdicts.{audit_writes}
+use Rattle.mr_tool.proofs.Audits.{map_in, read_told, read_untold, missed_told, missed_untold, unread_told, once_then}
 use Rattle.mr_tool.proofs.auditing.audit_file.Goals as goal
 
-pub returns-in-Ok-Some : goal.returns-in-Ok-Some
-returns-in-Ok-Some g c =
-    let said = say_audit_of g.H.Hashes.of c.args.query.now c.args.map.now in
-    let between = g.S.Shelf.state c.read.new.shelf in
-    let bytes = c.in-Ok-Some.bytes.items in
-    comes_read c.args.name.now said (g.S.Shelf.state c.args.shelf.now) between between
-    c.in-Ok-Some.bytes c.in-Ok-Some.field-0 c.audit_bytes.result c.in-Ok-Some.field-0-is c.in-Ok-Some.ensures
-    (comes_given (said bytes) between c.audit_bytes.result
-    (audit_writes g.H.Hashes.of c.args.query.now c.args.map.now bytes)
-    (subst (λ b. GivesOrStops (said b) c.audit_bytes.result) c.deref.ensures.value c.audit_bytes.ensures))
+pub returns-in-Ok-Some-clause-told : goal.returns-in-Ok-Some-clause-told
+returns-in-Ok-Some-clause-told g c =
+    let hash = g.H.Hashes.of in
+    let q = c.args.query.now in
+    let paged = c.args.paged.now in
+    let old = g.S.Shelf.state paged.shelf in
+    let mid = g.S.Shelf.state c.read_beside.new.paged.shelf in
+    let new = g.S.Shelf.state c.audit_bytes.new.paged.shelf in
+    let same = c.in-Ok-Some.ensures.same in
+    let s = stands_for paged.head (told_bytes old.files (string_bytes paged.name)) in
+    let told : Standing → List ℕ → Type 0 = λ s bytes. IfSome s.tree (λ t. ComesBut (comes (say_audit_of hash q
+    (map_in s t) bytes)) mid new c.audit_bytes.result) in
+    read_told hash c.args.map.now q c.args.proof.now old mid new s c.in-Ok-Some.bytes c.in-Ok-Some.field-0
+    c.audit_bytes.result c.in-Ok-Some.field-0-is c.in-Ok-Some.ensures.reads
+    (subst (λ bytes. told s bytes) c.deref.ensures.value
+    (subst (λ s. told s c.deref.result.now)
+    (λ i. stands_for (same.head i) (told_bytes (same.files i) (same.name i)))
+    c.audit_bytes.ensures.told))
 
-pub returns-in-Ok-None : goal.returns-in-Ok-None
-returns-in-Ok-None g c =
-    let said = say_audit_of g.H.Hashes.of c.args.query.now c.args.map.now in
-    comes_missed c.args.name.now said (g.S.Shelf.state c.args.shelf.now)
-    (g.S.Shelf.state c.read.new.shelf) c.in-Ok-None.field-0 c.missing.result c.in-Ok-None.field-0-is
-    c.in-Ok-None.ensures c.missing.ensures
+pub returns-in-Ok-Some-clause-untold : goal.returns-in-Ok-Some-clause-untold
+returns-in-Ok-Some-clause-untold g c = λ none.
+    let paged = c.args.paged.now in
+    let old = g.S.Shelf.state paged.shelf in
+    read_untold g.H.Hashes.of c.args.map.now c.args.query.now c.args.proof.now old
+    (g.S.Shelf.state c.read_beside.new.paged.shelf) (g.S.Shelf.state c.audit_bytes.new.paged.shelf)
+    (stands_for paged.head (told_bytes old.files (string_bytes paged.name))) c.in-Ok-Some.field-0 c.in-Ok-Some.bytes
+    c.audit_bytes.result c.in-Ok-Some.field-0-is c.in-Ok-Some.ensures.reads
+    (c.audit_bytes.ensures.untold (c.in-Ok-Some.ensures.same.files ∙ none))
 
-pub returns-in-Err : goal.returns-in-Err
-returns-in-Err g c =
-    let said = say_audit_of g.H.Hashes.of c.args.query.now c.args.map.now in
-    comes_unread c.args.name.now said (g.S.Shelf.state c.args.shelf.now)
-    (g.S.Shelf.state c.read.new.shelf) c.in-Err.halt c.in-Err.ensures
+pub returns-in-Ok-Some-clause-few : goal.returns-in-Ok-Some-clause-few
+returns-in-Ok-Some-clause-few g c = λ told small.
+    let same = c.in-Ok-Some.ensures.same in
+    once_then (g.S.Shelf.state c.args.paged.now.shelf).files c.args.proof.now
+    (g.S.Shelf.state c.args.paged.now.shelf).reads (g.S.Shelf.state c.read_beside.new.paged.shelf).reads
+    (g.S.Shelf.state c.audit_bytes.new.paged.shelf).reads c.in-Ok-Some.ensures.reads.once
+    (c.audit_bytes.ensures.still (subst IsSome (sym same.files) told)
+    (subst (λ (h : MapHead). h.pages ≤ room + 1) (sym same.head) small))
+
+pub returns-in-Ok-None-clause-told : goal.returns-in-Ok-None-clause-told
+returns-in-Ok-None-clause-told g c =
+    let paged = c.args.paged.now in
+    let old = g.S.Shelf.state paged.shelf in
+    let new = g.S.Shelf.state c.read_beside.new.paged.shelf in
+    missed_told g.H.Hashes.of c.args.map.now c.args.query.now c.args.proof.now old new new
+    (stands_for paged.head (told_bytes old.files (string_bytes paged.name))) c.in-Ok-None.field-0 c.missing.result
+    c.in-Ok-None.field-0-is c.in-Ok-None.ensures.reads c.missing.ensures
+
+pub returns-in-Ok-None-clause-untold : goal.returns-in-Ok-None-clause-untold
+returns-in-Ok-None-clause-untold g c =
+    let paged = c.args.paged.now in
+    let old = g.S.Shelf.state paged.shelf in
+    let new = g.S.Shelf.state c.read_beside.new.paged.shelf in
+    missed_untold g.H.Hashes.of c.args.map.now c.args.query.now c.args.proof.now old new new
+    (stands_for paged.head (told_bytes old.files (string_bytes paged.name))) c.in-Ok-None.field-0 c.missing.result
+    c.in-Ok-None.field-0-is c.in-Ok-None.ensures.reads c.missing.ensures
+
+pub returns-in-Err-clause-told : goal.returns-in-Err-clause-told
+returns-in-Err-clause-told g c =
+    let paged = c.args.paged.now in
+    let old = g.S.Shelf.state paged.shelf in
+    let new = g.S.Shelf.state c.read_beside.new.paged.shelf in
+    unread_told g.H.Hashes.of c.args.map.now c.args.query.now c.args.proof.now old new new
+    (stands_for paged.head (told_bytes old.files (string_bytes paged.name))) c.in-Err.halt c.in-Err.ensures.reads

@@ -1,40 +1,46 @@
-use Rattle.std.proofs.Common.{sym, subst}
-use Rattle.std.specs.Prelude.{Ok}
-use Rattle.mr_tool.specs.Ending.{Comes, Opens}
-use Rattle.mr_tool.specs.Plan.{comes}
-use Rattle.mr_tool.specs.Say.{needs, say_audit, say_audit_of}
-use Rattle.mr_tool.proofs.Going.{halted_is, comes_map, judged_needs}
+use Rattle.std.proofs.Common.{◌≡◌, ℕ, List, length, sym, ap, subst, inl}
+use Rattle.std.specs.String.{string_bytes}
+use Rattle.mr_store.specs.Stored.{stands_for, told_bytes}
+use Rattle.mr_tool.specs.Ending.{Comes}
+use Rattle.mr_tool.specs.Plan.{Plan, comes}
+use Rattle.mr_tool.specs.Rereading.{auditing}
+use Rattle.mr_tool.specs.Say.{needs, needs_map, say_audit, say_audit_of}
+use Rattle.mr_pages.specs.declared.opening.Opened.{Opened}
+use Rattle.mr_tool.proofs.Audits.{audited}
+use Rattle.mr_tool.proofs.Going.{judged_needs}
+use Rattle.mr_tool.proofs.Pages.{refused, auditing_refused}
+use Rattle.mr_tool.proofs.auditing.audit_query.Given
 use Rattle.mr_tool.proofs.auditing.audit_query.Goals as goal
 
-pub returns-in_err-map : goal.returns-in_err-map
-returns-in_err-map g c =
-    let hash = g.H.Hashes.of in
-    subst (Comes (say_audit hash c.args.map.now c.args.query.now c.args.proof.now) (g.S.Shelf.state c.args.shelf.now)
-    (g.S.Shelf.state c.open_map.new.shelf))
-    (sym (halted_is c.from_residual.result c.in_err-map.field-0.0 c.from_residual.ensures.1))
-    (c.in_err-map.ensures (λ map. needs c.args.proof.now
-    (λ bytes. comes (say_audit_of hash c.args.query.now map bytes)))
-    (λ map. judged_needs c.args.proof.now
-    (say_audit_of hash c.args.query.now map) (g.S.Shelf.state c.args.shelf.now).files))
-
-pub returns-in-Ok : goal.returns-in-Ok
-returns-in-Ok g c =
-    let hash = g.H.Hashes.of in
-    let before = g.S.Shelf.state c.args.shelf.now in
-    let between = g.S.Shelf.state c.open_map.new.shelf in
-    comes_map hash c.args.map.now (λ map. needs c.args.proof.now
-    (λ bytes. comes (say_audit_of hash c.args.query.now map bytes)))
-    before between (g.S.Shelf.state c.audit_file.new.shelf) c.in-Ok.map c.audit_file.result
-    (subst (λ opened. Opens hash c.args.map.now before between (Ok opened)) c.in-Ok.is c.in_ok-map.ensures)
-    (λ map. judged_needs c.args.proof.now
-    (say_audit_of hash c.args.query.now map) (g.S.Shelf.state c.args.shelf.now).files) c.audit_file.ensures
+sized : (g : Given.Over) → (xs : List ℕ) → length (g.H.Hashes.of xs) ≡ 32
+sized g = (g.met.H.Hashes g.world.𝓛 g.world.𝓜 g.world.𝓡 ((λ s x. x), (λ x. x), (λ x. x), λ x. x)).sized
 
 pub returns-in-Err : goal.returns-in-Err
 returns-in-Err g c =
     let hash = g.H.Hashes.of in
-    subst (λ opened. Opens hash c.args.map.now (g.S.Shelf.state c.args.shelf.now)
-    (g.S.Shelf.state c.open_map.new.shelf) (Ok opened)) c.in-Err.is c.in_ok-map.ensures
-    (λ map. needs c.args.proof.now
-    (λ bytes. comes (say_audit_of hash c.args.query.now map bytes)))
-    (λ map. judged_needs c.args.proof.now
-    (say_audit_of hash c.args.query.now map) (g.S.Shelf.state c.args.shelf.now).files)
+    let map = c.args.map.now in
+    let q = c.args.query.now in
+    let proof = c.args.proof.now in
+    let before = g.S.Shelf.state c.args.shelf in
+    let after = g.S.Shelf.state c.in-Err.shelf in
+    let r = c.in-Err.ensures.opened in
+    let next : Opened → Plan = λ m. needs proof (λ bytes. comes (say_audit_of hash q m bytes)) in
+    refused hash (sized g) map before after c.in-Err.error r (auditing hash map q proof) next
+    (λ m. judged_needs proof (say_audit_of hash q m) before.files) (λ said is. inl is)
+    (auditing_refused hash map q proof (needs_map hash map next) before after c.in-Err.error r) c.unopened.result
+    c.unopened.ensures
+
+pub returns-in-Ok : goal.returns-in-Ok
+returns-in-Ok g c =
+    let hash = g.H.Hashes.of in
+    let paged = c.in-Ok.paged in
+    let later = c.audit_file-came.new.paged in
+    let o = c.in-Ok.ensures.opened in
+    let before = g.S.Shelf.state c.args.shelf in
+    let mid = g.S.Shelf.state paged.shelf in
+    let e = c.audit_file-came.ensures in
+    subst (λ w. Comes (say_audit hash c.args.map.now c.args.query.now c.args.proof.now) before w
+    c.audit_file-came.result) (sym (ap g.S.Shelf.state c.close.ensures))
+    (audited hash (sized g) c.args.map.now c.args.query.now c.args.proof.now before mid
+    (g.S.Shelf.state later.shelf) (stands_for paged.head (told_bytes mid.files (string_bytes paged.name))) paged.head
+    o.files o.quiet o.answers o.pages o.reads o.more e.counts e.few c.audit_file-came.result e.told e.untold)

@@ -1,5 +1,5 @@
-use Rattle.std.proofs.Common.{◌≡◌, ◌-◌, ◌+◌, [], List, ℕ}
-use Rattle.mr_outside.specs.State.{Shelved}
+use Rattle.std.proofs.Common.{◌≡◌, ◌-◌, ◌+◌, ◌≤◌, [], List, ℕ}
+use Rattle.mr_outside.specs.Reading.{piece_count}
 use Rattle.mr_query.specs.declared.query.Query.{Query}
 use Rattle.mr_check.specs.Judged.{IsTaken}
 use Rattle.mr_tool.specs.Ending.{NoneFalls}
@@ -10,10 +10,12 @@ abbrev pub invariant-loop-at : goal.invariant-loop-at
 invariant-loop-at g l = record {
   counts : NoneFalls (g.S.Shelf.state l.initial.shelf) (g.S.Shelf.state l.shelf);
   files : (g.S.Shelf.state l.shelf).files ≡ (g.S.Shelf.state l.initial.shelf).files;
+  pieces : (g.S.Shelf.state l.shelf).reads + piece_count (l.size - l.at)
+      ≤ (g.S.Shelf.state l.initial.shelf).reads + piece_count l.size;
   faults : (g.S.Shelf.state l.shelf).faults ≡ (g.S.Shelf.state l.initial.shelf).faults;
-  taken : (root : List ℕ) (q : Query) → IsTaken g.H.Hashes.of g.H.Hashes.holds root q l.initial.intake []
+  taken : (root : List ℕ) (q : Query) → IsTaken g.H.Hashes.of g.H.Hashes.holds root q l.initial.taken []
       → HasTaken g.H.Hashes.of g.H.Hashes.holds root q (g.S.Shelf.state l.initial.shelf).files l.name l.size l.at
-      l.intake;
+      l.taken;
 }
 
 abbrev pub decreases-loop-at : goal.decreases-loop-at

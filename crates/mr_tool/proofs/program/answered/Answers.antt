@@ -14,9 +14,9 @@ returns-in-Some-clause-run g c =
     (world (g.S.Shelf.state c.args.shelf) (g.W.Sink.state c.args.out.now))
     (world (g.S.Shelf.state c.carry_out-came.result.1) (g.W.Sink.state c.finish.new.out)) c.finish.result
     c.in-Some.command c.carry_out-came.result.0
-    (record { long = c.carry_out-came.ensures.sized; bytes = c.carry_out-came.ensures.bytes })
+    (record { long = c.gives_digests.ensures.sized; bytes = c.gives_digests.ensures.bytes })
     (λ command spelled. c.read_words.ensures.read command spelled hash ∙ ap (say hash) c.in-Some.is)
-    c.carry_out-came.ensures.comes c.finish.ensures
+    c.carry_out-came.ensures c.finish.ensures
 
 pub returns-in-None-clause-run : goal.returns-in-None-clause-run
 returns-in-None-clause-run g c =

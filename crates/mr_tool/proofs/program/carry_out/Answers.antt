@@ -1,9 +1,26 @@
+use Rattle.mr_tool.proofs.WholeRuns.{as_said}
 use Rattle.mr_tool.proofs.program.carry_out.Goals as goal
 
-pub returns-clause-sized : goal.returns-clause-sized
-returns-clause-sized g c =
-    (g.met.H.Hashes g.world.𝓛 g.world.𝓜 g.world.𝓡 ((λ s x. x), (λ x. x), (λ x. x), λ x. x)).sized
+pub returns-in-Root : goal.returns-in-Root
+returns-in-Root g c = as_said g.H.Hashes.of _ _ _ _ c.root-came.result c.in-Root.is c.root-came.ensures
 
-pub returns-clause-bytes : goal.returns-clause-bytes
-returns-clause-bytes g c =
-    (g.met.H.Hashes g.world.𝓛 g.world.𝓜 g.world.𝓡 ((λ s x. x), (λ x. x), (λ x. x), λ x. x)).bytes
+pub returns-in-Build : goal.returns-in-Build
+returns-in-Build g c = as_said g.H.Hashes.of _ _ _ _ c.build-came.result c.in-Build.is c.build-came.ensures
+
+pub returns-in-List : goal.returns-in-List
+returns-in-List g c = as_said g.H.Hashes.of _ _ _ _ c.list-came.result c.in-List.is c.list-came.ensures
+
+pub returns-in-Apply : goal.returns-in-Apply
+returns-in-Apply g c = as_said g.H.Hashes.of _ _ _ _ c.apply-came.result c.in-Apply.is c.apply-came.ensures
+
+pub returns-in-Prove : goal.returns-in-Prove
+returns-in-Prove g c = as_said g.H.Hashes.of _ _ _ _ c.prove_query.result.0 c.in-Prove.is c.prove_query.ensures
+
+pub returns-in-Check : goal.returns-in-Check
+returns-in-Check g c = as_said g.H.Hashes.of _ _ _ _ c.check_proof-came.result c.in-Check.is c.check_proof-came.ensures
+
+pub returns-in-Audit : goal.returns-in-Audit
+returns-in-Audit g c = as_said g.H.Hashes.of _ _ _ _ c.audit_query.result.0 c.in-Audit.is c.audit_query.ensures
+
+pub returns-in-Make : goal.returns-in-Make
+returns-in-Make g c = as_said g.H.Hashes.of _ _ _ _ c.make-came.result c.in-Make.is c.make-came.ensures

@@ -16,6 +16,7 @@ returns-in-Ok-clause-given g c =
       outside = e.outside;
       counts = e.counts;
       quiet = e.quiet;
+      reads = e.reads;
       complete = e.complete;
       honest = e.honest;
       worth = e.worth;
