@@ -4,9 +4,9 @@
 
 use crate::bench::Step::{Change, Do, Run};
 use crate::bench::{Row, Story, rows_hold, stories_go};
-use crate::maps::SEVENTEEN;
+use crate::maps::{FIRST, SEVENTEEN};
 use crate::parts::File;
-use crate::parts::Part::{Raw, Row as InARow, Text};
+use crate::parts::Part::{Leaf, Node, Pruned, Row as InARow, Text, Window};
 use crate::rows::{SEVEN, lines_are_bad};
 use mr_tool::Status::{BadMap, Collision, Done, Outside, Refused};
 use mr_tree::XorHash;
@@ -300,6 +300,50 @@ const DEEP: &[Story<'static>] = &[Story {
     ],
 }];
 
+// The second leaf is shown as two pruned parts; the string of the node over them has the digest of
+// that of the map.
+const PARTED: &[Story<'static>] = &[Story {
+    name: "more items than the node has children",
+    files: &[
+        ("r", &[Text(SEVENTEEN)]),
+        (
+            "p",
+            &[
+                Window {
+                    count: 17,
+                    level: 1,
+                },
+                Node(3),
+                Leaf(FIRST),
+                Pruned {
+                    corners: [9, 0, 13, 0],
+                    digest: 2,
+                },
+                Pruned {
+                    corners: [14, 0, 17, 0],
+                    digest: 0x4c,
+                },
+            ],
+        ),
+    ],
+    steps: &[
+        Do("build m r"),
+        Run {
+            words: "check ..0f window:2,0,3,0 p",
+            status: Done,
+            text: "2 2 0 2 0 -\n3 3 0 3 0 -\n",
+        },
+        Run {
+            words: "audit m window:2,0,3,0 p",
+            status: Collision,
+            text: "collision\n\
+                4e010200000001000000000000000800000000..4c00000009000000000000001100000000..4c\n\
+                4e010300000001000000000000000800000000..4c00000009000000000000000d00000000..02\
+                0000000e000000000000001100000000..4c\n",
+        },
+    ],
+}];
+
 fn audits_go<R: Threads + Abort + Sync>(rt: &R, alloc: Global) {
     stories_go::<XorHash, R>(rt, alloc, AUDITS);
 }
@@ -308,10 +352,15 @@ fn deep_go<R: Threads + Abort + Sync>(rt: &R, alloc: Global) {
     stories_go::<XorHash, R>(rt, alloc, DEEP);
 }
 
+fn parted_go<R: Threads + Abort + Sync>(rt: &R, alloc: Global) {
+    stories_go::<XorHash, R>(rt, alloc, PARTED);
+}
+
 #[test]
 fn proofs_beside_their_maps(rt: HostRuntime) {
     audits_go(&rt, rt.alloc());
     deep_go(&rt, rt.alloc());
+    parted_go(&rt, rt.alloc());
 }
 
 const BAD_MAP: &[File<'static>] = &[("m", &[Text("MRMP")])];

@@ -1,6 +1,8 @@
-//! Rows and stories of runs, and how they are run: over a shelf and a sink in memory.
+//! Rows and stories of runs, and how they are run: over a shelf and a sink in memory. A proof that
+//! a row or a step checks is judged in small pieces as well.
 
 use crate::assertions::{all_go, all_hold};
+use crate::cuts::agrees;
 use crate::listed::Listed;
 use crate::parts::{File, Part, bytes_of, edited, expanded};
 use mr_outside::{Gate, MemShelf, MemSink, NoGate, Shelf};
@@ -60,8 +62,8 @@ pub enum Step<'a> {
     Hashes(&'a str, usize, &'a str),
 }
 
-// The words of a command line.
-fn words(alloc: Global, line: &str) -> Result<Vec<String>, AllocError> {
+/// The words of a command line.
+pub fn words(alloc: Global, line: &str) -> Result<Vec<String>, AllocError> {
     let mut all = Vec::new(alloc);
     for word in line.split(' ') {
         all.push(expanded(alloc, word)?)?;
@@ -223,7 +225,8 @@ pub fn is_so<H: Hash32, R: Threads + Sync>(
     let fail = sink_calls(alloc, row.fails)?;
     let shelf = listed_of(alloc, row)?;
     let (status, printed, shelf) = ran::<H, _, _, _>(rt, alloc, row.words, shelf, &fail, &NoGate)?;
-    Ok(status == row.status && is_judged(alloc, row, &printed, &shelf)?)
+    let same = agrees::<H>(alloc, row.words, &shelf.shelf, status, &printed)?;
+    Ok(status == row.status && same && is_judged(alloc, row, &printed, &shelf)?)
 }
 
 // The name of the first row whose run is not as it says.
@@ -259,7 +262,8 @@ fn is_printed<H: Hash32, R: Threads + Sync>(
     shelf: MemShelf,
 ) -> Result<(MemShelf, bool), AllocError> {
     let (ended, said, left) = ran::<H, _, _, _>(rt, alloc, words, shelf, &[], &NoGate)?;
-    Ok((left, ended == status && said.as_slice() == text))
+    let same = agrees::<H>(alloc, words, &left, ended, &said)?;
+    Ok((left, same && ended == status && said.as_slice() == text))
 }
 
 fn is_done<H: Hash32, R: Threads + Sync>(

@@ -3,6 +3,7 @@
 
 use crate::assertions::all_hold;
 use crate::bench::{ran, shelf_of};
+use crate::cuts::agrees;
 use crate::gates::{each_once, fresh};
 use crate::listed::Listed;
 use crate::maps::SEVENTEEN;
@@ -45,7 +46,8 @@ const CALLS: &[Made<'static>] = &[
     },
     Made {
         words: "prove m window:2,0,3,0 p",
-        calls: "size m\nread_at m\ncreate p\nappend p\nsync p\n",
+        calls: "size m\nread_at m\nread_at m\nread_at m\nread_at m\ncreate p\nappend p\n\
+            sync p\n",
         pieces: 0,
     },
     Made {
@@ -55,7 +57,7 @@ const CALLS: &[Made<'static>] = &[
     },
     Made {
         words: "audit m window:2,0,3,0 p",
-        calls: "size m\nread_at m\nsize p\nread_at p\n",
+        calls: "size m\nread_at m\nread_at m\nread_at m\nread_at m\nsize p\nread_at p\n",
         pieces: 0,
     },
     Made {
@@ -134,14 +136,15 @@ fn called<R: Threads + Sync>(
 ) -> Result<Option<MemShelf>, AllocError> {
     let gate = fresh(alloc, made.pieces)?;
     let shelf = Listed::new(alloc, shelf);
-    let (status, _, left) = ran::<XorHash, _, _, R>(rt, alloc, made.words, shelf, &[], &gate)?;
+    let (status, said, left) = ran::<XorHash, _, _, R>(rt, alloc, made.words, shelf, &[], &gate)?;
     let lines = left.calls.as_str();
     let is_so = if is_large {
         folded(alloc, lines)?.as_str() == made.calls
     } else {
         lines == made.calls
     };
-    if status == Status::Done && is_so && each_once(&gate) {
+    let same = agrees::<XorHash>(alloc, made.words, &left.shelf, status, &said)?;
+    if status == Status::Done && is_so && same && each_once(&gate) {
         Ok(Some(left.shelf))
     } else {
         Ok(None)

@@ -3,9 +3,10 @@
 
 use crate::assertions::{all_hold, holds, holds_at};
 use crate::bench::{digest, file_of, ran, shelf_of, shelf_with};
+use crate::cuts::agrees;
 use crate::parts::Part::Row;
 use mr_outside::NoGate;
-use mr_tool::Status::{self, Refused};
+use mr_tool::Status::Refused;
 use mr_tree::Sha;
 use std::alloc::{AllocError, Global};
 use std::test::Fail;
@@ -24,15 +25,18 @@ fn path<R: Threads + Sync>(rt: &R, alloc: Global) -> Result<Vec<u8>, AllocError>
 const CHECK: &str = "check 0a1f58ba200fb9fbf1ec601962e66d4f61fca5ce3dd5b1fbc2a96141ab87d843 \
     window:700,0,702,0 p";
 
-// The status of a check of these bytes for the path, and what it prints.
-fn judged<R: Threads + Sync>(
+// Whether these bytes are refused for the path, whole and, if that is looked at too, alike in small
+// pieces, and what is said.
+fn refused<R: Threads + Sync>(
     rt: &R,
     alloc: Global,
     proof: &[u8],
-) -> Result<(Status, Vec<u8>), AllocError> {
+    in_pieces: bool,
+) -> Result<(bool, Vec<u8>), AllocError> {
     let shelf = shelf_with(alloc, "p", proof)?;
-    let (status, said, _) = ran::<Sha, _, _, R>(rt, alloc, CHECK, shelf, &[], &NoGate)?;
-    Ok((status, said))
+    let (status, said, left) = ran::<Sha, _, _, R>(rt, alloc, CHECK, shelf, &[], &NoGate)?;
+    let same = !in_pieces || agrees::<Sha>(alloc, CHECK, &left, status, &said)?;
+    Ok((status == Refused && same, said))
 }
 
 // The bytes with the lowest bit of this one changed.
@@ -53,9 +57,9 @@ fn is_refused<R: Threads + Sync>(
     place: usize,
     said: &mut Vec<u8>,
 ) -> Result<bool, AllocError> {
-    let (status, line) = judged(rt, alloc, &flipped(alloc, proof, place)?)?;
+    let (refused, line) = refused(rt, alloc, &flipped(alloc, proof, place)?, place % 32 == 0)?;
     said.extend_from_slice(&line)?;
-    Ok(status == Refused)
+    Ok(refused)
 }
 
 // Of all that is said.
@@ -231,8 +235,8 @@ fn is_said<R: Threads + Sync>(
     proof: &[u8],
     flip: &Flip<'_>,
 ) -> Result<bool, AllocError> {
-    let (_, said) = judged(rt, alloc, &flipped(alloc, proof, flip.place)?)?;
-    Ok(said.as_slice() == flip.says.as_bytes())
+    let (refused, said) = refused(rt, alloc, &flipped(alloc, proof, flip.place)?, true)?;
+    Ok(refused && said.as_slice() == flip.says.as_bytes())
 }
 
 fn first_unsaid<R: Threads + Sync>(
@@ -308,9 +312,9 @@ fn is_short<R: Threads + Sync>(
     place: usize,
 ) -> Result<bool, AllocError> {
     let (cut, _) = proof.split_at(length.min(proof.len()));
-    let (status, said) = judged(rt, alloc, cut)?;
+    let (refused, said) = refused(rt, alloc, cut, length % 32 == 0)?;
     let line = format!(in alloc; "refused Short at {place}\n")?;
-    Ok(status == Refused && said.as_slice() == line.as_bytes())
+    Ok(refused && said.as_slice() == line.as_bytes())
 }
 
 #[test]

@@ -14,6 +14,8 @@ mod calls;
 #[cfg(test)]
 mod changes;
 #[cfg(test)]
+mod cuts;
+#[cfg(test)]
 mod gates;
 #[cfg(test)]
 mod joined;
@@ -33,6 +35,8 @@ mod nearest;
 mod nearest_audits;
 #[cfg(test)]
 mod nearest_checks;
+#[cfg(test)]
+mod pages;
 #[cfg(test)]
 mod parts;
 #[cfg(test)]

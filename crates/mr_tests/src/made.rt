@@ -7,6 +7,7 @@ use crate::assertions::{holds, holds_at};
 use crate::bench::Call::{Shelf, Sink};
 use crate::bench::Step::Run;
 use crate::bench::{Row, Story, digest, is_so, ran, rows_hold, shelf_of, stories_go};
+use crate::cuts::agrees;
 use crate::maps::{Ending, ended, is_stopped};
 use crate::parts::File;
 use crate::parts::Part::Text;
@@ -314,8 +315,11 @@ fn tried<R: Threads + Sync>(
         &[],
         &NoGate,
     )?;
+    let same = agrees::<Sha>(alloc, line.as_str(), &shelf, status, &answer)?;
     let figures = Figures {
-        accepted: so_far.accepted.wrapping_add(u64::from(status == Done)),
+        accepted: so_far
+            .accepted
+            .wrapping_add(u64::from(status == Done && same)),
         answers: so_far.answers.wrapping_add(lines(&answer)),
         bytes: so_far.bytes.wrapping_add(length),
     };

@@ -773,7 +773,7 @@ fn stops_a_proof<R: Threads + Sync>(rt: &R, alloc: Global, call: u64) -> Result<
     let line = "prove m window:2,0,3,0 p";
     let ended = ended(rt, alloc, line, MAP_OF_TWO, (call, 0), "p")?;
     let whole = is_made_of(alloc, &ended.left, PROOF_OF_TWO)?;
-    Ok(is_stopped(&ended) && whole == (call == 5))
+    Ok(is_stopped(&ended) && whole == (call == 8))
 }
 
 fn has_276_bytes(alloc: Global) -> Result<bool, AllocError> {
@@ -783,8 +783,8 @@ fn has_276_bytes(alloc: Global) -> Result<bool, AllocError> {
 #[test]
 fn each_call_of_a_proof_fails_in_turn(rt: HostRuntime) {
     holds(&rt, "276 bytes", has_276_bytes(rt.alloc()));
-    // A size, a read, and then the file is made, written and synced.
-    for call in 1..6u64 {
+    // A size, four pages, and then the file is made, written and synced.
+    for call in 1..9u64 {
         holds_at(&rt, "call", call, stops_a_proof(&rt, rt.alloc(), call));
     }
 }

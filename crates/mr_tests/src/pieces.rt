@@ -2,6 +2,7 @@
 
 use crate::assertions::holds;
 use crate::bench::{file_of, ran_on, shelf_of, shelf_with};
+use crate::cuts::agrees;
 use crate::parts::File;
 use crate::parts::Part::Places;
 use mr_outside::MemShelf;
@@ -56,7 +57,8 @@ fn is_read<R: Threads + Sync>(
     let shelf = shelf_with(alloc, "p", bytes)?;
     let mut printed = Vec::new(alloc);
     let (ended, left) = ran_on::<XorHash, R>(rt, alloc, line.as_str(), shelf, &mut printed)?;
-    Ok(ended == status && left.reads() == reads)
+    let same = agrees::<XorHash>(alloc, line.as_str(), &left, ended, &printed)?;
+    Ok(ended == status && left.reads() == reads && same)
 }
 
 // Whether each piece of the proof is read once.

@@ -5,10 +5,12 @@ ghost use Rattle.mr_query.specs.Word.{IsAskable};
 
 use crate::client::{INNER, OPENED, digest, sha_root};
 use mr_check::{CheckErr, Fed, Judge, check};
+use mr_outside::MemSink;
 use mr_proof::{Fault, Rule};
 use mr_query::{Query, read_query};
+use mr_record::{Record, write_lines};
 use mr_tree::{Hash32, Sha, XorHash};
-use std::alloc::Global;
+use std::alloc::{AllocError, Global};
 use std::test::Fail;
 
 // A window's proof on the map of record 7 that prunes its leaf.
@@ -57,13 +59,14 @@ const DEEPER: &[u8] = b"MRVO\x01W\0\0\0\0\0\0\0\0\0\0\0\0\0\0\0\x02\x02N\x01N\x0
     \0\0\0\0\0\0\0\0\0\0\0\0\0\0\0\0\0\0\0\0\0\0\0\0\0\0\0\0\0\0\0\x11\
     L\x01\0\0\0\0\0\0\0\x07\0\0\0\0\0\0\0\0\0\0\0\0\0\0\0\0\0";
 
-// A proof for the query of a word; the last byte of a held root digest under the exclusive or; how
-// many records are handed out; and the rule that is broken and its place, if any is.
+// A proof for the query of a word; the last byte of a held root digest under the exclusive or; the
+// records that are handed out, as lines of a text; and the rule that is broken and its place, if
+// any is.
 struct Row {
     word: &'static str,
     proof: &'static [u8],
     root: u8,
-    found: u64,
+    found: &'static str,
     broken: Option<(Rule, u64)>,
 }
 
@@ -79,126 +82,140 @@ const AWAY: &str = "window:1,1,2,2";
 
 const NEAREST: &str = "nearest:0,0,1";
 
+const SEVEN: &str = "7 0 0 0 0 -\n";
+
+const FIRST_THREE: &str = "1 1 0 1 0 -\n3 3 0 3 0 -\n2 0 2 0 2 -\n";
+
 const ROWS: &[Row] = &[
     Row {
         word: HERE,
         proof: OPENED,
         root: 0x18,
-        found: 1,
+        found: SEVEN,
         broken: None,
     },
     Row {
         word: AWAY,
         proof: PRUNED,
         root: 0x18,
-        found: 0,
+        found: "",
         broken: None,
     },
     Row {
         word: HERE,
         proof: TRAILING,
         root: 0x18,
-        found: 1,
+        found: SEVEN,
         broken: Some((Rule::Trailing, 50)),
     },
     Row {
         word: AWAY,
         proof: OPENED,
         root: 0x18,
-        found: 0,
+        found: "",
         broken: Some((Rule::Needless, 49)),
     },
     Row {
         word: HERE,
         proof: PRUNED,
         root: 0x18,
-        found: 0,
+        found: "",
         broken: Some((Rule::Hidden, 24)),
     },
     Row {
         word: NEAREST,
         proof: OPENED,
         root: 0x18,
-        found: 0,
+        found: "",
         broken: Some((Rule::WrongKind, 5)),
     },
     Row {
         word: HERE,
         proof: OPENED,
         root: 0x19,
-        found: 1,
+        found: SEVEN,
         broken: Some((Rule::WrongRoot { found: HELD }, 50)),
     },
     Row {
         word: NEAREST,
         proof: CIRCLE,
         root: 0x1c,
-        found: 2,
+        found: "1 3 0 3 0 -\n2 0 3 0 3 -\n",
         broken: None,
     },
     Row {
         word: NEAREST,
         proof: HIDDEN,
         root: 0,
-        found: 1,
+        found: "2 0 3 0 3 -\n",
         broken: Some((Rule::Hidden, 70)),
     },
     Row {
         word: "nearest:0,0,5",
         proof: FEWER,
         root: 0x1e,
-        found: 3,
+        found: FIRST_THREE,
         broken: None,
     },
     Row {
         word: "nearest:0,0,5",
         proof: TOO_MANY,
         root: 0x1e,
-        found: 3,
+        found: FIRST_THREE,
         broken: Some((Rule::WrongRadius, 117)),
     },
     Row {
         word: "nearest:-2147483648,-2147483648,1",
         proof: FARTHEST,
         root: 0x1e,
-        found: 1,
+        found: "1 2147483647 2147483647 2147483647 2147483647 -\n",
         broken: None,
     },
     Row {
         word: HERE,
         proof: INNER,
         root: 0x46,
-        found: 1,
+        found: SEVEN,
         broken: None,
     },
     Row {
         word: HERE,
         proof: DEEPER,
         root: 0x08,
-        found: 1,
+        found: SEVEN,
         broken: None,
     },
 ];
 
-// How many records the piece hands out.
-fn feed<H: Hash32>(judge: &mut Judge<H>, piece: &[u8]) -> u64 {
+// Feeds a piece, and keeps the records that it hands out.
+fn feed<H: Hash32>(
+    judge: &mut Judge<H>,
+    piece: &[u8],
+    found: &mut Vec<Record>,
+) -> Result<(), AllocError> {
     let mut rest = piece;
-    let mut found = 0_u64;
     for _ in 0..=piece.len() {
         match judge.feed(rest) {
-            Fed::Found { taken, item: _ } => {
-                found = found.saturating_add(1);
+            Fed::Found { taken, item } => {
+                found.push(item)?;
                 let (_, behind) = rest.split_at(taken);
                 rest = behind;
             }
-            _ => break,
+            _ => return Ok(()),
         }
     }
-    found
+    Ok(())
 }
 
-// How many records are handed out, and the verdict, of a proof that is cut at this place, and
-// behind it into pieces of this size.
+// These records as lines of a text.
+fn lines(alloc: Global, records: &[Record]) -> Result<Vec<u8>, AllocError> {
+    let mut out = MemSink::new(alloc, Vec::new(alloc));
+    let _ = write_lines(&mut out, records);
+    out.bytes().to_vec(alloc)
+}
+
+// The lines of the records that are handed out, and the verdict, of a proof that is cut at this
+// place, and behind it into pieces of this size.
 fn judged<H: Hash32>(
     alloc: Global,
     root: &[u8; 32],
@@ -206,16 +223,17 @@ fn judged<H: Hash32>(
     proof: &[u8],
     cut: usize,
     size: usize,
-) -> Option<(u64, Option<Fault>)>
+) -> Result<(Vec<u8>, Option<Fault>), AllocError>
     requires { IsAskable q.now }
 {
-    let mut judge = Judge::<H>::new(alloc, root, q).ok()?;
+    let mut judge = Judge::<H>::new(alloc, root, q)?;
+    let mut found = Vec::new(alloc);
     let (front, back) = proof.split_at(cut.min(proof.len()));
-    let mut found = feed(&mut judge, front);
+    feed(&mut judge, front, &mut found)?;
     for piece in back.chunks(size.max(1)) {
-        found = found.saturating_add(feed(&mut judge, piece));
+        feed(&mut judge, piece, &mut found)?;
     }
-    Some((found, judge.end().err()))
+    Ok((lines(alloc, &found)?, judge.end().err()))
 }
 
 // The fault of a whole proof.
@@ -228,23 +246,49 @@ fn checked<H: Hash32>(alloc: Global, root: &[u8; 32], q: &Query, proof: &[u8]) -
     }
 }
 
-// Whether a proof has these records and this fault at every cut into two, and in small pieces.
+// What a proof hands out, as lines of a text, and its fault.
+#[derive(Clone, Copy)]
+struct Found<'a> {
+    lines: &'a str,
+    broken: Option<Fault>,
+}
+
+// Whether that is found of a proof that is cut so.
+fn comes_to<H: Hash32>(
+    alloc: Global,
+    root: &[u8; 32],
+    q: &Query,
+    proof: &[u8],
+    cut: usize,
+    size: usize,
+    wanted: &Found<'_>,
+) -> bool
+    requires { IsAskable q.now }
+{
+    match judged::<H>(alloc, root, q, proof, cut, size) {
+        Ok((lines, broken)) => lines.as_slice() == wanted.lines.as_bytes()
+            && broken == wanted.broken,
+        Err(_) => false,
+    }
+}
+
+// Whether it is found at every cut into two, and in small pieces.
 fn is_judged<H: Hash32>(
     alloc: Global,
     root: &[u8; 32],
     q: &Query,
     proof: &[u8],
-    wanted: (u64, Option<Fault>),
+    wanted: &Found<'_>,
 ) -> bool
     requires { IsAskable q.now }
 {
     for cut in 0..=proof.len() {
-        if judged::<H>(alloc, root, q, proof, cut, 4096) != Some(wanted) {
+        if !comes_to::<H>(alloc, root, q, proof, cut, 4096, wanted) {
             return false;
         }
     }
     for size in [1, 7, 4096] {
-        if judged::<H>(alloc, root, q, proof, 0, size) != Some(wanted) {
+        if !comes_to::<H>(alloc, root, q, proof, 0, size, wanted) {
             return false;
         }
     }
@@ -256,11 +300,21 @@ fn holds(alloc: Global, row: &Row) -> bool {
     let Ok(q) = read_query(row.word) else {
         return false;
     };
+    let lines = row.found;
     let broken = row.broken.map(|(rule, at)| Fault { rule, at });
     let root = sha_root();
     let fault = checked::<Sha>(alloc, &root, &q, row.proof);
-    is_judged::<XorHash>(alloc, &digest(row.root), &q, row.proof, (row.found, broken))
-        && is_judged::<Sha>(alloc, &root, &q, row.proof, (row.found, fault))
+    let by_sha = Found {
+        lines,
+        broken: fault,
+    };
+    is_judged::<XorHash>(
+        alloc,
+        &digest(row.root),
+        &q,
+        row.proof,
+        &Found { lines, broken },
+    ) && is_judged::<Sha>(alloc, &root, &q, row.proof, &by_sha)
 }
 
 #[test]
@@ -272,7 +326,7 @@ fn proofs_are_judged_however_they_are_cut(rt: HostRuntime) {
 fn fed<H: Hash32>(alloc: Global, root: &[u8; 32], word: &str, front: &[u8]) -> Option<Judge<H>> {
     let q = read_query(word).ok()?;
     let mut judge = Judge::<H>::new(alloc, root, &q).ok()?;
-    let _found = feed(&mut judge, front);
+    feed(&mut judge, front, &mut Vec::new(alloc)).ok()?;
     Some(judge)
 }
 

@@ -4,6 +4,7 @@
 ghost use Rattle.std.specs.Prelude.{◌≡◌, ◌≤◌};
 ghost use Rattle.mr_query.specs.Word.{IsAskable};
 
+use crate::assertions::holds;
 use crate::client::window;
 use mr_batch::generate;
 use mr_geom::{Point, Rect};
@@ -14,7 +15,7 @@ use mr_prove::{ProveErr, prove};
 use mr_query::Query;
 use mr_record::{Payload, Record};
 use mr_store::Paged;
-use mr_tree::{NodesErr, XorHash};
+use mr_tree::{Nodes, NodesErr, XorHash};
 use std::alloc::{AllocError, Global};
 use std::test::Fail;
 
@@ -235,26 +236,51 @@ fn a_map_has_one_fault_opened_whole_or_page_by_page(rt: HostRuntime) -> Result<(
     Ok(())
 }
 
+// Whether opening a name without a file says that it is missing.
+fn is_missing(alloc: Global) -> bool {
+    let shelf = MemShelf::new(alloc, Vec::new(alloc));
+    match Paged::<MemShelf, XorHash>::open_map(alloc, shelf, "m") {
+        Ok(map) => {
+            let _shelf = map.close();
+            false
+        }
+        Err((_shelf, error)) => matches!(error, MapErr::Missing),
+    }
+}
+
+#[test]
+fn a_name_without_a_file_is_missing(rt: HostRuntime) {
+    holds(&rt, "missing", is_missing(rt.alloc()));
+}
+
 // ---- reads, and pages that change
 
-// Tells nothing, and gives the bytes of a file, of which one is another after so many reads; or
-// none are left then.
+// Tells nothing, and gives the bytes of a file, of which two are others after so many reads; or
+// none are left then, or the file is gone.
 #[derive(Drop)]
 struct Turning {
     bytes: Vec<u8>,
+    faults: u64,
     reads: u64,
     after: u64,
+    gone: bool,
     cut: bool,
     at: usize,
     byte: u8,
+    twin_at: usize,
+    twin: u8,
 }
 
 impl Turning {
     fn turn(&mut self)
-        ensures { self.new.reads ≡ self.old.reads }
+        ensures reads { self.new.reads ≡ self.old.reads }
+        ensures faults { self.new.faults ≡ self.old.faults }
     {
         if self.at < self.bytes.len() {
             self.bytes[self.at] = self.byte;
+        }
+        if self.twin_at < self.bytes.len() {
+            self.bytes[self.twin_at] = self.twin;
         }
         if self.cut {
             self.bytes.truncate(0);
@@ -265,7 +291,7 @@ impl Turning {
 impl Shelf for Turning {
     ghost use Rattle.mr_outside.specs.Edge.{untold_shelf};
 
-    ghost state = { λ s. untold_shelf 0 s.reads };
+    ghost state = { λ s. untold_shelf s.faults s.reads };
 
     fn size(&mut self, _name: &str) -> Result<u64, ShelfErr> {
         Ok(self.bytes.len() as u64)
@@ -273,6 +299,10 @@ impl Shelf for Turning {
 
     fn read_at(&mut self, _name: &str, at: u64, into: &mut [u8]) -> Result<usize, ShelfErr> {
         if self.reads >= self.after {
+            if self.gone {
+                self.faults = self.faults.saturating_add(1);
+                return Err(ShelfErr::Missing);
+            }
             self.turn();
         }
         self.reads = self.reads.saturating_add(1);
@@ -331,11 +361,31 @@ fn proved(alloc: Global, shelf: Turning, times: u32, q: &Query) -> Result<Came, 
 fn still(map: &[u8], alloc: Global) -> Result<Turning, AllocError> {
     Ok(Turning {
         bytes: map.to_vec(alloc)?,
+        faults: 0,
         reads: 0,
         after: u64::MAX,
+        gone: false,
         cut: false,
-        at: 0,
+        at: usize::MAX,
         byte: 0,
+        twin_at: usize::MAX,
+        twin: 0,
+    })
+}
+
+// Gives these bytes so often, and then what the turn says.
+fn that_turns(alloc: Global, map: &[u8], after: u64, turn: &Turn) -> Result<Turning, AllocError> {
+    Ok(Turning {
+        bytes: map.to_vec(alloc)?,
+        faults: 0,
+        reads: 0,
+        after,
+        gone: turn.gone,
+        cut: turn.cut,
+        at: turn.at,
+        byte: turn.byte,
+        twin_at: turn.twin_at,
+        twin: turn.twin,
     })
 }
 
@@ -361,10 +411,14 @@ fn a_map_of_few_pages_is_read_once(rt: HostRuntime) -> Result<(), Fail> {
 }
 
 // What is read of a map after a proof was made, and what the next one says of it.
+#[derive(Clone, Copy)]
 struct Turn {
+    gone: bool,
     cut: bool,
     at: usize,
     byte: u8,
+    twin_at: usize,
+    twin: u8,
     says: Option<Says>,
 }
 
@@ -373,38 +427,63 @@ enum Says {
     Changed(u32),
     Page(u32),
     Outside(u32),
+    Missing,
 }
 
 const TURNS: &[Turn] = &[
     Turn {
+        gone: false,
         cut: false,
         at: 0,
         byte: 0,
+        twin_at: usize::MAX,
+        twin: 0,
         says: None,
     },
     Turn {
+        gone: false,
         cut: false,
         at: 12_297,
         byte: 0xff,
+        twin_at: usize::MAX,
+        twin: 0,
         says: Some(Says::Changed(3)),
     },
     Turn {
+        gone: false,
         cut: false,
         at: 12_288,
         byte: 0xff,
+        twin_at: usize::MAX,
+        twin: 0,
         says: Some(Says::Page(3)),
     },
     Turn {
+        gone: false,
         cut: false,
         at: 4100,
         byte: 1,
+        twin_at: usize::MAX,
+        twin: 0,
         says: Some(Says::Outside(65_538)),
     },
     Turn {
+        gone: false,
         cut: true,
         at: 0,
         byte: 0,
+        twin_at: usize::MAX,
+        twin: 0,
         says: Some(Says::Page(1)),
+    },
+    Turn {
+        gone: true,
+        cut: false,
+        at: 0,
+        byte: 0,
+        twin_at: usize::MAX,
+        twin: 0,
+        says: Some(Says::Missing),
     },
 ];
 
@@ -416,6 +495,7 @@ fn is_turned(says: Option<Says>, refusal: &Option<NodesErr>) -> bool {
         }
         (Some(Says::Page(wanted)), Some(NodesErr::Page { page })) => *page == wanted,
         (Some(Says::Outside(wanted)), Some(NodesErr::Outside { page })) => *page == wanted,
+        (Some(Says::Missing), Some(NodesErr::Missing)) => true,
         _ => false,
     }
 }
@@ -425,15 +505,7 @@ fn first_unturned(alloc: Global, map: &[u8], after: u64, q: &Query) -> Result<Op
     requires { IsAskable q.now }
 {
     for (k, turn) in TURNS.iter().enumerate() {
-        let shelf = Turning {
-            bytes: map.to_vec(alloc)?,
-            reads: 0,
-            after,
-            cut: turn.cut,
-            at: turn.at,
-            byte: turn.byte,
-        };
-        let came = proved(alloc, shelf, 2, q)?;
+        let came = proved(alloc, that_turns(alloc, map, after, turn)?, 2, q)?;
         if !is_turned(turn.says, &came.refusal) {
             return Ok(Some(k));
         }
@@ -451,5 +523,159 @@ fn a_page_that_is_read_again_is_checked(rt: HostRuntime) -> Result<(), Fail> {
     let after = reads_of(alloc, &map, 1, &all)?;
     assert!(rt; after > 320 && after <= 639, "{after}");
     assert_eq!(rt; first_unturned(alloc, &map, after, &all)?, None);
+    Ok(())
+}
+
+// ---- maps in memory
+
+// The proof that nodes give of the answer to a query.
+fn proof_of<N: Nodes>(alloc: Global, nodes: &mut N, q: &Query) -> Result<MemSink, Fail>
+    requires { IsAskable q.now }
+{
+    let mut out = MemSink::new(alloc, Vec::new(alloc));
+    match prove(alloc, nodes, q, &mut out) {
+        Ok(()) => Ok(out),
+        Err(_) => Err("not proved".into()),
+    }
+}
+
+// Whether a map and its copy in memory give one proof.
+fn gives_one_proof(
+    alloc: Global,
+    map: &mut Paged<MemShelf, XorHash>,
+    q: &Query,
+) -> Result<bool, Fail>
+    requires { IsAskable q.now }
+{
+    let snapshot = match map.snapshot() {
+        Ok(snapshot) => snapshot,
+        Err(_) => return Err("not taken".into()),
+    };
+    let one = proof_of(alloc, map, q)?;
+    let other = proof_of(alloc, &mut snapshot.reader(), q)?;
+    Ok(one.bytes() == other.bytes())
+}
+
+fn is_copied(alloc: Global, bytes: &[u8], q: &Query) -> Result<bool, Fail>
+    requires { IsAskable q.now }
+{
+    let shelf = shelf_with(alloc, bytes)?;
+    match Paged::<MemShelf, XorHash>::open_map(alloc, shelf, "m") {
+        Ok(map) => {
+            let mut map = map;
+            let same = gives_one_proof(alloc, &mut map, q);
+            let _shelf = map.close();
+            same
+        }
+        Err((_shelf, _)) => Err("not opened".into()),
+    }
+}
+
+#[test]
+fn a_map_in_memory_has_the_same_nodes(rt: HostRuntime) -> Result<(), Fail> {
+    let alloc = rt.alloc();
+    let map = map_of(alloc, generate(alloc, 5000, 3)?)?;
+    let all = window(-1_000_000, -1_000_000, 1_000_063, 1_000_063)?;
+    assert!(rt; is_copied(alloc, &map, &all)?, "another proof");
+    Ok(())
+}
+
+// What a map that turns is refused with when it is taken into memory.
+fn taken(alloc: Global, shelf: Turning) -> Result<Option<NodesErr>, Fail> {
+    match Paged::<Turning, XorHash>::open_map(alloc, shelf, "m") {
+        Ok(map) => {
+            let mut map = map;
+            let snapshot = map.snapshot();
+            let _shelf = map.close();
+            match snapshot {
+                Ok(_) => Ok(None),
+                Err(error) => Ok(Some(error)),
+            }
+        }
+        Err((_shelf, _)) => Err("not opened".into()),
+    }
+}
+
+// The first record of page 3 lies elsewhere, with the same digest: two bytes change alike.
+fn moved(map: &[u8]) -> Turn {
+    let mut turn = Turn {
+        gone: false,
+        cut: false,
+        at: usize::MAX,
+        byte: 0,
+        twin_at: usize::MAX,
+        twin: 0,
+        says: Some(Says::Page(3)),
+    };
+    if map.len() > 12_306 {
+        turn.at = 12_298;
+        turn.byte = map[12_298] ^ 0x10;
+        turn.twin_at = 12_306;
+        turn.twin = map[12_306] ^ 0x10;
+    }
+    turn
+}
+
+const COPIES: &[Turn] = &[
+    Turn {
+        gone: false,
+        cut: false,
+        at: usize::MAX,
+        byte: 0,
+        twin_at: usize::MAX,
+        twin: 0,
+        says: None,
+    },
+    Turn {
+        gone: false,
+        cut: false,
+        at: 12_297,
+        byte: 0xff,
+        twin_at: usize::MAX,
+        twin: 0,
+        says: Some(Says::Changed(3)),
+    },
+    Turn {
+        gone: false,
+        cut: true,
+        at: usize::MAX,
+        byte: 0,
+        twin_at: usize::MAX,
+        twin: 0,
+        says: Some(Says::Page(3)),
+    },
+    Turn {
+        gone: true,
+        cut: false,
+        at: usize::MAX,
+        byte: 0,
+        twin_at: usize::MAX,
+        twin: 0,
+        says: Some(Says::Missing),
+    },
+];
+
+// The first turn of which a copy says something else.
+fn first_copied(alloc: Global, map: &[u8]) -> Result<Option<usize>, Fail> {
+    for (k, turn) in COPIES.iter().enumerate() {
+        let refusal = taken(alloc, that_turns(alloc, map, 320, turn)?)?;
+        if !is_turned(turn.says, &refusal) {
+            return Ok(Some(k));
+        }
+    }
+    Ok(None)
+}
+
+#[test]
+fn a_map_that_turns_is_not_taken_into_memory(rt: HostRuntime) -> Result<(), Fail> {
+    let alloc = rt.alloc();
+    let map = map_of(alloc, generate(alloc, 5000, 3)?)?;
+    let turn = moved(&map);
+    assert_eq!(rt; first_copied(alloc, &map)?, None);
+    let refusal = taken(alloc, that_turns(alloc, &map, 320, &turn)?)?;
+    assert!(rt;
+        is_turned(turn.says, &refusal),
+        "a record that lies elsewhere"
+    );
     Ok(())
 }

@@ -1,0 +1,235 @@
+//! How often `prove` and `audit` read a map, and what they say of one that changes in between.
+
+ghost use Rattle.std.specs.Prelude.{◌≡◌};
+
+use crate::assertions::{all_hold, holds};
+use crate::bench::{file_of, ran, ran_on, shelf_of};
+use mr_outside::{MemShelf, NoGate, Shelf, ShelfErr};
+use mr_tool::Status::{self, BadMap, Done};
+use mr_tree::XorHash;
+use std::alloc::{AllocError, Global};
+use std::process::Abort;
+use std::thread::Threads;
+
+// Runs these command lines over one shelf.
+fn left_by<R: Threads + Sync>(
+    rt: &R,
+    alloc: Global,
+    lines: &[&str],
+) -> Result<MemShelf, AllocError> {
+    let mut shelf = shelf_of(alloc, &[], &[])?;
+    for line in lines {
+        let (_, left) = ran_on::<XorHash, R>(rt, alloc, line, shelf, &mut Vec::new(alloc))?;
+        shelf = left;
+    }
+    Ok(shelf)
+}
+
+// Whether a command line that is done raises the count of reads by so many, from the least to the
+// most.
+fn takes<R: Threads + Sync>(
+    rt: &R,
+    alloc: Global,
+    before: &[&str],
+    line: &str,
+    least: u64,
+    most: u64,
+) -> Result<bool, AllocError> {
+    let shelf = left_by(rt, alloc, before)?;
+    let read = shelf.reads();
+    let (status, left) = ran_on::<XorHash, R>(rt, alloc, line, shelf, &mut Vec::new(alloc))?;
+    let reads = left.reads().saturating_sub(read);
+    Ok(status == Done && least <= reads && reads <= most)
+}
+
+const FEW: &[&str] = &["make 2500 3 r", "build m r"];
+
+const MANY: &[&str] = &["make 5000 3 r", "build m r"];
+
+const NEAREST: &str = "prove m nearest:0,0,10 p";
+
+const WHOLE: &str = "prove m window:-1000000,-1000000,1000063,1000063 p";
+
+const WHOLE_AUDIT: &str = "audit m window:-1000000,-1000000,1000063,1000063 p";
+
+#[test]
+fn a_map_of_few_pages_is_read_once(rt: HostRuntime) {
+    let once = takes(&rt, rt.alloc(), FEW, NEAREST, 162, 162);
+    holds(&rt, "162 pages", once);
+}
+
+#[test]
+fn a_large_map_is_read_once_and_then_by_nodes(rt: HostRuntime) {
+    // its 320 pages, and most of the 319 nodes that the proof opens
+    let again = takes(&rt, rt.alloc(), MANY, WHOLE, 577, 639);
+    holds(&rt, "320 pages", again);
+}
+
+// Tells nothing, and gives the bytes of a map and of a proof. After so many reads one byte of the
+// map is another, or nothing is left of it.
+#[derive(Drop)]
+struct Turned {
+    map: Vec<u8>,
+    proof: Vec<u8>,
+    reads: u64,
+    after: u64,
+    turn: Turn,
+}
+
+#[derive(Clone, Copy)]
+enum Turn {
+    No,
+    Byte(usize, u8),
+    Cut,
+}
+
+impl Turned {
+    fn turn(&mut self)
+        ensures { self.new.reads ≡ self.old.reads }
+    {
+        match self.turn {
+            Turn::No => {}
+            Turn::Byte(at, byte) => {
+                if at < self.map.len() {
+                    self.map[at] = byte;
+                }
+            }
+            Turn::Cut => self.map.truncate(0),
+        }
+    }
+
+    fn bytes(&self, name: &str) -> &[u8] {
+        if name == "m" {
+            self.map.as_slice()
+        } else {
+            self.proof.as_slice()
+        }
+    }
+}
+
+impl Shelf for Turned {
+    ghost use Rattle.mr_outside.specs.Edge.{untold_shelf};
+
+    ghost state = { λ s. untold_shelf 0 s.reads };
+
+    fn size(&mut self, name: &str) -> Result<u64, ShelfErr> {
+        Ok(self.bytes(name).len() as u64)
+    }
+
+    fn read_at(&mut self, name: &str, at: u64, into: &mut [u8]) -> Result<usize, ShelfErr> {
+        if self.reads >= self.after {
+            self.turn();
+        }
+        self.reads = self.reads.saturating_add(1);
+        let bytes = self.bytes(name);
+        let at = (at as usize).min(bytes.len());
+        let count = into.len().min(bytes.len() - at);
+        into[..count].copy_from_slice(&bytes[at..at + count]);
+        Ok(count)
+    }
+
+    fn create(&mut self, _name: &str) -> Result<(), ShelfErr> {
+        Ok(())
+    }
+
+    fn append(&mut self, _name: &str, _bytes: &[u8]) -> Result<(), ShelfErr> {
+        Ok(())
+    }
+
+    fn write_at(&mut self, _name: &str, _at: u64, _bytes: &[u8]) -> Result<(), ShelfErr> {
+        Ok(())
+    }
+
+    fn sync(&mut self, _name: &str) -> Result<(), ShelfErr> {
+        Ok(())
+    }
+}
+
+// What comes of a command line where a map of 320 pages turns once it was opened: how it ends, and
+// how what it prints begins.
+struct Row {
+    name: &'static str,
+    words: &'static str,
+    turn: Turn,
+    status: Status,
+    text: &'static str,
+}
+
+// Page 3 is the first leaf's, which is not kept when the last of 320 pages was read.
+const ROWS: &[Row] = &[
+    Row {
+        name: "a proof of a map that stays",
+        words: WHOLE,
+        turn: Turn::No,
+        status: Done,
+        text: "proof ",
+    },
+    Row {
+        name: "a proof of a map with another record",
+        words: WHOLE,
+        turn: Turn::Byte(12_297, 0xff),
+        status: BadMap,
+        text: "bad map page 3 Changed held ",
+    },
+    Row {
+        name: "a proof of a map with a page that is no node",
+        words: WHOLE,
+        turn: Turn::Byte(12_288, 0xff),
+        status: BadMap,
+        text: "bad map page 3 Page\n",
+    },
+    Row {
+        name: "a proof of a map that is cut off",
+        words: WHOLE,
+        turn: Turn::Cut,
+        status: BadMap,
+        text: "bad map page 3 Page\n",
+    },
+    Row {
+        name: "an audit on a map that stays",
+        words: WHOLE_AUDIT,
+        turn: Turn::No,
+        status: Done,
+        text: "sound\n",
+    },
+    Row {
+        name: "an audit on a map with another record",
+        words: WHOLE_AUDIT,
+        turn: Turn::Byte(12_297, 0xff),
+        status: BadMap,
+        text: "bad map page 3 Changed held ",
+    },
+];
+
+// Whether the command line ends so over the map and the proof of a shelf.
+fn is_so<R: Threads + Sync>(
+    rt: &R,
+    alloc: Global,
+    row: &Row,
+    shelf: &MemShelf,
+) -> Result<bool, AllocError> {
+    let turned = Turned {
+        map: file_of(alloc, shelf, "m")?,
+        proof: file_of(alloc, shelf, "p")?,
+        reads: 0,
+        after: 320,
+        turn: row.turn,
+    };
+    let (status, text, _) = ran::<XorHash, _, _, R>(rt, alloc, row.words, turned, &[], &NoGate)?;
+    Ok(status == row.status && text.starts_with(row.text.as_bytes()))
+}
+
+fn first_other<R: Threads + Sync>(rt: &R, alloc: Global) -> Result<Option<&str>, AllocError> {
+    let shelf = left_by(rt, alloc, &["make 5000 3 r", "build m r", WHOLE])?;
+    for row in ROWS {
+        if !is_so(rt, alloc, row, &shelf)? {
+            return Ok(Some(row.name));
+        }
+    }
+    Ok(None)
+}
+
+#[test]
+fn a_map_that_changes_while_it_is_read_is_refused(rt: HostRuntime) {
+    all_hold(&rt, first_other(&rt, rt.alloc()));
+}
