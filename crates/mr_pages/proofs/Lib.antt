@@ -22,6 +22,7 @@ mod Stops
 mod Outcomes
 pub mod Judged
 mod Short
+mod Zeros
 pub mod Filled
 mod Put
 pub mod Answered

@@ -45,8 +45,10 @@ fn read_rect(bytes: &[u8]) -> Result<Rect, RecordFault>
     })
 }
 
-fn read_payload_behind(bytes: &[u8], len: u8) -> Result<Payload, RecordFault>
-    ensures { result ≡ payload_behind bytes.now len }
+fn read_payload_behind(bytes: &[u8], len: u8) -> Result<&[u8], RecordFault>
+    ensures exact { MatchResult result (λ raw. payload_behind bytes.now len ≡ Ok raw.now)
+        (λ e. payload_behind bytes.now len ≡ Err e) }
+    ensures within { IfOk result (λ raw. length raw.now ≤ 200) }
 {
     if usize::from(len) > PAYLOAD_LIMIT {
         return Err(RecordFault {
@@ -54,16 +56,15 @@ fn read_payload_behind(bytes: &[u8], len: u8) -> Result<Payload, RecordFault>
             at: 24,
         });
     }
-    let raw = field(bytes, 25, usize::from(len))?;
-    match Payload::new(raw) {
-        Some(payload) => Ok(payload),
-        None => unreachable!(),
-    }
+    field(bytes, 25, usize::from(len))
 }
 
+// The bytes of the payload, which are taken into a record once.
 #[tactic(auto, unfolding(crate::specs::RecordField::payload_at))]
-fn read_payload(bytes: &[u8]) -> Result<Payload, RecordFault>
-    ensures { result ≡ payload_at bytes.now }
+fn read_payload(bytes: &[u8]) -> Result<&[u8], RecordFault>
+    ensures exact { MatchResult result (λ raw. payload_at bytes.now ≡ Ok raw.now)
+        (λ e. payload_at bytes.now ≡ Err e) }
+    ensures within { IfOk result (λ raw. length raw.now ≤ 200) }
 {
     let raw = field(bytes, 24, 1)?;
     read_payload_behind(bytes, raw[0])
@@ -75,13 +76,18 @@ fn read_fields(bytes: &[u8]) -> Result<(Record, usize), RecordFault>
 {
     let number = field(bytes, 0, 8)?;
     let rect = read_rect(bytes)?;
-    let payload = read_payload(bytes)?;
-    let record = Record {
-        number: u64_of_bytes(number),
-        rect,
-        payload,
-    };
-    Ok((record, 25 + payload.bytes().len()))
+    let raw = read_payload(bytes)?;
+    match Payload::new(raw) {
+        Some(payload) => {
+            let record = Record {
+                number: u64_of_bytes(number),
+                rect,
+                payload,
+            };
+            Ok((record, 25 + raw.len()))
+        }
+        None => unreachable!(),
+    }
 }
 
 /// Reads the record at the front of the bytes, and answers it and how many bytes it takes, 25 to

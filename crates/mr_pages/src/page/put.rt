@@ -33,18 +33,28 @@ pub fn fill(page: &mut [u8], piece: &[u8])
     fill_up(page, at);
 }
 
-/// Whether all bytes are 0.
-pub fn are_zero_bytes(bytes: &[u8]) -> bool
-    ensures { result ≡ are_zeros bytes.now }
-{
-    bytes.iter().all(|b| *b == 0)
-}
-
 /// Whether the two are the same bytes.
 pub fn are_same(one: &[u8], other: &[u8]) -> bool
     ensures { result ≡ bytes_eq one.now other.now }
 {
     one == other
+}
+
+/// Whether all bytes are 0: the first one is, and each other is as the one before it. So a page's
+/// end is compared as a whole, and not byte by byte.
+pub fn are_zero_bytes(bytes: &[u8]) -> bool
+    ensures { result ≡ are_zeros bytes.now }
+{
+    match bytes {
+        [] => true,
+        [first, rest @ ..] => {
+            let (before, _) = bytes.split_at(rest.len());
+            if *first != 0 {
+                return false;
+            }
+            are_same(rest, before)
+        }
+    }
 }
 
 /// Whether the piece stands in front, and zeros behind it.
