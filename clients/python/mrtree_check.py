@@ -1,0 +1,519 @@
+#!/usr/bin/env python3
+"""The client, in Python: says whether an answer is that of the map with a root digest. It follows docs/FORMATS.md.
+
+usage: mrtree_check.py [check] ROOT QUERY PROOF
+       mrtree_check.py check-all ROOT SCRIPT BUNDLE
+
+Lines and exit statuses are those of the program's commands `check` and `check-all`, with two differences: a file may be
+a pipe too, and the name `-` is the standard input. It is tested against the program, and not proved.
+
+As a module: `check(root, query, proof)` answers the records, or raises `Refused`. Coordinates and rectangles are in
+map units, distances are squared map units, places are numbers of bytes.
+"""
+from __future__ import annotations
+
+import hashlib
+import os
+import re
+import stat
+import struct
+import sys
+from typing import Callable, Iterable, Iterator, List, NamedTuple, Optional, Tuple, Union
+
+Rect = Tuple[int, int, int, int]  # x0, y0, x1, y1 in map units, with x0 <= x1 and y0 <= y1; the sides belong to it
+Pieces = Iterable[bytes]  # a byte string in pieces of any size
+Watch = Callable[[str, int, Rect, List["Record"]], None]  # tag, level, rectangle, and the records of an opened leaf
+
+MOST_BYTES = 2**30  # no field of a proof ends behind this place
+MOST_RADIUS = 2 * (2**32 - 1) ** 2  # the greatest squared distance
+MOST_LINES = 65536  # of a script
+PIECE = 65536  # bytes that are read at once
+
+
+class Record(NamedTuple):
+    """A record: its number, its rectangle in map units, its payload of 0 to 200 bytes."""
+
+    number: int
+    rect: Rect
+    payload: bytes
+
+    def line(self) -> str:
+        """The record line, without its line feed.
+
+        >>> Record(7, (1, 2, 3, 4), b"ab").line()
+        '7 1 2 3 4 6162'
+        """
+        return " ".join(map(str, (self.number, *self.rect, self.payload.hex() or "-")))
+
+
+class Query(NamedTuple):
+    """A window (then k is 0); or the k nearest records to a point, a rectangle without extent."""
+
+    rect: Rect
+    k: int
+
+
+class Refused(Exception):
+    """A proof is refused: its first broken rule, the place of that fault in bytes, of WrongRoot the digest found."""
+
+    def __init__(self, rule: str, place: int, found: bytes = b"") -> None:
+        super().__init__(rule, place, found)
+        self.rule, self.place, self.found = rule, place, found
+
+    def __str__(self) -> str:
+        return "refused %s at %d%s" % (self.rule, self.place, " found " + self.found.hex() if self.found else "")
+
+
+class Ended(Exception):
+    """A run ends before it has an answer, with this exit status and this line."""
+
+    def __init__(self, status: int, line: str) -> None:
+        super().__init__(status, line)
+        self.status, self.line = status, line
+
+
+def digest(preimage: bytes) -> bytes:
+    """The digest of a preimage: SHA-256, 32 bytes."""
+    return hashlib.sha256(preimage).digest()
+
+
+# ---- rectangles
+
+
+def meet(a: Rect, b: Rect) -> bool:
+    """Whether two rectangles share a point.
+
+    >>> meet((0, 0, 2, 2), (2, 2, 3, 3)), meet((0, 0, 2, 2), (0, 3, 2, 3))
+    (True, False)
+    """
+    return a[0] <= b[2] and b[0] <= a[2] and a[1] <= b[3] and b[1] <= a[3]
+
+
+def distance(point: Rect, rect: Rect) -> int:
+    """The squared distance of a point to a rectangle, in squared map units: up to 65 bits.
+
+    >>> distance((0, 0, 0, 0), (3, -9, 5, -4)), distance((1, 1, 1, 1), (0, 0, 2, 2))
+    (25, 0)
+    """
+    dx = max(rect[0] - point[0], point[0] - rect[2], 0)
+    dy = max(rect[1] - point[1], point[1] - rect[3], 0)
+    return dx * dx + dy * dy
+
+
+def region(query: Query, radius: Optional[int]) -> Callable[[Rect], bool]:
+    """Which rectangles the region of a proof meets: the window's; the circle's; without a squared radius all."""
+    if query.k == 0:
+        return lambda rect: meet(query.rect, rect)
+    if radius is None:
+        return lambda rect: True
+    return lambda rect: distance(query.rect, rect) <= radius
+
+
+# ---- fields of a proof
+
+
+class Fields:
+    """The fields of a proof, one after another, from its pieces. `last` is the place of the last field taken."""
+
+    def __init__(self, pieces: Pieces) -> None:
+        self.pieces, self.held, self.at, self.place, self.last = iter(pieces), b"", 0, 0, 0
+
+    def take(self, size: int) -> bytes:
+        """The next field, of `size` bytes. Raises Refused (Long, Short) where it is not there whole.
+
+        >>> fields = Fields([b"ab", b"cde"])
+        >>> fields.take(3), fields.place, fields.last
+        (b'abc', 3, 0)
+        """
+        if self.place + size > MOST_BYTES:
+            raise Refused("Long", self.place)
+        while len(self.held) - self.at < size:
+            piece = next(self.pieces, None)
+            if piece is None:
+                raise Refused("Short", self.place)
+            self.held, self.at = self.held[self.at :] + piece, 0
+        self.at, self.last, self.place = self.at + size, self.place, self.place + size
+        return self.held[self.at - size : self.at]
+
+    def number(self, size: int) -> int:
+        """The next field, a number from 0 of `size` bytes. Raises as `take`."""
+        return int.from_bytes(self.take(size), "big")
+
+    def rect(self) -> Rect:
+        """The next field, a rectangle. Raises Refused (BadRect) where its sides are out of order, or as `take`."""
+        rect = struct.unpack(">4i", self.take(16))
+        if rect[0] > rect[2] or rect[1] > rect[3]:
+            raise Refused("BadRect", self.last)
+        return rect
+
+    def end(self) -> None:
+        """Raises Refused (Trailing) where bytes are left."""
+        if self.at < len(self.held) or any(self.pieces):
+            raise Refused("Trailing", self.place)
+
+
+class Head(NamedTuple):
+    """What a proof says in front: the map's batch and count of records, the squared radius, the root's level."""
+
+    batch: int
+    count: int
+    radius: Optional[int]
+    level: int
+
+
+def read_head(fields: Fields, query: Query) -> Head:
+    """The head of a proof of this query. Raises Refused at its first fault."""
+    if fields.take(4) != b"MRVO":
+        raise Refused("BadMagic", fields.last)
+    if fields.take(1) != b"\x01":
+        raise Refused("BadVersion", fields.last)
+    if fields.take(1) != (b"K" if query.k else b"W"):
+        raise Refused("WrongKind", fields.last)
+    batch, count = fields.number(8), fields.number(8)
+    if count > 2**20:
+        raise Refused("BadCount", fields.last)
+    flag = fields.number(1) if query.k else 0
+    if flag > 1:
+        raise Refused("BadFlag", fields.last)
+    radius = fields.number(16) if flag else None
+    if radius is not None and radius > MOST_RADIUS:
+        raise Refused("BadRadius", fields.last)
+    level = fields.number(1) if count else 0
+    if level > 7:
+        raise Refused("BadLevel", fields.last)
+    return Head(batch, count, radius, level)
+
+
+def read_record(fields: Fields) -> Record:
+    """The next fields, a record. Raises Refused (BadRect, BadLength, Long, Short)."""
+    number, rect, length = fields.number(8), fields.rect(), fields.number(1)
+    if length > 200:
+        raise Refused("BadLength", fields.last)
+    return Record(number, rect, fields.take(length) if length else b"")
+
+
+def record_bytes(record: Record) -> bytes:
+    """The bytes of a record: 25, and its payload."""
+    number, rect, payload = record
+    return struct.pack(">Q4iB", number, *rect, len(payload)) + payload
+
+
+class Reading:
+    """The items of one proof: what they show. `records` are those shown whose rectangle meets the region."""
+
+    def __init__(self, fields: Fields, meets: Callable[[Rect], bool], watch: Optional[Watch]) -> None:
+        self.fields, self.meets, self.watch = fields, meets, watch
+        self.records: List[Record] = []
+
+    def item(self, level: int) -> Tuple[Rect, bytes]:
+        """The next item, of a node on this level: its rectangle and digest. Raises Refused at its first fault."""
+        tag = self.fields.take(1)
+        if tag == b"P":
+            return self.pruned(level)
+        if tag != (b"N" if level else b"L"):
+            raise Refused("BadTag", self.fields.last)
+        count = self.fields.number(1)
+        if not 1 <= count <= (64 if level else 16):
+            raise Refused("BadEntries", self.fields.last)
+        shown: List[Record] = []
+        if level:
+            children = [self.item(level - 1) for _ in range(count)]
+            rects = [rect for rect, _ in children]
+            preimage = bytes([ord("N"), level, count])
+            preimage += b"".join(struct.pack(">4i", *rect) + found for rect, found in children)
+        else:
+            shown = [read_record(self.fields) for _ in range(count)]
+            rects = [record.rect for record in shown]
+            preimage = bytes([ord("L"), count]) + b"".join(map(record_bytes, shown))
+        x0, y0, x1, y1 = zip(*rects)
+        around = min(x0), min(y0), max(x1), max(y1)
+        if not self.meets(around):
+            raise Refused("Needless", self.fields.last)
+        self.records += [record for record in shown if self.meets(record.rect)]
+        self.see(tag, level, around, shown)
+        return around, digest(preimage)
+
+    def pruned(self, level: int) -> Tuple[Rect, bytes]:
+        """The rest of a pruned item: what it carries. Raises Refused (BadRect, Hidden, Long, Short)."""
+        rect = self.fields.rect()
+        if self.meets(rect):
+            raise Refused("Hidden", self.fields.last)
+        found = self.fields.take(32)
+        self.see(b"P", level, rect, [])
+        return rect, found
+
+    def see(self, tag: bytes, level: int, rect: Rect, shown: List[Record]) -> None:
+        """Tells who watches that an item was read whole: its tag, level and rectangle, a leaf's records."""
+        if self.watch:
+            self.watch(tag.decode(), level, rect, shown)
+
+
+# ---- the verdict
+
+
+def root_digest(head: Head, item: Optional[Tuple[Rect, bytes]]) -> bytes:
+    """The root digest of the map that a proof speaks of; of one without records there is no item.
+
+    >>> root_digest(Head(0, 0, None, 0), None).hex()[:16]
+    '3192817fd1840eb7'
+    """
+    if item is None:
+        return digest(struct.pack(">2sQ", b"E\x01", head.batch))
+    rect, found = item
+    return digest(struct.pack(">2sQQB4i", b"R\x01", head.batch, head.count, head.level, *rect) + found)
+
+
+def judge(root: bytes, query: Query, proof: Pieces, watch: Optional[Watch] = None) -> List[Record]:
+    """The answer that a proof proves. Raises Refused with the proof's first fault; no piece behind it is taken."""
+    fields = Fields(proof)
+    head = read_head(fields, query)
+    reading = Reading(fields, region(query, head.radius), watch)
+    found = root_digest(head, reading.item(head.level) if head.count else None)
+    fields.end()
+    if found != root:
+        raise Refused("WrongRoot", fields.place, found)
+    records = reading.records
+    if query.k == 0:
+        return sorted(records, key=lambda record: record.number)
+    radius = head.radius
+    nearer = [record for record in records if radius is None or distance(query.rect, record.rect) < radius]
+    if len(nearer) >= query.k or (radius is not None and len(records) < query.k):
+        raise Refused("WrongRadius", fields.place)
+    return sorted(records, key=lambda record: (distance(query.rect, record.rect), record.number))[: query.k]
+
+
+def check(root: str, query: str, proof: Union[bytes, Pieces], watch: Optional[Watch] = None) -> List[Record]:
+    """The records of the answer to a query word on the map with a root digest, as a proof shows it.
+
+    `root` is 64 lower-case hexadecimal digits, `proof` is bytes or pieces of bytes. Of a window the records are in
+    rising number, of nearest records by rising squared distance and then number. Raises Refused where the proof is
+    refused, and ValueError where root or query is no such word.
+
+    >>> proof = bytes.fromhex("4d52564f01570000000000000000000000000000000100" "4c01"
+    ...     "00000000000000010000000200000003000000040000000500")
+    >>> root = "c6de89b68a6b5fd22d3e6042a5ef2f0bfbb8bec15b7d8801400b012791166514"
+    >>> check(root, "window:0,0,9,9", proof)
+    [Record(number=1, rect=(2, 3, 4, 5), payload=b'')]
+    >>> check(root, "window:0,0,1,1", [proof[:30], proof[30:]])
+    Traceback (most recent call last):
+    mrtree_check.Refused: refused Needless at 49
+    """
+    return judge(read_root(root), read_query(query), [proof] if isinstance(proof, bytes) else proof, watch)
+
+
+# ---- words and scripts
+
+
+def read_decimal(word: str, least: int, most: int) -> int:
+    """The value of a canonical decimal. Raises ValueError where it is none, or not from `least` to `most`.
+
+    >>> read_decimal("-5", -9, 9)
+    -5
+    >>> read_decimal("05", 0, 9)
+    Traceback (most recent call last):
+    ValueError: 05
+    """
+    if not re.fullmatch("0|-?[1-9][0-9]{0,19}", word) or not least <= int(word) <= most:
+        raise ValueError(word)
+    return int(word)
+
+
+def read_root(word: str) -> bytes:
+    """The root digest that 64 lower-case hexadecimal digits spell. Raises ValueError."""
+    if not re.fullmatch("[0-9a-f]{64}", word):
+        raise ValueError(word)
+    return bytes.fromhex(word)
+
+
+def read_query(word: str) -> Query:
+    """The query that a word spells. Raises ValueError.
+
+    >>> read_query("window:0,0,9,9"), read_query("nearest:5,-5,2")
+    (Query(rect=(0, 0, 9, 9), k=0), Query(rect=(5, -5, 5, -5), k=2))
+    """
+    kind, _, rest = word.partition(":")
+    parts = rest.split(",")
+    if (kind, len(parts)) not in (("window", 4), ("nearest", 3)):
+        raise ValueError(word)
+    k = read_decimal(parts.pop(), 1, 1024) if kind == "nearest" else 0
+    x0, y0, x1, y1 = [read_decimal(part, -(2**31), 2**31 - 1) for part in (parts * 2)[:4]]
+    if x0 > x1 or y0 > y1:
+        raise ValueError(word)
+    return Query((x0, y0, x1, y1), k)
+
+
+def read_script(text: bytes) -> List[Query]:
+    """The queries of a script, a line each. Raises Ended (bad text) at its first fault.
+
+    >>> [query.k for query in read_script(b"window:0,0,1,1\\nnearest:0,0,3\\n")]
+    [0, 3]
+    """
+    lines = text.split(b"\n", MOST_LINES + 1)
+    unended = len(lines) if lines[-1] else 0
+    queries = []
+    for number, line in enumerate(lines if unended else lines[:-1], 1):
+        try:
+            if number > MOST_LINES or number == unended:
+                raise ValueError
+            queries.append(read_query(line.decode("ascii")))
+        except ValueError:
+            rule = "TooMany" if number > MOST_LINES else "NoEnd" if number == unended else "Query"
+            raise Ended(3, "bad text line %d %s" % (number, rule)) from None
+    return queries
+
+
+# ---- bundles
+
+
+class Part:
+    """The next bytes of a bundle: `left` of them are still to come. It gives them out in pieces, once."""
+
+    def __init__(self, bundle: Fields, size: int) -> None:
+        self.bundle, self.left = bundle, size
+
+    def __iter__(self) -> Iterator[bytes]:
+        return self
+
+    def __next__(self) -> bytes:
+        bundle = self.bundle
+        if bundle.at == len(bundle.held):
+            bundle.held, bundle.at = next(filter(None, bundle.pieces), b""), 0
+        piece = bundle.held[bundle.at : bundle.at + self.left]
+        if not piece:
+            raise StopIteration
+        bundle.at, bundle.place, self.left = bundle.at + len(piece), bundle.place + len(piece), self.left - len(piece)
+        return piece
+
+
+class Verdict(NamedTuple):
+    """What comes of one query of a script: its answer, or why it is refused; neither where its part is missing."""
+
+    records: Optional[List[Record]]
+    refused: Optional[Refused]
+
+
+MISSING = Verdict(None, None)
+
+
+def judge_part(root: bytes, query: Query, part: Part) -> Verdict:
+    """The verdict of a part of a bundle. It takes all bytes of the part, those behind a fault too."""
+    try:
+        verdict = Verdict(judge(root, query, part), None)
+    except Refused as fault:
+        verdict = Verdict(None, fault)
+    for _ in part:
+        pass
+    return MISSING if part.left else verdict
+
+
+def judge_bundle(root: bytes, queries: List[Query], pieces: Pieces) -> Tuple[List[Verdict], Optional[int]]:
+    """The verdict of each query of a script, in order, and the place in bytes where the bundle is broken, if it is.
+
+    >>> verdicts, broken = judge_bundle(bytes(32), [read_query("window:0,0,1,1")] * 2, [bytes([0, 0, 0, 1, 77, 0])])
+    >>> [str(verdict.refused) for verdict in verdicts], broken
+    (['refused Short at 0', 'None'], 5)
+    """
+    bundle = Fields(pieces)
+    verdicts: List[Verdict] = []
+    for query in queries:
+        start = bundle.place
+        front = b"".join(Part(bundle, 4))
+        size = int.from_bytes(front, "big")
+        verdict = judge_part(root, query, Part(bundle, size)) if len(front) == 4 else MISSING
+        if verdict == MISSING:
+            return verdicts + [MISSING] * (len(queries) - len(verdicts)), start
+        verdicts.append(verdict)
+    end = bundle.place
+    return verdicts, end if any(Part(bundle, 1)) else None
+
+
+# ---- the two commands
+
+
+def read_pieces(name: str) -> Iterator[bytes]:
+    """The bytes of a file or pipe in pieces of up to 65,536. Raises Ended where it is missing or cannot be read."""
+    try:
+        if name != "-":
+            mode = os.stat(name.encode()).st_mode
+            if not (stat.S_ISREG(mode) or stat.S_ISFIFO(mode) or stat.S_ISSOCK(mode)):
+                raise Ended(7, "shelf fault")
+        with open(0 if name == "-" else name.encode(), "rb", buffering=0, closefd=name != "-") as file:
+            while True:
+                piece = file.read(PIECE)
+                if not piece:
+                    return
+                yield piece
+    except FileNotFoundError:
+        raise Ended(7, "missing " + name) from None
+    except (OSError, ValueError):
+        raise Ended(7, "shelf fault") from None
+
+
+def check_lines(root: bytes, query: Query, name: str) -> Tuple[int, List[str]]:
+    """Status and lines of `check` of the proof in a file. Raises Ended."""
+    try:
+        return 0, [record.line() for record in judge(root, query, read_pieces(name))]
+    except Refused as fault:
+        return 2, [str(fault)]
+
+
+def check_all_lines(root: bytes, script: str, name: str) -> Tuple[int, List[str]]:
+    """Status and lines of `check-all` of a script and the bundle in a file. Raises Ended."""
+    queries = read_script(b"".join(read_pieces(script)))
+    verdicts, broken = judge_bundle(root, queries, read_pieces(name))
+    lines = []
+    for number, (records, refused) in enumerate(verdicts, 1):
+        if records is not None:
+            lines.append("query %d ok %d" % (number, len(records)))
+            lines += [record.line() for record in records]
+        else:
+            lines.append("query %d %s" % (number, refused or "missing"))
+    accepted = sum(verdict.records is not None for verdict in verdicts)
+    missing = verdicts.count(MISSING)
+    lines.append("accepted %d refused %d missing %d" % (accepted, len(verdicts) - accepted - missing, missing))
+    if broken is not None:
+        lines.append("bundle broken at %d" % broken)
+    return (0 if accepted == len(verdicts) and broken is None else 2), lines
+
+
+def run(words: List[str]) -> Tuple[int, str]:
+    """Exit status and printed text of the words behind the script's name.
+
+    >>> run(["check", "00", "window:0,0,1,1", "proof"])
+    (1, 'bad words\\n')
+    """
+    try:
+        command, root_word, asked, name = words if len(words) == 4 else ["check", *words]
+        root = read_root(root_word)
+        query = read_query(asked) if command == "check" else None
+        if command not in ("check", "check-all") or "" in words or asked == name:
+            raise ValueError
+    except ValueError:
+        return 1, "bad words\n"
+    try:
+        status, lines = check_lines(root, query, name) if query else check_all_lines(root, asked, name)
+        return status, "".join(line + "\n" for line in lines)
+    except Ended as ended:
+        return ended.status, ended.line + "\n"
+    except MemoryError:
+        return 8, ""
+
+
+def main() -> int:
+    """Runs the words of the command line, and prints to standard output alone; answers the exit status."""
+    try:
+        words = [os.fsencode(word).decode() for word in sys.argv[1:]]
+    except UnicodeDecodeError:
+        return 7
+    status, text = run(words)
+    left = memoryview(text.encode())
+    try:
+        while left:
+            left = left[os.write(1, left) :]
+    except OSError:
+        return 7
+    return status
+
+
+if __name__ == "__main__":
+    sys.exit(main())
