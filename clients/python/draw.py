@@ -27,8 +27,8 @@ MOST_NAMES = 20  # answers with more records have no names in the picture
 STYLE = """
 text { font: 11px sans-serif; fill: #222 }
 .inner { fill: none; stroke: #1b7f4d; stroke-width: 1.5 }
-.leaf { fill: #d9f0e3; stroke: #1b7f4d }
-.pruned { fill: #d8d8d8; stroke: #8a8a8a }
+.leaf { fill: #bfe8d0; fill-opacity: 0.7; stroke: #1b7f4d }
+.pruned { fill: #d8d8d8; fill-opacity: 0.7; stroke: #8a8a8a }
 .other { fill: #fff; stroke: #555 }
 .answer { fill: #1f5fbf; stroke: #1f5fbf }
 .region { fill: #d0402b; fill-opacity: 0.08; stroke: #d0402b; stroke-width: 1.5 }
@@ -136,9 +136,9 @@ def picture(query: Query, items: List[Item], answer: List[Record]) -> str:
     frame = frame_of(items[-1].rect if items else query.rect)
     low = frame.at(0, frame.map[1])[1]
     opened = sorted((item for item in items if item.tag == "N"), key=lambda item: -item.level)
-    shapes = [box(frame, item.rect, "inner") for item in opened]
+    shapes = [box(frame, item.rect, "pruned") for item in items if item.tag == "P"]
     shapes += [box(frame, item.rect, "leaf") for item in items if item.tag == "L"]
-    shapes += [box(frame, item.rect, "pruned") for item in items if item.tag == "P"]
+    shapes += [box(frame, item.rect, "inner") for item in opened]
     shapes += region(frame, query, answer)
     chosen = set(answer)
     shapes += [record(frame, one, "other") for item in items for one in item.records if one not in chosen]
