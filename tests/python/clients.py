@@ -35,7 +35,7 @@ class Bench:
 
     def __init__(self, program: str, is_long: bool) -> None:
         self.program_path, self.is_long = os.path.abspath(program), is_long
-        self.rows = self.failed = 0
+        self.rows = self.failed = self.honest = self.bent = 0
 
     def holds(self, is_so: bool, what: str) -> None:
         """Counts one thing that is to be so, and prints it where it is not."""
@@ -299,7 +299,7 @@ def proved(bench: Bench, one: Map, query: Tuple) -> bytes:
     """The program's proof of a query, once both clients took it and gave the answer of a scan."""
     word = proofs.word_of(query)
     bench.program(["prove", "m", word, "p"])
-    proof = read("p")
+    proof, bench.honest = read("p"), bench.honest + 1
     said = bench.agree(["check", one.root, word, "p"], "an honest proof")
     answer = plain.answer(one.records, query)
     lines = "".join(plain.line_of(record) + "\n" for record in (sorted(answer) if len(query) == 4 else answer))
@@ -317,6 +317,7 @@ def bent_agree(bench: Bench, one: Map, given: List[Tuple[Tuple, bytes]], count: 
         string = proofs.bent(proof, other, one.chance)
         if one.chance.random() < 0.05:
             query, string = one.chance.choice(given)[0], proof
+        bench.bent += string != proof
         said = bench.agree_on(one.root, proofs.word_of(query), string, "a bent proof")
         found = said[1].split()[-1].decode() if b"WrongRoot" in said[1] else ""
         if found and one.chance.random() < 0.3:
@@ -331,13 +332,14 @@ def each_agrees(bench: Bench, one: Map) -> None:
         query, proof = min((pair for pair in given if len(pair[0]) == kind), key=lambda pair: abs(len(pair[1]) - 1800))
         for string in [*proofs.bent_fields(proof), *proofs.cuts(proof)]:
             bench.agree_on(one.root, proofs.word_of(query), string, "a proof with a bent field, or cut")
+            bench.bent += 1
 
 
 def random_proofs(bench: Bench) -> None:
     """Maps of up to 20,000 records, honest proofs and bent ones; each field and each cut of two in the long run."""
     chance = random.Random(28)
     sizes = [0, 1, 5, 16, 17, 40, 300, 1025, 2000, 5000, 12000, 20000] if bench.is_long else [0, 1, 17, 300, 2000]
-    honest, bent = (2000, 15000) if bench.is_long else (60, 500)
+    honest, bent = (2000, 20000) if bench.is_long else (60, 500)
     for at, size in enumerate(sizes):
         one = Map(bench, chance, size, is_changed=at % 4 == 3)
         asked = [one.query() for _ in range(honest // len(sizes) + 1)]
@@ -345,6 +347,7 @@ def random_proofs(bench: Bench) -> None:
         bent_agree(bench, one, given, bent // len(sizes) + 1)
         if size == 2000 and bench.is_long:
             each_agrees(bench, one)
+    print("tests/clients: %d honest proofs and %d other strings" % (bench.honest, bench.bent))
 
 
 # ---- all of it
