@@ -6,6 +6,7 @@ import importlib
 import io
 import os
 import random
+import re
 import subprocess
 import sys
 import tempfile
@@ -28,6 +29,11 @@ from trips import read, write  # noqa: E402
 MOST_SHOWN = 20  # failures that are printed
 LONGEST = 40  # lines of a function
 Ended = Tuple[int, bytes]  # a status, and what was printed
+# The rules by which texts, batches, map files and proofs are refused.
+RULES = """TooMany NoEnd Head Form Number Coordinate Order Payload Repeat Query OutOfOrder Present Full Absent
+    Size Unsealed Header Outside Twice Page Digest Rect Fill Number Count Free Long Short BadMagic BadVersion WrongKind
+    BadCount BadFlag BadRadius BadLevel BadTag BadEntries BadRect BadLength Hidden Needless Trailing WrongRoot
+    WrongRadius""".split()
 
 
 class Bench:
@@ -122,6 +128,13 @@ def knows_bundles(bench: Bench) -> bool:
     return bench.program(["check-all", "0" * 64, "none", "none.u"])[1] != b"bad words\n"
 
 
+def each_rule_is_shown(bench: Bench) -> None:
+    """Some vector shows each rule."""
+    texts = b"".join(vector.text for name in ("vectors.tsv", "large.tsv") for vector in vectors.lines_of(name))
+    for rule in RULES:
+        bench.holds(re.search(rb"\b%s\b" % rule.encode(), texts) is not None, "no vector shows the rule " + rule)
+
+
 def vectors_hold(bench: Bench, name: str) -> None:
     """Program and client say what each vector says; the client from a file, from a pipe, and in pieces of a byte."""
     serves, passed = knows_bundles(bench), 0
@@ -194,7 +207,7 @@ def rows_hold(bench: Bench) -> None:
                 checks += row_holds(bench, table)
         else:
             checks += story_holds(bench, table)
-    bench.holds(checks >= 100, "only %d checks are found in the tables" % checks)
+    bench.holds(checks >= 150, "only %d checks are found in the tables" % checks)
 
 
 def row_holds(bench: Bench, row: Dict) -> int:
@@ -358,6 +371,7 @@ def main(how: str, program: str) -> int:
     bench = Bench(program, how == "long")
     parts: List[Tuple[str, Callable[[Bench], None]]] = [
         ("how the scripts are written", style),
+        ("the rules that vectors show", each_rule_is_shown),
         ("vectors", lambda bench: vectors_hold(bench, "vectors.tsv")),
         ("the tables of the program's tests", rows_hold),
         ("a proof with a bit changed", flips_hold),

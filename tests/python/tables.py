@@ -107,7 +107,7 @@ class Reader:
         if token.lastgroup == "byte":
             return ord(token[0][2])
         if token.lastgroup == "number":
-            return number_of(token[0])
+            return number_of(token[0]) + (self.value() if self.take("+") else 0)
         if token[0] == "[":
             return self.many("]")
         if token[0] == "(":
