@@ -1,35 +1,25 @@
 """The scripts in clients/python beside the program. tests/clients calls it: clients.py short|long PROGRAM."""
 import ast
-import contextlib
 import doctest
 import importlib
-import io
 import os
-import random
 import re
-import subprocess
 import sys
 import tempfile
 import time
-from typing import IO, Callable, Dict, List, Optional, Tuple
+from typing import Callable, Dict, List, Optional, Tuple
 
-HERE = os.path.dirname(os.path.abspath(__file__))
-TOP = os.path.join(HERE, "..", "..")
-CLIENTS = os.path.join(TOP, "clients", "python")
-sys.path[:0] = [CLIENTS, HERE]
-sys.dont_write_bytecode = True
-import mrtree_check  # noqa: E402
-import proofs  # noqa: E402
-import tables  # noqa: E402
-import trips  # noqa: E402
-import vectors  # noqa: E402
-from proofs import plain  # noqa: E402
-from trips import read, write  # noqa: E402
+from bench import TOP, Bench, read, write
+import chances
+import mrtree_check
+import proofs
+import tables
+import trips
+import vectors
+from proofs import plain
 
-MOST_SHOWN = 20  # failures that are printed
 LONGEST = 40  # lines of a function
 MOST_IN_SHORT = 2**17  # bytes of a proof that the short run takes from a story
-Ended = Tuple[int, bytes]  # a status, and what was printed
 # The rules by which texts, batches, map files and proofs are refused.
 RULES = """TooMany NoEnd Head Form Number Coordinate Order Payload Repeat Query OutOfOrder Present Full Absent
     Size Unsealed Header Outside Twice Page Digest Rect Fill Number Count Free Long Short BadMagic BadVersion WrongKind
@@ -37,64 +27,12 @@ RULES = """TooMany NoEnd Head Form Number Coordinate Order Payload Repeat Query 
     WrongRadius""".split()
 
 
-class Bench:
-    """Runs program and client in one folder, and counts what agrees."""
-
-    def __init__(self, program: str, is_long: bool) -> None:
-        self.program_path, self.is_long = os.path.abspath(program), is_long
-        self.rows = self.failed = self.honest = self.bent = 0
-
-    def holds(self, is_so: bool, what: str) -> None:
-        """Counts one thing that is to be so, and prints it where it is not."""
-        self.rows += 1
-        if not is_so:
-            self.failed += 1
-            if self.failed <= MOST_SHOWN:
-                print("FAILED: " + what)
-
-    def program(self, words: List[str]) -> Ended:
-        """What the program says; on standard error it says nothing."""
-        ran = subprocess.run([self.program_path, *words], stdout=subprocess.PIPE, stderr=subprocess.STDOUT)
-        return ran.returncode, ran.stdout
-
-    def client(self, words: List[str]) -> Ended:
-        """What the client says, called as a module."""
-        status, text = mrtree_check.run(words)
-        return status, text.encode()
-
-    def script(self, name: str, words: List[str], **how) -> Ended:
-        """What a script of clients/python says, as a process of its own."""
-        ran = subprocess.run([sys.executable, os.path.join(CLIENTS, name), *words], stdout=subprocess.PIPE, **how)
-        return ran.returncode, ran.stdout
-
-    def call(self, module, words: List[str]) -> Ended:
-        """What a script says on standard error, called as a module."""
-        told = io.StringIO()
-        with contextlib.redirect_stderr(told):
-            status = module.main(words)
-        return status, told.getvalue().encode()
-
-    def script_to(self, name: str, words: List[str], out: IO[bytes]) -> int:
-        """The status of a script that prints to this file."""
-        return subprocess.run([sys.executable, os.path.join(CLIENTS, name), *words], stdout=out).returncode
-
-    def agree(self, words: List[str], what: str) -> Ended:
-        """Both clients say the same of a command line; answers what."""
-        one, other = self.program(words), self.client(words)
-        self.holds(one == other, "%s: %s: the program %s, the client %s" % (what, " ".join(words), one, other))
-        return one
-
-    def agree_on(self, root: str, query: str, proof: bytes, what: str) -> Ended:
-        """Both say the same of a proof in the file p."""
-        write("p", proof)
-        return self.agree(["check", root, query, "p"], what)
-
-
 # ---- how the scripts are written
 
 
 def style(bench: Bench) -> None:
     """Examples hold, functions are short, typed and told, and nothing is imported but the standard library."""
+    bench.holds(doctest.testmod(vectors).failed == 0, "the examples of the reader of vectors")
     for name in ("mrtree_check", "records", "draw"):
         module = importlib.import_module(name)
         results = doctest.testmod(module)
@@ -124,11 +62,6 @@ def names_imported(node: ast.AST) -> List[str]:
 # ---- vectors
 
 
-def knows_bundles(bench: Bench) -> bool:
-    """Whether the program has the commands `serve` and `check-all`."""
-    return bench.program(["check-all", "0" * 64, "none", "none.u"])[1] != b"bad words\n"
-
-
 def each_rule_is_shown(bench: Bench) -> None:
     """Some vector shows each rule."""
     texts = b"".join(vector.text for name in ("vectors.tsv", "large.tsv") for vector in vectors.lines_of(name))
@@ -138,7 +71,7 @@ def each_rule_is_shown(bench: Bench) -> None:
 
 def vectors_hold(bench: Bench, name: str) -> None:
     """Program and client say what each vector says; the client from a file, from a pipe, and in pieces of a byte."""
-    serves, passed = knows_bundles(bench), 0
+    serves, passed = bench.knows_bundles(), 0
     for vector in vectors.lines_of(name):
         where = "%s line %d" % (name, vector.line)
         for one, spelled in vector.before:
@@ -260,110 +193,6 @@ def flips_hold(bench: Bench) -> None:
         bench.holds(said == flip["says"].encode(), "the flip of %s: both say %s" % (flip["what"], said))
 
 
-# ---- proofs at random
-
-
-class Map:
-    """A map that was made at random and built by the program, changed by a batch or not."""
-
-    def __init__(self, bench: Bench, chance: random.Random, size: int, is_changed: bool) -> None:
-        self.span = chance.choice((10, 1000, 10**6, 2**31 - 101))
-        self.chance, self.batch = chance, 0
-        self.records = [self.record(number) for number in chance.sample(range(1, 4 * size + 9), size)]
-        write("r", "".join(plain.line_of(record) + "\n" for record in self.records).encode())
-        self.root = bench.program(["build", "m", "r"])[1].decode().strip()
-        self.tree = plain.pack(self.records) if size <= 2000 and not is_changed else None
-        if is_changed:
-            self.change(bench)
-
-    def record(self, number: int) -> Tuple:
-        """A record at random: a point or a rectangle, most without a payload."""
-        chance, span = self.chance, self.span
-        x, y = chance.randint(-span, span), chance.randint(-span, span)
-        size = chance.choice((0, 0, 0, 3, 100))
-        payload = bytes(chance.randrange(256) for _ in range(chance.choice((0, 0, 0, 1, 8, 200))))
-        return number, (x, y, x + chance.randint(0, size), y + chance.randint(0, size)), payload
-
-    def change(self, bench: Bench) -> None:
-        """A batch that takes out about a quarter of the records and puts others in."""
-        gone = {record[0] for record in self.records if self.chance.random() < 0.25}
-        come = [self.record(10**6 + number) for number in range(len(self.records) // 8 + 1)]
-        lines = ["batch 1"] + ["- %d" % number for number in gone] + ["+ " + plain.line_of(record) for record in come]
-        write("b", "".join(line + "\n" for line in lines).encode())
-        self.root = bench.program(["apply", "m", "b", "n"])[1].decode().strip()
-        os.replace("n", "m")
-        self.records = [record for record in self.records if record[0] not in gone] + come
-        self.batch = 1
-
-    def query(self) -> Tuple:
-        """A query at random: a window of any size, or up to 1,024 records that are nearest to a point."""
-        chance, span = self.chance, self.span
-        x, y = chance.randint(-span, span), chance.randint(-span, span)
-        if self.records and chance.random() < 0.5:
-            x, y = chance.choice(self.records)[1][:2]
-        if chance.random() < 0.5:
-            k = chance.choice((1, 1, 2, 3, 10, 100, 1024, max(1, min(len(self.records) + 1, 1024))))
-            return (x, y), k
-        wide = chance.choice((0, 1, span // 100, span // 10, span))
-        low = -(2**31)
-        return max(x - wide, low), max(y - wide, low), min(x + wide, -low - 1), min(y + wide, -low - 1)
-
-
-def proved(bench: Bench, one: Map, query: Tuple) -> bytes:
-    """The program's proof of a query, once both clients took it and gave the answer of a scan."""
-    word = proofs.word_of(query)
-    bench.program(["prove", "m", word, "p"])
-    proof, bench.honest = read("p"), bench.honest + 1
-    said = bench.agree(["check", one.root, word, "p"], "an honest proof")
-    answer = plain.answer(one.records, query)
-    lines = "".join(plain.line_of(record) + "\n" for record in (sorted(answer) if len(query) == 4 else answer))
-    bench.holds(said == (0, lines.encode()), "an honest proof of %s: both say %s" % (word, said[:1]))
-    if one.tree or not one.records:
-        bench.holds(proof == proofs.honest(one.tree, one.batch, query), "the bytes of the proof of " + word)
-    return proof
-
-
-def bent_agree(bench: Bench, one: Map, given: List[Tuple[Tuple, bytes]], count: int) -> None:
-    """Both clients say the same of bent strings: of one proof, of two, of a proof for another query."""
-    for _ in range(count):
-        query, proof = one.chance.choice(given)
-        _, other = one.chance.choice(given)
-        string = proofs.bent(proof, other, one.chance)
-        if one.chance.random() < 0.05:
-            query, string = one.chance.choice(given)[0], proof
-        bench.bent += string != proof
-        said = bench.agree_on(one.root, proofs.word_of(query), string, "a bent proof")
-        found = said[1].split()[-1].decode() if b"WrongRoot" in said[1] else ""
-        if found and one.chance.random() < 0.3:
-            bench.agree(["check", found, proofs.word_of(query), "p"], "a bent proof, against its own root")
-
-
-def each_agrees(bench: Bench, one: Map) -> None:
-    """Both clients say the same of a proof with each field bent in each way, and of each cut of it."""
-    queries = sorted((one.query() for _ in range(60)), key=len)
-    given = [(query, proofs.honest(one.tree, 0, query)) for query in queries]
-    for kind in (2, 4):
-        query, proof = min((pair for pair in given if len(pair[0]) == kind), key=lambda pair: abs(len(pair[1]) - 1800))
-        for string in [*proofs.bent_fields(proof), *proofs.cuts(proof)]:
-            bench.agree_on(one.root, proofs.word_of(query), string, "a proof with a bent field, or cut")
-            bench.bent += 1
-
-
-def random_proofs(bench: Bench) -> None:
-    """Maps of up to 20,000 records, honest proofs and bent ones; each field and each cut of two in the long run."""
-    chance = random.Random(28)
-    sizes = [0, 1, 5, 16, 17, 40, 300, 1025, 2000, 5000, 12000, 20000] if bench.is_long else [0, 1, 17, 300, 2000]
-    honest, bent = (2000, 20000) if bench.is_long else (60, 500)
-    for at, size in enumerate(sizes):
-        one = Map(bench, chance, size, is_changed=at % 4 == 3)
-        asked = [one.query() for _ in range(honest // len(sizes) + 1)]
-        given = [(query, proved(bench, one, query)) for query in asked]
-        bent_agree(bench, one, given, bent // len(sizes) + 1)
-        if size == 2000 and bench.is_long:
-            each_agrees(bench, one)
-    print("tests/clients: %d honest proofs and %d other strings" % (bench.honest, bench.bent))
-
-
 # ---- all of it
 
 
@@ -376,7 +205,7 @@ def main(how: str, program: str) -> int:
         ("vectors", lambda bench: vectors_hold(bench, "vectors.tsv")),
         ("the tables of the program's tests", rows_hold),
         ("a proof with a bit changed", flips_hold),
-        ("proofs at random", random_proofs),
+        ("proofs at random", chances.random_proofs),
         ("from files of publishers and back", trips.trips_hold),
     ]
     if bench.is_long:

@@ -7,12 +7,12 @@ import random
 from decimal import ROUND_CEILING, ROUND_FLOOR, Decimal
 from typing import Any, Dict, List, Tuple
 
+from bench import EXAMPLES, Bench, read, write
 import draw
 import proofs
 import records
 from proofs import plain
 
-EXAMPLES = os.path.join(os.path.dirname(os.path.abspath(__file__)), "..", "..", "examples")
 UNIT = Decimal("1e-7")
 SCRIPT = "records.py"
 
@@ -59,21 +59,7 @@ UNFIT_FEATURES: List[Tuple[Dict[str, Any], str]] = [
 ]
 
 
-def write(name: str, bytes_: bytes) -> None:
-    """Puts a file into the folder."""
-    with open(name, "wb") as file:
-        file.write(bytes_)
-
-
-def read(name: str) -> bytes:
-    """The bytes of a file in the folder, none where it is not there."""
-    if not os.path.exists(name):
-        return b""
-    with open(name, "rb") as file:
-        return file.read()
-
-
-def trips_hold(bench) -> None:
+def trips_hold(bench: Bench) -> None:
     """All of it."""
     sample_holds(bench)
     unfit_are_told(bench)
@@ -87,7 +73,7 @@ def trips_hold(bench) -> None:
 # ---- the sample
 
 
-def sample_holds(bench) -> None:
+def sample_holds(bench: Bench) -> None:
     """The sample as GeoJSON is the sample, and its picture is that of its proof."""
     example = lambda name: os.path.join(EXAMPLES, name)
     bench.script(SCRIPT, ["text", example("places.geojson"), "r", "--unit", "1e-7", "--payload", "name"])
@@ -112,7 +98,7 @@ def sample_holds(bench) -> None:
 # ---- what does not fit
 
 
-def unfit_are_told(bench) -> None:
+def unfit_are_told(bench: Bench) -> None:
     """What does not fit is told with its feature or line, and nothing is written."""
     for name, bytes_, options, says in UNFIT:
         write(name, bytes_)
@@ -129,7 +115,7 @@ def unfit_are_told(bench) -> None:
     is_told(bench, ["batch", "01", "a.txt", "a.txt", "out"], "the number '01' is no whole number")
 
 
-def is_told(bench, words: List[str], *says: str) -> None:
+def is_told(bench: Bench, words: List[str], *says: str) -> None:
     """The script says these things on standard error, writes nothing and ends with status 1."""
     status, said = bench.call(records, words)
     told = said.decode()
@@ -210,7 +196,7 @@ def numbers_of(chance: random.Random, size: int) -> List[int]:
     return chance.sample(range(1, 3 * size + 2), size - size // 5) + [2**64 - 1 - at for at in range(size // 5)]
 
 
-def trip_holds(bench, chance: random.Random, size: int) -> None:
+def trip_holds(bench: Bench, chance: random.Random, size: int) -> None:
     """GeoJSON to a text, to a map, to an answer, to GeoJSON: the features are those of a scan."""
     features = features_of(chance, numbers_of(chance, size))
     meant = [expected(feature) for feature in features]
@@ -251,7 +237,7 @@ def table_of(records: List[Tuple]) -> bytes:
     return b"\xef\xbb\xbf" + out.getvalue().encode()
 
 
-def states_hold(bench, chance: random.Random, size: int) -> None:
+def states_hold(bench: Bench, chance: random.Random, size: int) -> None:
     """The batch from one state of a file to another leads to a map whose list is the second state."""
     old = features_of(chance, numbers_of(chance, size))
     kept = [feature for feature in old if chance.random() < 0.7]
@@ -282,7 +268,7 @@ def states_hold(bench, chance: random.Random, size: int) -> None:
 # ---- the client as a command
 
 
-def edges_hold(bench) -> None:
+def edges_hold(bench: Bench) -> None:
     """What the client says of files and outputs that are not as they should be, as a process of its own."""
     root, query, script = "0" * 64, "window:0,0,1,1", "mrtree_check.py"
     os.mkdir("folder")

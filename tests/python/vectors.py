@@ -3,7 +3,8 @@ import os
 import re
 from typing import Iterator, List, NamedTuple, Tuple
 
-EXAMPLES = os.path.join(os.path.dirname(os.path.abspath(__file__)), "..", "..", "examples")
+from bench import EXAMPLES
+
 FILE = re.compile(r'([^ =>]+)([=>])((?:"[^"]*"|[^ "])*)')
 TERM = re.compile(r'"([^"]*)"|@([^+<]+)|\+|([0-9a-f(])')
 

@@ -1,0 +1,173 @@
+"""Maps, queries, proofs and bundles at random, honest and bent: program and client say the same of each."""
+import os
+import random
+from typing import List, Tuple
+
+import proofs
+from bench import Bench, Ended, read, write
+from proofs import plain
+
+
+class Map:
+    """A map that was made at random and built by the program, changed by a batch or not."""
+
+    def __init__(self, bench: Bench, chance: random.Random, size: int, is_changed: bool) -> None:
+        self.span = chance.choice((10, 1000, 10**6, 2**31 - 101))
+        self.chance, self.batch = chance, 0
+        self.records = [self.record(number) for number in chance.sample(range(1, 4 * size + 9), size)]
+        write("r", "".join(plain.line_of(record) + "\n" for record in self.records).encode())
+        self.root = bench.program(["build", "m", "r"])[1].decode().strip()
+        self.tree = plain.pack(self.records) if size <= 2000 and not is_changed else None
+        if is_changed:
+            self.change(bench)
+
+    def record(self, number: int) -> Tuple:
+        """A record at random: a point or a rectangle, most without a payload."""
+        chance, span = self.chance, self.span
+        x, y = chance.randint(-span, span), chance.randint(-span, span)
+        size = chance.choice((0, 0, 0, 3, 100))
+        payload = bytes(chance.randrange(256) for _ in range(chance.choice((0, 0, 0, 1, 8, 200))))
+        return number, (x, y, x + chance.randint(0, size), y + chance.randint(0, size)), payload
+
+    def change(self, bench: Bench) -> None:
+        """A batch that takes out about a quarter of the records and puts others in."""
+        gone = {record[0] for record in self.records if self.chance.random() < 0.25}
+        come = [self.record(10**6 + number) for number in range(len(self.records) // 8 + 1)]
+        lines = ["batch 1"] + ["- %d" % number for number in gone] + ["+ " + plain.line_of(record) for record in come]
+        write("b", "".join(line + "\n" for line in lines).encode())
+        self.root = bench.program(["apply", "m", "b", "n"])[1].decode().strip()
+        os.replace("n", "m")
+        self.records = [record for record in self.records if record[0] not in gone] + come
+        self.batch = 1
+
+    def query(self) -> Tuple:
+        """A query at random: a window of any size, or up to 1,024 records that are nearest to a point."""
+        chance, span = self.chance, self.span
+        x, y = chance.randint(-span, span), chance.randint(-span, span)
+        if self.records and chance.random() < 0.5:
+            x, y = chance.choice(self.records)[1][:2]
+        if chance.random() < 0.5:
+            k = chance.choice((1, 1, 2, 3, 10, 100, 1024, max(1, min(len(self.records) + 1, 1024))))
+            return (x, y), k
+        wide = chance.choice((0, 1, span // 100, span // 10, span))
+        low = -(2**31)
+        return max(x - wide, low), max(y - wide, low), min(x + wide, -low - 1), min(y + wide, -low - 1)
+
+
+def proved(bench: Bench, one: Map, query: Tuple) -> bytes:
+    """The program's proof of a query, once both clients took it and gave the answer of a scan."""
+    word = proofs.word_of(query)
+    bench.program(["prove", "m", word, "p"])
+    proof, bench.honest = read("p"), bench.honest + 1
+    said = bench.agree(["check", one.root, word, "p"], "an honest proof")
+    answer = plain.answer(one.records, query)
+    lines = "".join(plain.line_of(record) + "\n" for record in (sorted(answer) if len(query) == 4 else answer))
+    bench.holds(said == (0, lines.encode()), "an honest proof of %s: both say %s" % (word, said[:1]))
+    if one.tree or not one.records:
+        bench.holds(proof == proofs.honest(one.tree, one.batch, query), "the bytes of the proof of " + word)
+    return proof
+
+
+def bent_agree(bench: Bench, one: Map, given: List[Tuple[Tuple, bytes]], count: int) -> None:
+    """Both clients say the same of bent strings: of one proof, of two, of a proof for another query."""
+    for _ in range(count):
+        query, proof = one.chance.choice(given)
+        _, other = one.chance.choice(given)
+        string = proofs.bent(proof, other, one.chance)
+        if one.chance.random() < 0.05:
+            query, string = one.chance.choice(given)[0], proof
+        bench.bent += string != proof
+        said = bench.agree_on(one.root, proofs.word_of(query), string, "a bent proof")
+        found = said[1].split()[-1].decode() if b"WrongRoot" in said[1] else ""
+        if found and one.chance.random() < 0.3:
+            bench.agree(["check", found, proofs.word_of(query), "p"], "a bent proof, against its own root")
+
+
+def said_of_bundle(bench: Bench, root: str, words: List[str], bundle: bytes) -> Ended:
+    """What is to be said of a bundle for these query words: part by part what the program's `check` says of it."""
+    at, lines, counts = 0, [], [0, 0, 0]
+    for number, word in enumerate(words, 1):
+        front = bundle[at : at + 4]
+        part = bundle[at + 4 : at + 4 + int.from_bytes(front, "big")]
+        if len(front) < 4 or len(part) < int.from_bytes(front, "big"):
+            lines += ["query %d missing" % late for late in range(number, len(words) + 1)]
+            counts[2] = len(words) + 1 - number
+            break
+        write("part", part)
+        status, said = bench.program(["check", root, word, "part"])
+        told = said.decode().splitlines()
+        lines += ["query %d ok %d" % (number, len(told)), *told] if status == 0 else ["query %d %s" % (number, told[0])]
+        counts[0 if status == 0 else 1] += 1
+        at += 4 + len(part)
+    lines.append("accepted %d refused %d missing %d" % tuple(counts))
+    if counts[2] or at < len(bundle):
+        lines.append("bundle broken at %d" % at)
+    is_right = counts[1:] == [0, 0] and at == len(bundle)
+    return (0 if is_right else 2), "".join(line + "\n" for line in lines).encode()
+
+
+def bent_bundle(proofs_: List[bytes], chance: random.Random) -> bytes:
+    """A bundle of these proofs, honest or bent: a proof or a length is another, parts are moved, bytes cut or added."""
+    parts = [len(proof).to_bytes(4, "big") + proof for proof in proofs_]
+    way, at = chance.randrange(7), chance.randrange(len(parts))
+    if way == 1:
+        string = proofs.bent(proofs_[at], chance.choice(proofs_), chance)
+        parts[at] = len(string).to_bytes(4, "big") + string
+    elif way == 2:
+        parts[at] = (len(proofs_[at]) + chance.choice((-1, 1, 40, 2**31))).to_bytes(4, "big") + proofs_[at]
+    elif way == 3:
+        chance.shuffle(parts)
+    elif way == 4:
+        del parts[at]
+    whole = b"".join(parts)
+    if way == 5:
+        return whole[: chance.randrange(len(whole))]
+    return whole + bytes(chance.randrange(1, 9)) if way == 6 else whole
+
+
+def bundles_agree(bench: Bench, one: Map, given: List[Tuple[Tuple, bytes]], count: int) -> None:
+    """The client says of bundles, honest and bent, what is to be said; so does the program, if it knows bundles."""
+    serves = bench.knows_bundles()
+    for _ in range(count):
+        chosen = one.chance.sample(given, one.chance.randint(1, min(6, len(given))))
+        words = [proofs.word_of(query) for query, _ in chosen]
+        write("s", "".join(word + "\n" for word in words).encode())
+        whole = b"".join(len(proof).to_bytes(4, "big") + proof for _, proof in chosen)
+        bundle = bent_bundle([proof for _, proof in chosen], one.chance)
+        write("u", bundle)
+        meant, call = said_of_bundle(bench, one.root, words, bundle), ["check-all", one.root, "s", "u"]
+        bench.holds(bench.client(call) == meant, "the client on a bundle: %s, %s" % (bench.client(call), meant))
+        bench.bundles += 1
+        if serves:
+            bench.holds(bench.program(call) == meant, "the program on a bundle: %s" % (meant,))
+            said = bench.program(["serve", "m", "s", "v"])
+            is_so = said == (0, b"served %d %d\n" % (len(words), len(whole))) and read("v") == whole
+            bench.holds(is_so, "the bundle that is served: %s" % (said,))
+
+
+def each_agrees(bench: Bench, one: Map) -> None:
+    """Both clients say the same of a proof with each field bent in each way, and of each cut of it."""
+    queries = sorted((one.query() for _ in range(60)), key=len)
+    given = [(query, proofs.honest(one.tree, 0, query)) for query in queries]
+    for kind in (2, 4):
+        query, proof = min((pair for pair in given if len(pair[0]) == kind), key=lambda pair: abs(len(pair[1]) - 1800))
+        for string in [*proofs.bent_fields(proof), *proofs.cuts(proof)]:
+            bench.agree_on(one.root, proofs.word_of(query), string, "a proof with a bent field, or cut")
+            bench.bent += 1
+
+
+def random_proofs(bench: Bench) -> None:
+    """Maps of up to 20,000 records, honest proofs and bent ones; each field and each cut of two in the long run."""
+    chance = random.Random(28)
+    sizes = [0, 1, 5, 16, 17, 40, 300, 1025, 2000, 5000, 12000, 20000] if bench.is_long else [0, 1, 17, 300, 2000]
+    honest, bent = (2000, 20000) if bench.is_long else (60, 500)
+    for at, size in enumerate(sizes):
+        one = Map(bench, chance, size, is_changed=at % 4 == 3)
+        asked = [one.query() for _ in range(honest // len(sizes) + 1)]
+        given = [(query, proved(bench, one, query)) for query in asked]
+        bent_agree(bench, one, given, bent // len(sizes) + 1)
+        bundles_agree(bench, one, given, honest // len(sizes) // 4 + 1)
+        if size == 2000 and bench.is_long:
+            each_agrees(bench, one)
+    counts = bench.honest, bench.bent, bench.bundles
+    print("tests/clients: %d honest proofs, %d other strings, %d bundles" % counts)
