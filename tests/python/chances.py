@@ -4,6 +4,7 @@ import random
 from typing import List, Tuple
 
 import proofs
+import steps
 from bench import Bench, Ended, read, write
 from proofs import plain
 
@@ -68,6 +69,14 @@ def proved(bench: Bench, one: Map, query: Tuple) -> bytes:
     return proof
 
 
+def steps_agree(bench: Bench, root: str, query: Tuple, string: bytes, said: Ended) -> None:
+    """The steps of docs/FORMATS.md give the same answer, or none."""
+    answer = steps.answer(root, query, string)
+    lines = "".join(plain.line_of(record) + "\n" for record in answer or [])
+    is_so = said[0] == 2 if answer is None else said == (0, lines.encode())
+    bench.holds(is_so, "%s: by the steps of FORMATS %s, and it is said %s" % (proofs.word_of(query), answer, said))
+
+
 def bent_agree(bench: Bench, one: Map, given: List[Tuple[Tuple, bytes]], count: int) -> None:
     """Both clients say the same of bent strings: of one proof, of two, of a proof for another query."""
     for _ in range(count):
@@ -78,9 +87,11 @@ def bent_agree(bench: Bench, one: Map, given: List[Tuple[Tuple, bytes]], count: 
             query, string = one.chance.choice(given)[0], proof
         bench.bent += string != proof
         said = bench.agree_on(one.root, proofs.word_of(query), string, "a bent proof")
+        steps_agree(bench, one.root, query, string, said)
         found = said[1].split()[-1].decode() if b"WrongRoot" in said[1] else ""
         if found and one.chance.random() < 0.3:
-            bench.agree(["check", found, proofs.word_of(query), "p"], "a bent proof, against its own root")
+            said = bench.agree(["check", found, proofs.word_of(query), "p"], "a bent proof, against its own root")
+            steps_agree(bench, found, query, string, said)
 
 
 def said_of_bundle(bench: Bench, root: str, words: List[str], bundle: bytes) -> Ended:
@@ -160,7 +171,7 @@ def random_proofs(bench: Bench) -> None:
     """Maps of up to 20,000 records, honest proofs and bent ones; each field and each cut of two in the long run."""
     chance = random.Random(28)
     sizes = [0, 1, 5, 16, 17, 40, 300, 1025, 2000, 5000, 12000, 20000] if bench.is_long else [0, 1, 17, 300, 2000]
-    honest, bent = (2000, 20000) if bench.is_long else (60, 500)
+    honest, bent = (2000, 20000) if bench.is_long else (50, 400)
     for at, size in enumerate(sizes):
         one = Map(bench, chance, size, is_changed=at % 4 == 3)
         asked = [one.query() for _ in range(honest // len(sizes) + 1)]

@@ -64,7 +64,7 @@ def trips_hold(bench: Bench) -> None:
     sample_holds(bench)
     unfit_are_told(bench)
     chance = random.Random(7)
-    for size in (0, 1, 30, 400, 3000) if bench.is_long else (0, 1, 200):
+    for size in (0, 1, 30, 400, 3000) if bench.is_long else (0, 1, 100):
         trip_holds(bench, chance, size)
         states_hold(bench, chance, size)
     edges_hold(bench)
