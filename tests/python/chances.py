@@ -171,7 +171,7 @@ def random_proofs(bench: Bench) -> None:
     """Maps of up to 20,000 records, honest proofs and bent ones; each field and each cut of two in the long run."""
     chance = random.Random(28)
     sizes = [0, 1, 5, 16, 17, 40, 300, 1025, 2000, 5000, 12000, 20000] if bench.is_long else [0, 1, 17, 300, 2000]
-    honest, bent = (2000, 20000) if bench.is_long else (50, 400)
+    honest, bent = (2000, 16000) if bench.is_long else (50, 400)
     for at, size in enumerate(sizes):
         one = Map(bench, chance, size, is_changed=at % 4 == 3)
         asked = [one.query() for _ in range(honest // len(sizes) + 1)]
