@@ -21,6 +21,7 @@ import sys
 from typing import Callable, Iterable, Iterator, List, NamedTuple, Optional, Tuple, Union
 
 Rect = Tuple[int, int, int, int]  # x0, y0, x1, y1 in map units, with x0 <= x1 and y0 <= y1; the sides belong to it
+Bytes = Union[bytes, bytearray, memoryview]
 Pieces = Iterable[bytes]  # a byte string in pieces of any size
 Watch = Callable[[str, int, Rect, List["Record"]], None]  # tag, level, rectangle, and the records of an opened leaf
 
@@ -282,7 +283,7 @@ def judge(root: bytes, query: Query, proof: Pieces, watch: Optional[Watch] = Non
     return sorted(records, key=lambda record: (distance(query.rect, record.rect), record.number))[: query.k]
 
 
-def check(root: str, query: str, proof: Union[bytes, Pieces], watch: Optional[Watch] = None) -> List[Record]:
+def check(root: str, query: str, proof: Union[Bytes, Pieces], watch: Optional[Watch] = None) -> List[Record]:
     """The records of the answer to a query word on the map with a root digest, as a proof shows it.
 
     `root` is 64 lower-case hexadecimal digits, `proof` is bytes or pieces of bytes. Of a window the records are in
@@ -298,7 +299,8 @@ def check(root: str, query: str, proof: Union[bytes, Pieces], watch: Optional[Wa
     Traceback (most recent call last):
     mrtree_check.Refused: refused Needless at 49
     """
-    return judge(read_root(root), read_query(query), [proof] if isinstance(proof, bytes) else proof, watch)
+    pieces = [bytes(proof)] if isinstance(proof, (bytes, bytearray, memoryview)) else proof
+    return judge(read_root(root), read_query(query), pieces, watch)
 
 
 # ---- words and scripts
