@@ -37,7 +37,7 @@ use Rattle.mr_clash.proofs.Roots.{root_told}
 -- bytes that are not accepted
 module _ (hash : List ℕ → List ℕ) (s : Standing) (top : Top) (q : Query) (bytes root : List ℕ) (is : IsTop hash s top)
     (e : root ≡ hash (root_at top)) where
-  verdict_is : (t : Tree) → s.tree ≡ Some t → verdict hash (digests.root (by s.version hash) t s.batch) q bytes
+  pub verdict_is : (t : Tree) → s.tree ≡ Some t → verdict hash (digests.root (by s.version hash) t s.batch) q bytes
       ≡ verdict hash root q bytes
   verdict_is t told =
       ap (λ r. verdict hash r q bytes) (sym (e ∙ ap hash (root_told hash s top t is told)))

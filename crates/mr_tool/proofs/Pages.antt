@@ -1,6 +1,6 @@
 -- `prove` and `audit` on a map that is opened page by page.
 use Rattle.std.proofs.Common.{◌≡◌, ℕ, ◌+◌, ◌*◌, ◌<◌, ◌≤◌, ◌^◌, List, [], length, refl, sym, ap, subst, ◌∙◌, inl, inr, arith}
-use Rattle.std.specs.Prelude.{⊤, max, ltb, Option, Some, None, IfOk, IfErr, IfSome, IsSome, OnOk, MatchOption, Result, Ok, Err}
+use Rattle.std.specs.Prelude.{⊤, ◌⊎◌, max, ltb, Option, Some, None, IfOk, IfErr, IfSome, IsSome, OnOk, MatchOption, Result, Ok, Err}
 use Rattle.mr_outside.specs.Files.{Files, file}
 use Rattle.mr_outside.specs.Faults.{last_count}
 use Rattle.mr_outside.specs.Reading.{piece_count}
@@ -30,10 +30,11 @@ use Rattle.mr_pages.proofs.HeadLaws.{first_form_is}
 use Rattle.mr_query.specs.declared.query.Query.{Query}
 use Rattle.mr_proof.specs.Honest.{proof as honest_proof, opened}
 use Rattle.mr_prove.specs.Causes.{rounds}
+use Rattle.mr_clash.specs.Finding.{opened_accepted}
 use Rattle.mr_store.specs.Opening.{TellsMap, RefusesMap, pages_in}
-use Rattle.mr_store.specs.Stored.{ReadsFew as FewFetches, Keeps, room, stands_for}
-use Rattle.mr_tool.specs.Counting.{pieces_of, IsFewOf, IsFewBeside, ReadsFew}
-use Rattle.mr_tool.specs.Ending.{Comes, ComesBut, with_reads, GoesOn, HoldsMap, IsJudged, KeepsProof, NoneFalls, SaysRefusal, Stops}
+use Rattle.mr_store.specs.Stored.{ReadsFew as FewFetches, Keeps, room, stands_for, told_bytes}
+use Rattle.mr_tool.specs.Counting.{pieces_of, opened_beside, IsFewOf, IsFewBeside, ReadsFew}
+use Rattle.mr_tool.specs.Ending.{Comes, ComesBut, with_reads, GoesOn, HoldsMap, IsBeside, IsJudged, KeepsProof, NoneFalls, ReadsOpened, SaysRefusal, Stops}
 use Rattle.mr_tool.specs.First.{first}
 use Rattle.mr_tool.specs.Found.{as_map_error}
 use Rattle.mr_tool.specs.Outcome.{Outcome}
@@ -303,28 +304,62 @@ few_pages hash q h bytes r m e f t batch stands pages few still fetched most bou
           (pages_in bytes, omega (arith, few, still (ltb-false (room + 1) h.pages small)), inl (omega arith))
     ]
 
--- the same beside a proof, of which nothing is said where the map is large
-pub few_beside : (hash : List ℕ → List ℕ) (h : MapHead) (bytes : List ℕ) (proof : Input) (r m e : ℕ) (t : Tree)
-    (batch : ℕ) → IsMap first_form hash bytes t batch → h.pages ≡ pages_in bytes → m ≤ r + pages_in bytes
-    → (h.pages ≤ room + 1 → e ≤ m + pieces_of proof)
-    → (n : ℕ) × (e ≤ r + n) × IsFewBeside hash bytes proof n
-few_beside hash h bytes proof r m e t batch stands pages few still = elim (cases_Bool (ltb (room + 1) h.pages)) [
-  | inl large ↦ (
-    e,
-    omega arith,
-    inr (
-      t,
-      batch,
-      stands,
-      inr (subst (λ n. room + 1 < n) pages (ltb-true (room + 1) h.pages large)),
-    ),
-  )
-  | inr small ↦ (
-    pages_in bytes + pieces_of proof,
-    omega (arith, few, still (ltb-false (room + 1) h.pages small)),
-    inr (t, batch, stands, inl (omega arith)),
-  )
-]
+-- the same beside a proof, whose pieces come on top
+pub few_beside : (hash : List ℕ → List ℕ) (q : Query) (h : MapHead) (bytes : List ℕ) (proof : Input) (r m e : ℕ)
+    (t : Tree) (batch : ℕ) → IsMap first_form hash bytes t batch → h.pages ≡ pages_in bytes → m ≤ r + pages_in bytes
+    → IsBeside hash t batch q h.pages proof m e
+    → (n : ℕ) × (e ≤ r + n) × IsFewBeside hash q bytes proof n
+few_beside hash q h bytes proof r m e t batch stands pages few (inl small) = (
+  pages_in bytes + pieces_of proof,
+  omega (arith, few, small),
+  inr (t, batch, stands, inl (omega arith)),
+)
+few_beside hash q h bytes proof r m e t batch stands pages few (inr large) =
+    let all : ℕ = pages_in bytes + pieces_of proof + opened_beside hash t batch q proof in (
+      all,
+      omega (arith, few, large.1),
+      inr (t, batch, stands, inr (subst (λ n. room + 1 < n) pages large.0, omega arith)),
+    )
+
+-- how many reads the fetches of an audit take
+pub reads_opened : (hash : List ℕ → List ℕ) (q : Query) (bytes : List ℕ) (s : Standing) (n n' : List ℕ)
+    (h h' : MapHead) (old new : Shelved) (f0 f : ℕ) → s.version ≡ One → (IsSome s.tree → IsSome old.files)
+    → Keeps n n' h h' old new f0 f
+    → IfSome s.tree (λ t. f ≤ f0 + opened_accepted (by s.version hash) t s.batch q bytes) → f0 ≡ 0
+    → ReadsOpened hash q s h.pages bytes old new
+reads_opened hash q bytes s n n' h h' old new f0 f first_is told kept fetched none = by_tree s.tree refl fetched
+  where
+    few : (t : Tree) → IsSome old.files → f ≤ f0 + opened_accepted (first hash) t s.batch q bytes
+        → (new.reads ≡ old.reads) ⊎ ((room + 1 < h.pages)
+        × (new.reads ≤ old.reads + opened_accepted (first hash) t s.batch q bytes))
+    few t there bound = elim (cases_Bool (ltb (room + 1) h.pages)) [
+      | inl large ↦ inr (
+        ltb-true (room + 1) h.pages large,
+        elim kept.few [
+          | inl each ↦ omega (arith, each, bound, none)
+          | inr last ↦ omega (arith, last, kept.most, bound, none)
+        ],
+      )
+      | inr small ↦ inl (kept.still there (ltb-false (room + 1) h.pages small))
+    ]
+
+    by_tree : (o : Option Tree) → s.tree ≡ o
+        → IfSome o (λ t. f ≤ f0 + opened_accepted (by s.version hash) t s.batch q bytes)
+        → IfSome o (λ t. (new.reads ≡ old.reads) ⊎ ((room + 1 < h.pages)
+        × (new.reads ≤ old.reads + opened_accepted (first hash) t s.batch q bytes)))
+    by_tree None is bound = tt
+    by_tree (Some t) is bound =
+        few t (told (subst IsSome (sym is) refl))
+        (subst (λ v. f ≤ f0 + opened_accepted (by v hash) t s.batch q bytes) first_is bound)
+
+-- a tree is told only where files are
+pub files_told : (h : MapHead) (o : Option Files) (name : List ℕ) → IsSome (stands_for h (told_bytes o name)).tree
+    → IsSome o
+files_told h None name told = absurd (not_some told)
+  where
+    not_some : IsSome {T = Tree} None → ⊥
+    not_some e = cc
+files_told h (Some files) name told = refl
 
 -- where it is not opened
 few_refused : (told : Option Files) (name : List ℕ) (r e : ℕ) (P : List ℕ → ℕ → Type 0)
@@ -356,7 +391,7 @@ auditing_refused hash map q proof next before after e r = by_told before.files r
         → AllowsFrom o (rereads (auditing hash map q proof) next) before.reads after.reads
     by_told None few = tt
     by_told (Some files) few =
-        few_refused (Some files) map before.reads after.reads (λ bytes n. IsFewBeside hash bytes (file files proof) n)
+        few_refused (Some files) map before.reads after.reads (λ bytes n. IsFewBeside hash q bytes (file files proof) n)
         (λ bytes. inl (omega arith)) few
 
 -- the count over the bytes that are there

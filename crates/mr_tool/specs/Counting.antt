@@ -12,6 +12,7 @@ use Rattle.mr_pages.specs.PageBytes.{first_form}
 use Rattle.mr_query.specs.declared.query.Query.{Query}
 use Rattle.mr_proof.specs.Honest.{opened}
 use Rattle.mr_prove.specs.Causes.{rounds}
+use Rattle.mr_clash.specs.Finding.{opened_accepted}
 use Rattle.mr_store.specs.Opening.{pages_in}
 use Rattle.mr_store.specs.Stored.{room}
 use Rattle.mr_tool.specs.First.{first}
@@ -35,19 +36,25 @@ IsFewOf hash q bytes n = (n ≤ pages_in bytes)
     ⊎ (IsLarge bytes × ((t : Tree) × (batch : ℕ) × IsMap first_form hash bytes t batch
     × (n ≤ pages_in bytes + rounds q * opened (first hash) t q)))
 
--- the pages of a file of these bytes, and the pieces of a proof where it stands for a map; of a
--- large map nothing more is said, as nothing says how many nodes an audit fetches
-abbrev pub IsFewBeside : (List ℕ → List ℕ) → List ℕ → Input → ℕ → Type 0
-IsFewBeside hash bytes proof n = (n ≤ pages_in bytes)
+-- the nodes that a proof opens, where it is there and is accepted against the map
+abbrev pub opened_beside : (List ℕ → List ℕ) → Tree → (batch : ℕ) → Query → Input → ℕ
+opened_beside hash t batch q None = 0
+opened_beside hash t batch q (Some bytes) = opened_accepted (first hash) t batch q bytes
+
+-- the pages of a file of these bytes; where it stands for a map the pieces of a proof besides, and
+-- where that is large the nodes that the proof opens
+abbrev pub IsFewBeside : (List ℕ → List ℕ) → Query → List ℕ → Input → ℕ → Type 0
+IsFewBeside hash q bytes proof n = (n ≤ pages_in bytes)
     ⊎ ((t : Tree) × (batch : ℕ) × IsMap first_form hash bytes t batch
-    × ((n ≤ pages_in bytes + pieces_of proof) ⊎ IsLarge bytes))
+    × ((n ≤ pages_in bytes + pieces_of proof) ⊎ (IsLarge bytes
+    × (n ≤ pages_in bytes + pieces_of proof + opened_beside hash t batch q proof))))
 
 -- so many reads of the map, and of the proof for an audit
 abbrev pub AllowsPages : Rereading → Files → ℕ → Type 0
 AllowsPages (proving hash map q proof) files n =
     MatchOption (file files map) (n ≡ 0) (λ bytes. IsFewOf hash q bytes n)
 AllowsPages (auditing hash map q proof) files n =
-    MatchOption (file files map) (n ≡ 0) (λ bytes. IsFewBeside hash bytes (file files proof) n)
+    MatchOption (file files map) (n ≡ 0) (λ bytes. IsFewBeside hash q bytes (file files proof) n)
 
 -- so many reads: each input once, and no more where the command stops
 abbrev pub AllowsReads : Plan → Files → ℕ → Type 0

@@ -18,10 +18,16 @@ use Rattle.mr_tree.specs.WellFormed.{WellFormed}
 use Rattle.mr_pages.specs.declared.error.MapErr.{MapErr}
 use Rattle.mr_pages.specs.declared.error.MapErr.TheVariants as errors
 use Rattle.mr_tree.specs.declared.nodes.NodesErr.{NodesErr}
+use Rattle.mr_tree.specs.declared.tree.Tree.{Tree}
+use Rattle.mr_tree.specs.Nodes.{Standing}
+use Rattle.mr_query.specs.declared.query.Query.{Query}
+use Rattle.mr_clash.specs.Finding.{opened_accepted}
+use Rattle.mr_store.specs.Stored.{room}
 use Rattle.mr_tool.specs.Found.{Found, Shows, as_map_error, bad_map_line}
 use Rattle.mr_tool.specs.Lines.{bad_words_line, shelf_fault_line}
 use Rattle.mr_tool.specs.Outcome.{Outcome, Content, File, IsLeft, MayLeave}
-use Rattle.mr_tool.specs.Counting.{pieces_of, ReadsFew}
+use Rattle.mr_tool.specs.Counting.{pieces_of, opened_beside, ReadsFew}
+use Rattle.mr_tool.specs.First.{first}
 use Rattle.mr_tool.specs.Plan.{Plan, comes, reads, opens, rereads, Input, IsInput, IsAbsent, LacksInput}
 use Rattle.mr_tool.specs.Rereading.{Rereading, MaySay}
 use Rattle.mr_tool.specs.Say.{ends, needs_map, says_missing, say_written}
@@ -193,6 +199,26 @@ IsAsRead (Err shelf.NoMemory) result = result ≡ Err halts.NoMemory
 abbrev pub ReadsOnce : List ℕ → Shelved → Shelved → Type 0
 ReadsOnce name before after = OfFiles before.files
     (λ files. after.reads ≤ before.reads + pieces_of (file files name))
+
+-- behind an opened map nothing is read, or of a large one the nodes that the bytes of a proof open
+abbrev pub ReadsOpened : (List ℕ → List ℕ) → Query → Standing → (pages : ℕ) → List ℕ → Shelved
+    → Shelved → Type 0
+ReadsOpened hash q s pages bytes before after = IfSome s.tree (λ t.
+    (after.reads ≡ before.reads) ⊎ ((room + 1 < pages)
+    × (after.reads ≤ before.reads + opened_accepted (first hash) t s.batch q bytes)))
+
+-- the pieces of a proof, and of a large map the nodes that it opens
+abbrev pub IsBeside : (List ℕ → List ℕ) → Tree → (batch : ℕ) → Query → (pages : ℕ) → Input
+    → (before after : ℕ) → Type 0
+IsBeside hash t batch q pages proof before after = (after ≤ before + pieces_of proof)
+    ⊎ ((room + 1 < pages)
+    × (after ≤ before + pieces_of proof + opened_beside hash t batch q proof))
+
+-- so many are read of the file of a proof and of the map
+abbrev pub ReadsBeside : (List ℕ → List ℕ) → Query → Standing → (pages : ℕ) → List ℕ → Shelved
+    → Shelved → Type 0
+ReadsBeside hash q s pages proof before after = IfSome s.tree (λ t. OfFiles before.files (λ files.
+    IsBeside hash t s.batch q pages (file files proof) before.reads after.reads))
 
 -- an input was read, or is missing
 pub record Reads (name : List ℕ) (before after : Shelved) (result : Result (Option (Vec ℕ)) Halt)

@@ -6,7 +6,7 @@ ghost use Rattle.mr_tree.specs.Nodes.{HasSomeCause};
 ghost use Rattle.mr_query.specs.Word.{IsAskable};
 ghost use Rattle.mr_proof.specs.Honest.{proof as honest_proof, opened};
 ghost use Rattle.mr_prove.specs.Causes.{rounds};
-ghost use Rattle.mr_clash.specs.Finding.{found, Collides};
+ghost use Rattle.mr_clash.specs.Finding.{found, opened_accepted, Collides};
 ghost use Rattle.mr_tool.specs.Ending.{SaysRefusal};
 ghost use Rattle.mr_tool.specs.Found.{as_map_error};
 
@@ -60,6 +60,9 @@ pub(crate) fn finding_of_nodes<N: Nodes>(
         f ≡ found (by (N.stands nodes.old).version N.Hash.of) t (N.stands nodes.old).batch
         query.now bytes.now)) }
     ensures collides { IfOk result (λ f. Collides N.Hash.of f) }
+    ensures fetched { IfSome (N.stands nodes.old).tree (λ t. N.fetches nodes.new ≤
+        N.fetches nodes.old + opened_accepted (by (N.stands nodes.old).version N.Hash.of) t
+        (N.stands nodes.old).batch query.now bytes.now) }
     ensures cause { IfErr result (HasSomeCause (N.stands nodes.old) (N.faults nodes.old)
         (N.faults nodes.new)) }
     ensures quiet { OnOk result (N.faults nodes.new ≡ N.faults nodes.old) }
