@@ -1,7 +1,7 @@
 -- How many reads a plan takes over files that are told: an input that is read whole takes its
 -- pieces once, a map that is read page by page its pages once, and the nodes that are fetched
 -- beside.
-use Rattle.std.specs.Prelude.{◌≡◌, ◌⊎◌, ℕ, ◌+◌, ◌*◌, ◌≤◌, ◌<◌, List, length, Some, None, MatchOption}
+use Rattle.std.specs.Prelude.{◌≡◌, ◌⊎◌, ⊤, ℕ, ◌+◌, ◌-◌, ◌*◌, ◌≤◌, ◌<◌, List, length, take, Some, None, MatchOption}
 use Rattle.mr_outside.specs.Files.{Files, file}
 use Rattle.mr_outside.specs.Reading.{piece_count}
 use Rattle.mr_outside.specs.State.{Shelved}
@@ -10,6 +10,7 @@ use Rattle.mr_tree.specs.declared.tree.Tree.{Tree}
 use Rattle.mr_pages.specs.Law.{IsMap}
 use Rattle.mr_pages.specs.PageBytes.{first_form}
 use Rattle.mr_query.specs.declared.query.Query.{Query}
+use Rattle.mr_proof.specs.Feeding.{IsUnsettled}
 use Rattle.mr_proof.specs.Honest.{opened}
 use Rattle.mr_prove.specs.Causes.{rounds}
 use Rattle.mr_clash.specs.Finding.{opened_accepted}
@@ -17,7 +18,7 @@ use Rattle.mr_store.specs.Opening.{pages_in}
 use Rattle.mr_store.specs.Stored.{room}
 use Rattle.mr_tool.specs.First.{first}
 use Rattle.mr_tool.specs.Found.{Found, Shows}
-use Rattle.mr_tool.specs.Plan.{Input, Plan, comes, reads, opens, rereads}
+use Rattle.mr_tool.specs.Plan.{Input, Plan, comes, reads, opens, rereads, judges}
 use Rattle.mr_tool.specs.Rereading.{Rereading, proving, auditing}
 
 -- in how many pieces an input is read whole
@@ -56,6 +57,13 @@ AllowsPages (proving hash map q proof) files n =
 AllowsPages (auditing hash map q proof) files n =
     MatchOption (file files map) (n ≡ 0) (λ bytes. IsFewBeside hash q bytes (file files proof) n)
 
+-- So many pieces of a proof are read: none behind the one with which its verdict is a fault that is
+-- that of all longer strings.
+abbrev pub IsToFault : (List ℕ → List ℕ) → (root : List ℕ) → Query → Input → ℕ → Type 0
+IsToFault hash root q None n = ⊤
+IsToFault hash root q (Some bytes) n =
+    (n ≤ 1) ⊎ IsUnsettled hash root q (take ((n - 1) * 65536) bytes)
+
 -- so many reads: each input once, and no more where the command stops
 abbrev pub AllowsReads : Plan → Files → ℕ → Type 0
 AllowsReads (comes said) files n = n ≡ 0
@@ -65,6 +73,8 @@ AllowsReads (reads name next) files n = (here : ℕ) × (rest : ℕ) × (n ≡ h
 AllowsReads (opens hash bytes next) files n = (found : Found) × Shows hash bytes found
     × AllowsReads (next found) files n
 AllowsReads (rereads reading next) files n = AllowsPages reading files n
+AllowsReads (judges hash root q proof next) files n = AllowsReads next files n
+    × IsToFault hash root q (file files proof) n
 
 -- what was read in between, where the files are told
 abbrev pub ReadsFew : Plan → Shelved → Shelved → Type 0

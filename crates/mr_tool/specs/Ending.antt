@@ -28,7 +28,7 @@ use Rattle.mr_tool.specs.Lines.{bad_words_line, shelf_fault_line}
 use Rattle.mr_tool.specs.Outcome.{Outcome, Content, File, IsLeft, MayLeave}
 use Rattle.mr_tool.specs.Counting.{pieces_of, opened_beside, ReadsFew}
 use Rattle.mr_tool.specs.First.{first}
-use Rattle.mr_tool.specs.Plan.{Plan, comes, reads, opens, rereads, Input, IsInput, IsAbsent, LacksInput}
+use Rattle.mr_tool.specs.Plan.{Plan, comes, reads, opens, rereads, judges, Input, IsInput, IsAbsent, LacksInput}
 use Rattle.mr_tool.specs.Rereading.{Rereading, MaySay}
 use Rattle.mr_tool.specs.Say.{ends, needs_map, says_missing, say_written}
 use Rattle.mr_tool.specs.declared.ending.Ending.{Ending}
@@ -102,6 +102,8 @@ Ends (rereads reading next) None after status text = (said : Outcome) × MaySay 
     × (status ≡ said.status) × (text ≡ said.printed) × IsLeft said.written None after
 Ends (rereads reading next) (Some files) after status text =
     Ends next (Some files) after status text
+Ends (judges hash root query proof next) before after status text =
+    Ends next before after status text
 
 -- the plan was given up, and the files are left as its outcome allows
 abbrev pub GivesUp : Plan → Option Files → Option Files → Type 0
@@ -112,6 +114,7 @@ GivesUp (opens hash bytes next) before after = (found : Found) × Shows hash byt
     × GivesUp (next found) before after
 GivesUp (rereads reading next) None after = after ≡ None
 GivesUp (rereads reading next) (Some files) after = GivesUp next (Some files) after
+GivesUp (judges hash root query proof next) before after = GivesUp next before after
 
 -- the bytes that the plan opens stand for one map or have one fault, whichever
 abbrev pub AreJudged : Plan → Option Files → Type 0
@@ -122,6 +125,7 @@ AreJudged (opens hash bytes next) told = Agrees first_form hash bytes
     × ((found : Found) → Shows hash bytes found → AreJudged (next found) told)
 AreJudged (rereads reading next) None = ⊤
 AreJudged (rereads reading next) (Some files) = AreJudged next (Some files)
+AreJudged (judges hash root query proof next) told = AreJudged next told
 
 -- why a command is not carried out to its end
 abbrev pub Stops : Shelved → Shelved → Halt → Type 0
