@@ -3,6 +3,7 @@ use Rattle.std.specs.Prelude.{None, Ok, Err}
 use Rattle.mr_record.specs.RecordText.{text_of}
 use Rattle.mr_tool.specs.Ending.{Gives, GivesOrStops}
 use Rattle.mr_tool.specs.Say.{prints, say_check_of}
+use Rattle.mr_tool.proofs.Counting.{text_taken}
 use Rattle.mr_tool.proofs.Going.{comes_given, comes_on, comes_missed, comes_unread, judged_needs, misses}
 use Rattle.mr_tool.specs.Plan.{comes}
 use Rattle.mr_tool.proofs.Verdicts.{says_verdict, gives, check_writes}
@@ -17,8 +18,8 @@ returns-in-Ok g c =
     let is = c.in-Ok.ensures.judges in
     let causes = c.in-Ok.ensures.causes in
     comes_on c.args.name.now (λ b. comes (said b)) is.bytes before after after
-    (record { counts = causes.counts; files = causes.files; faults = causes.cause }) c.judge_file.ensures.once
-    is.input is.are
+    (record { counts = causes.counts; files = causes.files; faults = causes.cause })
+    (text_taken before.files c.args.name.now said before.reads after.reads c.judge_file.ensures.once) is.input is.are
     (judged_needs c.args.name.now said before.files) (Ok c.records.result)
     (comes_given (said is.bytes) after (Ok c.records.result)
     (check_writes hash c.args.root.now c.args.query.now is.bytes)
@@ -36,8 +37,8 @@ returns-in-Err-Refused g c =
     let is = rw c.in-Err-Refused.field-0-is at c.in-Err-Refused.ensures.judges in
     let causes = rw c.in-Err-Refused.field-0-is at c.in-Err-Refused.ensures.causes in
     comes_on c.args.name.now (λ b. comes (said b)) is.bytes before after after
-    (record { counts = causes.counts; files = causes.files; faults = causes.cause }) c.judge_file.ensures.once
-    is.input is.are
+    (record { counts = causes.counts; files = causes.files; faults = causes.cause })
+    (text_taken before.files c.args.name.now said before.reads after.reads c.judge_file.ensures.once) is.input is.are
     (judged_needs c.args.name.now said before.files) c.refused.result
     (comes_given (said is.bytes) after c.refused.result
     (check_writes hash c.args.root.now c.args.query.now is.bytes)
