@@ -13,6 +13,7 @@ pub mod Agreement
 mod Numbered
 pub mod SavedStands
 mod Walks
+pub mod Giving
 pub mod Visits
 mod Links
 mod Placing
@@ -23,6 +24,7 @@ mod Outcomes
 pub mod Judged
 mod Short
 pub mod Filled
+pub mod PageReads
 mod Put
 pub mod Answered
 mod Written

@@ -82,6 +82,13 @@ module _ (hash : List ℕ → List ℕ) (told : Option Files) (name : List ℕ) 
     open_ = at_told (told_bytes told name) s.file_ w;
   }
 
+-- where the file is told, it has so many pages
+pub pages_known : (o : Option (List ℕ)) (pages : ℕ) (es : Entries) → IfSome o (IsFileOf pages es) → (f : File) →
+    option_map (file_of first_form) o ≡ Some f → f.pages ≡ pages
+pages_known None pages es has f is = cc
+pages_known (Some bytes) pages es has f is =
+    let same : file_of first_form bytes ≡ f = cc in ap (λ (g : File). g.pages) (sym same) ∙ sym has.count
+
 -- ---- what opening answers
 
 pub answers_of : (hash : List ℕ → List ℕ) → ((xs : List ℕ) → length (hash xs) ≡ 32) → (s : Shelved) (name : List ℕ)

@@ -11,9 +11,11 @@ use Rattle.mr_pages.specs.Page.{page_limit}
 use Rattle.mr_pages.specs.PageBytes.{first_form}
 use Rattle.mr_pages.specs.File.{File, file_of, is_odd_size}
 use Rattle.mr_pages.specs.Faults.{mapfault}
+use Rattle.mr_pages.specs.Source as source
 use Rattle.mr_pages.specs.Source.{SaysHead, IsRootIn, AllKept, SaysOnce}
 use Rattle.mr_pages.specs.Walking.{child_link, head_of}
 use Rattle.mr_pages.specs.Opening.{Fails, Tells}
+pub use Rattle.mr_pages.specs.Opening.{pages_in}
 use Rattle.mr_tree.specs.Nodes.{Standing}
 use Rattle.mr_tree.specs.declared.tree.Tree.{Tree}
 use Rattle.mr_store.specs.Kept.{Entries}
@@ -21,10 +23,8 @@ use Rattle.mr_store.specs.Stored.{told_bytes, stands_for}
 use Rattle.mr_store.specs.Paging.{Holds}
 
 -- whole pages, and so many
-pub record HasPages (pages : ℕ) (bytes : List ℕ) : Type 0 where
-  pub are : AreBytes bytes
-  pub even : is_odd_size 4096 (length bytes) ≡ false
-  pub count : pages ≡ length bytes / 4096
+abbrev pub HasPages : (pages : ℕ) → (bytes : List ℕ) → Type 0
+HasPages = source.HasPages first_form
 
 -- what was checked of a file: page 0 says this, its root is in the file, and there is no fault
 pub record WasChecked (hash : List ℕ → List ℕ) (pages : ℕ) (file : Option File) (h : MapHead)
@@ -81,10 +81,6 @@ pub record IsRefused (hash : List ℕ → List ℕ) (name : List ℕ) (pages : �
   pub later : before.faults ≤ after.faults
   pub more : before.reads ≤ after.reads
   pub few : after.reads ≤ before.reads + pages
-
--- how many pages a file of these bytes has
-abbrev pub pages_in : List ℕ → ℕ
-pages_in bytes = length bytes / 4096
 
 -- The map was opened, under this name: it stands for the one map that the file stands for, and has
 -- as many pages. Each of them was read once at most, no fault was counted, and nothing was fetched

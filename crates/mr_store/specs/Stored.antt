@@ -15,6 +15,7 @@ use Rattle.mr_tree.specs.declared.stored.Stored.{Stored}
 use Rattle.mr_tree.specs.declared.tree.Tree.{Tree}
 use Rattle.mr_tree.specs.Tree.{records}
 use Rattle.mr_pages.specs.Law.{IsMap}
+pub use Rattle.mr_pages.specs.Source.{told_bytes}
 use Rattle.mr_tree.specs.declared.child.Child.{Child}
 use Rattle.mr_pages.specs.declared.head.MapHead.{MapHead}
 use Rattle.mr_pages.specs.Page.{Link}
@@ -27,11 +28,6 @@ use Rattle.mr_pages.specs.Walking.{child_link, page_node, head_of}
 use Rattle.mr_store.specs.Parts.{stood, untold}
 use Rattle.mr_store.specs.Kept.{Entries, IsGood, node_of}
 use Rattle.mr_store.specs.declared.kept.Kept.{Kept}
-
--- the bytes of the map's file, where they are told
-abbrev pub told_bytes : Option Files → List ℕ → Option (List ℕ)
-told_bytes None name = None
-told_bytes (Some files) name = file files name
 
 abbrev pub root_link : MapHead → Option Link
 root_link h = option_map child_link h.root

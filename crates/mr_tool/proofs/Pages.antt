@@ -3,7 +3,6 @@ use Rattle.std.proofs.Common.{◌≡◌, ℕ, ◌+◌, ◌*◌, ◌<◌, ◌≤�
 use Rattle.std.specs.Prelude.{⊤, ◌⊎◌, max, ltb, Option, Some, None, IfOk, IfErr, IfSome, IsSome, OnOk, MatchOption, Result, Ok, Err}
 use Rattle.mr_outside.specs.Files.{Files, file}
 use Rattle.mr_outside.specs.Faults.{last_count}
-use Rattle.mr_outside.specs.Reading.{piece_count}
 use Rattle.mr_outside.specs.State.{Shelved}
 use Rattle.mr_outside.specs.Told.{OfFile, OfFiles, MayMiss}
 use Rattle.mr_record.specs.Bytes.{AreBytes}
@@ -93,11 +92,11 @@ are_of (Some files) name P Q are has = by_found (file files name) has
 
 -- as many reads after as before
 same_reads : (told : Option Files) (name : List ℕ) (n : ℕ)
-    → OfFile told name (n ≡ n) (λ bytes. n ≤ n + piece_count (length bytes))
+    → OfFile told name (n ≡ n) (λ bytes. n ≤ n + pages_in bytes)
 same_reads None name n = tt
 same_reads (Some files) name n = by_found (file files name)
   where
-    by_found : (o : Option (List ℕ)) → MatchOption o (n ≡ n) (λ bytes. n ≤ n + piece_count (length bytes))
+    by_found : (o : Option (List ℕ)) → MatchOption o (n ≡ n) (λ bytes. n ≤ n + pages_in bytes)
     by_found None = refl
     by_found (Some bytes) = omega arith
 

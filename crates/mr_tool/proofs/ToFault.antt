@@ -8,11 +8,11 @@ use Rattle.mr_outside.specs.State.{Shelved}
 use Rattle.mr_outside.specs.Told.{OfFile, OfFiles}
 use Rattle.mr_query.specs.declared.query.Query.{Query}
 use Rattle.mr_proof.specs.Feeding.{IsUnsettled}
-use Rattle.mr_tool.specs.Counting.{pieces_of, IsToFault}
+use Rattle.mr_tool.specs.Counting.{pieces_of, reads_taken, IsToFault}
 use Rattle.mr_tool.specs.Ending.{Blames, Came, Comes, ReadsOnce}
 use Rattle.mr_tool.specs.Outcome.{Outcome}
-use Rattle.mr_tool.specs.Plan.{Plan, comes, judges}
-use Rattle.mr_tool.specs.Say.{needs}
+use Rattle.mr_tool.specs.Plan.{Input, Plan, comes, judges}
+use Rattle.mr_tool.specs.Say.{given, needs}
 use Rattle.mr_tool.specs.Taking.{ReadsToFault}
 use Rattle.mr_tool.specs.declared.ending.Ending.{Ending}
 use Rattle.mr_tool.specs.declared.ending.Halt.{Halt}
@@ -126,6 +126,11 @@ module _ (hash : List ℕ → List ℕ) (root : List ℕ) (q : Query) (told : Op
 
 -- ---- the command that reads so
 
+taken_in : (said : List ℕ → Outcome) (name : List ℕ) (n : ℕ) (input : Input) → n ≤ pieces_of input
+    → n ≤ reads_taken (given name (λ bytes. comes (said bytes)) input) input
+taken_in said name n None few = few
+taken_in said name n (Some bytes) few = few
+
 module _ (hash : List ℕ → List ℕ) (root : List ℕ) (q : Query) (name : List ℕ) (said : List ℕ → Outcome)
     (before after : Shelved) where
   abbrev plan : Plan
@@ -135,7 +140,8 @@ module _ (hash : List ℕ → List ℕ) (root : List ℕ) (q : Query) (name : Li
       → AllowsFrom told (judges hash root q name plan) r t
   few_judged None r t reads = tt
   few_judged (Some files) r t reads =
-      (reads.0, reads.1, ((reads.0, 0, omega arith, reads.2, inl refl), reads.3))
+      let here = taken_in said name reads.0 (file files name) reads.2 in
+      (reads.0, reads.1, ((reads.0, 0, omega arith, here, inl refl), reads.3))
 
   came_judged : (result : Result Ending Halt) → Came plan before after result
       → Came (judges hash root q name plan) before after result

@@ -1,6 +1,5 @@
 -- How many reads a plan takes over files that are told: an input that is read whole takes its
--- pieces once, a map that is read page by page its pages once, and the nodes that are fetched
--- beside.
+-- pieces once, a map its pages once, and the nodes that are fetched beside.
 use Rattle.std.specs.Prelude.{◌≡◌, ◌⊎◌, ⊤, ℕ, ◌+◌, ◌-◌, ◌*◌, ◌≤◌, ◌<◌, List, length, take, Some, None, MatchOption}
 use Rattle.mr_outside.specs.Files.{Files, file}
 use Rattle.mr_outside.specs.Reading.{piece_count}
@@ -25,6 +24,11 @@ use Rattle.mr_tool.specs.Rereading.{Rereading, proving, auditing}
 abbrev pub pieces_of : Input → ℕ
 pieces_of None = 0
 pieces_of (Some bytes) = piece_count (length bytes)
+
+-- in how many reads an input is read, by what follows on it: page by page what is opened as a map
+abbrev pub reads_taken : Plan → Input → ℕ
+reads_taken (opens hash bytes next) input = pages_in bytes
+reads_taken _ input = pieces_of input
 
 -- a map of these bytes has more pages than are all kept
 abbrev pub IsLarge : List ℕ → Type 0
@@ -68,7 +72,7 @@ IsToFault hash root q (Some bytes) n =
 abbrev pub AllowsReads : Plan → Files → ℕ → Type 0
 AllowsReads (comes said) files n = n ≡ 0
 AllowsReads (reads name next) files n = (here : ℕ) × (rest : ℕ) × (n ≡ here + rest)
-    × (here ≤ pieces_of (file files name))
+    × (here ≤ reads_taken (next (file files name)) (file files name))
     × ((rest ≡ 0) ⊎ AllowsReads (next (file files name)) files rest)
 AllowsReads (opens hash bytes next) files n = (found : Found) × Shows hash bytes found
     × AllowsReads (next found) files n

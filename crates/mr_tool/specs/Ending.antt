@@ -6,12 +6,13 @@ use Rattle.std.specs.String.{string_bytes}
 use Rattle.mr_outside.specs.Files.{Files, file}
 use Rattle.mr_outside.specs.Faults.{Rose}
 use Rattle.mr_outside.specs.State.{Shelved, Sunk}
-use Rattle.mr_outside.specs.Told.{OfFiles, Takes, TakesFront}
+use Rattle.mr_outside.specs.Told.{OfFiles, OfFile, Takes, TakesFront}
 use Rattle.mr_outside.specs.declared.shelf.ShelfErr.{ShelfErr}
 use Rattle.mr_outside.specs.declared.shelf.ShelfErr.TheVariants as shelf
 use Rattle.mr_record.specs.Bytes.{AreBytes}
 use Rattle.mr_record.specs.RecordText.{text_of}
 use Rattle.mr_pages.specs.PageBytes.{first_form}
+use Rattle.mr_pages.specs.Opening.{pages_in}
 use Rattle.mr_pages.specs.Law.{Agrees, IsMap}
 use Rattle.mr_tool.specs.Answer.{IsSettled}
 use Rattle.mr_tree.specs.WellFormed.{WellFormed}
@@ -204,6 +205,11 @@ abbrev pub ReadsOnce : List ℕ → Shelved → Shelved → Type 0
 ReadsOnce name before after = OfFiles before.files
     (λ files. after.reads ≤ before.reads + pieces_of (file files name))
 
+-- where the files are told, each page of this one was read once at most
+abbrev pub ReadsPages : List ℕ → Shelved → Shelved → Type 0
+ReadsPages name before after = OfFile before.files name (after.reads ≡ before.reads)
+    (λ bytes. after.reads ≤ before.reads + pages_in bytes)
+
 -- behind an opened map nothing is read, or of a large one the nodes that the bytes of a proof open
 abbrev pub ReadsOpened : (List ℕ → List ℕ) → Query → Standing → (pages : ℕ) → List ℕ → Shelved
     → Shelved → Type 0
@@ -243,7 +249,7 @@ pub record HoldsMap (hash : List ℕ → List ℕ) (name : List ℕ) (before aft
   pub counts : NoneFalls before after
   pub files : after.files ≡ before.files
   pub quiet : after.faults ≡ before.faults
-  pub once : ReadsOnce name before after
+  pub once : ReadsPages name before after
   pub bytes : List ℕ
   pub input : IsInput before.files name (Some bytes)
   pub are : AreBytes bytes

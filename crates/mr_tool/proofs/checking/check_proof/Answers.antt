@@ -3,6 +3,7 @@ use Rattle.std.specs.Prelude.{None, Ok, Err}
 use Rattle.mr_record.specs.RecordText.{text_of}
 use Rattle.mr_tool.specs.Ending.{Gives, GivesOrStops}
 use Rattle.mr_tool.specs.Say.{prints, say_check_of}
+use Rattle.mr_tool.proofs.Counting.{text_taken}
 use Rattle.mr_tool.proofs.Going.{comes_given, comes_on, comes_missed, comes_unread, judged_needs, misses}
 use Rattle.mr_tool.specs.Plan.{comes}
 use Rattle.mr_tool.proofs.ToFault.{comes_judged, once_to_fault}
@@ -20,7 +21,8 @@ returns-in-Ok g c =
     comes_judged hash c.args.root.now c.args.query.now c.args.name.now said before after _ c.judge_file.ensures.stops
     (comes_on c.args.name.now (λ b. comes (said b)) is.bytes before after after
     (record { counts = causes.counts; files = causes.files; faults = causes.cause })
-    (once_to_fault hash c.args.root.now c.args.query.now c.args.name.now before after c.judge_file.ensures.stops)
+    (text_taken before.files c.args.name.now said before.reads after.reads
+    (once_to_fault hash c.args.root.now c.args.query.now c.args.name.now before after c.judge_file.ensures.stops))
     is.input is.are
     (judged_needs c.args.name.now said before.files) (Ok c.records.result)
     (comes_given (said is.bytes) after (Ok c.records.result)
@@ -41,7 +43,8 @@ returns-in-Err-Refused g c =
     comes_judged hash c.args.root.now c.args.query.now c.args.name.now said before after _ c.judge_file.ensures.stops
     (comes_on c.args.name.now (λ b. comes (said b)) is.bytes before after after
     (record { counts = causes.counts; files = causes.files; faults = causes.cause })
-    (once_to_fault hash c.args.root.now c.args.query.now c.args.name.now before after c.judge_file.ensures.stops)
+    (text_taken before.files c.args.name.now said before.reads after.reads
+    (once_to_fault hash c.args.root.now c.args.query.now c.args.name.now before after c.judge_file.ensures.stops))
     is.input is.are
     (judged_needs c.args.name.now said before.files) c.refused.result
     (comes_given (said is.bytes) after c.refused.result
