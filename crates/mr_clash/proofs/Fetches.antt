@@ -13,8 +13,8 @@ use Rattle.mr_proof.specs.Spelling.{cut_bytes, cuts_bytes, part_bytes, FitsCut, 
 use Rattle.mr_proof.specs.Honest.{opened_of}
 use Rattle.mr_proof.specs.Reading.{verdict}
 use Rattle.mr_proof.proofs.Pairs.{pair_found}
-use Rattle.mr_clash.specs.Finding.{opened_said, opened_in, opened_by, opened_accepted}
-use Rattle.mr_clash.specs.Steps.{is_pruned, root_at, FetchesItem, FetchesChildren}
+use Rattle.mr_clash.specs.Finding.{opened_said, opened_in, opened_by, opened_accepted, root_at}
+use Rattle.mr_clash.specs.Steps.{is_pruned, FetchesItem, FetchesChildren}
 use Rattle.mr_clash.proofs.Taking.{drop_cuts, next_cut}
 use Rattle.mr_clash.proofs.Whole.{verdict_is}
 

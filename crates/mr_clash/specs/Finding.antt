@@ -2,7 +2,9 @@
 use Rattle.std.specs.Prelude.{◌≡◌, ◌↔◌, ℕ, List, Option, Some, None, Result, Ok, Err, ⊤}
 use Rattle.mr_record.specs.declared.record.Record.{Record}
 use Rattle.mr_tree.specs.Tree.{records}
-use Rattle.mr_tree.specs.Digest.{Scheme, root}
+use Rattle.mr_tree.specs.Digest.{Scheme, root, root_preimage}
+use Rattle.mr_tree.specs.Nodes.{Standing, IsTop, top_version, root_entry}
+use Rattle.mr_tree.specs.declared.nodes.Top.{Top}
 use Rattle.mr_tree.specs.declared.tree.Tree.{Tree}
 use Rattle.mr_query.specs.Scan.{scan}
 use Rattle.mr_query.specs.declared.query.Query.{Query}
@@ -45,6 +47,18 @@ abbrev pub Collides : (List ℕ → List ℕ) → Finding → Type 0
 Collides hash (findings.Collision owned shown) =
     IsCollision hash (record { owned = owned; shown = shown })
 Collides hash _ = ⊤
+
+-- ---- told or not
+
+-- the string that the root digest of a map is of, by what that says of itself
+abbrev pub root_at : Top → List ℕ
+root_at top = root_preimage (top_version top) top.batch top.count (root_entry top.root)
+
+-- by the verdict of the bytes against the root digest of what a map that stands so says of itself:
+-- what is refused has its fault, what is sound its answer, and a pair is shown where it accepts
+abbrev pub FindsFor : (List ℕ → List ℕ) → Standing → Query → List ℕ → Finding → Type 0
+FindsFor hash s q bytes finding = (top : Top) × IsTop hash s top × (pair : Option Pair)
+    × (finding ≡ finding_of (verdict hash (hash (root_at top)) q bytes) pair)
 
 -- ---- how many nodes are fetched
 

@@ -7,7 +7,7 @@ use Rattle.mr_record.specs.declared.record.Record.{Record}
 use Rattle.mr_record.specs.declared.version.Version.TheVariants.{One}
 use Rattle.mr_tree.specs.Tree.{union_of}
 use Rattle.mr_tree.specs.Digest.{Scheme, by, inner_tag, entry_bytes, root_preimage}
-use Rattle.mr_tree.specs.Nodes.{Standing, top_version, root_entry}
+use Rattle.mr_tree.specs.Nodes.{Standing}
 use Rattle.mr_tree.specs.declared.entry.Entry.{Entry}
 use Rattle.mr_tree.specs.View.{entry_of}
 use Rattle.mr_tree.specs.declared.child.Child.{Child}
@@ -23,6 +23,7 @@ use Rattle.mr_check.specs.declared.error.CheckErr.{CheckErr}
 use Rattle.mr_check.specs.declared.error.CheckErr.TheVariants as errors
 use Rattle.mr_clash.specs.declared.error.AuditErr.{AuditErr}
 use Rattle.mr_clash.specs.declared.error.AuditErr.TheVariants as audits
+use Rattle.mr_clash.specs.Finding.{root_at}
 use Rattle.mr_clash.specs.declared.finding.Clash.{Clash}
 use Rattle.mr_clash.specs.declared.finding.Finding.{Finding}
 use Rattle.mr_clash.specs.declared.finding.Finding.TheVariants as findings
@@ -160,10 +161,6 @@ pub record SaysOf (h : Head) (rest : List ℕ) (said : Said) (after : List ℕ) 
   pub count : said.count ≡ h.count
   pub level : said.level ≡ h.level
   pub behind : after ≡ rest
-
--- the string that the root digest of a map is of
-abbrev pub root_at : Top → List ℕ
-root_at top = root_preimage (top_version top) top.batch top.count (root_entry top.root)
 
 -- the two strings of the roots, by what is said of the root node of a cut
 abbrev pub ComparesRoots : {E : Type 0} → (List ℕ → List ℕ) → Top → Said → Entry

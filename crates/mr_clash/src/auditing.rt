@@ -8,8 +8,8 @@ ghost use Rattle.mr_tree.specs.declared.nodes.Top as tops;
 ghost use Rattle.mr_tree.specs.declared.tree.Tree as trees;
 ghost use Rattle.mr_query.specs.Word.{IsAskable};
 ghost use Rattle.mr_clash.specs.Causes.{AuditCauses, IsHandedOn, of_nodes};
-ghost use Rattle.mr_clash.specs.Finding.{found, finding_by as by_pair, opened_accepted, Collides, FindsHonest};
-ghost use Rattle.mr_clash.specs.Steps.{left, pair_of, root_at, ComparesMap, ComparesRoots, FetchesMap, FetchesRoot, PassesRoot, Refuses, WalksRoot};
+ghost use Rattle.mr_clash.specs.Finding.{found, finding_by as by_pair, opened_accepted, root_at, Collides, FindsFor, FindsHonest};
+ghost use Rattle.mr_clash.specs.Steps.{left, pair_of, ComparesMap, ComparesRoots, FetchesMap, FetchesRoot, PassesRoot, Refuses, WalksRoot};
 
 use crate::finding::{Clash, clash_of, first_of};
 use crate::items::pass_item;
@@ -183,6 +183,9 @@ pub fn audit<N: Nodes>(
     ensures honest { IfSome (N.stands nodes.old).tree (λ t. IfOk result (λ v.
         FindsHonest (by (N.stands nodes.old).version N.Hash.of) t (N.stands nodes.old).batch
         q.now proof.now v)) }
+    // Told or not, what is found goes by the verdict against the root digest of what `top` says.
+    ensures judged { IfOk result (λ v.
+        FindsFor N.Hash.of (N.stands nodes.old) q.now proof.now v) }
     ensures collides { IfOk result (λ v. Collides N.Hash.of v) }
     // No more nodes are fetched than accepted bytes open, and none for bytes that are refused.
     ensures fetched { IfSome (N.stands nodes.old).tree (λ t. N.fetches nodes.new ≤

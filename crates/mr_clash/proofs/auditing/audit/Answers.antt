@@ -2,7 +2,7 @@ use Rattle.std.proofs.Common.{◌∙◌}
 use Rattle.std.specs.Prelude.{Ok, option_map}
 use Rattle.mr_clash.specs.declared.error.AuditErr.{AuditErr}
 use Rattle.mr_clash.specs.Steps.{pair_of}
-use Rattle.mr_clash.proofs.Whole.{told_accepted, told_refused, refused_causes, refused_collides, honest_told}
+use Rattle.mr_clash.proofs.Whole.{told_accepted, told_refused, judged_accepted, judged_refused, refused_causes, refused_collides, honest_told}
 use Rattle.mr_tree.specs.Digest.{by}
 use Rattle.mr_clash.specs.Finding.{opened_accepted}
 use Rattle.mr_clash.proofs.Fetches.{none_fetched, few_fetched}
@@ -20,6 +20,18 @@ returns-in-Err-clause-honest g c =
     c.refusal.result c.top-top.ensures c.are_words.ensures.batch (c.check.ensures.complete _)
     (c.accepted_is_honest.ensures.accepted _) (c.accepted_is_honest.ensures.quiet _)
     (g.met.N.Nodes.well_formed c.args.nodes.now) (returns-in-Err-clause-told g c)
+
+pub returns-in-Err-clause-judged : goal.returns-in-Err-clause-judged
+returns-in-Err-clause-judged g c =
+    judged_refused g.N.Hash.Hashes.of (g.N.Nodes.stands c.args.nodes.now) c.top-top.result c.args.q.now c.args.proof.now
+    c.root_of.result c.in-Err.error c.refusal.result c.top-top.ensures c.root_of.ensures c.in-Err.ensures.exact
+    c.refusal.ensures
+
+pub returns-in_ok-pair-in-Ok-clause-judged : goal.returns-in_ok-pair-in-Ok-clause-judged
+returns-in_ok-pair-in-Ok-clause-judged g c =
+    judged_accepted g.N.Hash.Hashes.of (g.N.Nodes.stands c.args.nodes.now) c.top-top.result c.args.q.now
+    c.args.proof.now c.root_of.result c.in-Ok.answer.items (option_map pair_of c.in_ok-pair-in-Ok.pair)
+    c.finding_by.result c.top-top.ensures c.root_of.ensures c.in-Ok.ensures.exact c.finding_by.ensures
 
 pub returns-in-Err-clause-causes : goal.returns-in-Err-clause-causes
 returns-in-Err-clause-causes g c =
