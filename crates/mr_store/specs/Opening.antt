@@ -14,7 +14,7 @@ use Rattle.mr_pages.specs.Faults.{mapfault}
 use Rattle.mr_pages.specs.Source as source
 use Rattle.mr_pages.specs.Source.{SaysHead, IsRootIn, AllKept, SaysOnce}
 use Rattle.mr_pages.specs.Walking.{child_link, head_of}
-use Rattle.mr_pages.specs.Opening.{Fails, Tells}
+use Rattle.mr_pages.specs.Opening.{Fails, SomeBytes, Tells}
 pub use Rattle.mr_pages.specs.Opening.{pages_in}
 use Rattle.mr_tree.specs.Nodes.{Standing}
 use Rattle.mr_tree.specs.declared.tree.Tree.{Tree}
@@ -49,10 +49,18 @@ pub record HasWhy (name : List ℕ) (before after : Shelved) (e : MapErr) : Type
   -- and no rule of a page that is read again
   pub once : SaysOnce e
 
+-- some bytes have no fault, and page 0 of these says this
+pub record IsOfSome (hash : List ℕ → List ℕ) (h : MapHead) : Type 0 where
+  pub bytes : List ℕ
+  pub are : AreBytes bytes
+  pub fault : mapfault hash (file_of first_form bytes) ≡ None
+  pub head : (file_of first_form bytes).head ≡ Ok (head_of h)
+
 -- why a map was not opened
 pub record Refused (hash : List ℕ → List ℕ) (name : List ℕ) (before after : Shelved) (e : MapErr)
     : Type 0 where
   pub fault : IsFaultOf hash before name e
+  pub some : SomeBytes first_form hash (Err e)
   pub why : HasWhy name before after e
 
 -- what is told of a map that was opened and stands for this, where its file has these bytes
@@ -65,6 +73,7 @@ pub record IsOpened (hash : List ℕ → List ℕ) (name : List ℕ) (pages : �
     (name' : List ℕ) (h : MapHead) (after : Shelved) (fetches : ℕ) : Type 0 where
   pub answers : OfFile after.files name' ⊥
       (TellsMap hash (stands_for h (told_bytes after.files name')))
+  pub some : IsOfSome hash h
   pub same : name' ≡ name
   pub count : h.pages ≡ pages
   pub files : after.files ≡ before.files
@@ -89,6 +98,8 @@ pub record OpensMap (hash : List ℕ → List ℕ) (name : List ℕ) (before : S
     (h : MapHead) (after : Shelved) (fetches : ℕ) : Type 0 where
   pub answers : OfFile before.files name ⊥
       (TellsMap hash (stands_for h (told_bytes after.files name')))
+  -- told or not, it is the map of some bytes
+  pub some : IsOfSome hash h
   pub same : name' ≡ name
   pub pages : OfFile before.files name ⊥ (λ bytes. h.pages ≡ pages_in bytes)
   pub files : after.files ≡ before.files
@@ -104,6 +115,8 @@ pub record RefusesMap (hash : List ℕ → List ℕ) (name : List ℕ) (before a
     (e : MapErr) : Type 0 where
   pub answers : OfFile before.files name (Fails (Err e))
       (λ bytes. Tells first_form hash bytes (Err e))
+  -- told or not, a fault is the first of some bytes
+  pub some : SomeBytes first_form hash (Err e)
   pub why : HasWhy name before after e
   pub files : after.files ≡ before.files
   pub later : before.faults ≤ after.faults

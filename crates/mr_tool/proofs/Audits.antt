@@ -6,6 +6,7 @@ use Rattle.mr_outside.specs.Files.{Files, file}
 use Rattle.mr_outside.specs.Faults.{Rose}
 use Rattle.mr_outside.specs.State.{Shelved}
 use Rattle.mr_outside.specs.Told.{OfFile, OfFiles}
+use Rattle.mr_record.specs.Bytes.{AreBytes}
 use Rattle.mr_record.specs.declared.version.Version.TheVariants.{One}
 use Rattle.mr_tree.specs.Digest.{by}
 use Rattle.mr_tree.specs.Nodes.{Standing, HasSomeCause}
@@ -14,7 +15,7 @@ use Rattle.mr_tree.specs.declared.tree.Tree.{Tree}
 use Rattle.mr_pages.specs.declared.head.MapHead.{MapHead}
 use Rattle.mr_pages.specs.declared.opening.Opened.{Opened}
 use Rattle.mr_query.specs.declared.query.Query.{Query}
-use Rattle.mr_clash.specs.Finding.{found, opened_accepted, Collides}
+use Rattle.mr_clash.specs.Finding.{found, opened_accepted, Collides, FindsFor}
 use Rattle.mr_clash.specs.declared.finding.Finding.{Finding}
 use Rattle.mr_store.specs.Opening.{TellsMap, pages_in}
 use Rattle.mr_store.specs.Stored.{room}
@@ -79,18 +80,23 @@ module _ (hash : List ℕ → List ℕ) (map : List ℕ) (q : Query) (proof byte
           (subst (λ v. f ≡ found (by v hash) t s.batch q bytes) first_is is))
           (at_end (say_finding f) result (finding_writes f) quiet gives)
 
-  pub found_untold : (f : Finding) (result : Result Ending Halt) → Collides hash f → new.faults ≡ old.faults
+  pub found_untold : (f : Finding) (result : Result Ending Halt) → AreBytes bytes → FindsFor hash s q bytes f
+      → Collides hash f → new.faults ≡ old.faults
       → GivesOrStops (say_finding f) result → SaysUntold (auditing hash map q proof) old new result
-  found_untold f (Ok ending) collides quiet gives = (
+  found_untold f (Ok ending) are judged collides quiet gives = (
     say_finding f,
-    inr (inr (f, collides, refl)),
+    inr (inr (
+      f,
+      record { stands = s; bytes = bytes; are = are; judged = judged; collides = collides },
+      refl,
+    )),
     gives.status,
     gives.printed,
     subst (λ w. IsLeft w old.files new.files) (sym (finding_writes f)) files,
     λ outside. absurd (gives.settled.0 outside),
     λ settled. quiet,
   )
-  found_untold f (Err halt) collides quiet is = (subst (Stops old new) (sym is) tt, files)
+  found_untold f (Err halt) are judged collides quiet is = (subst (Stops old new) (sym is) tt, files)
 
   pub unfetched_told : (e : NodesErr) (result : Result Ending Halt) → HasSomeCause s old.faults new.faults e
       → SaysRefusal map (as_map_error e) result
@@ -109,8 +115,8 @@ module _ (hash : List ℕ → List ℕ) (map : List ℕ) (q : Query) (proof byte
   pub unfetched_untold : (e : NodesErr) (result : Result Ending Halt) → HasSomeCause s old.faults new.faults e
       → SaysRefusal map (as_map_error e) result → SaysUntold (auditing hash map q proof) old new result
   unfetched_untold e result cause says =
-      says_refused (auditing hash map q proof) map (λ said is. inl is) old new files (as_map_error e) result
-      (fetch_blamed s e old new cause) says
+      says_refused hash (auditing hash map q proof) map (λ said is. inl is) old new files (as_map_error e) result
+      (fetch_blamed hash s e old new cause) says
 
 -- ---- behind the file of a proof
 

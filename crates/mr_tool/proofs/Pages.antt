@@ -12,9 +12,6 @@ use Rattle.mr_tree.specs.Nodes.{Standing, HasSomeCause}
 use Rattle.mr_tree.specs.declared.nodes.NodesErr.{NodesErr}
 use Rattle.mr_tree.specs.declared.tree.Tree.{Tree}
 use Rattle.mr_pages.specs.Law.{IsMap}
-use Rattle.mr_pages.specs.Source.{SaysOnce, IsOfOneRead}
-use Rattle.mr_pages.specs.declared.rule.MapRule.{MapRule}
-use Rattle.mr_pages.specs.declared.rule.MapRule.TheVariants as rule
 use Rattle.mr_pages.specs.Opening.{Fails, SomeBytes, Tells}
 use Rattle.mr_pages.specs.PageBytes.{first_form}
 use Rattle.mr_pages.specs.declared.error.MapErr.{MapErr}
@@ -22,7 +19,6 @@ use Rattle.mr_pages.specs.declared.error.MapErr.TheVariants as errors
 use Rattle.mr_pages.specs.declared.head.MapHead.{MapHead}
 use Rattle.mr_pages.specs.declared.opening.Opened.{Opened}
 use Rattle.std.proofs.lemmas.Bool.{cases_Bool, ltb-true, ltb-false}
-use Rattle.std.proofs.lemmas.List.Elements.{All-nil}
 use Rattle.mr_pages.proofs.Agreement.{agrees}
 use Rattle.mr_pages.proofs.Answered.{agrees_of}
 use Rattle.mr_pages.proofs.HeadLaws.{first_form_is}
@@ -38,7 +34,7 @@ use Rattle.mr_tool.specs.First.{first}
 use Rattle.mr_tool.specs.Found.{as_map_error}
 use Rattle.mr_tool.specs.Outcome.{Outcome}
 use Rattle.mr_tool.specs.Plan.{Plan, comes, rereads, Input, IsInput}
-use Rattle.mr_tool.specs.Rereading.{Rereading, Differs, proving, auditing, IsRefused, MaySay}
+use Rattle.mr_tool.specs.Rereading.{Rereading, proving, auditing, IsRefused, MaySay}
 use Rattle.mr_tool.specs.Say.{needs_map, say_prove_of, say_written}
 use Rattle.mr_tool.specs.declared.ending.Ending.{Ending}
 use Rattle.mr_tool.specs.declared.ending.Halt.{Halt}
@@ -112,22 +108,6 @@ err_is e f is = cc
 pub with_same : (n : ℕ) (a b : Shelved) → b.files ≡ a.files → b.faults ≡ a.faults → with_reads n b ≡ with_reads n a
 with_same n a b files faults = λ i. record { files = files i; faults = faults i; reads = n }
 
--- a rule that comes at the first read shows no two digests of a page
-never_again : (r : MapRule) → IsOfOneRead r → Differs r
-never_again rule.Size once = tt
-never_again rule.Unsealed once = tt
-never_again rule.Header once = tt
-never_again rule.Page once = tt
-never_again rule.Outside once = tt
-never_again rule.Twice once = tt
-never_again (rule.Digest held found) once = tt
-never_again rule.Rect once = tt
-never_again rule.Fill once = tt
-never_again rule.Number once = tt
-never_again (rule.Count held found) once = tt
-never_again rule.Free once = tt
-never_again (rule.Changed held found) once = absurd once
-
 module _ (hash : List ℕ → List ℕ) (sized : (xs : List ℕ) → length (hash xs) ≡ 32) (map : List ℕ)
     (before : Shelved) where
   judged : OfFile before.files map ⊤ AreBytes → IsJudged hash before.files map
@@ -137,31 +117,11 @@ module _ (hash : List ℕ → List ℕ) (sized : (xs : List ℕ) → length (has
 
   -- ---- a map that is not opened
 
-  some_bytes : (files : Files) (e : MapErr) → before.files ≡ Some files
-      → OfFile before.files map (Fails (Err e)) (λ bytes. Tells first_form hash bytes (Err e))
-      → SomeBytes first_form hash (Err e)
-  some_bytes files e told answers =
-      by_found e (file files map)
-      (subst (λ o. OfFile o map (Fails (Err e)) (λ bytes. Tells first_form hash bytes (Err e))) told answers)
-    where
-      fails_with : (e : MapErr) → Fails (Err e) → SomeBytes first_form hash (Err e)
-      fails_with (errors.Map f) fails = absurd fails
-      fails_with errors.Missing fails = ([], All-nil (λ b. b < 2 ^ 8), tt)
-      fails_with errors.Fault fails = ([], All-nil (λ b. b < 2 ^ 8), tt)
-      fails_with errors.NoMemory fails = ([], All-nil (λ b. b < 2 ^ 8), tt)
-
-      by_found : (e : MapErr) (o : Option (List ℕ))
-          → MatchOption o (Fails (Err e)) (λ bytes. Tells first_form hash bytes (Err e))
-          → SomeBytes first_form hash (Err e)
-      by_found e None fails = fails_with e fails
-      by_found e (Some bytes) tells = (bytes, tells.are, tells.answers)
-
   module _ (after : Shelved) (e : MapErr) (r : RefusesMap hash map before after e) where
-    refused_answer : SomeBytes first_form hash (Err e)
-        → Answered hash map (with_reads after.reads before) after (Err e)
-    refused_answer some = (
+    refused_answer : Answered hash map (with_reads after.reads before) after (Err e)
+    refused_answer = (
       r.answers,
-      some,
+      r.some,
       record {
         missing = λ is. r.why.missing (err_is e errors.Missing is);
         fault = λ is. r.why.failed (err_is e errors.Fault is);
@@ -183,18 +143,18 @@ module _ (hash : List ℕ → List ℕ) (sized : (xs : List ℕ) → length (has
         → ComesBut (needs_map hash map next) before after result
     refused_told next goes files told (Ok ending) says =
         opens_refused hash map (with_reads after.reads before) after (judged are_there) e ending
-        (refused_answer (some_bytes files e told r.answers)) says next goes
+        refused_answer says next goes
     refused_told next goes files told (Err halt) says =
         opens_given_up hash map (with_reads after.reads before) after (judged are_there) e halt
-        (refused_answer (some_bytes files e told r.answers)) says next goes
+        refused_answer says next goes
 
     -- over others each cause is outside
-    refused_blamed : before.files ≡ None → IsBlamed before after e
+    refused_blamed : before.files ≡ None → IsBlamed hash before after e
     refused_blamed none = record {
       missing = λ is. subst (λ o. MayMiss o map before.faults after.faults) none (r.why.missing is);
       fault = r.why.failed;
       map = λ f is. (
-        never_again f.rule (subst SaysOnce is r.why.once),
+        inl (subst (λ (x : MapErr). SomeBytes first_form hash (Err x)) is r.some),
         elim r.why.quiet [
           | inl same ↦ same
           | inr fails ↦ absurd (subst (λ (x : MapErr). Fails (Err x)) is fails)
@@ -203,7 +163,7 @@ module _ (hash : List ℕ → List ℕ) (sized : (xs : List ℕ) → length (has
     }
 
     pub refused : (reading : Rereading) (next : Opened → Plan) → GoesOn next before.files
-        → ((said : Outcome) → IsRefused map said → MaySay reading said)
+        → ((said : Outcome) → IsRefused hash map said → MaySay reading said)
         → ReadsFew (rereads reading (needs_map hash map next)) before after
         → (result : Result Ending Halt) → SaysRefusal map e result
         → Comes (rereads reading (needs_map hash map next)) before after result
@@ -214,7 +174,7 @@ module _ (hash : List ℕ → List ℕ) (sized : (xs : List ℕ) → length (has
         by_files None none =
             comes_untold reading (needs_map hash map next) before after none result
             (record { faults = r.later; reads = r.more })
-            (says_refused reading map may before after r.files e result (refused_blamed none) says)
+            (says_refused hash reading map may before after r.files e result (refused_blamed none) says)
         by_files (Some files) told =
             comes_told reading (needs_map hash map next) before after files told result r.more few
             (refused_told next goes files told result says)
@@ -492,8 +452,8 @@ module _ (hash : List ℕ → List ℕ) (sized : (xs : List ℕ) → length (has
           → Comes (rereads (proving hash map q proof) (needs_map hash map on_map)) before end result
       by_files None none =
           comes_untold (proving hash map q proof) (needs_map hash map on_map) before end none result counts
-          (says_refused (proving hash map q proof) map (λ said is. inl is) before end (kept.files ∙ same)
-          (as_map_error e) result (fetch_blamed s e before end shifted) keeps.1)
+          (says_refused hash (proving hash map q proof) map (λ said is. inl is) before end (kept.files ∙ same)
+          (as_map_error e) result (fetch_blamed hash s e before end shifted) keeps.1)
       by_files (Some files) told =
           let has = has_map hash sized map before s mid same quiet answers files told in
           let stop = fetch_stopped map s has.tree e before end result has.told shifted keeps.1 in

@@ -13,7 +13,7 @@ use crate::Status;
 use crate::checking::refused;
 use crate::ending::{Ending, Halt};
 use crate::fetching::{finding_of_nodes, unfetched};
-use crate::input::{as_input, missing};
+use crate::input::{are_bytes, as_input, missing};
 use crate::lines::{collision_lines, sound_line};
 use crate::opening::unopened;
 use mr_clash::Finding;
@@ -67,6 +67,7 @@ fn audit_bytes<H: Hash32, S: Shelf>(
         (told_bytes (S.state paged.old.shelf).files (string_bytes paged.old.name)))
         paged.old.head.pages bytes.now (S.state paged.old.shelf) (S.state paged.new.shelf) }
 {
+    are_bytes(bytes);
     match finding_of_nodes(alloc, paged, query, bytes) {
         Ok(finding) => say_found(alloc, finding),
         Err(error) => unfetched(alloc, map, &error),

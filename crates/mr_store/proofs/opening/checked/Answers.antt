@@ -5,8 +5,8 @@ use Rattle.std.specs.String.{string_bytes}
 use Rattle.mr_pages.specs.declared.checking.Checked.{Checked}
 use Rattle.mr_pages.specs.Source.{Origin, SaysHead, IsRootIn}
 use Rattle.mr_store.specs.Stored.{told_bytes}
-use Rattle.mr_store.specs.Opening.{IsRefused}
-use Rattle.mr_store.proofs.Openings.{fault_of, err_is, misses, pages_known, quiet_or}
+use Rattle.mr_store.specs.Opening.{IsOfSome, IsRefused}
+use Rattle.mr_store.proofs.Openings.{of_some, some_fault, fault_of, err_is, misses, pages_known, quiet_or}
 use Rattle.mr_store.proofs.opening.checked.Goals as goal
 
 pub over-requires-after_bounds : goal.over-requires-after_bounds
@@ -28,6 +28,10 @@ pub returns-in-Ok : goal.returns-in-Ok
 returns-in-Ok g c = record {
   opened = record {
     answers = c.over.ensures.answers;
+    some = subst (IsOfSome g.H.Hashes.of) (sym c.over.ensures.head)
+        (of_some g.H.Hashes.of c.args.paging.pages (g.S.Shelf.state c.args.paging.shelf)
+        (string_bytes c.args.paging.name) c.args.paging.paging.some c.args.paging.paging.few c.in-Ok.checked
+        c.in-Ok.ensures.some);
     same = ap string_bytes c.over.ensures.name ∙ ap (λ (o : Origin). o.name) c.in-Ok.ensures.goes.from_;
     count = ap (λ (h : Rattle.mr_pages.specs.declared.head.MapHead.MapHead). h.pages) c.over.ensures.head
         ∙ c.in-Ok.ensures.says.count;
@@ -57,6 +61,8 @@ returns-in-Err g c =
             refused = record {
               fault = fault_of g.H.Hashes.of (g.S.Shelf.state s.shelf) (string_bytes s.name) s.pages s.cache.entries
                   c.in-Err.error s.paging.there s.paging.file_ c.in-Err.ensures.told;
+              some = some_fault g.H.Hashes.of s.pages (g.S.Shelf.state s.shelf) (string_bytes s.name) s.paging.some
+                  s.paging.few c.in-Err.error c.in-Err.ensures.some;
               why = record {
                 missing = λ e. misses _ _ _ _
                     (c.in-Err.ensures.goes.untold (err_is c.in-Err.error errors.Missing e))

@@ -22,7 +22,8 @@ returns-in-Ok-clause-untold g c = λ none.
     let e = c.in-Ok.ensures in
     found_untold g.H.Hashes.of c.args.map.now c.args.query.now c.args.proof.now c.args.bytes.now old
     (g.S.Shelf.state c.finding_of_nodes.new.nodes.shelf) (stands_for paged.head told) (version_first paged.head told)
-    e.kept.files e.kept.faults c.in-Ok.finding c.say_found.result e.collides e.quiet c.say_found.ensures
+    e.kept.files e.kept.faults c.in-Ok.finding c.say_found.result c.are_bytes.ensures e.judged
+    e.collides e.quiet c.say_found.ensures
 
 pub returns-in-Err-clause-told : goal.returns-in-Err-clause-told
 returns-in-Err-clause-told g c =
