@@ -199,7 +199,8 @@ pages_are (Some files) name size pages are long even count = here (file files na
     }
 
 -- a file that is odd breaks the first rule
-pub odd_refuses : (hash : List ℕ → List ℕ) → ((xs : List ℕ) → length (hash xs) ≡ 32) → (name : List ℕ) (before after : Shelved) (size : ℕ) →
+pub odd_refuses : (hash : List ℕ → List ℕ) → ((xs : List ℕ) → length (hash xs) ≡ 32) → (name : List ℕ)
+    (before after : Shelved) (size : ℕ) →
     OfFile before.files name ⊥ (λ bytes. size ≡ length bytes) → is_odd_size 4096 size ≡ true →
     after.faults ≡ before.faults →
     Refused hash name before after (errors.Map (record { page = 0; rule = rule.Size }))

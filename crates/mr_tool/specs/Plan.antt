@@ -15,8 +15,8 @@ Input = Option (List ℕ)
 
 -- it has come to an outcome; or it reads a file and goes on by what that holds; or it goes on by
 -- the map that bytes stand for, or by their fault; or it reads a map page by page, some of them
--- again, and over files that are told goes on as the plan says; or it reads a proof in pieces, up to
--- a fault that stays, and goes on as the plan says
+-- again, and over files that are told goes on as the plan says; or it reads a proof in pieces, up
+-- to a fault that stays, and goes on as the plan says
 pub data Plan : Type 0 where
   comes : Outcome → Plan
   reads : (name : List ℕ) → (Input → Plan) → Plan

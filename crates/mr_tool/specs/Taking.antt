@@ -56,8 +56,8 @@ StopsNext hash root q told name at wanted front (stops.Refused f) =
 StopsNext hash root q told name at wanted front stops.Missing = ⊤
 StopsNext hash root q told name at wanted front (stops.Halted halt) = ⊤
 
--- the next piece of the file, where the proof was taken so far, is taken too, and fixes no fault; or
--- that is so
+-- the next piece of the file, where the proof was taken so far, is taken too, and fixes no fault;
+-- or that is so
 abbrev pub TakesNext : {H : Type 0} {G : Ghosts H} → (List ℕ → List ℕ) → (H → List ℕ → Type 0)
     → List ℕ → Query → Option Files → (name : List ℕ) (at wanted : ℕ) → List ℕ
     → Result (Intake H G × ℕ) Stop → Type 0
