@@ -5,3 +5,4 @@ pub mod Walks
 pub mod Rows
 pub mod Roots
 pub mod Whole
+pub mod Fetches

@@ -21,7 +21,8 @@ use Rattle.mr_proof.proofs.Pairs.{pair_found}
 use Rattle.mr_proof.proofs.Preimages.{entry-rect}
 use Rattle.mr_proof.proofs.SameNodes.{named_cut}
 use Rattle.mr_proof.proofs.SameRoots.{same_root, empty_filled}
-use Rattle.mr_clash.specs.Steps.{scheme, root_at, pair_of, PassesRoot, Walks, WalkedOne, WalkedRoot, Compared, ComparedMap}
+use Rattle.mr_clash.specs.Finding.{root_at}
+use Rattle.mr_clash.specs.Steps.{scheme, pair_of, PassesRoot, Walks, WalkedOne, WalkedRoot, Compared, ComparedMap}
 use Rattle.mr_clash.specs.declared.walked.Walked.{Walked}
 use Rattle.mr_clash.proofs.Levels.{entry_at_level}
 use Rattle.mr_clash.proofs.Walks.{node_collides, same_strings, some_node}

@@ -23,13 +23,13 @@ use Rattle.mr_proof.specs.Reading.{verdict}
 use Rattle.mr_check.specs.declared.error.CheckErr.{CheckErr}
 use Rattle.mr_check.specs.declared.error.CheckErr.TheVariants as errors
 use Rattle.mr_check.specs.Answers.{Checks}
-use Rattle.mr_clash.specs.Finding.{finding_by, finding_of, found, IsSound, FindsHonest, Collides}
+use Rattle.mr_clash.specs.Finding.{finding_by, finding_of, found, root_at, IsSound, FindsFor, FindsHonest, Collides}
 use Rattle.mr_clash.specs.Causes.{AuditCauses}
 use Rattle.mr_clash.specs.declared.error.AuditErr.{AuditErr}
 use Rattle.mr_clash.specs.declared.finding.Finding.{Finding}
 use Rattle.mr_clash.specs.declared.finding.Finding.TheVariants as findings
 use Rattle.mr_proof.specs.Clash.{Pair, clash, NoneAnd}
-use Rattle.mr_clash.specs.Steps.{root_at, Refuses}
+use Rattle.mr_clash.specs.Steps.{Refuses}
 use Rattle.mr_clash.proofs.Roots.{root_told}
 
 -- ---- findings
@@ -37,7 +37,7 @@ use Rattle.mr_clash.proofs.Roots.{root_told}
 -- bytes that are not accepted
 module _ (hash : List ℕ → List ℕ) (s : Standing) (top : Top) (q : Query) (bytes root : List ℕ) (is : IsTop hash s top)
     (e : root ≡ hash (root_at top)) where
-  verdict_is : (t : Tree) → s.tree ≡ Some t → verdict hash (digests.root (by s.version hash) t s.batch) q bytes
+  pub verdict_is : (t : Tree) → s.tree ≡ Some t → verdict hash (digests.root (by s.version hash) t s.batch) q bytes
       ≡ verdict hash root q bytes
   verdict_is t told =
       ap (λ r. verdict hash r q bytes) (sym (e ∙ ap hash (root_told hash s top t is told)))
@@ -56,6 +56,26 @@ module _ (hash : List ℕ → List ℕ) (s : Standing) (top : Top) (q : Query) (
       by_tree (Some t) told errors.NoMemory exact refuses =
           subst (λ (r : Result Finding AuditErr). IfOk r (λ v. v ≡ found (by s.version hash) t s.batch q bytes))
           (sym refuses) tt
+
+-- told or not
+pub judged_refused : (hash : List ℕ → List ℕ) (s : Standing) (top : Top) (q : Query) (bytes root : List ℕ)
+    (error : CheckErr) (r : Result Finding AuditErr) → IsTop hash s top → root ≡ hash (root_at top)
+    → Checks (Err error) (verdict hash root q bytes) → Refuses error r → IfOk r (FindsFor hash s q bytes)
+judged_refused hash s top q bytes root (errors.Fault f) r is e exact refuses =
+    subst (λ (r : Result Finding AuditErr). IfOk r (FindsFor hash s q bytes)) (sym refuses)
+    (top, is, None, sym (ap (λ v. finding_of v None) (ap (λ x. verdict hash x q bytes) (sym e) ∙ exact)))
+judged_refused hash s top q bytes root errors.NoMemory r is e exact refuses =
+    subst (λ (r : Result Finding AuditErr). IfOk r (FindsFor hash s q bytes)) (sym refuses) tt
+
+pub judged_accepted : (hash : List ℕ → List ℕ) (s : Standing) (top : Top) (q : Query) (bytes root : List ℕ)
+    (answer : List Record) (pair : Option Pair) (finding : Finding) → IsTop hash s top → root ≡ hash (root_at top)
+    → verdict hash root q bytes ≡ Ok answer → finding ≡ finding_by answer pair → FindsFor hash s q bytes finding
+judged_accepted hash s top q bytes root answer pair finding is e exact found_by = (
+  top,
+  is,
+  pair,
+  found_by ∙ sym (ap (λ v. finding_of v pair) (ap (λ x. verdict hash x q bytes) (sym e) ∙ exact)),
+)
 
 pub refused_causes : (s : Standing) (n : ℕ) (error : CheckErr) (r : Result Finding AuditErr) → Refuses error r
     → AuditCauses s n n r

@@ -2,13 +2,16 @@
 use Rattle.std.specs.Prelude.{◌≡◌, ◌↔◌, ℕ, List, Option, Some, None, Result, Ok, Err, ⊤}
 use Rattle.mr_record.specs.declared.record.Record.{Record}
 use Rattle.mr_tree.specs.Tree.{records}
-use Rattle.mr_tree.specs.Digest.{Scheme, root}
+use Rattle.mr_tree.specs.Digest.{Scheme, root, root_preimage}
+use Rattle.mr_tree.specs.Nodes.{Standing, IsTop, top_version, root_entry}
+use Rattle.mr_tree.specs.declared.nodes.Top.{Top}
 use Rattle.mr_tree.specs.declared.tree.Tree.{Tree}
 use Rattle.mr_query.specs.Scan.{scan}
 use Rattle.mr_query.specs.declared.query.Query.{Query}
 use Rattle.mr_proof.specs.declared.rule.Fault.{Fault}
-use Rattle.mr_proof.specs.Honest.{proof}
-use Rattle.mr_proof.specs.Reading.{verdict}
+use Rattle.mr_proof.specs.Honest.{proof, opened_of}
+use Rattle.mr_proof.specs.Spelling.{Said}
+use Rattle.mr_proof.specs.Reading.{verdict, pair_in}
 use Rattle.mr_proof.specs.Clash.{Pair, clash, IsCollision}
 use Rattle.mr_clash.specs.declared.finding.Finding.{Finding}
 use Rattle.mr_clash.specs.declared.finding.Finding.TheVariants as findings
@@ -44,3 +47,34 @@ abbrev pub Collides : (List ℕ → List ℕ) → Finding → Type 0
 Collides hash (findings.Collision owned shown) =
     IsCollision hash (record { owned = owned; shown = shown })
 Collides hash _ = ⊤
+
+-- ---- told or not
+
+-- the string that the root digest of a map is of, by what that says of itself
+abbrev pub root_at : Top → List ℕ
+root_at top = root_preimage (top_version top) top.batch top.count (root_entry top.root)
+
+-- by the verdict of the bytes against the root digest of what a map that stands so says of itself:
+-- what is refused has its fault, what is sound its answer, and a pair is shown where it accepts
+abbrev pub FindsFor : (List ℕ → List ℕ) → Standing → Query → List ℕ → Finding → Type 0
+FindsFor hash s q bytes finding = (top : Top) × IsTop hash s top × (pair : Option Pair)
+    × (finding ≡ finding_of (verdict hash (hash (root_at top)) q bytes) pair)
+
+-- ---- how many nodes are fetched
+
+abbrev pub opened_said : Option Said → ℕ
+opened_said None = 0
+opened_said (Some x) = opened_of x.part
+
+-- the number of nodes that the cut opens that the bytes spell; where they spell none, there is none
+abbrev pub opened_in : List ℕ → ℕ
+opened_in bytes = opened_said (pair_in bytes)
+
+-- of bytes that are accepted; those that are refused open none
+abbrev pub opened_by : Result (List Record) Fault → List ℕ → ℕ
+opened_by (Err f) bytes = 0
+opened_by (Ok answer) bytes = opened_in bytes
+
+-- of bytes that are accepted against the root of the map with this tree at this batch
+abbrev pub opened_accepted : Scheme → Tree → (batch : ℕ) → Query → List ℕ → ℕ
+opened_accepted s t batch q bytes = opened_by (verdict s.of (root s t batch) q bytes) bytes

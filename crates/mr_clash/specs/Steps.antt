@@ -1,27 +1,29 @@
 -- What the auditor's private functions do, one by one. Nothing of this has to be believed: no
 -- public contract cites it.
-use Rattle.std.specs.Prelude.{◌≡◌, ℕ, ◌-◌, ◌∷◌, ◌++◌, List, length, map, Option, Some, None, option_map, IfOk, IfSome, IsSome, Result, Ok, Err, Bool, true, false}
+use Rattle.std.specs.Prelude.{◌≡◌, ℕ, ◌+◌, ◌-◌, ◌≤◌, ◌∷◌, ◌++◌, List, length, map, Option, Some, None, option_map, IfOk, IfSome, IsSome, Result, Ok, Err, Bool, true, false}
 use Rattle.std.specs.Global.{Vec}
 use Rattle.std.specs.List.{flat_map}
 use Rattle.mr_record.specs.declared.record.Record.{Record}
 use Rattle.mr_record.specs.declared.version.Version.TheVariants.{One}
 use Rattle.mr_tree.specs.Tree.{union_of}
 use Rattle.mr_tree.specs.Digest.{Scheme, by, inner_tag, entry_bytes, root_preimage}
-use Rattle.mr_tree.specs.Nodes.{Standing, top_version, root_entry}
+use Rattle.mr_tree.specs.Nodes.{Standing}
 use Rattle.mr_tree.specs.declared.entry.Entry.{Entry}
 use Rattle.mr_tree.specs.View.{entry_of}
 use Rattle.mr_tree.specs.declared.child.Child.{Child}
 use Rattle.mr_tree.specs.declared.nodes.Top.{Top}
 use Rattle.mr_tree.specs.declared.tree.Tree.{Tree}
 use Rattle.mr_proof.specs.declared.head.Head.{Head}
-use Rattle.mr_proof.specs.Cut.{Cut, Cuts, Pruned, Leaf, Inner, count_of, entry, entries, preimage}
+use Rattle.mr_proof.specs.Cut.{Cut, Cuts, Pruned, Leaf, Inner, count_of, entry, entries, preimage, opened_nodes, all_opened}
 use Rattle.mr_proof.specs.Spelling.{version_of, cut_bytes, cuts_bytes, part_bytes, FitsCut, FitCuts, IsSpelled}
 use Rattle.mr_proof.specs.Accepted.{root_bytes, root_found}
+use Rattle.mr_proof.specs.Honest.{opened_of}
 use Rattle.mr_proof.specs.Clash.{Pair, differ, or_else, node_clash, children_clash, clash, IsCollision}
 use Rattle.mr_check.specs.declared.error.CheckErr.{CheckErr}
 use Rattle.mr_check.specs.declared.error.CheckErr.TheVariants as errors
 use Rattle.mr_clash.specs.declared.error.AuditErr.{AuditErr}
 use Rattle.mr_clash.specs.declared.error.AuditErr.TheVariants as audits
+use Rattle.mr_clash.specs.Finding.{root_at}
 use Rattle.mr_clash.specs.declared.finding.Clash.{Clash}
 use Rattle.mr_clash.specs.declared.finding.Finding.{Finding}
 use Rattle.mr_clash.specs.declared.finding.Finding.TheVariants as findings
@@ -160,10 +162,6 @@ pub record SaysOf (h : Head) (rest : List ℕ) (said : Said) (after : List ℕ) 
   pub level : said.level ≡ h.level
   pub behind : after ≡ rest
 
--- the string that the root digest of a map is of
-abbrev pub root_at : Top → List ℕ
-root_at top = root_preimage (top_version top) top.batch top.count (root_entry top.root)
-
 -- the two strings of the roots, by what is said of the root node of a cut
 abbrev pub ComparesRoots : {E : Type 0} → (List ℕ → List ℕ) → Top → Said → Entry
     → Result (Option Clash) E → Type 0
@@ -209,3 +207,31 @@ ComparesMap hash s top bytes result =
 abbrev pub Refuses : CheckErr → Result Finding AuditErr → Type 0
 Refuses (errors.Fault f) result = result ≡ Ok (findings.Refused f)
 Refuses errors.NoMemory result = result ≡ Err audits.NoMemory
+
+-- ---- how many nodes are fetched, between these counts
+
+-- whatever cut of this level stands next, no more than it opens
+abbrev pub FetchesItem : ℕ → (before : List ℕ) → (now later : ℕ) → Type 0
+FetchesItem level before now later = (P : Cut) (rest : List ℕ) → FitsCut level P
+    → before ≡ cut_bytes P ++ rest → later ≤ now + opened_nodes P
+
+-- the same of so many cuts side by side
+abbrev pub FetchesItems : (level count : ℕ) → (before : List ℕ) → (now later : ℕ) → Type 0
+FetchesItems level count before now later = (Ps : Cuts) (rest : List ℕ) → FitCuts level Ps
+    → count_of Ps ≡ count → before ≡ cuts_bytes Ps ++ rest → later ≤ now + all_opened Ps
+
+-- and of those of an inner node of this level
+abbrev pub FetchesChildren : ℕ → (before : List ℕ) → (now later : ℕ) → Type 0
+FetchesChildren level before now later = (Ps : Cuts) (rest : List ℕ) → FitsCut level (Inner Ps)
+    → before ≡ cut_bytes (Inner Ps) ++ rest → later ≤ now + all_opened Ps
+
+-- the same behind the head of a proof
+abbrev pub FetchesRoot : Said → (before : List ℕ) → (now later : ℕ) → Type 0
+FetchesRoot said before now later = (h : Head) (P : Option Cut) (bytes : List ℕ)
+    → IsSpelled h P bytes → said.count ≡ h.count → said.level ≡ h.level → before ≡ part_bytes P
+    → later ≤ now + opened_of P
+
+-- and of all of it
+abbrev pub FetchesMap : (bytes : List ℕ) → (now later : ℕ) → Type 0
+FetchesMap bytes now later = (h : Head) (P : Option Cut) → IsSpelled h P bytes
+    → later ≤ now + opened_of P

@@ -1,6 +1,6 @@
 //! The audit of a whole proof.
 
-ghost use Rattle.std.specs.Prelude.{◌≡◌, ◌<◌, ◌^◌, ℕ, List, Option, None, Some, IfOk, IfErr, IfSome, option_map};
+ghost use Rattle.std.specs.Prelude.{◌≡◌, ◌+◌, ◌≤◌, ◌<◌, ◌^◌, ℕ, List, Option, None, Some, IfOk, IfErr, IfSome, option_map};
 ghost use Rattle.mr_geom.specs.Rectangle.{IsOrdered, FitsMap};
 ghost use Rattle.mr_tree.specs.Digest.{by};
 ghost use Rattle.mr_tree.specs.Nodes.{IsTop, TellsRefusal};
@@ -8,8 +8,8 @@ ghost use Rattle.mr_tree.specs.declared.nodes.Top as tops;
 ghost use Rattle.mr_tree.specs.declared.tree.Tree as trees;
 ghost use Rattle.mr_query.specs.Word.{IsAskable};
 ghost use Rattle.mr_clash.specs.Causes.{AuditCauses, IsHandedOn, of_nodes};
-ghost use Rattle.mr_clash.specs.Finding.{found, finding_by as by_pair, Collides, FindsHonest};
-ghost use Rattle.mr_clash.specs.Steps.{left, pair_of, root_at, ComparesMap, ComparesRoots, PassesRoot, Refuses, WalksRoot};
+ghost use Rattle.mr_clash.specs.Finding.{found, finding_by as by_pair, opened_accepted, root_at, Collides, FindsFor, FindsHonest};
+ghost use Rattle.mr_clash.specs.Steps.{left, pair_of, ComparesMap, ComparesRoots, FetchesMap, FetchesRoot, PassesRoot, Refuses, WalksRoot};
 
 use crate::finding::{Clash, clash_of, first_of};
 use crate::items::pass_item;
@@ -87,6 +87,8 @@ fn walk_root<N: Nodes>(
     ensures answered { TellsRefusal of_nodes (N.refusal nodes.old) (N.refusal nodes.new) result }
     ensures walked { WalksRoot N.Hash.of (N.stands nodes.old) top.now said.now (left from.old)
         result }
+    ensures fetched { FetchesRoot said.now (left from.old) (N.fetches nodes.old)
+        (N.fetches nodes.new) }
 {
     if said.count == 0 {
         let entry = Entry::none();
@@ -124,6 +126,7 @@ fn compare_map<N: Nodes>(
     ensures refused { IfErr result (IsHandedOn (N.refusal nodes.new)) }
     ensures answered { TellsRefusal of_nodes (N.refusal nodes.old) (N.refusal nodes.new) result }
     ensures compared { ComparesMap N.Hash.of (N.stands nodes.old) top.now proof.now result }
+    ensures fetched { FetchesMap proof.now (N.fetches nodes.old) (N.fetches nodes.new) }
 {
     let mut from = Rest { bytes: proof };
     let said = read_head(&mut from);
@@ -180,7 +183,14 @@ pub fn audit<N: Nodes>(
     ensures honest { IfSome (N.stands nodes.old).tree (λ t. IfOk result (λ v.
         FindsHonest (by (N.stands nodes.old).version N.Hash.of) t (N.stands nodes.old).batch
         q.now proof.now v)) }
+    // Told or not, what is found goes by the verdict against the root digest of what `top` says.
+    ensures judged { IfOk result (λ v.
+        FindsFor N.Hash.of (N.stands nodes.old) q.now proof.now v) }
     ensures collides { IfOk result (λ v. Collides N.Hash.of v) }
+    // No more nodes are fetched than accepted bytes open, and none for bytes that are refused.
+    ensures fetched { IfSome (N.stands nodes.old).tree (λ t. N.fetches nodes.new ≤
+        N.fetches nodes.old + opened_accepted (by (N.stands nodes.old).version N.Hash.of) t
+        (N.stands nodes.old).batch q.now proof.now) }
 {
     accepted_is_honest::<N::Hash>(q, proof);
     let top = nodes.top();

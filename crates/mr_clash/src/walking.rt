@@ -5,7 +5,7 @@ ghost use Rattle.mr_tree.specs.Nodes.{MayFetch, Shows, TellsRefusal};
 ghost use Rattle.mr_tree.specs.View.{preimage_of};
 ghost use Rattle.mr_tree.specs.declared.child.Child as types;
 ghost use Rattle.mr_clash.specs.Causes.{AuditCauses, IsHandedOn, of_nodes};
-ghost use Rattle.mr_clash.specs.Steps.{left, Walks, WalksAll, WalksChildren};
+ghost use Rattle.mr_clash.specs.Steps.{left, FetchesChildren, FetchesItem, FetchesItems, Walks, WalksAll, WalksChildren};
 
 use crate::AuditErr;
 use crate::finding::first_of;
@@ -36,6 +36,7 @@ fn fetch<N: Nodes>(
     ensures answered { TellsRefusal of_nodes (N.refusal nodes.old) (N.refusal nodes.new) result }
     ensures shows { OnOk result (Shows N.Hash.of (N.stands nodes.old) child.now view.new) }
     ensures owned { IfOk result (λ v. v.items ≡ preimage_of view.new) }
+    ensures counted { N.fetches nodes.new ≤ N.fetches nodes.old + 1 }
 {
     nodes.fetch(child, view)?;
     let owned = owned_string(alloc, view)?;
@@ -64,6 +65,8 @@ fn walk_children<N: Nodes>(
     ensures answered { TellsRefusal of_nodes (N.refusal nodes.old) (N.refusal nodes.new) result }
     ensures walked { WalksChildren N.Hash.of (N.stands nodes.old) level children.now
         (left from.old) (left from.new) result }
+    ensures fetched { FetchesChildren level (left from.old) (N.fetches nodes.old)
+        (N.fetches nodes.new) }
     ensures few { IfOk result (λ row. length row.entries.items < 2 ^ 8) }
 {
     let _tag = byte(from);
@@ -97,6 +100,8 @@ fn walk_all<N: Nodes>(
     ensures answered { TellsRefusal of_nodes (N.refusal nodes.old) (N.refusal nodes.new) result }
     ensures walked { WalksAll N.Hash.of (N.stands nodes.old) level children.now
         (left from.old) (left from.new) result }
+    ensures fetched { FetchesItems level (length children.now) (left from.old)
+        (N.fetches nodes.old) (N.fetches nodes.new) }
     ensures few { IfOk result (λ row. length row.entries.items ≡ length children.now) }
 {
     let mut entries = Vec::new(alloc);
@@ -129,6 +134,8 @@ pub(crate) fn walk<N: Nodes>(
     ensures answered { TellsRefusal of_nodes (N.refusal nodes.old) (N.refusal nodes.new) result }
     ensures walked { Walks N.Hash.of (N.stands nodes.old) child.now (left from.old)
         (left from.new) result }
+    ensures fetched { FetchesItem child.now.level (left from.old) (N.fetches nodes.old)
+        (N.fetches nodes.new) }
 {
     if is_pruned(from) {
         let entry = pass_pruned(child.level, from);

@@ -1,6 +1,6 @@
 -- What opening a file answers, and that it is the only answer.
-use Rattle.std.proofs.Common.{Fits, w8, ◌≡◌, ℕ, zero, suc, ◌/◌, ◌<◌, ◌^◌, true, false, List, [], length, get_or, sym, refl, ap, subst, ◌∙◌, arith, inl, inr}
-use Rattle.std.specs.Prelude.{⊤, Option, Some, None, Result, Ok, Err, replicate, if◌then◌else◌, MatchOption, IfOk}
+use Rattle.std.proofs.Common.{Fits, w8, ◌≡◌, ℕ, zero, suc, ◌+◌, ◌*◌, ◌/◌, ◌<◌, ◌≤◌, ◌^◌, true, false, List, [], length, get_or, sym, refl, ap, subst, ◌∙◌, arith, inl, inr}
+use Rattle.std.specs.Prelude.{⊤, Option, Some, None, option_map, Result, Ok, Err, replicate, if◌then◌else◌, MatchOption, IfOk, IfSome, IsSome}
 use Rattle.std.proofs.lemmas.List.{get_or_default}
 use Rattle.mr_record.specs.Bytes.{AreBytes}
 use Rattle.mr_tree.specs.WellFormed.{WellFormed}
@@ -12,7 +12,8 @@ use Rattle.mr_outside.specs.Files.{Files, file}
 use Rattle.mr_outside.specs.declared.shelf.ShelfErr.{ShelfErr}
 use Rattle.mr_outside.specs.declared.shelf.ShelfErr.TheVariants as shelf
 use Rattle.mr_outside.proofs.Pieces.{OfFile-map}
-use Rattle.mr_outside.specs.Told.{OfFile}
+use Rattle.mr_outside.specs.Faults.{Rose}
+use Rattle.mr_outside.specs.Told.{OfFile, MayMiss}
 use Rattle.mr_outside.specs.State.{Shelved}
 use Rattle.mr_outside.specs.Causes.{ShelfCauses}
 use Rattle.mr_pages.specs.declared.rule.MapRule.TheVariants as rule
@@ -20,13 +21,17 @@ use Rattle.mr_pages.specs.declared.rule.MapFault.{MapFault}
 use Rattle.mr_pages.specs.declared.opening.Opened.{Opened}
 use Rattle.mr_pages.specs.declared.error.MapErr.{MapErr}
 use Rattle.mr_pages.specs.declared.error.MapErr.TheVariants as errors
-use Rattle.mr_pages.specs.Page.{Form, IsForm}
-use Rattle.mr_pages.specs.File.{page_at, is_odd_size, pages_of, file_of}
+use Rattle.mr_pages.specs.Page.{Form, IsForm, page_limit}
+use Rattle.mr_pages.specs.File.{File, page_at, is_odd_size, pages_of, file_of}
 use Rattle.mr_pages.specs.Stands.{Stands}
 use Rattle.mr_pages.specs.Faults.{file_faults, first_of, mapfault}
 use Rattle.mr_pages.specs.Law.{IsOnlyMap, Agrees}
-use Rattle.mr_pages.specs.Walking.{Opens}
-use Rattle.mr_pages.specs.Opening.{of_shelf, Fails, FindsOut, OrFails, Answers, SomeBytes, Tells, MapCauses}
+use Rattle.mr_pages.specs.Walking.{Opens, child_link, head_of}
+use Rattle.mr_pages.specs.declared.checking.Checked.{Checked}
+use Rattle.mr_pages.specs.PageBytes.{first_form}
+use Rattle.mr_pages.specs.Opening.{of_shelf, pages_in, Fails, OrFails, Answers, SomeBytes, Tells, MapCauses}
+use Rattle.mr_pages.specs.Source.{Settles, GivesFile, CheckedWhole, Checks, MakesTree, HasPages, IsPaged, on_shelf, told_bytes}
+use Rattle.mr_pages.proofs.HeadLaws.{first_form_is}
 use Rattle.mr_pages.proofs.AsRead.{stands_there}
 use Rattle.mr_pages.proofs.Agreement.{is_file, spelled_as_read, agrees, are_whole_pages}
 
@@ -190,15 +195,12 @@ module _ (form : Form) (is : IsForm form) (hash : List ℕ → List ℕ) (sized 
       (λ bytes both. tells_odd bytes both.0 (subst (λ m. is_odd_size form.size m ≡ true) both.1 odd))
       (OfFile-and told name _ _ _ _ all long)
 
-  pub told_read : (told later : Option Files) (name : List ℕ) (items so_far : List ℕ) (r : Result Opened MapErr) →
-      later ≡ told → so_far ≡ items → OfFile later name ⊥ (λ bytes. items ≡ bytes) → AreBytes so_far →
-      Answers form hash so_far r →
+  pub told_answers : (told : Option Files) (name : List ℕ) (r : Result Opened MapErr) → OfFile told name ⊤ AreBytes →
+      OfFile told name ⊥ (λ bytes. Answers form hash bytes r) →
       OfFile told name (Fails r) (λ bytes. Tells form hash bytes r)
-  told_read told later name items so_far r kept shown same all a =
-      subst (λ o. OfFile o name (Fails r) (λ bytes. Tells form hash bytes r)) kept
-      (OfFile-or later name _ _ _ _ (λ absent. absurd absent) (λ bytes tells. tells)
-      (OfFile-map later name _ _ (λ bytes e. subst (λ b. Tells form hash b r) (shown ∙ e) (tells_read so_far all r a))
-      same))
+  told_answers told name r all a =
+      OfFile-or told name _ _ _ _ (λ absent. absurd absent.1) (λ bytes both. tells_read bytes both.0 r both.1)
+      (OfFile-and told name _ _ _ _ all a)
 
 -- what is known of a file's bytes: where they stand for a map they have no fault, and so on
 pub agrees_of : (form : Form) → IsForm form → (hash : List ℕ → List ℕ) → ((xs : List ℕ) → length (hash xs) ≡ 32) →
@@ -223,17 +225,139 @@ causes_failed name before after shelf.Fault c =
 causes_failed name before after shelf.NoMemory c =
     record { missing = λ is. absurd (cc); fault = λ is. absurd (cc); faults = c.faults; quiet = inr tt }
 
--- all calls of the shelf were answered
-pub causes_quiet : (name : List ℕ) (before after : Shelved) (r : Result Opened MapErr) → FindsOut r →
-    after.faults ≡ before.faults → MapCauses name before after r
-causes_quiet name before after (Ok m) f same =
+-- it answered, and nothing else was called
+pub causes_quiet : (name : List ℕ) (before after : Shelved) (f : MapFault) → after.faults ≡ before.faults →
+    MapCauses name before after (Err (errors.Map f))
+causes_quiet name before after f same =
     record { missing = λ is. absurd (cc); fault = λ is. absurd (cc); faults = omega (arith, same); quiet = inl same }
-causes_quiet name before after (Err (errors.Map g)) f same =
-    record { missing = λ is. absurd (cc); fault = λ is. absurd (cc); faults = omega (arith, same); quiet = inl same }
-causes_quiet name before after (Err errors.Missing) f same = absurd f
-causes_quiet name before after (Err errors.Fault) f same = absurd f
-causes_quiet name before after (Err errors.NoMemory) f same =
-    record { missing = λ is. absurd (cc); fault = λ is. absurd (cc); faults = omega (arith, same); quiet = inl same }
+
+-- ---- what was checked of the file's pages
+
+module _ (hash : List ℕ → List ℕ) (name : List ℕ) (lent pages : ℕ) (s : Shelved)
+    (paged : IsPaged first_form pages s.files name) where
+  answered_err : (bytes : List ℕ) (e : MapErr) → AreBytes bytes →
+      Checks {M = Tree} hash (file_of first_form bytes) (Err e) → Answers first_form hash bytes (Err e)
+  answered_err bytes (errors.Map f) all c = c
+  answered_err bytes errors.Missing all c = tt
+  answered_err bytes errors.Fault all c = tt
+  answered_err bytes errors.NoMemory all c = tt
+
+  answered_ok : (bytes : List ℕ) (c : Checked Tree) → AreBytes bytes →
+      Checks hash (file_of first_form bytes) (Ok c) →
+      MakesTree (λ (m t : Tree). m ≡ t) (option_map child_link c.head.root) c.made (file_of first_form bytes) →
+      Answers first_form hash bytes (Ok (record { tree = c.made; batch = c.head.batch }))
+  answered_ok bytes c all checks made =
+      answered first_form first_form_is hash bytes all (Ok (record { tree = c.made; batch = c.head.batch }))
+      (checks.0, head_of c.head, checks.1, made, refl)
+
+  -- of the file that is told
+  told_of : (P : List ℕ → Type 0) → ((bytes : List ℕ) → told_bytes s.files name ≡ Some bytes →
+      HasPages first_form pages bytes → P bytes) → OfFile s.files name ⊥ P
+  told_of P go = by_files s.files paged go
+    where
+      by_files : (told : Option Files) → IsPaged first_form pages told name →
+          ((bytes : List ℕ) → told_bytes told name ≡ Some bytes → HasPages first_form pages bytes → P bytes) →
+          OfFile told name ⊥ P
+      by_files None has on = tt
+      by_files (Some files) has on = at (file files name) has.there has.file_ on
+        where
+          at : (o : Option (List ℕ)) → IsSome o → IfSome o (HasPages first_form pages) →
+              ((bytes : List ℕ) → o ≡ Some bytes → HasPages first_form pages bytes → P bytes) → MatchOption o ⊥ P
+          at None there has on = absurd (cc)
+          at (Some bytes) there has on = on bytes refl has
+
+  pub told_err : (e : MapErr) → ((f : File) → (on_shelf first_form lent pages s name).file ≡ Some f →
+      f.pages ≡ pages → Checks {M = Tree} hash f (Err e)) →
+      OfFile s.files name ⊥ (λ bytes. Answers first_form hash bytes (Err e))
+  told_err e checks = told_of (λ bytes. Answers first_form hash bytes (Err e)) (λ bytes is has.
+      answered_err bytes e has.are
+      (checks (file_of first_form bytes) (ap (option_map (file_of first_form)) is) (sym has.count)))
+
+  pub told_ok : (c : Checked Tree) → ((f : File) → (on_shelf first_form lent pages s name).file ≡ Some f →
+      f.pages ≡ pages → Checks hash f (Ok c)) → ((f : File) → (on_shelf first_form lent pages s name).file ≡ Some f →
+      MakesTree (λ (m t : Tree). m ≡ t) (option_map child_link c.head.root) c.made f) →
+      OfFile s.files name ⊥ (λ bytes. Answers first_form hash bytes (Ok (record
+      { tree = c.made; batch = c.head.batch })))
+  told_ok c checks made = told_of (λ bytes. Answers first_form hash bytes (Ok (record
+      { tree = c.made; batch = c.head.batch }))) (λ bytes is has.
+      let there = ap (option_map (file_of first_form)) is in
+      answered_ok bytes c has.are (checks (file_of first_form bytes) there (sym has.count))
+      (made (file_of first_form bytes) there))
+
+  -- of the bytes that were read, told or not
+  module _ (some : 1 ≤ pages) (few : pages ≤ page_limit) where
+    as_file : (bytes : List ℕ) → length bytes ≡ pages * 4096 →
+        pages_of first_form pages bytes ≡ file_of first_form bytes
+    as_file bytes size = same_file first_form pages bytes (omega (arith, size))
+        (are_whole_pages 4096 (length bytes) pages (omega arith) size some few)
+
+    pub some_err : (e : MapErr) → ((xs : List ℕ) → length (hash xs) ≡ 32) →
+        Settles {A = Checked Tree} (Err e) (GivesFile (on_shelf first_form lent pages s name)
+        (CheckedWhole hash (λ (m t : Tree). m ≡ t) pages (Err e))) → SomeBytes first_form hash (Err e)
+    some_err (errors.Map f) sized g = (
+      g.bytes,
+      g.are,
+      subst (λ h. mapfault hash h ≡ Some f) (as_file g.bytes g.size) (g.so.checks refl),
+    )
+    some_err errors.Missing sized g = some_failed first_form first_form_is hash sized (Err errors.Missing) tt
+    some_err errors.Fault sized g = some_failed first_form first_form_is hash sized (Err errors.Fault) tt
+    some_err errors.NoMemory sized g = some_failed first_form first_form_is hash sized (Err errors.NoMemory) tt
+
+    pub some_ok : (c : Checked Tree) → GivesFile (on_shelf first_form lent pages s name)
+        (CheckedWhole hash (λ (m t : Tree). m ≡ t) pages (Ok c)) →
+        SomeBytes first_form hash (Ok (record { tree = c.made; batch = c.head.batch }))
+    some_ok c g =
+        let w = subst (λ h. CheckedWhole hash (λ (m t : Tree). m ≡ t) h.pages (Ok c) h) (as_file g.bytes g.size) g.so in
+        (g.bytes, g.are, answered_ok g.bytes c g.are (w.checks refl) w.made)
+
+-- ---- behind the file's size
+
+pub paged_of : (told : Option Files) (name : List ℕ) (size pages : ℕ) → OfFile told name ⊤ AreBytes →
+    OfFile told name ⊥ (λ bytes. size ≡ length bytes) → is_odd_size 4096 size ≡ false → pages ≡ size / 4096 →
+    IsPaged first_form pages told name
+paged_of None name size pages all long even count = record { there = tt; file_ = tt }
+paged_of (Some files) name size pages all long even count = at (file files name) refl all long
+  where
+    at : (o : Option (List ℕ)) → file files name ≡ o → MatchOption o ⊤ AreBytes →
+        MatchOption o ⊥ (λ bytes. size ≡ length bytes) → IsPaged first_form pages (Some files) name
+    at None e all long = absurd long
+    at (Some bytes) e all long = record {
+      there = subst (IsSome {T = List ℕ}) (sym e) refl;
+      file_ = subst (λ o. IfSome o (HasPages first_form pages)) (sym e) (record {
+        are = all;
+        even = subst (λ n. is_odd_size 4096 n ≡ false) long even;
+        count = count ∙ ap (λ n. n / 4096) long;
+      });
+    }
+
+pub once_of : (told : Option Files) (name : List ℕ) (before after pages : ℕ) → IsPaged first_form pages told name →
+    after ≤ before + pages → OfFile told name (after ≡ before) (λ bytes. after ≤ before + pages_in bytes)
+once_of None name before after pages paged few = tt
+once_of (Some files) name before after pages paged few = at (file files name) paged.there paged.file_
+  where
+    at : (o : Option (List ℕ)) → IsSome o → IfSome o (HasPages first_form pages) →
+        MatchOption o (after ≡ before) (λ bytes. after ≤ before + pages_in bytes)
+    at None there has = absurd (cc)
+    at (Some bytes) there has = subst (λ n. after ≤ before + n) has.count few
+
+pub unread : (told : Option Files) (name : List ℕ) (before after : ℕ) → after ≡ before →
+    OfFile told name (after ≡ before) (λ bytes. after ≤ before + pages_in bytes)
+unread None name before after same = tt
+unread (Some files) name before after same = at (file files name)
+  where
+    at : (o : Option (List ℕ)) → MatchOption o (after ≡ before) (λ bytes. after ≤ before + pages_in bytes)
+    at None = same
+    at (Some bytes) = omega (arith, same)
+
+pub causes_later : (name : List ℕ) (a b c : Shelved) (r : Result Opened MapErr) → b.files ≡ a.files →
+    b.faults ≡ a.faults → MapCauses name b c r → MapCauses name a c r
+causes_later name a b c r files quiet m = record {
+  missing = λ is. subst (λ o. MayMiss o name a.faults c.faults) files
+      (subst (λ n. MayMiss b.files name n c.faults) quiet (m.missing is));
+  fault = λ is. subst (λ n. Rose n c.faults) quiet (m.fault is);
+  faults = omega (arith, m.faults, quiet);
+  quiet = elim m.quiet [ inl same ↦ inl (same ∙ quiet) | inr fails ↦ inr fails ];
+}
 
 -- ---- the clauses of the call that opens a file
 

@@ -13,6 +13,7 @@ pub mod Agreement
 mod Numbered
 pub mod SavedStands
 mod Walks
+pub mod Giving
 pub mod Visits
 mod Links
 mod Placing
@@ -24,6 +25,7 @@ pub mod Judged
 mod Short
 mod Zeros
 pub mod Filled
+pub mod PageReads
 mod Put
 pub mod Answered
 mod Written

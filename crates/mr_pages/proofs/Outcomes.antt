@@ -1,9 +1,10 @@
 -- What checking a file comes to, rule by rule.
-use Rattle.std.proofs.Common.{◌≡◌, ℕ, ◌<◌, true, false, List, [], length, sym, subst, ◌∙◌, ⊎_elim}
+use Rattle.std.proofs.Common.{◌≡◌, ℕ, ◌<◌, true, false, List, [], length, inl, sym, subst, ◌∙◌, ⊎_elim}
 use Rattle.std.specs.Prelude.{Option, Some, Result, Ok, Err, OnOk}
 use Rattle.mr_record.specs.declared.version.Version.{Version}
 use Rattle.mr_record.specs.declared.version.Version.TheVariants.{One}
 use Rattle.mr_tree.specs.Digest.{Scheme, by}
+use Rattle.mr_tree.specs.declared.tree.Tree.{Tree}
 use Rattle.mr_pages.specs.declared.error.MapErr.{MapErr}
 use Rattle.mr_pages.specs.declared.error.MapErr.TheVariants as errors
 use Rattle.mr_pages.specs.declared.seen.Seen.{Seen}
@@ -11,7 +12,7 @@ use Rattle.mr_pages.specs.Page.{Link, Node, Head}
 use Rattle.mr_pages.specs.File.{File}
 use Rattle.mr_pages.specs.Faults.{has, Visit, walk, reached, all_records, numbers_of, chain, mapfault, first_of}
 use Rattle.mr_pages.specs.Walking.{Saw, Passed}
-use Rattle.mr_pages.specs.Source.{Walks, Visits, Chains, ChecksBehind, AreKept, AllKept}
+use Rattle.mr_pages.specs.Source.{Sourced, Walks, Visits, WalkedAll, Gives, Settles, Chains, ChecksBehind, AreKept, AllKept}
 use Rattle.mr_pages.proofs.Lists.{all_has}
 use Rattle.mr_pages.proofs.Rules.{walk_sound}
 use Rattle.mr_pages.proofs.AsRead.{within_pages}
@@ -48,6 +49,16 @@ kept_all A hash n file root (Ok a) old new' keeps none v k = λ page on.
   where
     no : ◌≡◌ true false → ⊥
     no h = cc
+
+-- what is told of the file that is told
+pub visits_of : {M : Type 0} (hash : List ℕ → List ℕ) (makes : M → Tree → Type 0) (s : Sourced) (root : Option Link)
+    (r : Result M MapErr) (a b : Seen) → Settles r (Gives s a b (WalkedAll hash makes s.pages root r b)) →
+    (f : File) → s.file ≡ Some f → Visits (by f.version hash) s.pages f.node root r b
+visits_of hash makes s root (Ok m) a b g f is = (g.so f (inl is)).visits_
+visits_of hash makes s root (Err (errors.Map x)) a b g f is = (g.so f (inl is)).visits_
+visits_of hash makes s root (Err errors.Missing) a b g f is = tt
+visits_of hash makes s root (Err errors.Fault) a b g f is = tt
+visits_of hash makes s root (Err errors.NoMemory) a b g f is = tt
 
 pub same_pages : (hash : Scheme) (m n : ℕ) (vs : List Visit) (s : Seen) → m ≡ n → Passed hash m [] vs s →
     Passed hash n [] vs s

@@ -1,13 +1,12 @@
 -- One step on the chain of free pages.
 use Rattle.std.proofs.Common.{◌≡◌, ◌≢◌, ℕ, ◌+◌, ◌-◌, ◌<◌, Bool, true, false, List, [], ◌∷◌, ◌++◌, refl, sym, ap, subst, ◌∙◌, arith}
-use Rattle.std.specs.Prelude.{◌==◌, ◌||◌, nat_le, is_none, Option, Some, None, IfSome, Result, Err}
+use Rattle.std.specs.Prelude.{◌==◌, ◌||◌, nat_le, is_none, Option, Some, None, Result, Err}
 use Rattle.std.proofs.lemmas.Bool.{ne_eqb, or_parts}
 use Rattle.mr_pages.specs.declared.error.MapErr.{MapErr}
 use Rattle.mr_pages.specs.declared.error.MapErr.TheVariants as errors
 use Rattle.mr_pages.specs.declared.rule.MapFault.{MapFault}
 use Rattle.mr_pages.specs.declared.rule.MapRule.TheVariants as rule
 use Rattle.mr_pages.specs.declared.seen.Seen.{Seen}
-use Rattle.mr_pages.specs.File.{File}
 use Rattle.mr_pages.specs.Faults.{fault_if, has, chain, first_of}
 use Rattle.mr_pages.specs.Walking.{enter_faults, Saw}
 use Rattle.mr_pages.specs.Source.{Steps, Chains}
@@ -38,8 +37,16 @@ passed_step pages p ps o g none e =
     (nil_right (fault_if (p == 0 || nat_le pages p) p rule.Outside) (fault_if (has p ps) p rule.Twice) none) in
     λ i. a.1 i || (b i || is_none (e i))
 
-pub of_file : (o : Option File) (f : File) (P : File → Type 0) → o ≡ Some f → IfSome o P → P f
-of_file o f P e h = subst (λ x. IfSome x P) e h
+-- what is no free page
+pub stopped_step : (pages p : ℕ) (ps : List ℕ) (o : Option ℕ) → o ≡ None →
+    (nat_le pages p || (has p ps || is_none o)) ≡ true
+stopped_step pages p ps o e =
+    ap (λ q. nat_le pages p || (has p ps || is_none q)) e ∙ or_true (nat_le pages p) (has p ps)
+  where
+    or_true : (a b : Bool) → (a || (b || true)) ≡ true
+    or_true true b = refl
+    or_true false true = refl
+    or_true false false = refl
 
 pub chain_stops : (free : ℕ → Option ℕ) (pages f i next : ℕ) (ps ns : List ℕ) (s r : Seen) (e : MapErr) → i < pages →
     next ≢ 0 → Followed free pages f i next ps ns s →

@@ -18,6 +18,7 @@ use Rattle.mr_pages.specs.declared.error.MapErr.TheVariants as errors
 use Rattle.mr_pages.specs.declared.node.Node as owned_type
 use Rattle.mr_pages.specs.declared.seen.Seen.{Seen}
 use Rattle.mr_pages.specs.Page.{Link, Node, level_of, IsNode}
+use Rattle.mr_pages.specs.File.{File}
 use Rattle.mr_pages.specs.Faults.{repeats, found, children, Visit, records_in, visit, visits, reached, all_records, numbers_of, node_faults, walk_faults, first_of}
 use Rattle.mr_pages.specs.Walking.{child_link, page_node, owned, enter_faults, Saw, Counts, Passed}
 use Rattle.mr_pages.specs.Source.{Sourced, Knows, Looks, Walks, Goes, AreMade}
@@ -249,6 +250,14 @@ inner_made makes at root link cs items below m n inner same whole all made =
     images [] = refl
     images (x ∷ xs) = ap (λ ts. tree_of (place at (link.entry.level - 1) (child_link x)) ∷ ts) (images xs)
 
+-- what a walk comes to below some of a node's children, and what was made of these
+pub record WalkedBelow {M : Type 0} (hash : Scheme) (makes : M → Tree → Type 0) (pages : ℕ) (old : Seen) (root : Bool)
+    (link : Link) (cs items : List Child) (below : List M) (new' : Seen) (f : File) : Type 0 where
+  pub inner : AtInner f.node root link (map child_link cs)
+  pub passed : (before : List Visit) → Saw pages old (reached before) (numbers_of (all_records before)) →
+      PassedBelow hash pages f.node before root link items new'
+  pub made : AreMade makes below (trees_below f.node link items)
+
 -- ---- what a walk leaves
 
 pub goes_first : {A : Type 0} (r : A) (a b : Sourced) (x y : ℕ) → Goes a b 1 0 (Ok r) → y + 1 ≡ x →
@@ -264,6 +273,21 @@ goes_first r a b x y p one = record {
   quiet = p.quiet;
   more = p.more;
   few = omega (arith, p.few, one);
+}
+
+-- nothing was read yet
+pub goes_none : (a : Sourced) (x : ℕ) → Goes {A = Unit {0}} a a x x (Ok tt)
+goes_none a x = record {
+  from_ = refl;
+  count = refl;
+  same = refl;
+  missing = λ e. cc;
+  untold = λ e. cc;
+  fault = λ e. cc;
+  later = omega arith;
+  quiet = refl;
+  more = omega arith;
+  few = omega arith;
 }
 
 pub along : (A : Type 0) (hash : Scheme) (m n : ℕ) (at : ℕ → Option Node) (before : List Visit) (root : Bool)

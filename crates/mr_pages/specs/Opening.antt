@@ -1,5 +1,5 @@
 -- What opening a named file answers.
-use Rattle.std.specs.Prelude.{◌≡◌, ⊤, ◌⊎◌, ℕ, ◌≤◌, List, Some, Result, Ok, Err, IsErrOf}
+use Rattle.std.specs.Prelude.{◌≡◌, ⊤, ◌⊎◌, ℕ, ◌/◌, ◌≤◌, List, length, Some, Result, Ok, Err, IsErrOf}
 use Rattle.mr_tree.specs.declared.tree.Tree.{Tree}
 use Rattle.mr_record.specs.Bytes.{AreBytes}
 use Rattle.mr_outside.specs.Faults.{Rose}
@@ -27,6 +27,10 @@ abbrev pub opened : Result (Tree × ℕ) MapErr → Result Opened MapErr
 opened (Ok (tree, batch)) = Ok (record { tree = tree; batch = batch })
 opened (Err e) = Err e
 
+-- how many pages a file of these bytes has
+abbrev pub pages_in : List ℕ → ℕ
+pages_in bytes = length bytes / 4096
+
 -- ---- whether something was found out
 
 -- the call failed, and says nothing of the file
@@ -34,12 +38,6 @@ abbrev pub Fails : Result Opened MapErr → Type 0
 Fails (Ok map) = ⊥
 Fails (Err (errors.Map f)) = ⊥
 Fails (Err _) = ⊤
-
--- no failure of a shelf
-abbrev pub FindsOut : Result Opened MapErr → Type 0
-FindsOut (Err errors.Missing) = ⊥
-FindsOut (Err errors.Fault) = ⊥
-FindsOut _ = ⊤
 
 -- this is the answer, unless the call failed
 abbrev pub OrFails : (result wanted : Result Opened MapErr) → Type 0

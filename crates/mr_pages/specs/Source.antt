@@ -1,8 +1,10 @@
 -- What is known of the pages of a file while they are read one by one, and what a walk over them
 -- leaves.
-use Rattle.std.specs.Prelude.{◌≡◌, ⊤, ◌⊎◌, ℕ, ◌+◌, ◌<◌, ◌≤◌, true, not, Bool, List, [], length, All, count_by, slice_index_or, drop, ◌∷◌, ◌++◌, nat_le, ◌||◌, is_none, false, Option, Some, None, IfSome, OnOk, Result, Ok, Err, IsErrOf}
+use Rattle.std.specs.Prelude.{◌≡◌, ⊤, ◌⊎◌, ℕ, ◌+◌, ◌*◌, ◌/◌, ◌<◌, ◌≤◌, true, not, Bool, List, [], length, All, count_by, slice_index_or, drop, ◌∷◌, ◌++◌, nat_le, ◌||◌, is_none, false, Option, Some, None, option_map, IfSome, IsSome, MatchOption, IfOk, OnOk, Result, Ok, Err, IsErrOf}
 use Rattle.mr_outside.specs.Faults.{Rose}
-use Rattle.mr_outside.specs.Files.{Files}
+use Rattle.mr_outside.specs.Files.{Files, file}
+use Rattle.mr_outside.specs.State.{Shelved}
+use Rattle.mr_record.specs.Bytes.{AreBytes}
 use Rattle.mr_outside.specs.declared.shelf.ShelfErr.{ShelfErr}
 use Rattle.mr_outside.specs.declared.shelf.ShelfErr.TheVariants as shelf
 use Rattle.mr_tree.specs.View as view
@@ -16,19 +18,25 @@ use Rattle.mr_pages.specs.declared.rule.MapRule.{MapRule}
 use Rattle.mr_pages.specs.declared.rule.MapRule.TheVariants as rule
 use Rattle.mr_pages.specs.declared.seen.Seen.{Seen}
 use Rattle.mr_pages.specs.Page.{Link, Node, Form, IsHead}
-use Rattle.mr_pages.specs.File.{File, pages_of}
-use Rattle.mr_pages.specs.Faults.{has, Visit, visits, reached, node_faults, found, walk_faults, walk, chain, chain_faults, mapfault, first_of}
-use Rattle.mr_pages.specs.Walking.{page_node, owned, head_of, Saw, Passed}
+use Rattle.mr_pages.specs.File.{File, page_at, pages_of, file_of, is_odd_size}
+use Rattle.mr_pages.specs.PageBytes.{first_form}
+use Rattle.mr_pages.specs.Stands.{tree_of, whole_tree}
+use Rattle.mr_pages.specs.Spelled.{place, placed_at}
+use Rattle.mr_pages.specs.Faults.{has, Visit, visits, reached, all_records, numbers_of, node_faults, found, walk_faults, walk, chain, chain_faults, mapfault, first_of}
+use Rattle.mr_pages.specs.Walking.{child_link, page_node, owned, head_of, Saw, Passed}
 use Rattle.mr_pages.specs.declared.checking.Checked.{Checked}
-use Rattle.mr_tree.specs.Digest.{Scheme}
+use Rattle.mr_tree.specs.Digest.{Scheme, by}
 use Rattle.mr_tree.specs.declared.tree.Tree.{Tree}
 use Rattle.mr_tree.specs.declared.tree.Tree.TheVariants as tree
 use Rattle.mr_pages.specs.declared.node.Node.TheVariants as owned_node
 
--- where they come from: a file by its name, and all files where they are told
+-- where they come from: a file by its name, and all files where they are told; how its pages are
+-- spelled; and the reference to the shelf, where it is not owned
 pub record Origin : Type 0 where
   pub name : List ℕ
   pub files : Option Files
+  pub form : Form
+  pub lent : ℕ
 
 pub record Sourced : Type 0 where
   pub origin : Origin
@@ -39,15 +47,61 @@ pub record Sourced : Type 0 where
   pub faults : ℕ
   pub reads : ℕ
 
--- so many pages whose bytes are in memory
-abbrev pub in_memory : Form → (pages : ℕ) → List ℕ → Sourced
-in_memory form pages bytes = record {
-  origin = record { name = []; files = None };
+-- the bytes of a file, where they are told
+abbrev pub told_bytes : Option Files → List ℕ → Option (List ℕ)
+told_bytes None name = None
+told_bytes (Some files) name = file files name
+
+-- so many pages of a file on a shelf
+abbrev pub on_shelf : Form → (lent pages : ℕ) → Shelved → (name : List ℕ) → Sourced
+on_shelf form lent pages s name = record {
+  origin = record { name = name; files = s.files; form = form; lent = lent };
   pages = pages;
-  file = Some (pages_of form pages bytes);
-  faults = 0;
-  reads = 0;
+  file = option_map (file_of form) (told_bytes s.files name);
+  faults = s.faults;
+  reads = s.reads;
 }
+
+-- the file has so many whole pages
+pub record HasPages (form : Form) (pages : ℕ) (bytes : List ℕ) : Type 0 where
+  pub are : AreBytes bytes
+  pub even : is_odd_size form.size (length bytes) ≡ false
+  pub count : pages ≡ length bytes / form.size
+
+-- where the files are told, it is there and has so many
+pub record IsPaged (form : Form) (pages : ℕ) (told : Option Files) (name : List ℕ) : Type 0 where
+  pub there : MatchOption told ⊤ (λ files. IsSome (file files name))
+  pub file_ : IfSome (told_bytes told name) (HasPages form pages)
+
+-- these are the bytes of a page of a file of these bytes, if it is one of so many whole pages
+abbrev pub TellsPage : (page : ℕ) → (p bytes : List ℕ) → Type 0
+TellsPage page p bytes =
+    (pages : ℕ) → length bytes ≡ pages * 4096 → page < pages → p ≡ page_at first_form bytes page
+
+-- ---- what pages are read as, told or not
+
+-- the bytes of a page
+pub record IsPage (form : Form) (bytes : List ℕ) : Type 0 where
+  pub size : length bytes ≡ form.size
+  pub are : AreBytes bytes
+
+-- the file has on this page what these bytes spell
+pub record HasPage (form : Form) (file : File) (page : ℕ) (bytes : List ℕ) : Type 0 where
+  pub node : file.node page ≡ form.node_in bytes
+  pub free : file.free page ≡ form.free_in bytes
+
+-- Q holds of the file that is told, and of each with the bytes that were read on this page
+pub record GivesPage (s : Sourced) (page : ℕ) (Q : File → Type 0) : Type 0 where
+  pub bytes : List ℕ
+  pub is : IsPage s.origin.form bytes
+  pub so : (f : File) → (s.file ≡ Some f) ⊎ HasPage s.origin.form f page bytes → Q f
+
+-- the same of page 0
+pub record GivesHead (s : Sourced) (Q : File → Type 0) : Type 0 where
+  pub bytes : List ℕ
+  pub is : IsPage s.origin.form bytes
+  pub so : (f : File) →
+      (s.file ≡ Some f) ⊎ (f.head ≡ s.origin.form.head_in s.pages bytes) → Q f
 
 -- a call that reads one page at most
 pub record ReadsPage {A : Type 0} (before after : Sourced) (result : Result A ShelfErr) : Type 0
@@ -115,6 +169,9 @@ pub record Comes (before : Seen) (page : ℕ) (after : Seen) : Type 0 where
   pub size : length after.reached.items ≡ length before.reached.items
   pub one : left after + 1 ≡ left before
   pub others : (p : ℕ) → IsReached after p → IsReached before p ⊎ (p ≡ page)
+  pub more : (p : ℕ) → IsReached before p → IsReached after p
+  pub fresh : IsReached before page → ⊥
+  pub here : IsReached after page
 
 abbrev pub Reaches : Seen → ℕ → Option MapRule → Seen → Type 0
 Reaches before page None after = Comes before page after
@@ -134,6 +191,32 @@ abbrev pub Settles : {A : Type 0} → Result A MapErr → Type 0 → Type 0
 Settles (Ok _) P = P
 Settles (Err (errors.Map f)) P = P
 Settles (Err _) P = ⊤
+
+-- the file is the one that is told, or has the bytes that were read on each page which was reached
+abbrev pub IsAsRead : Sourced → (before after : Seen) → (ℕ → List ℕ) → File → Type 0
+IsAsRead s before after given f = (s.file ≡ Some f) ⊎ ((p : ℕ) → 1 ≤ p → IsReached after p →
+    (IsReached before p → ⊥) → HasPage s.origin.form f p (given p))
+
+-- pages were reached and read, and Q holds of each file that is as they were read
+pub record Gives (s : Sourced) (before after : Seen) (Q : File → Type 0) : Type 0 where
+  pub more : (p : ℕ) → IsReached before p → IsReached after p
+  pub given : ℕ → List ℕ
+  pub pages : (p : ℕ) → IsPage s.origin.form (given p)
+  pub so : (f : File) → IsAsRead s before after given f → Q f
+
+-- the same of all pages but page 0
+pub record GivesAll (s : Sourced) (Q : File → Type 0) : Type 0 where
+  pub given : ℕ → List ℕ
+  pub pages : (p : ℕ) → IsPage s.origin.form (given p)
+  pub so : (f : File) → (s.file ≡ Some f)
+      ⊎ ((p : ℕ) → 1 ≤ p → p < s.pages → HasPage s.origin.form f p (given p)) → Q f
+
+-- Q holds of some bytes, read page by page
+pub record GivesFile (s : Sourced) (Q : File → Type 0) : Type 0 where
+  pub bytes : List ℕ
+  pub are : AreBytes bytes
+  pub size : length bytes ≡ s.pages * s.origin.form.size
+  pub so : Q (pages_of s.origin.form s.pages bytes)
 
 -- no more pages were read than were reached
 pub record Goes {A : Type 0} (before after : Sourced) (room rest : ℕ) (result : Result A MapErr)
@@ -173,6 +256,14 @@ Walks s pages at before root link (Err (errors.Map f)) after =
     first_of (walk_faults s pages before (visits at link.entry.level root link)) ≡ Some f
 Walks s pages at before root link (Err _) after = ⊤
 
+-- what a walk below a child comes to, and what was made of the nodes
+pub record Walked {M : Type 0} (s : Scheme) (makes : M → Tree → Type 0) (pages : ℕ) (old : Seen)
+    (root : Bool) (c : Child) (result : Result M MapErr) (new : Seen) (f : File) : Type 0 where
+  pub walks : (before : List Visit) → Saw pages old (reached before)
+      (numbers_of (all_records before)) →
+      Walks s pages f.node before root (child_link c) result new
+  pub made : IfOk result (λ m. makes m (tree_of (place f.node c.level (child_link c))))
+
 -- one step on the chain of free pages
 abbrev pub Steps : (ℕ → Option ℕ) → ℕ → ℕ → List ℕ → List ℕ → Result ℕ MapErr → Seen → Type 0
 Steps free pages p ps ns (Ok g) after =
@@ -193,6 +284,15 @@ Chains free pages f ps ns (Ok _) after =
 Chains free pages f ps ns (Err (errors.Map e)) after =
     first_of (chain_faults free pages ps (chain free pages f)) ≡ Some e
 Chains free pages f ps ns (Err _) after = ⊤
+
+-- the same, whatever was seen before
+abbrev pub StepsOn : ℕ → ℕ → Seen → Result ℕ MapErr → Seen → File → Type 0
+StepsOn pages page old result new f = (ps ns : List ℕ) → Saw pages old ps ns →
+    Steps f.free pages page ps ns result new
+
+abbrev pub ChainsOn : {A : Type 0} → ℕ → ℕ → Seen → Result A MapErr → Seen → File → Type 0
+ChainsOn pages first old result new f = (ps ns : List ℕ) → Saw pages old ps ns →
+    Chains f.free pages first ps ns result new
 
 -- page 0 of a file without a fault, or the first fault
 abbrev pub Checks : {M : Type 0} → (List ℕ → List ℕ) → File → Result (Checked M) MapErr → Type 0
@@ -217,6 +317,29 @@ Visits s pages at root (Ok _) after = Passed s pages [] (walk at root) after
 Visits s pages at root (Err (errors.Map f)) after =
     first_of (walk_faults s pages [] (walk at root)) ≡ Some f
 Visits s pages at root (Err _) after = ⊤
+
+-- the tree that was made is the one that the pages below a root spell
+abbrev pub MakesTree : {M : Type 0} → (M → Tree → Type 0) → Option Link → M → File → Type 0
+MakesTree makes root m f = makes m (whole_tree (placed_at f.node root))
+
+-- what the walk from a root comes to, and what was made of the nodes
+pub record WalkedAll {M : Type 0} (hash : List ℕ → List ℕ) (makes : M → Tree → Type 0) (pages : ℕ)
+    (root : Option Link) (result : Result M MapErr) (new : Seen) (f : File) : Type 0 where
+  pub visits_ : Visits (by f.version hash) pages f.node root result new
+  pub made : IfOk result (λ m. MakesTree makes root m f)
+
+-- what comes of all that is behind page 0, which says this, and what was made of the nodes
+pub record CheckedBehind {M : Type 0} (hash : List ℕ → List ℕ) (makes : M → Tree → Type 0)
+    (pages : ℕ) (h : MapHead) (result : Result M MapErr) (f : File) : Type 0 where
+  pub checks : f.pages ≡ pages → f.head ≡ Ok (head_of h) → ChecksBehind hash f result
+  pub made : IfOk result (λ m. MakesTree makes (option_map child_link h.root) m f)
+
+-- what checking a file comes to, and what was made of the nodes
+pub record CheckedWhole {M : Type 0} (hash : List ℕ → List ℕ) (makes : M → Tree → Type 0)
+    (pages : ℕ) (result : Result (Checked M) MapErr) (f : File) : Type 0 where
+  pub checks : f.pages ≡ pages → Checks hash f result
+  pub made : IfOk result
+      (λ c. MakesTree makes (option_map child_link c.head.root) c.made f)
 
 -- the root's page is in the file
 pub record IsRootIn (pages : ℕ) (c : Child) : Type 0 where

@@ -1,9 +1,7 @@
 //! The chain of free pages, page by page.
 
-ghost use Rattle.std.specs.Prelude.{◌≡◌, ◌≢◌, ℕ, List, length, Some, IfErr};
-ghost use Rattle.mr_pages.specs.File.{File};
-ghost use Rattle.mr_pages.specs.Source.{Goes, Stay, Steps, Chains, SaysOnce, left};
-ghost use Rattle.mr_pages.specs.Walking.{Saw};
+ghost use Rattle.std.specs.Prelude.{◌≡◌, ◌≢◌, length, IfErr};
+ghost use Rattle.mr_pages.specs.Source.{ChainsOn, Gives, Goes, SaysOnce, Settles, Stay, StepsOn, left};
 
 use crate::seen::Seen;
 use crate::source::Source;
@@ -14,9 +12,8 @@ use crate::{MapErr, MapFault, MapRule};
 fn step<P: Source>(pages: &mut P, page: u32, seen: &mut Seen) -> Result<u32, MapErr>
     requires some { page ≢ 0 }
     requires room { length seen.old.reached.items ≡ (P.state pages.old).pages }
-    ensures told { (file : File) → (P.state pages.old).file ≡ Some file → (ps ns : List ℕ) →
-        Saw (P.state pages.old).pages seen.old ps ns →
-        Steps file.free (P.state pages.old).pages page ps ns result seen.new }
+    ensures told { Settles result (Gives (P.state pages.old) seen.old seen.new
+        (StepsOn (P.state pages.old).pages page seen.old result seen.new)) }
     ensures once { IfErr result SaysOnce }
     ensures room { length seen.new.reached.items ≡ length seen.old.reached.items }
     ensures goes { Goes (P.state pages.old) (P.state pages.new) (left seen.old) (left seen.new)
@@ -41,9 +38,8 @@ fn step<P: Source>(pages: &mut P, page: u32, seen: &mut Seen) -> Result<u32, Map
 /// Follows the chain of free pages from this one on, up to the first fault on it.
 pub fn chain<P: Source>(pages: &mut P, first: u32, seen: &mut Seen) -> Result<(), MapErr>
     requires { length seen.old.reached.items ≡ (P.state pages.old).pages }
-    ensures told { (file : File) → (P.state pages.old).file ≡ Some file → (ps ns : List ℕ) →
-        Saw (P.state pages.old).pages seen.old ps ns →
-        Chains file.free (P.state pages.old).pages first ps ns result seen.new }
+    ensures told { Settles result (Gives (P.state pages.old) seen.old seen.new
+        (ChainsOn (P.state pages.old).pages first seen.old result seen.new)) }
     ensures once { IfErr result SaysOnce }
     ensures room { length seen.new.reached.items ≡ length seen.old.reached.items }
     ensures goes { Goes (P.state pages.old) (P.state pages.new) (left seen.old) (left seen.new)

@@ -1,13 +1,12 @@
 //! Whether a file stands for a map: page 0, the walk, the count of records, the chain of free
 //! pages.
 
-ghost use Rattle.std.specs.Prelude.{◌≡◌, ◌≤◌, ◌-◌, length, [], Some, Ok, IfOk, IfErr, IfSome, OnOk, option_map};
-ghost use Rattle.mr_tree.specs.Digest.{by};
+ghost use Rattle.std.specs.Prelude.{◌≡◌, ◌≤◌, ◌-◌, length, [], Some, IfOk, IfErr, IfSome, OnOk, option_map};
 ghost use Rattle.mr_pages.specs.File.{File};
 ghost use Rattle.mr_pages.specs.Stands.{whole_tree};
 ghost use Rattle.mr_pages.specs.Spelled.{placed_at};
-ghost use Rattle.mr_pages.specs.Source.{Goes, Stay, AllKept, SaysHead, IsRootIn, Checks, ChecksBehind, Visits, SaysOnce, left};
-ghost use Rattle.mr_pages.specs.Walking.{child_link, head_of, Saw};
+ghost use Rattle.mr_pages.specs.Source.{AllKept, CheckedBehind, CheckedWhole, Checks, Gives, GivesAll, GivesFile, Goes, IsRootIn, SaysHead, SaysOnce, Settles, Stay, WalkedAll, left};
+ghost use Rattle.mr_pages.specs.Walking.{child_link, Saw};
 
 use crate::chaining::chain;
 use crate::head::MapHead;
@@ -33,11 +32,9 @@ fn visit_all<P: Source>(
     seen: &mut Seen,
 ) -> Result<P::Made, MapErr>
     requires none { Saw (P.state pages.old).pages seen.old [] [] }
-    ensures told { (file : File) → (P.state pages.old).file ≡ Some file →
-        Visits (by file.version P.Hash.of) (P.state pages.old).pages file.node
-        (option_map child_link root.now) result seen.new }
-    ensures made { (file : File) → (P.state pages.old).file ≡ Some file → IfOk result
-        (λ m. P.makes m (whole_tree (placed_at file.node (option_map child_link root.now)))) }
+    ensures told { Settles result (Gives (P.state pages.old) seen.old seen.new
+        (WalkedAll P.Hash.of P.makes (P.state pages.old).pages (option_map child_link root.now)
+        result seen.new)) }
     ensures once { IfErr result SaysOnce }
     ensures kept { (file : File) → (P.state pages.old).file ≡ Some file → OnOk result
         (AllKept file (option_map child_link root.now) (P.keeps pages.new)) }
@@ -54,11 +51,8 @@ fn visit_all<P: Source>(
 
 // What is behind page 0.
 fn check_behind<P: Source>(alloc: Global, pages: &mut P, head: &MapHead) -> Result<P::Made, MapErr>
-    ensures told { (file : File) → (P.state pages.old).file ≡ Some file →
-        file.pages ≡ (P.state pages.old).pages → file.head ≡ Ok (head_of head.now) →
-        ChecksBehind P.Hash.of file result }
-    ensures made { (file : File) → (P.state pages.old).file ≡ Some file → IfOk result
-        (λ m. P.makes m (whole_tree (placed_at file.node (option_map child_link head.now.root)))) }
+    ensures told { Settles result (GivesAll (P.state pages.old)
+        (CheckedBehind P.Hash.of P.makes (P.state pages.old).pages head.now result)) }
     ensures once { IfErr result SaysOnce }
     ensures kept { (file : File) → (P.state pages.old).file ≡ Some file → OnOk result
         (AllKept file (option_map child_link head.now.root) (P.keeps pages.new)) }
@@ -87,13 +81,15 @@ fn check_behind<P: Source>(alloc: Global, pages: &mut P, head: &MapHead) -> Resu
 
 /// What page 0 of a map without a fault says, and what was made of its nodes, or the first fault.
 ///
-/// Each page is read at most once.
+/// Each page is read at most once. Where the file is not told, the answer is that of some bytes.
 pub fn check<P: Source>(alloc: Global, pages: &mut P) -> Result<Checked<P::Made>, MapErr>
     requires { 1 ≤ (P.state pages.old).pages }
     ensures told { (file : File) → (P.state pages.old).file ≡ Some file →
         file.pages ≡ (P.state pages.old).pages → Checks P.Hash.of file result }
     ensures made { (file : File) → (P.state pages.old).file ≡ Some file → IfOk result (λ c.
         P.makes c.made (whole_tree (placed_at file.node (option_map child_link c.head.root)))) }
+    ensures some { Settles result (GivesFile (P.state pages.old)
+        (CheckedWhole P.Hash.of P.makes (P.state pages.old).pages result)) }
     ensures once { IfErr result SaysOnce }
     ensures kept { (file : File) → (P.state pages.old).file ≡ Some file → IfOk result (λ c.
         AllKept file (option_map child_link c.head.root) (P.keeps pages.new)) }

@@ -1,10 +1,10 @@
 //! Maps on disk: what a file stands for, its first fault, and the walk that opens it.
 #![tactic(auto)]
 
-mod bytes;
 mod chaining;
 mod checking;
 mod error;
+mod file_pages;
 mod head;
 mod judging;
 mod layout;
@@ -21,9 +21,9 @@ mod source;
 mod table;
 mod visiting;
 
-pub use bytes::page_count;
 pub use checking::{Checked, check};
 pub use error::MapErr;
+pub use file_pages::page_count;
 pub use head::MapHead;
 pub use judging::{is_full, is_said};
 pub use layout::{FIRST, Layout, PAGE_SIZE};
@@ -33,7 +33,7 @@ pub use opening::{Opened, open_plain};
 pub use page::{
     read_free_page, read_head, read_page, write_free_page, write_head_page, write_page,
 };
-pub use reading::read_filled;
+pub use reading::page_bytes;
 pub use rule::{MapFault, MapRule};
 pub use saving::save_plain;
 pub use seen::Seen;

@@ -1,24 +1,22 @@
 //! Opening a map.
 
-ghost use Rattle.std.specs.Prelude.{◌≡◌, ◌≤◌, ◌+◌, ⊤, ℕ, List, length, Some, Err, IfOk};
-ghost use Rattle.mr_outside.specs.Reading.{piece_count};
+ghost use Rattle.std.specs.Prelude.{◌≡◌, ◌≤◌, ◌+◌, ⊤, ℕ, List, Some, Err, IfOk};
 ghost use Rattle.mr_outside.specs.Told.{OfFile};
 ghost use Rattle.mr_record.specs.Bytes.{AreBytes};
-ghost use Rattle.mr_pages.specs.PageBytes.{form_of, first_form, IsLayout};
+ghost use Rattle.mr_pages.specs.PageBytes.{first_form};
 ghost use Rattle.mr_tree.specs.WellFormed.{WellFormed};
 ghost use Rattle.mr_pages.specs.declared.rule.MapFault.{MapFault};
-ghost use Rattle.mr_pages.specs.File.{pages_of, file_of};
 ghost use Rattle.mr_pages.specs.Page.{page_limit};
+ghost use Rattle.mr_pages.specs.File.{file_of};
 ghost use Rattle.mr_pages.specs.Stands.{Stands};
 ghost use Rattle.mr_pages.specs.Faults.{mapfault};
 ghost use Rattle.mr_pages.specs.Law.{IsOnlyMap, Agrees};
-ghost use Rattle.mr_pages.specs.Opening.{opened, Fails, FindsOut, Answers, SomeBytes, Tells, MapCauses};
-ghost use Rattle.mr_pages.specs.Walking.{Opens};
+ghost use Rattle.mr_pages.specs.Opening.{opened, pages_in, Fails, Answers, SomeBytes, Tells, MapCauses};
+ghost use Rattle.mr_pages.specs.Source.{IsPaged};
 
-use crate::bytes::{MapBytes, page_count};
 use crate::checking::{Checked, check};
-use crate::layout::{FIRST, Layout};
-use crate::reading::read_whole;
+use crate::file_pages::{FilePages, page_count};
+use crate::layout::FIRST;
 use crate::{MapErr, MapFault, MapRule};
 use mr_outside::Shelf;
 use mr_tree::{Hash32, Hashes, Tree};
@@ -32,26 +30,37 @@ pub struct Opened {
     pub batch: u64,
 }
 
-// The map that so many pages stand for, or their first fault.
-fn open_pages<H: Hashes>(
+// The file has no whole pages, or too many.
+const SIZE_FAULT: MapErr = MapErr::Map(MapFault {
+    page: 0,
+    rule: MapRule::Size,
+});
+
+// The map that so many pages of a file stand for, or their first fault.
+fn open_pages<'a, 'b, H: Hashes, S: Shelf>(
     alloc: Global,
-    layout: Layout,
-    bytes: &[u8],
+    shelf: &'a mut S,
+    name: &'b str,
     pages: u32,
 ) -> Result<Opened, MapErr>
-    requires layout { IsLayout layout }
+    requires paged { IsPaged first_form pages (S.state shelf.old).files name.now }
     requires some { 1 ≤ pages }
     requires few { pages ≤ page_limit }
-    ensures opens { Opens H.of (pages_of (form_of layout) pages bytes.now) result }
-    ensures found { FindsOut result }
+    ensures told { OfFile (S.state shelf.old).files name.now ⊥
+        (λ bytes. Answers first_form H.of bytes result) }
+    ensures some { SomeBytes first_form H.of result }
+    ensures causes { MapCauses name.now (S.state shelf.old) (S.state shelf.new) result }
+    ensures files { (S.state shelf.new).files ≡ (S.state shelf.old).files }
+    ensures reads { (S.state shelf.old).reads ≤ (S.state shelf.new).reads }
+    ensures once { (S.state shelf.new).reads ≤ (S.state shelf.old).reads + pages }
 {
-    let mut source = MapBytes::<'_, H> {
-        layout,
-        bytes,
+    let mut source = FilePages::<'a, 'b, S, H> {
+        shelf,
+        name,
         pages,
         hash: PhantomData,
     };
-    let checked = check::<MapBytes<'_, H>>(alloc, &mut source)?;
+    let checked = check::<FilePages<'a, 'b, S, H>>(alloc, &mut source)?;
     let Checked { head, made } = checked;
     Ok(Opened {
         tree: made,
@@ -59,59 +68,36 @@ fn open_pages<H: Hashes>(
     })
 }
 
-// The map that a file of these bytes stands for, or its fault.
-fn open_bytes<H: Hashes>(alloc: Global, layout: Layout, bytes: &[u8]) -> Result<Opened, MapErr>
-    requires { IsLayout layout }
-    ensures are { AreBytes bytes.now }
-    ensures answers { Answers (form_of layout) H.of bytes.now result }
-    ensures found { FindsOut result }
-{
-    match page_count(layout, bytes.len() as u64) {
-        None => Err(SIZE_FAULT),
-        Some(pages) => open_pages::<H>(alloc, layout, bytes, pages),
-    }
-}
-
-// The file has no whole pages, or too many.
-const SIZE_FAULT: MapErr = MapErr::Map(MapFault {
-    page: 0,
-    rule: MapRule::Size,
-});
-
-// What `open_plain` does, for pages of this layout.
+// What `open_plain` does.
 fn open_named<H: Hashes, S: Shelf>(
     alloc: Global,
-    layout: Layout,
     shelf: &mut S,
     name: &str,
 ) -> Result<Opened, MapErr>
-    requires { IsLayout layout }
     ensures told { OfFile (S.state shelf.old).files name.now (Fails result)
-        (λ bytes. Tells (form_of layout) H.of bytes result) }
-    ensures some { SomeBytes (form_of layout) H.of result }
-    ensures law { (bytes : List ℕ) → AreBytes bytes → Agrees (form_of layout) H.of bytes }
-    ensures agrees { OfFile (S.state shelf.old).files name.now ⊤
-        (Agrees (form_of layout) H.of) }
+        (λ bytes. Tells first_form H.of bytes result) }
+    ensures some { SomeBytes first_form H.of result }
+    ensures law { (bytes : List ℕ) → AreBytes bytes → Agrees first_form H.of bytes }
+    ensures agrees { OfFile (S.state shelf.old).files name.now ⊤ (Agrees first_form H.of) }
     ensures causes { MapCauses name.now (S.state shelf.old) (S.state shelf.new) result }
     ensures files { (S.state shelf.new).files ≡ (S.state shelf.old).files }
     ensures reads { (S.state shelf.old).reads ≤ (S.state shelf.new).reads }
     ensures once { let before = (S.state shelf.old).reads in
         let after = (S.state shelf.new).reads in
         OfFile (S.state shelf.old).files name.now (after ≡ before)
-        (λ bytes. after ≤ before + piece_count (length bytes)) }
+        (λ bytes. after ≤ before + pages_in bytes) }
 {
     let size = shelf.size(name)?;
-    if page_count(layout, size).is_none() {
-        return Err(SIZE_FAULT);
+    match page_count(FIRST, size) {
+        None => Err(SIZE_FAULT),
+        Some(pages) => open_pages::<H, S>(alloc, shelf, name, pages),
     }
-    let bytes = read_whole(alloc, shelf, name, size as usize)?;
-    open_bytes::<H>(alloc, layout, &bytes)
 }
 
-/// The tree and the batch of the map in a file, which is read whole.
+/// The tree and the batch of the map in a file.
 ///
-/// The file's length is what `size` gives, and what a read gives short counts as zeros. Memory is
-/// taken as bytes come, for those and the tree.
+/// Each page is read at most once, and nothing of it is kept but its node. The file's length is
+/// what `size` gives, and what a read gives short counts as zeros.
 pub fn open_plain<H: Hash32, S: Shelf>(
     alloc: Global,
     shelf: &mut S,
@@ -142,8 +128,8 @@ pub fn open_plain<H: Hash32, S: Shelf>(
     ensures once { let before = (S.state shelf.old).reads in
         let after = (S.state shelf.new).reads in
         OfFile (S.state shelf.old).files name.now (after ≡ before)
-        (λ bytes. after ≤ before + piece_count (length bytes)) }
+        (λ bytes. after ≤ before + pages_in bytes) }
 {
-    let map = open_named::<H, S>(alloc, FIRST, shelf, name)?;
+    let map = open_named::<H, S>(alloc, shelf, name)?;
     Ok((map.tree, map.batch))
 }

@@ -1,97 +1,48 @@
-//! Reading a file whole.
+//! Reading a page of a file.
 
-ghost use Rattle.std.specs.Prelude.{◌≡◌, ◌+◌, ◌-◌, ◌≤◌, ◌<◌, length, take, drop, replicate, IfOk};
+ghost use Rattle.std.specs.Prelude.{◌≡◌, ◌+◌, ◌-◌, ◌≤◌, length, take, drop, replicate, IfOk};
 ghost use Rattle.mr_outside.specs.Told.{OfFile};
 ghost use Rattle.mr_outside.specs.Causes.{ShelfCauses, CountsRead};
-ghost use Rattle.mr_outside.specs.Reading.{piece_count};
+ghost use Rattle.mr_pages.specs.PageBytes.{first_form};
+ghost use Rattle.mr_pages.specs.Source.{IsPage, TellsPage};
 
+use crate::layout::PAGE_SIZE;
 use crate::page::fill;
 use mr_outside::{Shelf, ShelfErr};
-use std::alloc::Global;
 
-// The most bytes that are asked for at once: whole pages.
-const PIECE: usize = 65_536;
-
-/// All bytes of a file of this length, read in pieces, for each of which room is taken when it is
-/// read. What a read gives short counts as zeros.
-pub fn read_whole<S: Shelf>(
-    alloc: Global,
+/// The bytes of a page. What the read gives short counts as zeros.
+pub fn page_bytes<S: Shelf>(
     shelf: &mut S,
     name: &str,
-    size: usize,
-) -> Result<Vec<u8>, ShelfErr>
-    requires { OfFile (S.state shelf.old).files name.now ⊥ (λ bytes. size ≡ length bytes) }
-    ensures length { IfOk result (λ v. length v.items ≡ size) }
-    ensures bytes { IfOk result (λ v. OfFile (S.state shelf.old).files name.now ⊥
-        (λ bytes. v.items ≡ bytes)) }
+    page: u32,
+) -> Result<[u8; PAGE_SIZE], ShelfErr>
+    ensures told { IfOk result (λ p. OfFile (S.state shelf.old).files name.now ⊥
+        (TellsPage page p)) }
+    ensures is { IfOk result (IsPage first_form) }
     ensures causes { ShelfCauses name.now (S.state shelf.old) (S.state shelf.new) result }
     ensures files { (S.state shelf.new).files ≡ (S.state shelf.old).files }
-    ensures reads { (S.state shelf.old).reads ≤ (S.state shelf.new).reads }
-    ensures pieces { (S.state shelf.new).reads ≤ (S.state shelf.old).reads + piece_count size }
+    ensures reads { CountsRead (S.state shelf.old) (S.state shelf.new) result }
 {
-    let mut bytes = Vec::new(alloc);
-    while bytes.len() < size {
-        let end = bytes.len() + PIECE.min(size - bytes.len());
-        read_on(shelf, name, end, &mut bytes)?;
-    }
+    let mut bytes = [0; PAGE_SIZE];
+    read_filled(shelf, name, page as u64 * PAGE_SIZE as u64, &mut bytes)?;
+    is_page(&bytes);
     Ok(bytes)
 }
 
-// Reads what follows the bytes that are there, up to this place, and answers how many came. Behind
-// them stand zeros.
-fn read_on<S: Shelf>(
-    shelf: &mut S,
-    name: &str,
-    end: usize,
-    bytes: &mut Vec<u8>,
-) -> Result<usize, ShelfErr>
-    requires { length bytes.old.items ≤ end }
-    ensures length { IfOk result (λ n. length bytes.new.items ≡ end) }
-    ensures bytes { IfOk result (λ n. OfFile (S.state shelf.old).files name.now ⊥
-        (λ file. end ≤ length file → bytes.old.items ≡ take (length bytes.old.items) file →
-        bytes.new.items ≡ take end file)) }
-    ensures rest { IfOk result (λ n. let came = length bytes.old.items + n in
-        drop came bytes.new.items ≡ replicate (end - came) 0) }
-    ensures causes { ShelfCauses name.now (S.state shelf.old) (S.state shelf.new) result }
-    ensures files { (S.state shelf.new).files ≡ (S.state shelf.old).files }
-    ensures reads { (S.state shelf.old).reads ≤ (S.state shelf.new).reads }
-    ensures one { (S.state shelf.new).reads ≤ (S.state shelf.old).reads + 1 }
-{
-    let at = bytes.len();
-    bytes.resize(end, 0)?;
-    read_into(shelf, name, at, bytes.as_mut_slice())
-}
+// What the type tells of its values.
+fn is_page(_bytes: &[u8])
+    requires { length _bytes.now ≡ 4096 }
+    ensures { IsPage first_form _bytes.now }
+{}
 
-// Reads from this place on, and answers how many bytes came. What stands before it is as before.
-fn read_into<S: Shelf>(
-    shelf: &mut S,
-    name: &str,
-    at: usize,
-    into: &mut [u8],
-) -> Result<usize, ShelfErr>
-    requires inside { at ≤ length into.old }
-    ensures bytes { IfOk result (λ n. OfFile (S.state shelf.old).files name.now ⊥
-        (λ file. length into.old ≤ length file → take at into.old ≡ take at file →
-        into.new ≡ take (length into.old) file)) }
-    ensures rest { IfOk result (λ n. drop (at + n) into.new
-        ≡ replicate (length into.old - (at + n)) 0) }
-    ensures causes { ShelfCauses name.now (S.state shelf.old) (S.state shelf.new) result }
-    ensures files { (S.state shelf.new).files ≡ (S.state shelf.old).files }
-    ensures reads { (S.state shelf.old).reads ≤ (S.state shelf.new).reads }
-    ensures one { (S.state shelf.new).reads ≤ (S.state shelf.old).reads + 1 }
-{
-    read_filled(shelf, name, at as u64, &mut into[at..])
-}
-
-/// Reads from a place of the file on, and answers how many bytes came. What a read gives short
-/// counts as zeros.
-pub fn read_filled<S: Shelf>(
+// Reads from a place of the file on, and answers how many bytes came. What a read gives short
+// counts as zeros.
+fn read_filled<S: Shelf>(
     shelf: &mut S,
     name: &str,
     at: u64,
     into: &mut [u8],
 ) -> Result<usize, ShelfErr>
-    ensures within { IfOk result (λ n. n ≤ length into.new) }
     ensures bytes { IfOk result (λ n. OfFile (S.state shelf.old).files name.now ⊥
         (λ file. at + length into.old ≤ length file →
         into.new ≡ take (length into.old) (drop at file))) }

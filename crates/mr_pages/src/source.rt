@@ -1,11 +1,11 @@
 //! The pages of a file, as a walk over them sees them.
 
-ghost use Rattle.std.specs.Prelude.{◌≡◌, ◌<◌, ◌≤◌, ℕ, List, IfOk, IfErr, IfSome, OnOk, true};
+ghost use Rattle.std.specs.Prelude.{◌≡◌, ◌<◌, ◌≤◌, ℕ, List, IfOk, IfErr, OnOk, true};
 ghost use Rattle.mr_tree.specs.declared.tree.Tree as trees;
 ghost use Rattle.mr_tree.specs.declared.tree.Tree.TheVariants as tree;
 ghost use Rattle.mr_pages.specs.Faults.{of_level};
 ghost use Rattle.mr_pages.specs.Page.{IsNode, level_of};
-ghost use Rattle.mr_pages.specs.Source.{Sourced, ReadsPage, IsOfOneRead, SaysHead, MayKeep, Stay, AreMade, tree_over};
+ghost use Rattle.mr_pages.specs.Source.{Sourced, GivesPage, GivesHead, ReadsPage, IsOfOneRead, SaysHead, MayKeep, Stay, AreMade, tree_over};
 ghost use Rattle.mr_pages.specs.Walking.{page_node, Shows, Heads};
 
 use crate::head::MapHead;
@@ -16,6 +16,9 @@ use mr_tree::{Child, Hashes, NodeView};
 use std::alloc::AllocError;
 
 /// The pages of a file, each read by itself, and what is made of their nodes.
+///
+/// What is told of a page is told of some bytes that were read there, and of the file where it is
+/// told.
 pub trait Source {
     type Hash: Hashes;
 
@@ -38,7 +41,7 @@ pub trait Source {
     /// Page 0, or the first rule that it breaks.
     fn head(&mut self) -> Result<Result<MapHead, MapRule>, ShelfErr>
         requires { 1 ≤ (state self.old).pages }
-        ensures shows { IfOk result (λ r. IfSome (state self.old).file (λ f. Heads r f.head)) }
+        ensures shows { IfOk result (λ r. GivesHead (state self.old) (λ f. Heads r f.head)) }
         ensures once { IfOk result (λ r. IfErr r IsOfOneRead) }
         ensures says { IfOk result (λ r. IfOk r (SaysHead (state self.old).pages)) }
         ensures reads { ReadsPage (state self.old) (state self.new) result }
@@ -47,7 +50,7 @@ pub trait Source {
     /// Shows the node of this level that the page spells, and answers whether it spells one.
     fn node(&mut self, page: u32, level: u8, into: &mut NodeView) -> Result<bool, ShelfErr>
         requires { page < (state self.old).pages }
-        ensures shows { IfOk result (λ shown. IfSome (state self.old).file
+        ensures shows { IfOk result (λ shown. GivesPage (state self.old) page
             (λ f. Shows shown into.new (of_level level (f.node page)))) }
         ensures spelled { IfOk result (λ shown. shown ≡ true →
             IsNode (page_node into.new) × (level_of (page_node into.new) ≡ level)) }
@@ -57,7 +60,7 @@ pub trait Source {
     /// The page that a free page names, if this is one.
     fn free(&mut self, page: u32) -> Result<Option<u32>, ShelfErr>
         requires { page < (state self.old).pages }
-        ensures next { IfOk result (λ o. IfSome (state self.old).file (λ f. o ≡ f.free page)) }
+        ensures next { IfOk result (λ o. GivesPage (state self.old) page (λ f. o ≡ f.free page)) }
         ensures reads { ReadsPage (state self.old) (state self.new) result }
         ensures stay { Stay (keeps self.old) (keeps self.new) };
 

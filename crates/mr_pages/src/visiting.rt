@@ -1,14 +1,10 @@
 //! The walk over the nodes of a file, page by page.
 
-ghost use Rattle.std.specs.Prelude.{◌≡◌, ◌≤◌, ◌<◌, List, length, OnOk, IfOk, IfErr, Some};
+ghost use Rattle.std.specs.Prelude.{◌≡◌, ◌≤◌, ◌<◌, length, OnOk, IfOk, IfErr};
 ghost use Rattle.mr_record.specs.declared.version.Version.TheVariants.{One};
 ghost use Rattle.mr_tree.specs.Digest.{by};
-ghost use Rattle.mr_pages.specs.File.{File};
-ghost use Rattle.mr_pages.specs.Stands.{tree_of};
-ghost use Rattle.mr_pages.specs.Spelled.{place};
-ghost use Rattle.mr_pages.specs.Faults.{Visit, reached, all_records, numbers_of};
-ghost use Rattle.mr_pages.specs.Source.{Goes, Stay, AreKept, Knows, Looks, Walks, SaysOnce, left};
-ghost use Rattle.mr_pages.specs.Walking.{child_link, Saw};
+ghost use Rattle.mr_pages.specs.Source.{Goes, Stay, AreKept, Gives, GivesPage, Knows, Looks, Settles, Walked, SaysOnce, left};
+ghost use Rattle.mr_pages.specs.Walking.{child_link};
 
 use crate::judging::judge;
 use crate::node::Node;
@@ -28,8 +24,8 @@ fn look<P: Source>(
     view: &mut NodeView,
 ) -> Result<Node, MapErr>
     requires { child.now.id < (P.state pages.old).pages }
-    ensures told { (file : File) → (P.state pages.old).file ≡ Some file →
-        Looks (by One P.Hash.of) file.node root (child_link child.now) result }
+    ensures told { Settles result (GivesPage (P.state pages.old) child.now.id
+        (λ f. Looks (by One P.Hash.of) f.node root (child_link child.now) result)) }
     ensures known { IfOk result (Knows P.Hash.of child.now) }
     ensures once { IfErr result SaysOnce }
     ensures goes { Goes (P.state pages.old) (P.state pages.new) 1 0 result }
@@ -62,12 +58,9 @@ pub fn visit<P: Source>(
     seen: &mut Seen,
 ) -> Result<P::Made, MapErr>
     requires { length seen.old.reached.items ≡ (P.state pages.old).pages }
-    ensures told { (file : File) → (P.state pages.old).file ≡ Some file → (before : List Visit) →
-        Saw (P.state pages.old).pages seen.old (reached before) (numbers_of (all_records before)) →
-        Walks (by One P.Hash.of) (P.state pages.old).pages file.node before root
-        (child_link child.now) result seen.new }
-    ensures made { (file : File) → (P.state pages.old).file ≡ Some file → IfOk result
-        (λ m. P.makes m (tree_of (place file.node child.now.level (child_link child.now)))) }
+    ensures told { Settles result (Gives (P.state pages.old) seen.old seen.new
+        (Walked (by One P.Hash.of) P.makes (P.state pages.old).pages seen.old root child.now result
+        seen.new)) }
     ensures once { IfErr result SaysOnce }
     ensures inside { OnOk result
         ((1 ≤ child.now.id) × (child.now.id < (P.state pages.old).pages)) }

@@ -1,33 +1,35 @@
 -- A map whose pages were checked is a store.
-use Rattle.std.proofs.Common.{◌≡◌, ℕ, ◌+◌, ◌/◌, ◌≤◌, true, false, List, length, inl, inr, refl, sym, ap, subst, ◌∙◌, arith}
+use Rattle.std.proofs.Common.{◌≡◌, ℕ, ◌+◌, ◌*◌, ◌/◌, ◌<◌, ◌^◌, ◌≤◌, true, false, List, [], length, inl, inr, refl, sym, ap, subst, ◌∙◌, arith}
 use Rattle.std.specs.Prelude.{◌↔◌, ◌⊎◌, ⊤, Option, Some, None, option_map, Result, Ok, Err, IfSome, IsSome, IsNone, MatchOption, MatchResult}
+use Rattle.std.proofs.lemmas.List.Elements.{All-nil}
 use Rattle.mr_outside.specs.Files.{Files, file}
 use Rattle.mr_outside.specs.State.{Shelved}
 use Rattle.mr_tree.specs.declared.child.Child.{Child}
+use Rattle.mr_tree.specs.declared.tree.Tree.{Tree}
 use Rattle.mr_pages.specs.declared.head.MapHead.{MapHead}
 use Rattle.mr_pages.specs.declared.checking.Checked.{Checked}
 use Rattle.mr_pages.specs.Page.{IsRoot, page_limit}
 use Rattle.mr_pages.specs.PageBytes.{first_form}
-use Rattle.mr_pages.specs.File.{File, file_of, is_odd_size}
+use Rattle.mr_pages.specs.File.{File, file_of, is_odd_size, pages_of}
 use Rattle.mr_pages.specs.Faults.{has, mapfault}
 use Rattle.mr_pages.specs.Stands.{whole_pages}
 use Rattle.mr_pages.specs.Walking.{child_link, head_of}
-use Rattle.mr_pages.specs.Source.{IsRootIn, Checks, Settles}
+use Rattle.mr_pages.specs.Source.{IsRootIn, CheckedWhole, Checks, GivesFile, Settles}
 use Rattle.mr_pages.proofs.HeadLaws.{first_form_is}
-use Rattle.mr_pages.proofs.Agreement.{is_file}
+use Rattle.mr_pages.proofs.Agreement.{are_whole_pages, is_file}
 use Rattle.mr_pages.proofs.AsRead.{reads_there}
 use Rattle.mr_pages.proofs.Lists.{contains_has}
 use Rattle.mr_store.specs.Kept.{Entries, IsGood}
 use Rattle.mr_store.specs.Stored.{told_bytes, stands_for, placed, room, IsOpen, IsRootOf, IsStore}
-use Rattle.mr_store.specs.Paging.{IsFileOf, IsPaging}
+use Rattle.mr_store.specs.Paging.{sourced, IsFileOf, IsPaging}
 use Rattle.mr_record.specs.Bytes.{AreBytes}
 use Rattle.mr_outside.specs.Causes.{ShelfCauses}
 use Rattle.mr_outside.specs.declared.shelf.ShelfErr.{ShelfErr}
 use Rattle.mr_outside.specs.declared.shelf.ShelfErr.TheVariants as shelf
 use Rattle.mr_pages.specs.declared.rule.MapRule.TheVariants as rule
-use Rattle.mr_pages.specs.Opening.{of_shelf, Fails, Tells}
-use Rattle.mr_pages.proofs.Answered.{told_failed, tells_read, odd_fault}
-use Rattle.mr_store.specs.Opening.{HasPages, WasChecked, IsFaultOf, Refused, TellsMap, IsOpened, IsRefused, OpensMap, RefusesMap}
+use Rattle.mr_pages.specs.Opening.{of_shelf, Fails, SomeBytes, Tells}
+use Rattle.mr_pages.proofs.Answered.{same_file, some_odd, told_failed, tells_read, odd_fault}
+use Rattle.mr_store.specs.Opening.{HasPages, WasChecked, IsFaultOf, IsOfSome, Refused, TellsMap, IsOpened, IsRefused, OpensMap, RefusesMap}
 use Rattle.mr_outside.specs.Told.{OfFile, MayMiss}
 use Rattle.mr_outside.specs.Faults.{Rose}
 use Rattle.mr_pages.specs.declared.error.MapErr.{MapErr}
@@ -82,6 +84,13 @@ module _ (hash : List ℕ → List ℕ) (told : Option Files) (name : List ℕ) 
     open_ = at_told (told_bytes told name) s.file_ w;
   }
 
+-- where the file is told, it has so many pages
+pub pages_known : (o : Option (List ℕ)) (pages : ℕ) (es : Entries) → IfSome o (IsFileOf pages es) → (f : File) →
+    option_map (file_of first_form) o ≡ Some f → f.pages ≡ pages
+pages_known None pages es has f is = cc
+pages_known (Some bytes) pages es has f is =
+    let same : file_of first_form bytes ≡ f = cc in ap (λ (g : File). g.pages) (sym same) ∙ sym has.count
+
 -- ---- what opening answers
 
 pub answers_of : (hash : List ℕ → List ℕ) → ((xs : List ℕ) → length (hash xs) ≡ 32) → (s : Shelved) (name : List ℕ)
@@ -107,19 +116,53 @@ answers_of hash sized s name (errors.Map x) are f = by_files s.files are f
     by_files None are f = tt
     by_files (Some files) are f = by_bytes (file files name) are f
 
+-- what fails says nothing of any bytes
+pub fails_some : (hash : List ℕ → List ℕ) (e : MapErr) → Fails (Err e) → SomeBytes first_form hash (Err e)
+fails_some hash (errors.Map f) fails = absurd fails
+fails_some hash errors.Missing fails = ([], All-nil (λ b. b < 2 ^ 8), tt)
+fails_some hash errors.Fault fails = ([], All-nil (λ b. b < 2 ^ 8), tt)
+fails_some hash errors.NoMemory fails = ([], All-nil (λ b. b < 2 ^ 8), tt)
+
+-- of the bytes that were read, told or not
+module _ (hash : List ℕ → List ℕ) (pages : ℕ) (s : Shelved) (name : List ℕ) (some : 1 ≤ pages)
+    (few : pages ≤ page_limit) where
+  as_file : (bytes : List ℕ) → length bytes ≡ pages * 4096 → pages_of first_form pages bytes ≡ file_of first_form bytes
+  as_file bytes size = same_file first_form pages bytes (omega (arith, size))
+      (are_whole_pages 4096 (length bytes) pages (omega arith) size some few)
+
+  pub some_fault : (e : MapErr) → Settles {A = Checked (Unit {0})} (Err e) (GivesFile (sourced pages s name)
+      (CheckedWhole hash (λ (m : Unit {0}) (t : Tree). ⊤) pages (Err e))) → SomeBytes first_form hash (Err e)
+  some_fault (errors.Map f) g = (
+    g.bytes,
+    g.are,
+    subst (λ h. mapfault hash h ≡ Some f) (as_file g.bytes g.size) (g.so.checks refl),
+  )
+  some_fault errors.Missing g = fails_some hash errors.Missing tt
+  some_fault errors.Fault g = fails_some hash errors.Fault tt
+  some_fault errors.NoMemory g = fails_some hash errors.NoMemory tt
+
+  pub of_some : (c : Checked (Unit {0})) → GivesFile (sourced pages s name)
+      (CheckedWhole hash (λ (m : Unit {0}) (t : Tree). ⊤) pages (Ok c)) → IsOfSome hash c.head
+  of_some c g =
+      let checks = subst (λ h. Checks {M = Unit {0}} hash h (Ok c)) (as_file g.bytes g.size) (g.so.checks refl) in
+      record { bytes = g.bytes; are = g.are; fault = checks.0; head = checks.1 }
+
 -- the shelf refused
 pub shelf_refuses : {A : Type 0} (hash : List ℕ → List ℕ) (name : List ℕ) (before after : Shelved) (e : ShelfErr) →
     ShelfCauses {A = A} name before after (Err e) → Refused hash name before after (of_shelf e)
 shelf_refuses hash name before after shelf.Missing c = record {
   fault = tt;
+  some = fails_some hash errors.Missing tt;
   why = record { missing = λ is. c.missing refl; failed = λ is. absurd (cc); quiet = inr tt; once = tt };
 }
 shelf_refuses hash name before after shelf.Fault c = record {
   fault = tt;
+  some = fails_some hash errors.Fault tt;
   why = record { missing = λ is. absurd (cc); failed = λ is. c.fault refl; quiet = inr tt; once = tt };
 }
 shelf_refuses hash name before after shelf.NoMemory c = record {
   fault = tt;
+  some = fails_some hash errors.NoMemory tt;
   why = record { missing = λ is. absurd (cc); failed = λ is. absurd (cc); quiet = inr tt; once = tt };
 }
 
@@ -128,6 +171,7 @@ pub no_room : (hash : List ℕ → List ℕ) (name : List ℕ) (before after : S
     Refused hash name before after errors.NoMemory
 no_room hash name before after = record {
   fault = tt;
+  some = fails_some hash errors.NoMemory tt;
   why = record { missing = λ is. absurd (cc); failed = λ is. absurd (cc); quiet = inr tt; once = tt };
 }
 
@@ -155,12 +199,14 @@ pages_are (Some files) name size pages are long even count = here (file files na
     }
 
 -- a file that is odd breaks the first rule
-pub odd_refuses : (hash : List ℕ → List ℕ) (name : List ℕ) (before after : Shelved) (size : ℕ) →
+pub odd_refuses : (hash : List ℕ → List ℕ) → ((xs : List ℕ) → length (hash xs) ≡ 32) → (name : List ℕ)
+    (before after : Shelved) (size : ℕ) →
     OfFile before.files name ⊥ (λ bytes. size ≡ length bytes) → is_odd_size 4096 size ≡ true →
     after.faults ≡ before.faults →
     Refused hash name before after (errors.Map (record { page = 0; rule = rule.Size }))
-odd_refuses hash name before after size long odd quiet = record {
+odd_refuses hash sized name before after size long odd quiet = record {
   fault = by_files before.files long;
+  some = some_odd first_form first_form_is hash sized size odd;
   why = record { missing = λ is. absurd (cc); failed = λ is. absurd (cc); quiet = inl quiet; once = tt };
 }
   where
@@ -223,6 +269,7 @@ module _ (hash : List ℕ → List ℕ) (name : List ℕ) (pages : ℕ) (before 
         (o.same ∙ same)
         (subst (λ told. OfFile told n' ⊥ (TellsMap hash (stands_for h (told_bytes after.files n'))))
         (o.files ∙ files) o.answers);
+    some = o.some;
     same = o.same ∙ same;
     pages = of_pages before.files name pages _ ⊥ has_pages (λ bytes p. o.count ∙ p.count);
     files = o.files ∙ files;
@@ -243,6 +290,7 @@ module _ (hash : List ℕ → List ℕ) (name : List ℕ) (pages : ℕ) (before 
       subst (λ m. Refused hash name m after e) s (subst (λ k. Refused hash k middle after e) same r.refused) in
       record {
         answers = answers_of hash sized before name e are refused.fault;
+        some = refused.some;
         why = refused.why;
         files = r.files ∙ files;
         later = omega (arith, r.later, faults);

@@ -1,14 +1,14 @@
--- What a read of a page gives, and what is judged of it.
-use Rattle.std.proofs.Common.{◌≡◌, ℕ, ◌+◌, ◌*◌, ◌≤◌, Bool, true, false, List, length, take, drop, sym, ap, ◌∙◌, arith}
+-- What is judged of a page that was read.
+use Rattle.std.proofs.Common.{◌≡◌, ℕ, ◌*◌, Bool, true, false, List, length, sym, ap, ◌∙◌}
 use Rattle.std.specs.Prelude.{◌==◌, ⊤, Option, Some, None, Result, MatchOption, if◌then◌else◌}
 use Rattle.mr_outside.specs.Files.{Files, file}
-use Rattle.mr_pages.proofs.Filled.{IsPiece}
 use Rattle.mr_outside.specs.Told.{OfFile}
 use Rattle.mr_tree.specs.View as view
 use Rattle.mr_tree.specs.declared.child.Child.{Child}
 use Rattle.mr_tree.specs.declared.nodes.NodesErr.{NodesErr}
 use Rattle.mr_pages.specs.Page.{Node, level_of, entry_of}
 use Rattle.mr_pages.specs.PageBytes.{first_form, SpellsNode}
+use Rattle.mr_pages.specs.Source.{TellsPage}
 use Rattle.mr_pages.specs.Faults.{of_level}
 use Rattle.mr_pages.specs.Walking.{page_node, Shows}
 use Rattle.mr_record.specs.declared.version.Version.TheVariants.{One}
@@ -17,26 +17,7 @@ use Rattle.mr_pages.proofs.Judged.{level_same}
 use Rattle.mr_pages.proofs.Visits.{shape_of}
 use Rattle.mr_store.specs.Told.{digest_known}
 use Rattle.mr_store.specs.Kept.{AreInside}
-use Rattle.mr_store.specs.Again.{TellsPage, IsRead, IsSaid, TellsNode, TellsAgain}
-
--- ---- the bytes
-
--- a page is there where the file goes so far
-told_page : (page : ℕ) (before after bytes : List ℕ) → length before ≡ 4096 →
-    IsPiece (page * 4096) before after bytes → TellsPage page after bytes
-told_page page before after bytes long piece = λ k whole within.
-    let room : (page + 1) * 4096 ≤ k * 4096 = grind arith in
-    piece (omega (arith, long, whole, room)) ∙ ap (λ n. take n (drop (page * 4096) bytes)) long
-
-pub page_told : (told : Option Files) (name : List ℕ) (page : ℕ) (before after : List ℕ) → length before ≡ 4096 →
-    OfFile told name ⊥ (IsPiece (page * 4096) before after) → OfFile told name ⊥ (TellsPage page after)
-page_told None name page before after long g = tt
-page_told (Some files) name page before after long g = here (file files name) g
-  where
-    here : (o : Option (List ℕ)) → MatchOption o ⊥ (IsPiece (page * 4096) before after) →
-        MatchOption o ⊥ (TellsPage page after)
-    here None g = g
-    here (Some bytes) g = told_page page before after bytes long g
+use Rattle.mr_store.specs.Again.{IsRead, IsSaid, TellsNode, TellsAgain}
 
 -- ---- the node
 

@@ -20,55 +20,25 @@ use Rattle.mr_pages.specs.PageBytes.{first_form}
 use Rattle.mr_pages.specs.File.{page_at, file_of}
 use Rattle.mr_pages.specs.Faults.{of_level}
 use Rattle.mr_pages.specs.Walking.{page_node, Shows, Heads}
-use Rattle.mr_pages.specs.Source.{Origin, MayKeep}
+use Rattle.mr_pages.specs.Source.{Origin, HasPages, IsPaged, MayKeep}
 use Rattle.mr_pages.proofs.Agreement.{whole_pages_are}
 use Rattle.mr_pages.proofs.Lists.{all_has}
 use Rattle.mr_store.specs.declared.kept.Kept.{Kept}
 use Rattle.mr_store.specs.Kept.{Entries, node_of, AreInside, IsKeptOf, Gains}
-use Rattle.mr_store.specs.Again.{TellsPage}
 use Rattle.mr_store.specs.Stored.{told_bytes, room}
 use Rattle.mr_store.specs.Paging.{Holds, IsGoodEntry, IsFileOf, IsPaging}
 
--- ---- the bytes of a page
+-- ---- the file
 
-whole_of : (pages : ℕ) (es : Entries) (bytes : List ℕ) → IsFileOf pages es bytes → length bytes ≡ pages * 4096
-whole_of pages es bytes f =
-    (whole_pages_are 4096 (length bytes) (omega arith) f.even).whole ∙ ap (λ n. n * 4096) (sym f.count)
-
-pub page_is : (told : Option Files) (name : List ℕ) (pages page : ℕ) (es : Entries) (p : List ℕ) →
-    IfSome (told_bytes told name) (IsFileOf pages es) → OfFile told name ⊥ (TellsPage page p) → page < pages →
-    IfSome (told_bytes told name) (λ bytes. p ≡ page_at first_form bytes page)
-page_is None name pages page es p f t within = tt
-page_is (Some files) name pages page es p f t within = here (file files name) f t
+-- where the files are told, it has so many pages
+pub paged : (hash : List ℕ → List ℕ) (told : Option Files) (name : List ℕ) (pages : ℕ) (es : Entries) (size : ℕ) →
+    IsPaging hash told name pages es size → IsPaged first_form pages told name
+paged hash told name pages es size s =
+    record { there = s.there; file_ = of_bytes (told_bytes told name) s.file_ }
   where
-    here : (o : Option (List ℕ)) → IfSome o (IsFileOf pages es) → MatchOption o ⊥ (TellsPage page p) →
-        IfSome o (λ bytes. p ≡ page_at first_form bytes page)
-    here None f t = tt
-    here (Some bytes) f t = t pages (whole_of pages es bytes f) within
-
-pub free_shows : (o : Option (List ℕ)) (page : ℕ) (p : List ℕ) (r : Option ℕ) →
-    IfSome o (λ bytes. p ≡ page_at first_form bytes page) → r ≡ first_form.free_in p →
-    IfSome (option_map (file_of first_form) o) (λ f. r ≡ f.free page)
-free_shows None page p r is e = tt
-free_shows (Some bytes) page p r is e = e ∙ ap first_form.free_in is
-
-pub node_shows : (o : Option (List ℕ)) (page level : ℕ) (p : List ℕ) (r : Bool) (n : view.Node) →
-    IfSome o (λ bytes. p ≡ page_at first_form bytes page) → Shows r n (of_level level (first_form.node_in p)) →
-    IfSome (option_map (file_of first_form) o) (λ f. Shows r n (of_level level (f.node page)))
-node_shows None page level p r n is s = tt
-node_shows (Some bytes) page level p r n is s =
-    subst (λ q. Shows r n (of_level level (first_form.node_in q))) is s
-
-pub head_shows : (o : Option (List ℕ)) (pages : ℕ) (es : Entries) (p : List ℕ) (r : Result MapHead MapRule) →
-    IfSome o (IsFileOf pages es) → IfSome o (λ bytes. p ≡ page_at first_form bytes 0) →
-    Heads r (first_form.head_in pages p) → IfSome (option_map (file_of first_form) o) (λ f. Heads r f.head)
-head_shows None pages es p r f is s = tt
-head_shows (Some bytes) pages es p r f is s =
-    let same : first_form.head_in pages p ≡ (file_of first_form bytes).head =
-    (λ i. first_form.head_in (f.count i) (is i))
-    ∙ ap (λ b. if b then Err rule.Size else first_form.head_in (length bytes / 4096) (page_at first_form bytes 0))
-    (sym f.even) in
-    subst (Heads r) same s
+    of_bytes : (o : Option (List ℕ)) → IfSome o (IsFileOf pages es) → IfSome o (HasPages first_form pages)
+    of_bytes None f = tt
+    of_bytes (Some bytes) f = record { are = f.are; even = f.even; count = f.count }
 
 -- ---- what is kept
 

@@ -8,11 +8,12 @@ use Rattle.mr_record.specs.Record.{IsRecord}
 use Rattle.mr_record.specs.declared.record.Record.{Record}
 use Rattle.mr_record.specs.declared.version.Version.TheVariants.{One}
 use Rattle.mr_tree.specs.Tree.{records}
-use Rattle.mr_tree.specs.Digest.{by}
+use Rattle.mr_tree.specs.Digest.{by, entry}
+use Rattle.mr_tree.specs.View.{entry_of}
 use Rattle.mr_tree.specs.declared.entry.Entry.{Entry}
 use Rattle.mr_tree.specs.WellFormed.{IsFilledRoot, WellFormed}
 use Rattle.mr_tree.specs.Nodes.{Standing, IsTop, MayFetch, tree_under, subtrees}
-use Rattle.mr_tree.specs.Snapshot.{tree_at, trees, standing_of, AreLinked, IsSnapshot, IsRooted}
+use Rattle.mr_tree.specs.Snapshot.{tree_at, trees, standing, standing_of, AreLinked, IsSnapshot, IsRooted}
 use Rattle.mr_tree.specs.declared.child.Child.{Child}
 use Rattle.mr_tree.specs.declared.nodes.Top.{Top}
 use Rattle.mr_tree.specs.declared.stored.Stored.{Stored}
@@ -30,7 +31,7 @@ use Rattle.mr_pages.specs.declared.seen.Seen.{Seen}
 use Rattle.mr_pages.proofs.AsRead.{records_apart, numbers_apart}
 use Rattle.mr_pages.proofs.Lists.{Fresh, fresh_apart, apart_fresh}
 use Rattle.mr_store.specs.Copying.{CanCopy, IsCopied, Stops, StopsAll}
-use Rattle.mr_store.specs.Stored.{StandsFor}
+use Rattle.mr_store.specs.Stored.{IsSaid, StandsFor}
 use Rattle.mr_store.specs.declared.stop.Stop.{Stop}
 use Rattle.mr_store.specs.declared.stop.Stop.TheVariants as stops
 use Rattle.mr_store.proofs.Copies.{some_same}
@@ -81,6 +82,15 @@ module _ (hash : List ℕ → List ℕ) (s : Standing) (top : Top) (ns : List St
   empty_stands t told =
       stands_as hash s top tree.Empty t is
       (some_same tree.Empty t (told_root hash s top None t is root told))
+
+  pub empty_said : IsSaid hash top (standing ns empty_top)
+  empty_said = record {
+    batch = refl;
+    tree = tree.Empty;
+    told = refl;
+    count = sym no_records;
+    root = subst (λ o. IfSome o (λ c. entry (by One hash) tree.Empty ≡ entry_of c)) (sym root) tt;
+  }
 
 -- ---- a map with a root
 
@@ -135,6 +145,16 @@ module _ (hash : List ℕ → List ℕ) (s : Standing) (top : Top) (r c : Child)
 
   pub whole_stands : StandsFor s ns whole_top
   whole_stands u told = stands_as hash s top t u is (told_tree u told)
+
+  pub whole_said : top.count ≡ count_of after.numbers → IsSaid hash top (standing ns whole_top)
+  whole_said same = record {
+    batch = refl;
+    tree = t;
+    told = refl;
+    count = sym (same ∙ counted);
+    root = subst (λ o. IfSome o (λ c. entry (by One hash) t ≡ entry_of c)) (sym root)
+        (sym copied.placed.link.entry ∙ copied.known);
+  }
 
   -- another number of records is met only where the tree is not told
   pub miscounted : (top.count ≡ count_of after.numbers → ⊥) → IsNone s.tree

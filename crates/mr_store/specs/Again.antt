@@ -15,14 +15,9 @@ use Rattle.mr_record.specs.declared.version.Version.TheVariants.{One}
 use Rattle.mr_tree.specs.Digest.{by}
 use Rattle.mr_pages.specs.Page.{Node, level_of, entry_of}
 use Rattle.mr_pages.specs.PageBytes.{first_form}
-use Rattle.mr_pages.specs.File.{page_at, file_of}
+use Rattle.mr_pages.specs.File.{file_of}
 use Rattle.mr_pages.specs.Walking.{page_node}
 use Rattle.mr_store.specs.Kept.{AreInside}
-
--- a page of a file of these bytes was read
-abbrev pub TellsPage : ℕ → List ℕ → List ℕ → Type 0
-TellsPage page p bytes =
-    (pages : ℕ) → length bytes ≡ pages * 4096 → page < pages → p ≡ page_at first_form bytes page
 
 -- this child's page is not in the file
 pub record Outside (pages : ℕ) (n : view.Node) (page : ℕ) : Type 0 where

@@ -11,9 +11,11 @@ use Rattle.mr_pages.specs.Page.{page_limit}
 use Rattle.mr_pages.specs.PageBytes.{first_form}
 use Rattle.mr_pages.specs.File.{File, file_of, is_odd_size}
 use Rattle.mr_pages.specs.Faults.{mapfault}
+use Rattle.mr_pages.specs.Source as source
 use Rattle.mr_pages.specs.Source.{SaysHead, IsRootIn, AllKept, SaysOnce}
 use Rattle.mr_pages.specs.Walking.{child_link, head_of}
-use Rattle.mr_pages.specs.Opening.{Fails, Tells}
+use Rattle.mr_pages.specs.Opening.{Fails, SomeBytes, Tells}
+pub use Rattle.mr_pages.specs.Opening.{pages_in}
 use Rattle.mr_tree.specs.Nodes.{Standing}
 use Rattle.mr_tree.specs.declared.tree.Tree.{Tree}
 use Rattle.mr_store.specs.Kept.{Entries}
@@ -21,10 +23,8 @@ use Rattle.mr_store.specs.Stored.{told_bytes, stands_for}
 use Rattle.mr_store.specs.Paging.{Holds}
 
 -- whole pages, and so many
-pub record HasPages (pages : ℕ) (bytes : List ℕ) : Type 0 where
-  pub are : AreBytes bytes
-  pub even : is_odd_size 4096 (length bytes) ≡ false
-  pub count : pages ≡ length bytes / 4096
+abbrev pub HasPages : (pages : ℕ) → (bytes : List ℕ) → Type 0
+HasPages = source.HasPages first_form
 
 -- what was checked of a file: page 0 says this, its root is in the file, and there is no fault
 pub record WasChecked (hash : List ℕ → List ℕ) (pages : ℕ) (file : Option File) (h : MapHead)
@@ -49,10 +49,18 @@ pub record HasWhy (name : List ℕ) (before after : Shelved) (e : MapErr) : Type
   -- and no rule of a page that is read again
   pub once : SaysOnce e
 
+-- some bytes have no fault, and page 0 of these says this
+pub record IsOfSome (hash : List ℕ → List ℕ) (h : MapHead) : Type 0 where
+  pub bytes : List ℕ
+  pub are : AreBytes bytes
+  pub fault : mapfault hash (file_of first_form bytes) ≡ None
+  pub head : (file_of first_form bytes).head ≡ Ok (head_of h)
+
 -- why a map was not opened
 pub record Refused (hash : List ℕ → List ℕ) (name : List ℕ) (before after : Shelved) (e : MapErr)
     : Type 0 where
   pub fault : IsFaultOf hash before name e
+  pub some : SomeBytes first_form hash (Err e)
   pub why : HasWhy name before after e
 
 -- what is told of a map that was opened and stands for this, where its file has these bytes
@@ -65,6 +73,7 @@ pub record IsOpened (hash : List ℕ → List ℕ) (name : List ℕ) (pages : �
     (name' : List ℕ) (h : MapHead) (after : Shelved) (fetches : ℕ) : Type 0 where
   pub answers : OfFile after.files name' ⊥
       (TellsMap hash (stands_for h (told_bytes after.files name')))
+  pub some : IsOfSome hash h
   pub same : name' ≡ name
   pub count : h.pages ≡ pages
   pub files : after.files ≡ before.files
@@ -82,10 +91,6 @@ pub record IsRefused (hash : List ℕ → List ℕ) (name : List ℕ) (pages : �
   pub more : before.reads ≤ after.reads
   pub few : after.reads ≤ before.reads + pages
 
--- how many pages a file of these bytes has
-abbrev pub pages_in : List ℕ → ℕ
-pages_in bytes = length bytes / 4096
-
 -- The map was opened, under this name: it stands for the one map that the file stands for, and has
 -- as many pages. Each of them was read once at most, no fault was counted, and nothing was fetched
 -- yet.
@@ -93,6 +98,8 @@ pub record OpensMap (hash : List ℕ → List ℕ) (name : List ℕ) (before : S
     (h : MapHead) (after : Shelved) (fetches : ℕ) : Type 0 where
   pub answers : OfFile before.files name ⊥
       (TellsMap hash (stands_for h (told_bytes after.files name')))
+  -- told or not, it is the map of some bytes
+  pub some : IsOfSome hash h
   pub same : name' ≡ name
   pub pages : OfFile before.files name ⊥ (λ bytes. h.pages ≡ pages_in bytes)
   pub files : after.files ≡ before.files
@@ -108,6 +115,8 @@ pub record RefusesMap (hash : List ℕ → List ℕ) (name : List ℕ) (before a
     (e : MapErr) : Type 0 where
   pub answers : OfFile before.files name (Fails (Err e))
       (λ bytes. Tells first_form hash bytes (Err e))
+  -- told or not, a fault is the first of some bytes
+  pub some : SomeBytes first_form hash (Err e)
   pub why : HasWhy name before after e
   pub files : after.files ≡ before.files
   pub later : before.faults ≤ after.faults

@@ -7,7 +7,7 @@ use Rattle.mr_record.specs.Bytes.{AreBytes}
 use Rattle.mr_pages.specs.Page.{page_limit}
 use Rattle.mr_pages.specs.PageBytes.{first_form}
 use Rattle.mr_pages.specs.File.{file_of, is_odd_size}
-use Rattle.mr_pages.specs.Source.{Sourced}
+use Rattle.mr_pages.specs.Source.{Sourced, on_shelf}
 use Rattle.mr_pages.specs.Walking.{page_node}
 use Rattle.mr_store.specs.declared.kept.Kept.{Kept}
 use Rattle.mr_store.specs.Kept.{Entries, IsGood, node_of}
@@ -15,13 +15,7 @@ use Rattle.mr_store.specs.Stored.{told_bytes, room}
 
 -- the pages of the file, as a walk over them sees them
 abbrev pub sourced : ℕ → Shelved → List ℕ → Sourced
-sourced pages s name = record {
-  origin = record { name = name; files = s.files };
-  pages = pages;
-  file = option_map (file_of first_form) (told_bytes s.files name);
-  faults = s.faults;
-  reads = s.reads;
-}
+sourced = on_shelf first_form 0
 
 -- the page is kept, where there is room for all pages
 abbrev pub Holds : ℕ → Entries → ℕ → Type 0

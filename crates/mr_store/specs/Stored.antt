@@ -1,17 +1,21 @@
 -- What is known of an opened map, and what its calls leave of it.
-use Rattle.std.specs.Prelude.{◌≡◌, ℕ, ◌+◌, ◌<◌, ◌≤◌, ◌↔◌, ◌⊎◌, ⊤, List, max, Contains, Option, Some, None, option_map, IfSome, IsSome, IsNone, MatchOption, Ok, nat_eq}
+use Rattle.std.specs.Prelude.{◌≡◌, ℕ, ◌+◌, ◌<◌, ◌≤◌, ◌↔◌, ◌⊎◌, ⊤, List, length, max, Contains, Option, Some, None, option_map, IfSome, IsSome, IsNone, MatchOption, Ok, nat_eq}
 use Rattle.std.specs.Map.{lookup}
 use Rattle.mr_outside.specs.Files.{Files, file}
 use Rattle.mr_outside.specs.Faults.{last_count}
 use Rattle.mr_outside.specs.State.{Shelved}
 use Rattle.mr_record.specs.Bytes.{AreBytes}
 use Rattle.mr_tree.specs.Limits.{count_limit, level_limit}
+use Rattle.mr_tree.specs.Digest.{by, entry}
 use Rattle.mr_tree.specs.Nodes.{Standing}
+use Rattle.mr_tree.specs.View.{entry_of}
 use Rattle.mr_tree.specs.Snapshot.{standing, standing_of}
 use Rattle.mr_tree.specs.declared.nodes.Top.{Top}
 use Rattle.mr_tree.specs.declared.stored.Stored.{Stored}
 use Rattle.mr_tree.specs.declared.tree.Tree.{Tree}
+use Rattle.mr_tree.specs.Tree.{records}
 use Rattle.mr_pages.specs.Law.{IsMap}
+pub use Rattle.mr_pages.specs.Source.{told_bytes}
 use Rattle.mr_tree.specs.declared.child.Child.{Child}
 use Rattle.mr_pages.specs.declared.head.MapHead.{MapHead}
 use Rattle.mr_pages.specs.Page.{Link}
@@ -24,11 +28,6 @@ use Rattle.mr_pages.specs.Walking.{child_link, page_node, head_of}
 use Rattle.mr_store.specs.Parts.{stood, untold}
 use Rattle.mr_store.specs.Kept.{Entries, IsGood, node_of}
 use Rattle.mr_store.specs.declared.kept.Kept.{Kept}
-
--- the bytes of the map's file, where they are told
-abbrev pub told_bytes : Option Files → List ℕ → Option (List ℕ)
-told_bytes None name = None
-told_bytes (Some files) name = file files name
 
 abbrev pub root_link : MapHead → Option Link
 root_link h = option_map child_link h.root
@@ -105,6 +104,19 @@ pub record IsSameMap (n n' : List ℕ) (h h' : MapHead) (s s' : Shelved) : Type 
 abbrev pub StandsFor : Standing → List Stored → Top → Type 0
 StandsFor s nodes top = (t : Tree) → s.tree ≡ Some t →
     standing nodes top ≡ standing_of s.version s.batch t
+
+-- what page 0 says of the map
+abbrev pub top_in : MapHead → Top
+top_in h = record { batch = h.batch; count = h.count; root = h.root }
+
+-- the tree in memory is of a map that says this of itself: at its batch, with as many records as it
+-- says, and with the level, rectangle and digest that it says of its root node
+pub record IsSaid (hash : List ℕ → List ℕ) (top : Top) (s : Standing) : Type 0 where
+  pub batch : s.batch ≡ top.batch
+  pub tree : Tree
+  pub told : s.tree ≡ Some tree
+  pub count : length (records tree) ≡ top.count
+  pub root : IfSome top.root (λ c. entry (by s.version hash) tree ≡ entry_of c)
 
 -- the file of these bytes stands for the map
 abbrev pub IsMapOf : (List ℕ → List ℕ) → Standing → List ℕ → Type 0

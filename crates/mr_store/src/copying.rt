@@ -4,11 +4,11 @@ ghost use Rattle.std.specs.Prelude.{◌≡◌, IfOk, IfErr, OnOk, Some};
 ghost use Rattle.mr_record.specs.declared.version.Version.TheVariants.{One};
 ghost use Rattle.mr_tree.specs.Digest.{by};
 ghost use Rattle.mr_tree.specs.Nodes.{IsTop, MayFetch, Shows};
-ghost use Rattle.mr_tree.specs.Snapshot.{AreLinked};
+ghost use Rattle.mr_tree.specs.Snapshot.{AreLinked, standing};
 ghost use Rattle.mr_tree.specs.declared.stored.Stored.TheVariants as stored;
 ghost use Rattle.mr_pages.specs.Walking.{owned};
 ghost use Rattle.mr_store.specs.Copying.{IsJudged, IsUnfit, Suits, IsFull, CanCopy, Adds, IsPut, IsCopied, Stops, StopsAll, IsHandedOn, IsTwice};
-ghost use Rattle.mr_store.specs.Stored.{StandsFor};
+ghost use Rattle.mr_store.specs.Stored.{IsSaid, StandsFor};
 
 use crate::stop::Stop;
 use mr_outside::Items;
@@ -136,6 +136,7 @@ fn copied_from<N: Nodes>(
     requires root { top.now.root ≡ Some root.now }
     ensures kept { N.kept nodes.old nodes.new }
     ensures stands { IfOk result (λ p. StandsFor (N.stands nodes.old) p.nodes.items p.top) }
+    ensures says { IfOk result (λ p. IsSaid N.Hash.of top.now (standing p.nodes.items p.top)) }
     ensures quiet { OnOk result (N.faults nodes.new ≡ N.faults nodes.old) }
     ensures handed { IfErr result (IsHandedOn (N.refusal nodes.new)) }
     ensures cause { IfErr result (StopsAll (N.stands nodes.old)
@@ -165,20 +166,23 @@ fn copied_from<N: Nodes>(
     ))
 }
 
-/// A copy of the whole map, of a store of so many pages, made as its nodes are fetched.
+/// A copy of the whole map, which says this of itself, of a store of so many pages, made as its
+/// nodes are fetched.
 pub(crate) fn copied<N: Nodes>(
     alloc: Global,
     nodes: &mut N,
+    top: &Top,
     pages: u32,
 ) -> Result<Snapshot<N::Hash>, Stop>
+    requires { IsTop N.Hash.of (N.stands nodes.old) top.now }
     ensures kept { N.kept nodes.old nodes.new }
     ensures stands { IfOk result (λ p. StandsFor (N.stands nodes.old) p.nodes.items p.top) }
+    ensures says { IfOk result (λ p. IsSaid N.Hash.of top.now (standing p.nodes.items p.top)) }
     ensures quiet { OnOk result (N.faults nodes.new ≡ N.faults nodes.old) }
     ensures handed { IfErr result (IsHandedOn (N.refusal nodes.new)) }
     ensures cause { IfErr result (StopsAll (N.stands nodes.old)
         (N.faults nodes.old) (N.faults nodes.new)) }
 {
-    let top = nodes.top();
     match &top.root {
         None => Ok(Snapshot::over(
             Vec::new(alloc),
@@ -188,6 +192,6 @@ pub(crate) fn copied<N: Nodes>(
                 root: None,
             },
         )),
-        Some(root) => copied_from(alloc, nodes, &top, root, pages),
+        Some(root) => copied_from(alloc, nodes, top, root, pages),
     }
 }

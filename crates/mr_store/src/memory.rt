@@ -3,13 +3,26 @@
 ghost use Rattle.std.specs.Prelude.{◌≡◌, IfOk, IfErr, OnOk};
 ghost use Rattle.std.specs.String.{string_bytes};
 ghost use Rattle.mr_tree.specs.Nodes.{HasSomeCause};
-ghost use Rattle.mr_store.specs.Stored.{told_bytes, stands_for, Keeps, StandsFor};
+ghost use Rattle.mr_tree.specs.Snapshot.{standing};
+ghost use Rattle.mr_store.specs.Stored.{told_bytes, stands_for, top_in, IsSaid, Keeps, StandsFor};
 
 use crate::copying::copied;
 use crate::paged::Paged;
 use crate::stop::refusal;
 use mr_outside::Shelf;
-use mr_tree::{Hash32, NodesErr, Snapshot};
+use mr_pages::MapHead;
+use mr_tree::{Hash32, NodesErr, Snapshot, Top};
+
+// What page 0 says of the map.
+fn top_of(head: &MapHead) -> Top
+    ensures { result ≡ top_in head.now }
+{
+    Top {
+        batch: head.batch,
+        count: head.count,
+        root: head.root,
+    }
+}
 
 impl<S: Shelf, H: Hash32> Paged<S, H> {
     /// The whole map in memory, made as its nodes are fetched, with no tree beside it.
@@ -24,6 +37,9 @@ impl<S: Shelf, H: Hash32> Paged<S, H> {
         ensures stands { IfOk result (λ p. StandsFor (stands_for self.old.head
             (told_bytes (S.state self.old.shelf).files (string_bytes self.old.name)))
             p.nodes.items p.top) }
+        // Told or not, it is of the map that page 0 told of.
+        ensures says { IfOk result (λ p.
+            IsSaid H.of (top_in self.old.head) (standing p.nodes.items p.top)) }
         ensures cause { IfErr result (HasSomeCause (stands_for self.old.head
             (told_bytes (S.state self.old.shelf).files (string_bytes self.old.name)))
             (S.state self.old.shelf).faults (S.state self.new.shelf).faults) }
@@ -31,7 +47,8 @@ impl<S: Shelf, H: Hash32> Paged<S, H> {
             ((S.state self.new.shelf).faults ≡ (S.state self.old.shelf).faults) }
     {
         let pages = self.head.pages;
-        match copied::<Paged<S, H>>(self.alloc, self, pages) {
+        let top = top_of(&self.head);
+        match copied::<Paged<S, H>>(self.alloc, self, &top, pages) {
             Ok(snapshot) => Ok(snapshot),
             Err(stop) => Err(refusal(stop)),
         }

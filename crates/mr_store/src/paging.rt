@@ -13,10 +13,9 @@ ghost use Rattle.mr_store.specs.Paging.{sourced, Holds, IsPaging};
 
 use crate::cache::put;
 use crate::kept::Kept;
-use crate::reading::page_bytes;
 use lru::LruCache;
 use mr_outside::{Shelf, ShelfErr};
-use mr_pages::{MapHead, MapRule, Node, Source, read_free_page, read_head, read_page};
+use mr_pages::{MapHead, MapRule, Node, Source, page_bytes, read_free_page, read_head, read_page};
 use mr_tree::{Child, Hashes, NodeView};
 use std::alloc::AllocError;
 use std::marker::PhantomData;

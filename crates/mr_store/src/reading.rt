@@ -1,16 +1,15 @@
 //! Pages that are read again.
 
-ghost use Rattle.std.specs.Prelude.{◌≡◌, ◌≤◌, IfOk, OnOk, IfErr, MatchOption, Some, bytes_eq, ⊤};
+ghost use Rattle.std.specs.Prelude.{◌≡◌, OnOk, IfErr, MatchOption, Some, bytes_eq, ⊤};
 ghost use Rattle.mr_outside.specs.Told.{OfFile};
-ghost use Rattle.mr_outside.specs.Causes.{ShelfCauses, CountsRead};
 ghost use Rattle.mr_pages.specs.Page as pages_spec;
 ghost use Rattle.mr_pages.specs.PageBytes.{first_form};
 ghost use Rattle.mr_tree.specs.View.{preimage_of};
 ghost use Rattle.mr_store.specs.Kept.{AreInside};
-ghost use Rattle.mr_store.specs.Again.{TellsPage, Outside, IsRead, IsSaid, TellsNode, TellsAgain, IsBlamed, IsRefused, ReadsOne, Refuses};
+ghost use Rattle.mr_store.specs.Again.{Outside, IsRead, IsSaid, TellsNode, TellsAgain, IsBlamed, IsRefused, ReadsOne, Refuses};
 
 use mr_outside::{Shelf, ShelfErr};
-use mr_pages::{PAGE_SIZE, read_filled, read_page};
+use mr_pages::{page_bytes, read_page};
 use mr_tree::{Child, Hashes, NodeView, NodesErr, is_view};
 
 /// Whether two digests are the same.
@@ -18,23 +17,6 @@ pub(crate) fn are_same(a: &[u8; 32], b: &[u8; 32]) -> bool
     ensures { result ≡ bytes_eq a.now b.now }
 {
     a.as_slice() == b.as_slice()
-}
-
-/// The bytes of a page. What the read gives short counts as zeros.
-pub(crate) fn page_bytes<S: Shelf>(
-    shelf: &mut S,
-    name: &str,
-    page: u32,
-) -> Result<[u8; 4096], ShelfErr>
-    ensures told { IfOk result (λ p. OfFile (S.state shelf.old).files name.now ⊥
-        (TellsPage page p)) }
-    ensures causes { ShelfCauses name.now (S.state shelf.old) (S.state shelf.new) result }
-    ensures files { (S.state shelf.new).files ≡ (S.state shelf.old).files }
-    ensures reads { CountsRead (S.state shelf.old) (S.state shelf.new) result }
-{
-    let mut bytes = [0; PAGE_SIZE];
-    read_filled(shelf, name, page as u64 * PAGE_SIZE as u64, &mut bytes)?;
-    Ok(bytes)
 }
 
 // The first child's page that is page 0, or not in a file of so many pages.

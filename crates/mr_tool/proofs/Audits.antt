@@ -1,11 +1,12 @@
 -- `audit` on a map that is opened page by page.
-use Rattle.std.proofs.Common.{◌≡◌, ℕ, ◌+◌, ◌≤◌, List, length, refl, sym, subst, ◌∙◌, inl, inr, arith}
-use Rattle.std.specs.Prelude.{Option, Some, None, IfSome, IsSome, Result, Ok, Err}
+use Rattle.std.proofs.Common.{◌≡◌, ℕ, ◌+◌, ◌<◌, ◌≤◌, List, length, refl, sym, ap, subst, ◌∙◌, inl, inr, arith}
+use Rattle.std.specs.Prelude.{◌⊎◌, Option, Some, None, IfSome, Result, Ok, Err}
 use Rattle.std.specs.Global.{Vec}
 use Rattle.mr_outside.specs.Files.{Files, file}
 use Rattle.mr_outside.specs.Faults.{Rose}
 use Rattle.mr_outside.specs.State.{Shelved}
-use Rattle.mr_outside.specs.Told.{OfFile}
+use Rattle.mr_outside.specs.Told.{OfFile, OfFiles}
+use Rattle.mr_record.specs.Bytes.{AreBytes}
 use Rattle.mr_record.specs.declared.version.Version.TheVariants.{One}
 use Rattle.mr_tree.specs.Digest.{by}
 use Rattle.mr_tree.specs.Nodes.{Standing, HasSomeCause}
@@ -14,15 +15,16 @@ use Rattle.mr_tree.specs.declared.tree.Tree.{Tree}
 use Rattle.mr_pages.specs.declared.head.MapHead.{MapHead}
 use Rattle.mr_pages.specs.declared.opening.Opened.{Opened}
 use Rattle.mr_query.specs.declared.query.Query.{Query}
-use Rattle.mr_clash.specs.Finding.{found, Collides}
+use Rattle.mr_clash.specs.Finding.{found, opened_accepted, Collides, FindsFor}
 use Rattle.mr_clash.specs.declared.finding.Finding.{Finding}
 use Rattle.mr_store.specs.Opening.{TellsMap, pages_in}
 use Rattle.mr_store.specs.Stored.{room}
-use Rattle.mr_tool.specs.Counting.{IsFewBeside, ReadsFew}
-use Rattle.mr_tool.specs.Ending.{Comes, ComesBut, with_reads, GivesOrStops, Misses, NoneFalls, Read, Reads, ReadsOnce, SaysRefusal, SaysUntold, Stops}
+use Rattle.mr_tool.specs.Counting.{opened_beside, IsFewBeside, ReadsFew}
+use Rattle.mr_tool.specs.Ending.{Comes, ComesBut, with_reads, GivesOrStops, IsBeside, Misses, NoneFalls, Read, Reads, ReadsBeside, ReadsOpened, SaysRefusal, SaysUntold, Stops}
 use Rattle.mr_tool.specs.Found.{as_map_error}
 use Rattle.mr_tool.specs.Outcome.{Outcome, Nothing, IsLeft, MayLeave}
-use Rattle.mr_tool.specs.Plan.{Plan, comes, rereads, IsAbsent}
+use Rattle.mr_tool.specs.First.{first}
+use Rattle.mr_tool.specs.Plan.{Plan, comes, rereads, IsAbsent, IsInput}
 use Rattle.mr_tool.specs.Rereading.{Rereading, auditing}
 use Rattle.mr_tool.specs.Say.{needs, needs_map, say_audit_of, say_finding, says_missing}
 use Rattle.mr_tool.specs.declared.ending.Ending.{Ending}
@@ -78,18 +80,23 @@ module _ (hash : List ℕ → List ℕ) (map : List ℕ) (q : Query) (proof byte
           (subst (λ v. f ≡ found (by v hash) t s.batch q bytes) first_is is))
           (at_end (say_finding f) result (finding_writes f) quiet gives)
 
-  pub found_untold : (f : Finding) (result : Result Ending Halt) → Collides hash f → new.faults ≡ old.faults
+  pub found_untold : (f : Finding) (result : Result Ending Halt) → AreBytes bytes → FindsFor hash s q bytes f
+      → Collides hash f → new.faults ≡ old.faults
       → GivesOrStops (say_finding f) result → SaysUntold (auditing hash map q proof) old new result
-  found_untold f (Ok ending) collides quiet gives = (
+  found_untold f (Ok ending) are judged collides quiet gives = (
     say_finding f,
-    inr (inr (f, collides, refl)),
+    inr (inr (
+      f,
+      record { stands = s; bytes = bytes; are = are; judged = judged; collides = collides },
+      refl,
+    )),
     gives.status,
     gives.printed,
     subst (λ w. IsLeft w old.files new.files) (sym (finding_writes f)) files,
     λ outside. absurd (gives.settled.0 outside),
     λ settled. quiet,
   )
-  found_untold f (Err halt) collides quiet is = (subst (Stops old new) (sym is) tt, files)
+  found_untold f (Err halt) are judged collides quiet is = (subst (Stops old new) (sym is) tt, files)
 
   pub unfetched_told : (e : NodesErr) (result : Result Ending Halt) → HasSomeCause s old.faults new.faults e
       → SaysRefusal map (as_map_error e) result
@@ -108,8 +115,8 @@ module _ (hash : List ℕ → List ℕ) (map : List ℕ) (q : Query) (proof byte
   pub unfetched_untold : (e : NodesErr) (result : Result Ending Halt) → HasSomeCause s old.faults new.faults e
       → SaysRefusal map (as_map_error e) result → SaysUntold (auditing hash map q proof) old new result
   unfetched_untold e result cause says =
-      says_refused (auditing hash map q proof) map (λ said is. inl is) old new files (as_map_error e) result
-      (fetch_blamed s e old new cause) says
+      says_refused hash (auditing hash map q proof) map (λ said is. inl is) old new files (as_map_error e) result
+      (fetch_blamed hash s e old new cause) says
 
 -- ---- behind the file of a proof
 
@@ -167,10 +174,6 @@ untold_from reading old mid new (Ok ending) files faults says = (
 untold_from reading old mid new (Err halt) files faults says =
     (stops_before old mid new halt faults says.0, says.1 ∙ files)
 
-pub once_then : (told : Option Files) (name : List ℕ) (r m e : ℕ) → OnceFrom told name r m → e ≡ m
-    → OnceFrom told name r e
-once_then told name r m e once same = subst (OnceFrom told name r) (sym same) once
-
 if_some : {A : Type 0} (o : Option A) (P Q : A → Type 0) → ((x : A) → P x → Q x) → IfSome o P → IfSome o Q
 if_some None P Q f p = tt
 if_some (Some x) P Q f p = f x p
@@ -178,6 +181,45 @@ if_some (Some x) P Q f p = f x p
 all_some : {A : Type 0} (o : Option A) (Q : A → Type 0) → ((x : A) → Q x) → IfSome o Q
 all_some None Q f = tt
 all_some (Some x) Q f = f x
+
+-- ---- how many reads
+
+module _ (hash : List ℕ → List ℕ) (q : Query) (s : Standing) (pages : ℕ) (proof : List ℕ) (old mid new : Shelved) where
+  -- the proof, and what is read of the map beside it
+  pub read_beside : (bytes : Vec ℕ) (read : Option (Vec ℕ)) → read ≡ Some bytes → Reads proof old mid (Ok read)
+      → ReadsOpened hash q s pages bytes.items mid new → ReadsBeside hash q s pages proof old new
+  read_beside bytes read was got opened =
+      let is : Reads proof old mid (Ok (Some bytes)) = subst (λ r. Reads proof old mid (Ok r)) was got in
+      if_some s.tree (λ t. (new.reads ≡ mid.reads) ⊎ ((room + 1 < pages)
+      × (new.reads ≤ mid.reads + opened_accepted (first hash) t s.batch q bytes.items)))
+      (λ t. OfFiles old.files (λ files. IsBeside hash t s.batch q pages (file files proof) old.reads new.reads))
+      (λ t. by_files t old.files is.read.0 is.once) opened
+    where
+      by_files : (t : Tree) (o : Option Files) → IsInput o proof (Some bytes.items)
+          → OnceFrom o proof old.reads mid.reads
+          → (new.reads ≡ mid.reads) ⊎ ((room + 1 < pages)
+          × (new.reads ≤ mid.reads + opened_accepted (first hash) t s.batch q bytes.items))
+          → OfFiles o (λ files. IsBeside hash t s.batch q pages (file files proof) old.reads new.reads)
+      by_files t None input once opened = tt
+      by_files t (Some files) input once (inl same) = inl (omega (arith, once, same))
+      by_files t (Some files) input once (inr large) =
+          let here = ap (opened_beside hash t s.batch q) input in
+          inr (large.0, omega (arith, once, large.1, here))
+
+  -- nothing is read beside it
+  pub alone_beside : (result : Result (Option (Vec ℕ)) Halt) → Reads proof old new result
+      → ReadsBeside hash q s pages proof old new
+  alone_beside result got =
+      all_some s.tree (λ t. OfFiles old.files (λ files.
+      IsBeside hash t s.batch q pages (file files proof) old.reads new.reads))
+      (λ t. by_files t old.files got.once)
+    where
+      by_files : (t : Tree) (o : Option Files) → OnceFrom o proof old.reads new.reads
+          → OfFiles o (λ files. IsBeside hash t s.batch q pages (file files proof) old.reads new.reads)
+      by_files t None once = tt
+      by_files t (Some files) once = inl once
+
+-- ---- what is said
 
 module _ (hash : List ℕ → List ℕ) (map : List ℕ) (q : Query) (proof : List ℕ) (old mid new : Shelved)
     (s : Standing) where
@@ -249,7 +291,7 @@ module _ (hash : List ℕ → List ℕ) (sized : (xs : List ℕ) → length (has
     (pages : OfFile before.files map ⊥ (λ bytes. h.pages ≡ pages_in bytes))
     (few : OfFile before.files map ⊥ (λ bytes. mid.reads ≤ before.reads + pages_in bytes))
     (more : before.reads ≤ mid.reads) (counts : NoneFalls mid end)
-    (once : IsSome mid.files → h.pages ≤ room + 1 → ReadsOnce proof mid end) where
+    (beside : ReadsBeside hash q s h.pages proof mid end) where
   abbrev on_map : Opened → Plan
   on_map m = needs proof (λ bytes. comes (say_audit_of hash q m bytes))
 
@@ -261,11 +303,13 @@ module _ (hash : List ℕ → List ℕ) (sized : (xs : List ℕ) → length (has
       let few_are = at_input before.files files map has.bytes ⊥ (λ bytes. mid.reads ≤ before.reads + pages_in bytes)
       told has.input few in
       few_there before.files files map has.bytes before.reads end.reads
-      (λ files bytes n. IsFewBeside hash bytes (file files proof) n) told has.input
-      (few_beside hash h has.bytes (file files proof) before.reads mid.reads end.reads has.tree s.batch has.stands
+      (λ files bytes n. IsFewBeside hash q bytes (file files proof) n) told has.input
+      (few_beside hash q h has.bytes (file files proof) before.reads mid.reads end.reads has.tree s.batch has.stands
       pages_are few_are
-      (λ small. subst (λ o. OnceFrom o proof mid.reads end.reads) (same ∙ told)
-      (once (subst IsSome (sym (same ∙ told)) refl) small)))
+      (subst (λ o. OfFiles o (λ files. IsBeside hash has.tree s.batch q h.pages (file files proof) mid.reads end.reads))
+      (same ∙ told)
+      (subst (λ o. IfSome o (λ t. OfFiles mid.files (λ files.
+      IsBeside hash t s.batch q h.pages (file files proof) mid.reads end.reads))) has.told beside)))
 
   pub audited : (result : Result Ending Halt)
       → IfSome s.tree (λ t. ComesBut (on_map (map_in s t)) mid end result)

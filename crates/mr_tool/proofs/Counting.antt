@@ -4,10 +4,11 @@ use Rattle.std.specs.Prelude.{Option, Some, None, MatchOption}
 use Rattle.mr_outside.specs.Files.{Files, file}
 use Rattle.mr_outside.specs.Reading.{piece_count}
 use Rattle.mr_outside.specs.Told.{OfFile, OfFiles}
-use Rattle.mr_tool.specs.Counting.{pieces_of, AllowsReads}
+use Rattle.mr_pages.specs.Opening.{pages_in}
+use Rattle.mr_tool.specs.Counting.{pieces_of, reads_taken, AllowsReads}
 use Rattle.mr_tool.specs.Found.{Found, Shows}
 use Rattle.mr_tool.specs.Outcome.{Outcome}
-use Rattle.mr_tool.specs.Plan.{Plan, comes, opens, IsInput}
+use Rattle.mr_tool.specs.Plan.{Input, Plan, comes, opens, IsInput}
 use Rattle.mr_tool.specs.Say.{needs, given}
 
 -- P of the files, where they are told; here of a count of reads
@@ -18,13 +19,41 @@ AllowsFrom told plan before after =
 abbrev pub OnceFrom : Option Files → List ℕ → (before after : ℕ) → Type 0
 OnceFrom told name before after = OfFiles told (λ files. after ≤ before + pieces_of (file files name))
 
+-- one input, by what follows on it
+abbrev pub TakenFrom : Option Files → List ℕ → (List ℕ → Plan) → (before after : ℕ) → Type 0
+TakenFrom told name next before after = OfFiles told
+    (λ files. after ≤ before + reads_taken (given name next (file files name)) (file files name))
+
+-- in pieces, where what follows opens no map
+pub text_taken : (told : Option Files) (name : List ℕ) (said : List ℕ → Outcome) (before after : ℕ)
+    → OnceFrom told name before after → TakenFrom told name (λ bytes. comes (said bytes)) before after
+text_taken None name said before after once = tt
+text_taken (Some files) name said before after once = by_input (file files name) once
+  where
+    by_input : (input : Input) → after ≤ before + pieces_of input
+        → after ≤ before + reads_taken (given name (λ bytes. comes (said bytes)) input) input
+    by_input None once = once
+    by_input (Some bytes) once = once
+
+-- page by page, where a map is opened
+pub map_taken : (told : Option Files) (name : List ℕ) (hash : List ℕ → List ℕ) (next : Found → Plan) (before after : ℕ)
+    → OfFile told name (after ≡ before) (λ bytes. after ≤ before + pages_in bytes)
+    → TakenFrom told name (λ bytes. opens hash bytes next) before after
+map_taken None name hash next before after once = tt
+map_taken (Some files) name hash next before after once = by_input (file files name) once
+  where
+    by_input : (input : Input) → MatchOption input (after ≡ before) (λ bytes. after ≤ before + pages_in bytes)
+        → after ≤ before + reads_taken (given name (λ bytes. opens hash bytes next) input) input
+    by_input None same = omega (arith, same)
+    by_input (Some bytes) once = once
+
 -- what is read behind an input comes on top
 pub few_behind : (told : Option Files) (name : List ℕ) (next : List ℕ → Plan) (bytes : List ℕ) (r s t : ℕ)
-    → IsInput told name (Some bytes) → OnceFrom told name r s → AllowsFrom told (next bytes) s t
+    → IsInput told name (Some bytes) → TakenFrom told name next r s → AllowsFrom told (next bytes) s t
     → AllowsFrom told (needs name next) r t
 few_behind None name next bytes r s t is once on = tt
 few_behind (Some files) name next bytes r s t is once on =
-    let here : ℕ = pieces_of (file files name) in (
+    let here : ℕ = reads_taken (given name next (file files name)) (file files name) in (
       here + on.0,
       omega (arith, once, on.1),
       (
@@ -37,11 +66,11 @@ few_behind (Some files) name next bytes r s t is once on =
     )
 
 -- nothing is, where the command stops there
-pub few_stopped : (told : Option Files) (name : List ℕ) (next : List ℕ → Plan) (r t : ℕ) → OnceFrom told name r t
+pub few_stopped : (told : Option Files) (name : List ℕ) (next : List ℕ → Plan) (r t : ℕ) → TakenFrom told name next r t
     → AllowsFrom told (needs name next) r t
 few_stopped None name next r t once = tt
 few_stopped (Some files) name next r t once =
-    let here : ℕ = pieces_of (file files name) in
+    let here : ℕ = reads_taken (given name next (file files name)) (file files name) in
     (here, once, (here, 0, omega arith, omega arith, inl refl))
 
 -- nothing at all

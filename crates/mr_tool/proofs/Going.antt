@@ -21,7 +21,7 @@ use Rattle.mr_pages.specs.Opening.{Answers, Fails, MapCauses, OrFails, SomeBytes
 use Rattle.mr_pages.specs.declared.error.MapErr.{MapErr}
 use Rattle.mr_pages.specs.declared.error.MapErr.TheVariants as errors
 use Rattle.mr_pages.specs.declared.rule.MapFault.{MapFault}
-use Rattle.mr_tool.specs.Ending.{Gives, GivesOrStops, Misses, Comes, Came, Stops, Ends, GivesUp, AreJudged, IsJudged, GoesOn, Blames, IsCalm, NoneFalls, IsWell, WasFound, IsAsRead, Reads, ReadsOnce, HoldsMap, Opens, Saves, SaysRefusal, printed_of}
+use Rattle.mr_tool.specs.Ending.{Gives, GivesOrStops, Misses, Comes, Came, Stops, Ends, GivesUp, AreJudged, IsJudged, GoesOn, Blames, IsCalm, NoneFalls, IsWell, WasFound, IsAsRead, Reads, ReadsPages, HoldsMap, Opens, Saves, SaysRefusal, printed_of}
 use Rattle.mr_tool.specs.Found.{Found, Shows, bad_map_line}
 use Rattle.mr_tool.specs.Outcome.{Outcome, Content, Nothing, File, map_of, IsLaidOut, IsLeft, MayLeave}
 use Rattle.mr_tool.specs.Plan.{Plan, comes, opens, Input, IsInput, IsAbsent, LacksInput}
@@ -31,7 +31,7 @@ use Rattle.mr_tool.specs.declared.ending.Halt.{Halt}
 use Rattle.mr_tool.specs.declared.ending.Halt.TheVariants as halts
 use Rattle.mr_pages.specs.declared.opening.Opened.{Opened}
 use Rattle.mr_tool.specs.declared.status.Status.TheVariants.{BadMap, Outside}
-use Rattle.mr_tool.proofs.Counting.{AllowsFrom, few_behind, few_stopped, few_none, few_found, once_of}
+use Rattle.mr_tool.proofs.Counting.{AllowsFrom, TakenFrom, text_taken, map_taken, few_behind, few_stopped, few_none, few_found, once_of}
 use Rattle.mr_pages.proofs.HeadLaws.{first_form_is}
 use Rattle.mr_pages.proofs.SavedStands.{saved_stands}
 
@@ -69,7 +69,7 @@ judged_map hash name next told judged goes (Some bytes) is =
 
 -- what came of the rest came of the whole
 module _ (name : List ℕ) (next : List ℕ → Plan) (bytes : List ℕ) (before between after : Shelved)
-    (step : IsStep before between) (once : ReadsOnce name before between)
+    (step : IsStep before between) (once : TakenFrom before.files name next before.reads between.reads)
     (input : IsInput before.files name (Some bytes)) (are : AreBytes bytes)
     (judged : AreJudged (needs name next) before.files) where
   came_on : (result : Result Ending Halt) → Came (next bytes) between after result
@@ -121,8 +121,9 @@ comes_read name said before between after bytes read result was got on =
     let was_read : Reads name before between (Ok (Some bytes)) =
     subst (λ r. Reads name before between (Ok r)) was got in
     comes_on name (λ b. comes (said b)) bytes.items before between after
-    (record { counts = was_read.counts; files = was_read.files; faults = was_read.read.2 }) was_read.once
-    was_read.read.0 was_read.read.1 (judged_needs name said before.files) result on
+    (record { counts = was_read.counts; files = was_read.files; faults = was_read.read.2 })
+    (text_taken before.files name said before.reads between.reads was_read.once) was_read.read.0 was_read.read.1
+    (judged_needs name said before.files) result on
 
 -- an outcome that writes no file, at once
 pub comes_at_once : (said : Outcome) (at : Shelved) (ending : Ending) → said.written ≡ Nothing → Gives said ending
@@ -194,12 +195,13 @@ record Holds (hash : List ℕ → List ℕ) (told : Option Files) (name : List �
   pub is : WasFound told hash bytes found
 
 comes_opened : (hash : List ℕ → List ℕ) (name : List ℕ) (next : Opened → Plan) (before between after : Shelved)
-    (found : Found) (result : Result Ending Halt) → IsStep before between → ReadsOnce name before between
+    (found : Found) (result : Result Ending Halt) → IsStep before between → ReadsPages name before between
     → IsJudged hash before.files name → GoesOn next before.files → Holds hash before.files name found → IsWell found
     → Comes (given_map next found) between after result → Comes (needs_map hash name next) before after result
 comes_opened hash name next before between after found result step once judged goes holds well on =
-    comes_on name (λ bytes. opens hash bytes (given_map next)) holds.bytes before between after step once holds.input
-    holds.are (judged_map hash name next before.files judged goes) result
+    comes_on name (λ bytes. opens hash bytes (given_map next)) holds.bytes before between after step
+    (map_taken before.files name hash (given_map next) before.reads between.reads once) holds.input holds.are
+    (judged_map hash name next before.files judged goes) result
     (comes_found hash holds.bytes (given_map next) found between after result
     (subst (AreJudged (opens hash holds.bytes (given_map next))) (sym step.files)
     (judged_map hash name next before.files judged goes (Some holds.bytes) holds.input))
@@ -215,7 +217,7 @@ comes_map hash name next before between after map result holds goes on =
 
 -- the same where the file stands for no map
 comes_bad : (hash : List ℕ → List ℕ) (name : List ℕ) (next : Opened → Plan) (before after : Shelved)
-    (fault : MapFault) (ending : Ending) → IsStep before after → ReadsOnce name before after
+    (fault : MapFault) (ending : Ending) → IsStep before after → ReadsPages name before after
     → IsJudged hash before.files name → GoesOn next before.files → Holds hash before.files name (Err fault)
     → Gives (ends BadMap (bad_map_line fault)) ending → Comes (needs_map hash name next) before after (Ok ending)
 comes_bad hash name next before after fault ending step once judged goes holds gives =
@@ -274,7 +276,8 @@ reads_of name before after (Err shelf.NoMemory) result held causes files reads p
     })
 
 comes_missing : (name : List ℕ) (next : List ℕ → Plan) (before after : Shelved) (ending : Ending)
-    → NoneFalls before after → ReadsOnce name before after → after.files ≡ before.files
+    → NoneFalls before after → TakenFrom before.files name next before.reads after.reads
+    → after.files ≡ before.files
     → AreJudged (needs name next) before.files
     → IsInput before.files name None × (Rose before.faults after.faults ⊎ IsAbsent before.files name)
     → ending.status ≡ Outside → printed_of ending ≡ (says_missing name).printed
@@ -290,7 +293,8 @@ comes_missing name next before after ending counts once files judged misses stat
 
 -- and where the command stopped
 comes_halted : (name : List ℕ) (next : List ℕ → Plan) (before after : Shelved) (halt : Halt)
-    → NoneFalls before after → ReadsOnce name before after → after.files ≡ before.files
+    → NoneFalls before after → TakenFrom before.files name next before.reads after.reads
+    → after.files ≡ before.files
     → AreJudged (needs name next) before.files → Stops before after halt
     → Comes (needs name next) before after (Err halt)
 comes_halted name next before after halt counts once files judged stops = record {
@@ -308,17 +312,20 @@ pub comes_missed : (name : List ℕ) (said : List ℕ → Outcome) (before after
     → Comes (needs name (λ b. comes (said b))) before after result
 comes_missed name said before after read (Ok ending) was got gives =
     let missed : Reads name before after (Ok None) = subst (λ r. Reads name before after (Ok r)) was got in
-    comes_missing name (λ b. comes (said b)) before after ending missed.counts missed.once missed.files
+    comes_missing name (λ b. comes (said b)) before after ending missed.counts
+    (text_taken before.files name said before.reads after.reads missed.once) missed.files
     (judged_needs name said before.files) missed.read gives.0 gives.1
 comes_missed name said before after read (Err halt) was got is =
-    comes_halted name (λ b. comes (said b)) before after halt got.counts got.once got.files
+    comes_halted name (λ b. comes (said b)) before after halt got.counts
+    (text_taken before.files name said before.reads after.reads got.once) got.files
     (judged_needs name said before.files)
     (subst (Stops before after) (sym is) tt)
 
 pub comes_unread : (name : List ℕ) (said : List ℕ → Outcome) (before after : Shelved) (halt : Halt)
     → Reads name before after (Err halt) → Comes (needs name (λ b. comes (said b))) before after (Err halt)
 comes_unread name said before after halt got =
-    comes_halted name (λ b. comes (said b)) before after halt got.counts got.once got.files
+    comes_halted name (λ b. comes (said b)) before after halt got.counts
+    (text_taken before.files name said before.reads after.reads got.once) got.files
     (judged_needs name said before.files)
     got.read
 
@@ -332,8 +339,7 @@ Answered hash name before after result =
     × MapCauses name before after result
     × (after.files ≡ before.files)
     × (before.reads ≤ after.reads)
-    × OfFile before.files name (after.reads ≡ before.reads)
-    (λ bytes. after.reads ≤ before.reads + piece_count (length bytes))
+    × ReadsPages name before after
 
 told_bytes : (hash : List ℕ → List ℕ) (files : Files) (name : List ℕ) (found : Found) (result : Result Opened MapErr)
     → (Fails result → ⊥)
@@ -401,7 +407,7 @@ module _ (hash : List ℕ → List ℕ) (name : List ℕ) (before after : Shelve
         counts = counts_of hash name before after (Ok map) on;
         files = on.3;
         quiet = no_fault_rose before after name (Ok map) (λ f. f) on.2;
-        once = once_of before.files name before.reads after.reads on.5;
+        once = on.5;
         bytes = holds.bytes;
         input = holds.input;
         are = holds.are;
@@ -419,7 +425,7 @@ module _ (hash : List ℕ → List ℕ) (name : List ℕ) (before after : Shelve
         counts = counts_of hash name before after (Err (errors.Map fault)) on;
         files = on.3;
         faults = no_fault_rose before after name (Err (errors.Map fault)) (λ f. f) on.2;
-      }) (once_of before.files name before.reads after.reads on.5) judged goes
+      }) on.5 judged goes
       (holds_found hash before.files name (Err fault) (Err (errors.Map fault)) (λ f. f) (λ bytes a. a)
       (fault_only fault) on.0 on.1) gives
 
@@ -429,17 +435,16 @@ module _ (hash : List ℕ → List ℕ) (name : List ℕ) (before after : Shelve
   opens_missing ending on status printed next goes =
       comes_missing name (λ bytes. opens hash bytes (given_map next)) before after ending
       (counts_of hash name before after (Err errors.Missing) on)
-      (once_of before.files name before.reads after.reads on.5) on.3
+      (map_taken before.files name hash (given_map next) before.reads after.reads on.5) on.3
       (judged_map hash name next before.files judged goes)
       (misses before.files name before.faults after.faults (on.2.missing refl)) status printed
 
   pub opens_halted : (halt : Halt) → NoneFalls before after
-      → OfFile before.files name (after.reads ≡ before.reads)
-      (λ bytes. after.reads ≤ before.reads + piece_count (length bytes))
-      → after.files ≡ before.files → Stops before after halt → Opens hash name before after (Err halt)
+      → ReadsPages name before after → after.files ≡ before.files → Stops before after halt
+      → Opens hash name before after (Err halt)
   opens_halted halt counts few files stops next goes =
       comes_halted name (λ bytes. opens hash bytes (given_map next)) before after halt counts
-      (once_of before.files name before.reads after.reads few) files
+      (map_taken before.files name hash (given_map next) before.reads after.reads few) files
       (judged_map hash name next before.files judged goes) stops
 
   -- by its refusal

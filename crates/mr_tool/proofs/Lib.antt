@@ -12,6 +12,7 @@ pub mod Digests
 pub mod Spelling
 pub mod Batches
 pub mod Taking
+pub mod ToFault
 pub mod Verdicts
 pub mod Audits
 pub mod Promises

@@ -1,9 +1,8 @@
 -- `prove` and `audit` on a map that is opened page by page.
 use Rattle.std.proofs.Common.{◌≡◌, ℕ, ◌+◌, ◌*◌, ◌<◌, ◌≤◌, ◌^◌, List, [], length, refl, sym, ap, subst, ◌∙◌, inl, inr, arith}
-use Rattle.std.specs.Prelude.{⊤, max, ltb, Option, Some, None, IfOk, IfErr, IfSome, IsSome, OnOk, MatchOption, Result, Ok, Err}
+use Rattle.std.specs.Prelude.{⊤, ◌⊎◌, max, ltb, Option, Some, None, IfOk, IfErr, IfSome, IsSome, OnOk, MatchOption, Result, Ok, Err}
 use Rattle.mr_outside.specs.Files.{Files, file}
 use Rattle.mr_outside.specs.Faults.{last_count}
-use Rattle.mr_outside.specs.Reading.{piece_count}
 use Rattle.mr_outside.specs.State.{Shelved}
 use Rattle.mr_outside.specs.Told.{OfFile, OfFiles, MayMiss}
 use Rattle.mr_record.specs.Bytes.{AreBytes}
@@ -13,9 +12,6 @@ use Rattle.mr_tree.specs.Nodes.{Standing, HasSomeCause}
 use Rattle.mr_tree.specs.declared.nodes.NodesErr.{NodesErr}
 use Rattle.mr_tree.specs.declared.tree.Tree.{Tree}
 use Rattle.mr_pages.specs.Law.{IsMap}
-use Rattle.mr_pages.specs.Source.{SaysOnce, IsOfOneRead}
-use Rattle.mr_pages.specs.declared.rule.MapRule.{MapRule}
-use Rattle.mr_pages.specs.declared.rule.MapRule.TheVariants as rule
 use Rattle.mr_pages.specs.Opening.{Fails, SomeBytes, Tells}
 use Rattle.mr_pages.specs.PageBytes.{first_form}
 use Rattle.mr_pages.specs.declared.error.MapErr.{MapErr}
@@ -23,22 +19,22 @@ use Rattle.mr_pages.specs.declared.error.MapErr.TheVariants as errors
 use Rattle.mr_pages.specs.declared.head.MapHead.{MapHead}
 use Rattle.mr_pages.specs.declared.opening.Opened.{Opened}
 use Rattle.std.proofs.lemmas.Bool.{cases_Bool, ltb-true, ltb-false}
-use Rattle.std.proofs.lemmas.List.Elements.{All-nil}
 use Rattle.mr_pages.proofs.Agreement.{agrees}
 use Rattle.mr_pages.proofs.Answered.{agrees_of}
 use Rattle.mr_pages.proofs.HeadLaws.{first_form_is}
 use Rattle.mr_query.specs.declared.query.Query.{Query}
 use Rattle.mr_proof.specs.Honest.{proof as honest_proof, opened}
 use Rattle.mr_prove.specs.Causes.{rounds}
+use Rattle.mr_clash.specs.Finding.{opened_accepted}
 use Rattle.mr_store.specs.Opening.{TellsMap, RefusesMap, pages_in}
-use Rattle.mr_store.specs.Stored.{ReadsFew as FewFetches, Keeps, room, stands_for}
-use Rattle.mr_tool.specs.Counting.{pieces_of, IsFewOf, IsFewBeside, ReadsFew}
-use Rattle.mr_tool.specs.Ending.{Comes, ComesBut, with_reads, GoesOn, HoldsMap, IsJudged, KeepsProof, NoneFalls, SaysRefusal, Stops}
+use Rattle.mr_store.specs.Stored.{ReadsFew as FewFetches, Keeps, room, stands_for, told_bytes}
+use Rattle.mr_tool.specs.Counting.{pieces_of, opened_beside, IsFewOf, IsFewBeside, ReadsFew}
+use Rattle.mr_tool.specs.Ending.{Comes, ComesBut, with_reads, GoesOn, HoldsMap, IsBeside, IsJudged, KeepsProof, NoneFalls, ReadsOpened, SaysRefusal, Stops}
 use Rattle.mr_tool.specs.First.{first}
 use Rattle.mr_tool.specs.Found.{as_map_error}
 use Rattle.mr_tool.specs.Outcome.{Outcome}
 use Rattle.mr_tool.specs.Plan.{Plan, comes, rereads, Input, IsInput}
-use Rattle.mr_tool.specs.Rereading.{Rereading, Differs, proving, auditing, IsRefused, MaySay}
+use Rattle.mr_tool.specs.Rereading.{Rereading, proving, auditing, IsRefused, MaySay}
 use Rattle.mr_tool.specs.Say.{needs_map, say_prove_of, say_written}
 use Rattle.mr_tool.specs.declared.ending.Ending.{Ending}
 use Rattle.mr_tool.specs.declared.ending.Halt.{Halt}
@@ -92,11 +88,11 @@ are_of (Some files) name P Q are has = by_found (file files name) has
 
 -- as many reads after as before
 same_reads : (told : Option Files) (name : List ℕ) (n : ℕ)
-    → OfFile told name (n ≡ n) (λ bytes. n ≤ n + piece_count (length bytes))
+    → OfFile told name (n ≡ n) (λ bytes. n ≤ n + pages_in bytes)
 same_reads None name n = tt
 same_reads (Some files) name n = by_found (file files name)
   where
-    by_found : (o : Option (List ℕ)) → MatchOption o (n ≡ n) (λ bytes. n ≤ n + piece_count (length bytes))
+    by_found : (o : Option (List ℕ)) → MatchOption o (n ≡ n) (λ bytes. n ≤ n + pages_in bytes)
     by_found None = refl
     by_found (Some bytes) = omega arith
 
@@ -112,22 +108,6 @@ err_is e f is = cc
 pub with_same : (n : ℕ) (a b : Shelved) → b.files ≡ a.files → b.faults ≡ a.faults → with_reads n b ≡ with_reads n a
 with_same n a b files faults = λ i. record { files = files i; faults = faults i; reads = n }
 
--- a rule that comes at the first read shows no two digests of a page
-never_again : (r : MapRule) → IsOfOneRead r → Differs r
-never_again rule.Size once = tt
-never_again rule.Unsealed once = tt
-never_again rule.Header once = tt
-never_again rule.Page once = tt
-never_again rule.Outside once = tt
-never_again rule.Twice once = tt
-never_again (rule.Digest held found) once = tt
-never_again rule.Rect once = tt
-never_again rule.Fill once = tt
-never_again rule.Number once = tt
-never_again (rule.Count held found) once = tt
-never_again rule.Free once = tt
-never_again (rule.Changed held found) once = absurd once
-
 module _ (hash : List ℕ → List ℕ) (sized : (xs : List ℕ) → length (hash xs) ≡ 32) (map : List ℕ)
     (before : Shelved) where
   judged : OfFile before.files map ⊤ AreBytes → IsJudged hash before.files map
@@ -137,31 +117,11 @@ module _ (hash : List ℕ → List ℕ) (sized : (xs : List ℕ) → length (has
 
   -- ---- a map that is not opened
 
-  some_bytes : (files : Files) (e : MapErr) → before.files ≡ Some files
-      → OfFile before.files map (Fails (Err e)) (λ bytes. Tells first_form hash bytes (Err e))
-      → SomeBytes first_form hash (Err e)
-  some_bytes files e told answers =
-      by_found e (file files map)
-      (subst (λ o. OfFile o map (Fails (Err e)) (λ bytes. Tells first_form hash bytes (Err e))) told answers)
-    where
-      fails_with : (e : MapErr) → Fails (Err e) → SomeBytes first_form hash (Err e)
-      fails_with (errors.Map f) fails = absurd fails
-      fails_with errors.Missing fails = ([], All-nil (λ b. b < 2 ^ 8), tt)
-      fails_with errors.Fault fails = ([], All-nil (λ b. b < 2 ^ 8), tt)
-      fails_with errors.NoMemory fails = ([], All-nil (λ b. b < 2 ^ 8), tt)
-
-      by_found : (e : MapErr) (o : Option (List ℕ))
-          → MatchOption o (Fails (Err e)) (λ bytes. Tells first_form hash bytes (Err e))
-          → SomeBytes first_form hash (Err e)
-      by_found e None fails = fails_with e fails
-      by_found e (Some bytes) tells = (bytes, tells.are, tells.answers)
-
   module _ (after : Shelved) (e : MapErr) (r : RefusesMap hash map before after e) where
-    refused_answer : SomeBytes first_form hash (Err e)
-        → Answered hash map (with_reads after.reads before) after (Err e)
-    refused_answer some = (
+    refused_answer : Answered hash map (with_reads after.reads before) after (Err e)
+    refused_answer = (
       r.answers,
-      some,
+      r.some,
       record {
         missing = λ is. r.why.missing (err_is e errors.Missing is);
         fault = λ is. r.why.failed (err_is e errors.Fault is);
@@ -183,18 +143,18 @@ module _ (hash : List ℕ → List ℕ) (sized : (xs : List ℕ) → length (has
         → ComesBut (needs_map hash map next) before after result
     refused_told next goes files told (Ok ending) says =
         opens_refused hash map (with_reads after.reads before) after (judged are_there) e ending
-        (refused_answer (some_bytes files e told r.answers)) says next goes
+        refused_answer says next goes
     refused_told next goes files told (Err halt) says =
         opens_given_up hash map (with_reads after.reads before) after (judged are_there) e halt
-        (refused_answer (some_bytes files e told r.answers)) says next goes
+        refused_answer says next goes
 
     -- over others each cause is outside
-    refused_blamed : before.files ≡ None → IsBlamed before after e
+    refused_blamed : before.files ≡ None → IsBlamed hash before after e
     refused_blamed none = record {
       missing = λ is. subst (λ o. MayMiss o map before.faults after.faults) none (r.why.missing is);
       fault = r.why.failed;
       map = λ f is. (
-        never_again f.rule (subst SaysOnce is r.why.once),
+        inl (subst (λ (x : MapErr). SomeBytes first_form hash (Err x)) is r.some),
         elim r.why.quiet [
           | inl same ↦ same
           | inr fails ↦ absurd (subst (λ (x : MapErr). Fails (Err x)) is fails)
@@ -203,7 +163,7 @@ module _ (hash : List ℕ → List ℕ) (sized : (xs : List ℕ) → length (has
     }
 
     pub refused : (reading : Rereading) (next : Opened → Plan) → GoesOn next before.files
-        → ((said : Outcome) → IsRefused map said → MaySay reading said)
+        → ((said : Outcome) → IsRefused hash map said → MaySay reading said)
         → ReadsFew (rereads reading (needs_map hash map next)) before after
         → (result : Result Ending Halt) → SaysRefusal map e result
         → Comes (rereads reading (needs_map hash map next)) before after result
@@ -214,7 +174,7 @@ module _ (hash : List ℕ → List ℕ) (sized : (xs : List ℕ) → length (has
         by_files None none =
             comes_untold reading (needs_map hash map next) before after none result
             (record { faults = r.later; reads = r.more })
-            (says_refused reading map may before after r.files e result (refused_blamed none) says)
+            (says_refused hash reading map may before after r.files e result (refused_blamed none) says)
         by_files (Some files) told =
             comes_told reading (needs_map hash map next) before after files told result r.more few
             (refused_told next goes files told result says)
@@ -303,28 +263,62 @@ few_pages hash q h bytes r m e f t batch stands pages few still fetched most bou
           (pages_in bytes, omega (arith, few, still (ltb-false (room + 1) h.pages small)), inl (omega arith))
     ]
 
--- the same beside a proof, of which nothing is said where the map is large
-pub few_beside : (hash : List ℕ → List ℕ) (h : MapHead) (bytes : List ℕ) (proof : Input) (r m e : ℕ) (t : Tree)
-    (batch : ℕ) → IsMap first_form hash bytes t batch → h.pages ≡ pages_in bytes → m ≤ r + pages_in bytes
-    → (h.pages ≤ room + 1 → e ≤ m + pieces_of proof)
-    → (n : ℕ) × (e ≤ r + n) × IsFewBeside hash bytes proof n
-few_beside hash h bytes proof r m e t batch stands pages few still = elim (cases_Bool (ltb (room + 1) h.pages)) [
-  | inl large ↦ (
-    e,
-    omega arith,
-    inr (
-      t,
-      batch,
-      stands,
-      inr (subst (λ n. room + 1 < n) pages (ltb-true (room + 1) h.pages large)),
-    ),
-  )
-  | inr small ↦ (
-    pages_in bytes + pieces_of proof,
-    omega (arith, few, still (ltb-false (room + 1) h.pages small)),
-    inr (t, batch, stands, inl (omega arith)),
-  )
-]
+-- the same beside a proof, whose pieces come on top
+pub few_beside : (hash : List ℕ → List ℕ) (q : Query) (h : MapHead) (bytes : List ℕ) (proof : Input) (r m e : ℕ)
+    (t : Tree) (batch : ℕ) → IsMap first_form hash bytes t batch → h.pages ≡ pages_in bytes → m ≤ r + pages_in bytes
+    → IsBeside hash t batch q h.pages proof m e
+    → (n : ℕ) × (e ≤ r + n) × IsFewBeside hash q bytes proof n
+few_beside hash q h bytes proof r m e t batch stands pages few (inl small) = (
+  pages_in bytes + pieces_of proof,
+  omega (arith, few, small),
+  inr (t, batch, stands, inl (omega arith)),
+)
+few_beside hash q h bytes proof r m e t batch stands pages few (inr large) =
+    let all : ℕ = pages_in bytes + pieces_of proof + opened_beside hash t batch q proof in (
+      all,
+      omega (arith, few, large.1),
+      inr (t, batch, stands, inr (subst (λ n. room + 1 < n) pages large.0, omega arith)),
+    )
+
+-- how many reads the fetches of an audit take
+pub reads_opened : (hash : List ℕ → List ℕ) (q : Query) (bytes : List ℕ) (s : Standing) (n n' : List ℕ)
+    (h h' : MapHead) (old new : Shelved) (f0 f : ℕ) → s.version ≡ One → (IsSome s.tree → IsSome old.files)
+    → Keeps n n' h h' old new f0 f
+    → IfSome s.tree (λ t. f ≤ f0 + opened_accepted (by s.version hash) t s.batch q bytes) → f0 ≡ 0
+    → ReadsOpened hash q s h.pages bytes old new
+reads_opened hash q bytes s n n' h h' old new f0 f first_is told kept fetched none = by_tree s.tree refl fetched
+  where
+    few : (t : Tree) → IsSome old.files → f ≤ f0 + opened_accepted (first hash) t s.batch q bytes
+        → (new.reads ≡ old.reads) ⊎ ((room + 1 < h.pages)
+        × (new.reads ≤ old.reads + opened_accepted (first hash) t s.batch q bytes))
+    few t there bound = elim (cases_Bool (ltb (room + 1) h.pages)) [
+      | inl large ↦ inr (
+        ltb-true (room + 1) h.pages large,
+        elim kept.few [
+          | inl each ↦ omega (arith, each, bound, none)
+          | inr last ↦ omega (arith, last, kept.most, bound, none)
+        ],
+      )
+      | inr small ↦ inl (kept.still there (ltb-false (room + 1) h.pages small))
+    ]
+
+    by_tree : (o : Option Tree) → s.tree ≡ o
+        → IfSome o (λ t. f ≤ f0 + opened_accepted (by s.version hash) t s.batch q bytes)
+        → IfSome o (λ t. (new.reads ≡ old.reads) ⊎ ((room + 1 < h.pages)
+        × (new.reads ≤ old.reads + opened_accepted (first hash) t s.batch q bytes)))
+    by_tree None is bound = tt
+    by_tree (Some t) is bound =
+        few t (told (subst IsSome (sym is) refl))
+        (subst (λ v. f ≤ f0 + opened_accepted (by v hash) t s.batch q bytes) first_is bound)
+
+-- a tree is told only where files are
+pub files_told : (h : MapHead) (o : Option Files) (name : List ℕ) → IsSome (stands_for h (told_bytes o name)).tree
+    → IsSome o
+files_told h None name told = absurd (not_some told)
+  where
+    not_some : IsSome {T = Tree} None → ⊥
+    not_some e = cc
+files_told h (Some files) name told = refl
 
 -- where it is not opened
 few_refused : (told : Option Files) (name : List ℕ) (r e : ℕ) (P : List ℕ → ℕ → Type 0)
@@ -356,7 +350,7 @@ auditing_refused hash map q proof next before after e r = by_told before.files r
         → AllowsFrom o (rereads (auditing hash map q proof) next) before.reads after.reads
     by_told None few = tt
     by_told (Some files) few =
-        few_refused (Some files) map before.reads after.reads (λ bytes n. IsFewBeside hash bytes (file files proof) n)
+        few_refused (Some files) map before.reads after.reads (λ bytes n. IsFewBeside hash q bytes (file files proof) n)
         (λ bytes. inl (omega arith)) few
 
 -- the count over the bytes that are there
@@ -458,8 +452,8 @@ module _ (hash : List ℕ → List ℕ) (sized : (xs : List ℕ) → length (has
           → Comes (rereads (proving hash map q proof) (needs_map hash map on_map)) before end result
       by_files None none =
           comes_untold (proving hash map q proof) (needs_map hash map on_map) before end none result counts
-          (says_refused (proving hash map q proof) map (λ said is. inl is) before end (kept.files ∙ same)
-          (as_map_error e) result (fetch_blamed s e before end shifted) keeps.1)
+          (says_refused hash (proving hash map q proof) map (λ said is. inl is) before end (kept.files ∙ same)
+          (as_map_error e) result (fetch_blamed hash s e before end shifted) keeps.1)
       by_files (Some files) told =
           let has = has_map hash sized map before s mid same quiet answers files told in
           let stop = fetch_stopped map s has.tree e before end result has.told shifted keeps.1 in

@@ -5,7 +5,7 @@ use Rattle.mr_outside.specs.Files.{Files, file}
 use Rattle.mr_outside.specs.Told.{OfFiles}
 use Rattle.mr_tool.specs.Ending.{AreJudged, Ends, GivesUp}
 use Rattle.mr_tool.specs.Outcome.{Outcome, Written, Nothing, File, IsLeft, MayLeave}
-use Rattle.mr_tool.specs.Plan.{Plan, comes, reads, opens, rereads, Input, IsInput, Leads, IsOutcomeOver}
+use Rattle.mr_tool.specs.Plan.{Plan, comes, reads, opens, rereads, judges, Input, IsInput, Leads, IsOutcomeOver}
 use Rattle.mr_tool.specs.Rereading.{Rereading, proving, auditing, MaySay}
 use Rattle.mr_tool.specs.Saying.{says_missing}
 use Rattle.mr_tool.specs.declared.status.Status.{Status}
@@ -34,6 +34,7 @@ leads_on (opens hash bytes next) told judged =
     (on.0, (found.0, found.1, on.1))
 leads_on (rereads reading next) None judged = may_miss reading
 leads_on (rereads reading next) (Some files) judged = leads_on next (Some files) judged
+leads_on (judges hash root query proof next) told judged = leads_on next told judged
 
 -- and over files that are told, to one
 one_outcome : (plan : Plan) (files : Files) → AreJudged plan (Some files) → (said : Outcome)
@@ -46,6 +47,7 @@ one_outcome (opens hash bytes next) files judged said leads = λ found shown.
     one_outcome (next found) files (judged.1 found shown) said
     (subst (λ f. Leads (next f) (Some files) said) (one_found hash bytes judged.0 leads.0 found leads.1 shown) leads.2)
 one_outcome (rereads reading next) files judged said leads = one_outcome next files judged said leads
+one_outcome (judges hash root query proof next) files judged said leads = one_outcome next files judged said leads
 
 pub told_outcome : (plan : Plan) (told : Option Files) → AreJudged plan told → (said : Outcome)
     → Leads plan told said → OfFiles told (λ files. IsOutcomeOver plan files said)
@@ -94,6 +96,15 @@ ended_so (rereads reading next) (Some files) after status text ends =
       text_is = on.text_is;
       files = on.files;
     }
+ended_so (judges hash root query proof next) before after status text ends =
+    let on = ended_so next before after status text ends in
+    record {
+      said = on.said;
+      leads = on.leads;
+      status_is = on.status_is;
+      text_is = on.text_is;
+      files = on.files;
+    }
 
 -- an outcome that was not reached, with the files left as it allows
 pub record HasGivenUp (plan : Plan) (before after : Option Files) : Type 0 where
@@ -123,4 +134,7 @@ given_up (rereads reading next) None after judged up =
     record { said = on.0; leads = on.1; files = stays on.0.written None after up }
 given_up (rereads reading next) (Some files) after judged up =
     let on = given_up next (Some files) after judged up in
+    record { said = on.said; leads = on.leads; files = on.files }
+given_up (judges hash root query proof next) before after judged up =
+    let on = given_up next before after judged up in
     record { said = on.said; leads = on.leads; files = on.files }

@@ -291,7 +291,7 @@ module _ (hash : List ℕ → List ℕ) (sized : IsSized hash) (q : Query) (may 
       other_status status BadMap is (st ∙ ap (λ (o : Outcome). o.status) bad.2) (λ c. cc)
   shown_untold map said (inr (inl e)) st tx =
       other_status status Outside is (st ∙ ap (λ (o : Outcome). o.status) e) (λ c. cc)
-  shown_untold map said (inr (inr found)) st tx = shown_finding found.0 said found.1 found.2 st tx
+  shown_untold map said (inr (inr found)) st tx = shown_finding found.0 said found.1.collides found.2 st tx
 
   shown_audit : (map : List ℕ) → Ends (say_audit hash map q name) before after status text → Shown hash text
   shown_audit map ends = by_files before refl

@@ -18,7 +18,7 @@ use Rattle.mr_tool.specs.Ending.{Comes, ComesBut, with_reads, Came, Ends, GivesU
 use Rattle.mr_tool.specs.Found.{as_map_error, bad_map_line}
 use Rattle.mr_tool.specs.Outcome.{Outcome, Written, Nothing, File, IsLeft, MayLeave}
 use Rattle.mr_tool.specs.Plan.{Plan, comes, rereads}
-use Rattle.mr_tool.specs.Rereading.{Rereading, Differs, IsRefused, MaySay}
+use Rattle.mr_tool.specs.Rereading.{Rereading, IsSomeFault, IsRefused, MaySay}
 use Rattle.mr_tool.specs.Saying.{ends, says_missing}
 use Rattle.mr_tool.specs.declared.ending.Ending.{Ending}
 use Rattle.mr_tool.specs.declared.ending.Halt.{Halt}
@@ -172,17 +172,18 @@ says_last reading said before between after (Err halt) may none files faults on 
 -- ---- a refusal
 
 -- why a map is refused: its causes, and what is settled counts no fault
-pub record IsBlamed (before after : Shelved) (error : MapErr) : Type 0 where
+pub record IsBlamed (hash : List ℕ → List ℕ) (before after : Shelved) (error : MapErr) : Type 0 where
   pub missing : error ≡ errors.Missing → Rose before.faults after.faults
   pub fault : error ≡ errors.Fault → Rose before.faults after.faults
-  pub map : (f : MapFault) → error ≡ errors.Map f → Differs f.rule × (after.faults ≡ before.faults)
+  pub map : (f : MapFault) → error ≡ errors.Map f → IsSomeFault hash f × (after.faults ≡ before.faults)
 
-module _ (reading : Rereading) (map : List ℕ) (may : (said : Outcome) → IsRefused map said → MaySay reading said)
+module _ (hash : List ℕ → List ℕ) (reading : Rereading) (map : List ℕ)
+    (may : (said : Outcome) → IsRefused hash map said → MaySay reading said)
     (before after : Shelved) (same : after.files ≡ before.files) where
   memory_out : (halt : Halt) → halt ≡ halts.NoMemory → SaysUntold reading before after (Err halt)
   memory_out halt is = (subst (Stops before after) (sym is) tt, same)
 
-  pub says_refused : (error : MapErr) (result : Result Ending Halt) → IsBlamed before after error
+  pub says_refused : (error : MapErr) (result : Result Ending Halt) → IsBlamed hash before after error
       → SaysRefusal map error result → SaysUntold reading before after result
   says_refused (errors.Map f) (Ok ending) why says =
       let is = why.map f refl in (
@@ -212,29 +213,29 @@ module _ (reading : Rereading) (map : List ℕ) (may : (said : Outcome) → IsRe
 fault_is : (f g : MapFault) → ◌≡◌ {A = MapErr} (errors.Map f) (errors.Map g) → f ≡ g
 fault_is f g is = cc
 
-page_blamed : (f : MapFault) (before after : Shelved) → Differs f.rule → after.faults ≡ before.faults
-    → IsBlamed before after (errors.Map f)
-page_blamed f before after differs same = record {
+page_blamed : (hash : List ℕ → List ℕ) (f : MapFault) (before after : Shelved) → IsSomeFault hash f
+    → after.faults ≡ before.faults → IsBlamed hash before after (errors.Map f)
+page_blamed hash f before after some same = record {
   missing = λ is. absurd (cc);
   fault = λ is. absurd (cc);
-  map = λ g is. subst (λ (h : MapFault). Differs h.rule × (after.faults ≡ before.faults)) (fault_is f g is)
-      (differs, same);
+  map = λ g is. subst (λ (h : MapFault). IsSomeFault hash h × (after.faults ≡ before.faults)) (fault_is f g is)
+      (some, same);
 }
 
 -- why a node was not fetched
-pub fetch_blamed : (s : Standing) (e : NodesErr) (before after : Shelved)
-    → HasSomeCause s before.faults after.faults e → IsBlamed before after (as_map_error e)
-fetch_blamed s (nodes.Changed page held found) before after cause =
-    page_blamed (record { page = page; rule = rule.Changed held found }) before after cause.2 cause.3
-fetch_blamed s (nodes.Page page) before after cause =
-    page_blamed (record { page = page; rule = rule.Page }) before after tt cause.2
-fetch_blamed s (nodes.Outside page) before after cause =
-    page_blamed (record { page = page; rule = rule.Outside }) before after tt cause.2
-fetch_blamed s nodes.Missing before after cause =
+pub fetch_blamed : (hash : List ℕ → List ℕ) (s : Standing) (e : NodesErr) (before after : Shelved)
+    → HasSomeCause s before.faults after.faults e → IsBlamed hash before after (as_map_error e)
+fetch_blamed hash s (nodes.Changed page held found) before after cause =
+    page_blamed hash (record { page = page; rule = rule.Changed held found }) before after (inr cause.2) cause.3
+fetch_blamed hash s (nodes.Page page) before after cause =
+    page_blamed hash (record { page = page; rule = rule.Page }) before after (inr tt) cause.2
+fetch_blamed hash s (nodes.Outside page) before after cause =
+    page_blamed hash (record { page = page; rule = rule.Outside }) before after (inr tt) cause.2
+fetch_blamed hash s nodes.Missing before after cause =
     record { missing = λ is. cause.1; fault = λ is. absurd (cc); map = λ f is. absurd (cc) }
-fetch_blamed s nodes.Fault before after cause =
+fetch_blamed hash s nodes.Fault before after cause =
     record { missing = λ is. absurd (cc); fault = λ is. cause; map = λ f is. absurd (cc) }
-fetch_blamed s nodes.NoMemory before after cause =
+fetch_blamed hash s nodes.NoMemory before after cause =
     record { missing = λ is. absurd (cc); fault = λ is. absurd (cc); map = λ f is. absurd (cc) }
 
 none_told : {A : Type 0} (o : Option Tree) (t : Tree) → o ≡ Some t → IsNone o → A

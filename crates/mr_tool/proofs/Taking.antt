@@ -10,6 +10,7 @@ use Rattle.mr_outside.proofs.Pieces.{HasFront, FrontOfFile, FrontOfFile-none, Fr
 use Rattle.mr_record.specs.Bytes.{AreBytes}
 use Rattle.mr_tree.specs.declared.hash.Hashes.{Ghosts}
 use Rattle.mr_query.specs.declared.query.Query.{Query}
+use Rattle.mr_proof.specs.Feeding.{IsUnsettled}
 use Rattle.mr_proof.specs.Reading.{verdict}
 use Rattle.mr_check.specs.Judged.{IsTaken}
 use Rattle.mr_check.specs.declared.intake.Intake.{Intake}
@@ -111,6 +112,16 @@ module _ {H : Type 0} {G : Ghosts H} (hash : List ℕ → List ℕ) (holds : H �
             (OfFile-map told name _ _ (λ all e. ap (λ (z : List ℕ). front ++ z)
             (e ∙ ap (λ n. take count (drop n all)) (sym place))) is.bytes_are);
       }
+
+  -- and that no fault is fixed by what was read then
+  pub piece_unsettled : (i j : Intake H G) (at wanted count : ℕ) (had : HasTaken hash holds root q told name size at i)
+      → TakesNext hash holds root q told name at wanted had.front (Ok (j, count))
+      → OfFile told name ⊥ (λ bytes. IsUnsettled hash root q (take (at + count) bytes))
+  unfolding piece_taken
+  piece_unsettled i j at wanted count had next =
+      let now = piece_taken i j at wanted count had next in
+      OfFile-map told name _ _
+      (λ all h. subst (IsUnsettled hash root q) (h.front_is ∙ ap (λ n. take n all) now.long) next.3) now.whole
 
   -- all of it is taken, since it is as long as the file, or since less came than was asked for
   pub file_taken : (i : Intake H G) (at : ℕ) → size ≤ at → HasTaken hash holds root q told name size at i

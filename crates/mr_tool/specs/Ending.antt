@@ -6,23 +6,30 @@ use Rattle.std.specs.String.{string_bytes}
 use Rattle.mr_outside.specs.Files.{Files, file}
 use Rattle.mr_outside.specs.Faults.{Rose}
 use Rattle.mr_outside.specs.State.{Shelved, Sunk}
-use Rattle.mr_outside.specs.Told.{OfFiles, Takes, TakesFront}
+use Rattle.mr_outside.specs.Told.{OfFiles, OfFile, Takes, TakesFront}
 use Rattle.mr_outside.specs.declared.shelf.ShelfErr.{ShelfErr}
 use Rattle.mr_outside.specs.declared.shelf.ShelfErr.TheVariants as shelf
 use Rattle.mr_record.specs.Bytes.{AreBytes}
 use Rattle.mr_record.specs.RecordText.{text_of}
 use Rattle.mr_pages.specs.PageBytes.{first_form}
+use Rattle.mr_pages.specs.Opening.{pages_in}
 use Rattle.mr_pages.specs.Law.{Agrees, IsMap}
 use Rattle.mr_tool.specs.Answer.{IsSettled}
 use Rattle.mr_tree.specs.WellFormed.{WellFormed}
 use Rattle.mr_pages.specs.declared.error.MapErr.{MapErr}
 use Rattle.mr_pages.specs.declared.error.MapErr.TheVariants as errors
 use Rattle.mr_tree.specs.declared.nodes.NodesErr.{NodesErr}
+use Rattle.mr_tree.specs.declared.tree.Tree.{Tree}
+use Rattle.mr_tree.specs.Nodes.{Standing}
+use Rattle.mr_query.specs.declared.query.Query.{Query}
+use Rattle.mr_clash.specs.Finding.{opened_accepted}
+use Rattle.mr_store.specs.Stored.{room}
 use Rattle.mr_tool.specs.Found.{Found, Shows, as_map_error, bad_map_line}
 use Rattle.mr_tool.specs.Lines.{bad_words_line, shelf_fault_line}
 use Rattle.mr_tool.specs.Outcome.{Outcome, Content, File, IsLeft, MayLeave}
-use Rattle.mr_tool.specs.Counting.{pieces_of, ReadsFew}
-use Rattle.mr_tool.specs.Plan.{Plan, comes, reads, opens, rereads, Input, IsInput, IsAbsent, LacksInput}
+use Rattle.mr_tool.specs.Counting.{pieces_of, opened_beside, ReadsFew}
+use Rattle.mr_tool.specs.First.{first}
+use Rattle.mr_tool.specs.Plan.{Plan, comes, reads, opens, rereads, judges, Input, IsInput, IsAbsent, LacksInput}
 use Rattle.mr_tool.specs.Rereading.{Rereading, MaySay}
 use Rattle.mr_tool.specs.Say.{ends, needs_map, says_missing, say_written}
 use Rattle.mr_tool.specs.declared.ending.Ending.{Ending}
@@ -96,6 +103,8 @@ Ends (rereads reading next) None after status text = (said : Outcome) × MaySay 
     × (status ≡ said.status) × (text ≡ said.printed) × IsLeft said.written None after
 Ends (rereads reading next) (Some files) after status text =
     Ends next (Some files) after status text
+Ends (judges hash root query proof next) before after status text =
+    Ends next before after status text
 
 -- the plan was given up, and the files are left as its outcome allows
 abbrev pub GivesUp : Plan → Option Files → Option Files → Type 0
@@ -106,6 +115,7 @@ GivesUp (opens hash bytes next) before after = (found : Found) × Shows hash byt
     × GivesUp (next found) before after
 GivesUp (rereads reading next) None after = after ≡ None
 GivesUp (rereads reading next) (Some files) after = GivesUp next (Some files) after
+GivesUp (judges hash root query proof next) before after = GivesUp next before after
 
 -- the bytes that the plan opens stand for one map or have one fault, whichever
 abbrev pub AreJudged : Plan → Option Files → Type 0
@@ -116,6 +126,7 @@ AreJudged (opens hash bytes next) told = Agrees first_form hash bytes
     × ((found : Found) → Shows hash bytes found → AreJudged (next found) told)
 AreJudged (rereads reading next) None = ⊤
 AreJudged (rereads reading next) (Some files) = AreJudged next (Some files)
+AreJudged (judges hash root query proof next) told = AreJudged next told
 
 -- why a command is not carried out to its end
 abbrev pub Stops : Shelved → Shelved → Halt → Type 0
@@ -194,6 +205,31 @@ abbrev pub ReadsOnce : List ℕ → Shelved → Shelved → Type 0
 ReadsOnce name before after = OfFiles before.files
     (λ files. after.reads ≤ before.reads + pieces_of (file files name))
 
+-- where the files are told, each page of this one was read once at most
+abbrev pub ReadsPages : List ℕ → Shelved → Shelved → Type 0
+ReadsPages name before after = OfFile before.files name (after.reads ≡ before.reads)
+    (λ bytes. after.reads ≤ before.reads + pages_in bytes)
+
+-- behind an opened map nothing is read, or of a large one the nodes that the bytes of a proof open
+abbrev pub ReadsOpened : (List ℕ → List ℕ) → Query → Standing → (pages : ℕ) → List ℕ → Shelved
+    → Shelved → Type 0
+ReadsOpened hash q s pages bytes before after = IfSome s.tree (λ t.
+    (after.reads ≡ before.reads) ⊎ ((room + 1 < pages)
+    × (after.reads ≤ before.reads + opened_accepted (first hash) t s.batch q bytes)))
+
+-- the pieces of a proof, and of a large map the nodes that it opens
+abbrev pub IsBeside : (List ℕ → List ℕ) → Tree → (batch : ℕ) → Query → (pages : ℕ) → Input
+    → (before after : ℕ) → Type 0
+IsBeside hash t batch q pages proof before after = (after ≤ before + pieces_of proof)
+    ⊎ ((room + 1 < pages)
+    × (after ≤ before + pieces_of proof + opened_beside hash t batch q proof))
+
+-- so many are read of the file of a proof and of the map
+abbrev pub ReadsBeside : (List ℕ → List ℕ) → Query → Standing → (pages : ℕ) → List ℕ → Shelved
+    → Shelved → Type 0
+ReadsBeside hash q s pages proof before after = IfSome s.tree (λ t. OfFiles before.files (λ files.
+    IsBeside hash t s.batch q pages (file files proof) before.reads after.reads))
+
 -- an input was read, or is missing
 pub record Reads (name : List ℕ) (before after : Shelved) (result : Result (Option (Vec ℕ)) Halt)
     : Type 0 where
@@ -213,7 +249,7 @@ pub record HoldsMap (hash : List ℕ → List ℕ) (name : List ℕ) (before aft
   pub counts : NoneFalls before after
   pub files : after.files ≡ before.files
   pub quiet : after.faults ≡ before.faults
-  pub once : ReadsOnce name before after
+  pub once : ReadsPages name before after
   pub bytes : List ℕ
   pub input : IsInput before.files name (Some bytes)
   pub are : AreBytes bytes

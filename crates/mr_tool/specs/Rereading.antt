@@ -1,11 +1,16 @@
 -- What a command may come to that reads pages of a map again, over files that are not told: by the
 -- next read a page may be another one. Over files that are told none ever is.
-use Rattle.std.specs.Prelude.{◌≡◌, ◌≢◌, ◌⊎◌, ⊤, ℕ, List}
+use Rattle.std.specs.Prelude.{◌≡◌, ◌≢◌, ◌⊎◌, ⊤, ℕ, List, Err}
+use Rattle.mr_record.specs.Bytes.{AreBytes}
+use Rattle.mr_tree.specs.Nodes.{Standing}
+use Rattle.mr_pages.specs.Opening.{SomeBytes}
+use Rattle.mr_pages.specs.PageBytes.{first_form}
+use Rattle.mr_pages.specs.declared.error.MapErr.TheVariants as errors
 use Rattle.mr_pages.specs.declared.rule.MapFault.{MapFault}
 use Rattle.mr_pages.specs.declared.rule.MapRule.{MapRule}
 use Rattle.mr_pages.specs.declared.rule.MapRule.TheVariants as rule
 use Rattle.mr_query.specs.declared.query.Query.{Query}
-use Rattle.mr_clash.specs.Finding.{Collides}
+use Rattle.mr_clash.specs.Finding.{Collides, FindsFor}
 use Rattle.mr_clash.specs.declared.finding.Finding.{Finding}
 use Rattle.mr_tool.specs.Found.{bad_map_line}
 use Rattle.mr_tool.specs.Outcome.{Outcome}
@@ -17,24 +22,42 @@ pub data Rereading : Type 0 where
   proving : (hash : List ℕ → List ℕ) (map : List ℕ) (query : Query) (proof : List ℕ) → Rereading
   auditing : (hash : List ℕ → List ℕ) (map : List ℕ) (query : Query) (proof : List ℕ) → Rereading
 
--- two digests that are shown differ
-abbrev pub Differs : MapRule → Type 0
-Differs (rule.Changed held found) = held ≢ found
-Differs _ = ⊤
+-- a page that is read again is no node any more, names one outside the file, or has another digest
+-- than before
+abbrev pub IsOfAgain : MapRule → Type 0
+IsOfAgain rule.Page = ⊤
+IsOfAgain rule.Outside = ⊤
+IsOfAgain (rule.Changed held found) = held ≢ found
+IsOfAgain _ = ⊥
 
--- the file is refused as a map: it stands for none, or a page that is read again is not what it was
-abbrev pub IsBadMap : Outcome → Type 0
-IsBadMap said =
-    (fault : MapFault) × Differs fault.rule × (said ≡ ends BadMap (bad_map_line fault))
+-- the fault is the first of some bytes as a map file, or one of a page that is read again
+abbrev pub IsSomeFault : (List ℕ → List ℕ) → MapFault → Type 0
+IsSomeFault hash fault =
+    SomeBytes first_form hash (Err (errors.Map fault)) ⊎ IsOfAgain fault.rule
+
+-- the file is refused as a map
+abbrev pub IsBadMap : (List ℕ → List ℕ) → Outcome → Type 0
+IsBadMap hash said = (fault : MapFault) × IsSomeFault hash fault
+    × (said ≡ ends BadMap (bad_map_line fault))
 
 -- it is missing, or is refused
-abbrev pub IsRefused : (map : List ℕ) → Outcome → Type 0
-IsRefused map said = (said ≡ says_missing map) ⊎ IsBadMap said
+abbrev pub IsRefused : (List ℕ → List ℕ) → (map : List ℕ) → Outcome → Type 0
+IsRefused hash map said = (said ≡ says_missing map) ⊎ IsBadMap hash said
+
+-- What was found of the bytes of a proof: by their verdict against the root digest of what some map
+-- says of itself its fault, or its answer as sound; or, where it accepts, two strings that differ
+-- and have one hash.
+pub record IsFinding (hash : List ℕ → List ℕ) (query : Query) (finding : Finding) : Type 0 where
+  pub stands : Standing
+  pub bytes : List ℕ
+  pub are : AreBytes bytes
+  pub judged : FindsFor hash stands query bytes finding
+  pub collides : Collides hash finding
 
 -- what is said of a map of which not all reads give the same bytes: that it is refused; else some
--- bytes are written, or something is found, and two strings that are shown have one hash
+-- bytes are written, or what was found is said
 abbrev pub MaySay : Rereading → Outcome → Type 0
-MaySay (proving hash map query proof) said = IsRefused map said
+MaySay (proving hash map query proof) said = IsRefused hash map said
     ⊎ ((bytes : List ℕ) × (said ≡ say_written proof bytes))
-MaySay (auditing hash map query proof) said = IsRefused map said ⊎ (said ≡ says_missing proof)
-    ⊎ ((finding : Finding) × Collides hash finding × (said ≡ say_finding finding))
+MaySay (auditing hash map query proof) said = IsRefused hash map said ⊎ (said ≡ says_missing proof)
+    ⊎ ((finding : Finding) × IsFinding hash query finding × (said ≡ say_finding finding))

@@ -24,7 +24,7 @@ use Rattle.mr_tool.specs.First.{first}
 use Rattle.mr_tool.specs.Found.{Found, bad_map_line}
 use Rattle.mr_tool.specs.Lines.{digest_line, bad_words_line, bad_text_line, bad_batch_line, made_line}
 use Rattle.mr_tool.specs.Outcome.{Outcome, File, map_of}
-use Rattle.mr_tool.specs.Plan.{Input, Plan, comes, reads, opens, rereads}
+use Rattle.mr_tool.specs.Plan.{Input, Plan, comes, reads, opens, rereads, judges}
 use Rattle.mr_tool.specs.Rereading.{proving, auditing}
 pub use Rattle.mr_tool.specs.Saying.{ends, prints, says_missing, say_text, say_written, say_finding}
 use Rattle.mr_tool.specs.Refusal.{refused_line}
@@ -129,7 +129,8 @@ say_check_of hash root query proof = say_verdict (verdict hash root query proof)
 
 -- `check ROOT QUERY PROOF`: the answer that the proof in a file proves
 abbrev pub say_check : (List ℕ → List ℕ) → List ℕ → Query → List ℕ → Plan
-say_check hash root query proof = needs proof (λ bytes. comes (say_check_of hash root query bytes))
+say_check hash root query proof = judges hash root query proof
+    (needs proof (λ bytes. comes (say_check_of hash root query bytes)))
 
 -- what is said of the bytes of a proof and of a map
 unfoldable pub say_audit_of : (List ℕ → List ℕ) → Query → Opened → List ℕ → Outcome

@@ -1,17 +1,19 @@
 -- A proof in a file that is read in pieces and judged as they come. This serves private functions.
-use Rattle.std.specs.Prelude.{◌≡◌, ℕ, ◌-◌, ◌≤◌, min, List, ◌++◌, length, take, drop, Option, Some, ⊤, Result, Ok, Err}
+use Rattle.std.specs.Prelude.{◌≡◌, ℕ, ◌+◌, ◌-◌, ◌≤◌, min, List, ◌++◌, length, take, drop, Option, Some, ⊤, Result, Ok, Err}
 use Rattle.std.specs.Global.{Vec}
-use Rattle.mr_outside.specs.Files.{Files}
+use Rattle.mr_outside.specs.Files.{Files, file}
 use Rattle.mr_outside.specs.State.{Shelved}
-use Rattle.mr_outside.specs.Told.{OfFile, MayMiss}
+use Rattle.mr_outside.specs.Told.{OfFile, OfFiles, MayMiss}
 use Rattle.mr_record.specs.Bytes.{AreBytes}
 use Rattle.mr_record.specs.declared.record.Record.{Record}
 use Rattle.mr_tree.specs.declared.hash.Hashes.{Ghosts}
 use Rattle.mr_query.specs.declared.query.Query.{Query}
 use Rattle.mr_proof.specs.declared.rule.Fault.{Fault}
+use Rattle.mr_proof.specs.Feeding.{IsUnsettled}
 use Rattle.mr_proof.specs.Reading.{verdict}
 use Rattle.mr_check.specs.Judged.{IsTaken}
 use Rattle.mr_check.specs.declared.intake.Intake.{Intake}
+use Rattle.mr_tool.specs.Counting.{pieces_of, IsToFault}
 use Rattle.mr_tool.specs.Ending.{NoneFalls, Stops}
 use Rattle.mr_tool.specs.Plan.{IsInput}
 use Rattle.mr_outside.specs.declared.shelf.ShelfErr.{ShelfErr}
@@ -54,13 +56,14 @@ StopsNext hash root q told name at wanted front (stops.Refused f) =
 StopsNext hash root q told name at wanted front stops.Missing = ⊤
 StopsNext hash root q told name at wanted front (stops.Halted halt) = ⊤
 
--- the next piece of the file, where the proof was taken so far, is taken too; or that is so
+-- the next piece of the file, where the proof was taken so far, is taken too, and fixes no fault;
+-- or that is so
 abbrev pub TakesNext : {H : Type 0} {G : Ghosts H} → (List ℕ → List ℕ) → (H → List ℕ → Type 0)
     → List ℕ → Query → Option Files → (name : List ℕ) (at wanted : ℕ) → List ℕ
     → Result (Intake H G × ℕ) Stop → Type 0
 TakesNext hash holds root q told name at wanted front (Ok next) =
     (piece : List ℕ) × IsPiece told name at wanted next.1 piece
-    × IsTaken hash holds root q next.0 (front ++ piece)
+    × IsTaken hash holds root q next.0 (front ++ piece) × IsUnsettled hash root q (front ++ piece)
 TakesNext hash holds root q told name at wanted front (Err e) =
     StopsNext hash root q told name at wanted front e
 
@@ -92,6 +95,14 @@ abbrev pub TakesFile : {H : Type 0} {G : Ghosts H} → (List ℕ → List ℕ) �
     → List ℕ → Query → Option Files → List ℕ → Result (Intake H G) Stop → Type 0
 TakesFile hash holds root q told name (Ok i) = IsAllTaken hash holds root q told name i
 TakesFile hash holds root q told name (Err e) = StopsFile hash root q told name e
+
+-- where the files are told, so much of the file was read between these counts: no piece twice, and
+-- none behind the one that fixes a fault
+abbrev pub ReadsToFault : (List ℕ → List ℕ) → List ℕ → Query → Option Files → List ℕ
+    → (before after : ℕ) → Type 0
+ReadsToFault hash root q told name before after = OfFiles told (λ files. (n : ℕ)
+    × (after ≤ before + n) × (n ≤ pieces_of (file files name))
+    × IsToFault hash root q (file files name) n)
 
 -- what the proof in a file proves, or its fault
 abbrev pub JudgesFile : (List ℕ → List ℕ) → List ℕ → Query → Option Files → List ℕ

@@ -1,10 +1,10 @@
 //! The command `audit`.
 
-ghost use Rattle.std.specs.Prelude.{◌≡◌, ◌≤◌, ◌+◌, None, IfSome, IsSome};
+ghost use Rattle.std.specs.Prelude.{◌≡◌, None, IfSome};
 ghost use Rattle.std.specs.String.{string_bytes};
 ghost use Rattle.mr_query.specs.Word.{IsAskable};
-ghost use Rattle.mr_store.specs.Stored.{IsSameMap, room, stands_for, told_bytes};
-ghost use Rattle.mr_tool.specs.Ending.{Comes, ComesBut, GivesOrStops, NoneFalls, Reads, ReadsOnce, SaysUntold};
+ghost use Rattle.mr_store.specs.Stored.{IsSameMap, stands_for, told_bytes};
+ghost use Rattle.mr_tool.specs.Ending.{Comes, ComesBut, GivesOrStops, NoneFalls, Reads, ReadsBeside, ReadsOpened, SaysUntold};
 ghost use Rattle.mr_tool.specs.Plan.{comes};
 ghost use Rattle.mr_tool.specs.Rereading.{auditing};
 ghost use Rattle.mr_tool.specs.Say.{needs, say_audit, say_audit_of, say_finding};
@@ -13,7 +13,7 @@ use crate::Status;
 use crate::checking::refused;
 use crate::ending::{Ending, Halt};
 use crate::fetching::{finding_of_nodes, unfetched};
-use crate::input::{as_input, missing};
+use crate::input::{are_bytes, as_input, missing};
 use crate::lines::{collision_lines, sound_line};
 use crate::opening::unopened;
 use mr_clash::Finding;
@@ -63,9 +63,11 @@ fn audit_bytes<H: Hash32, S: Shelf>(
         (S.state paged.new.shelf) result }
     ensures files { (S.state paged.new.shelf).files ≡ (S.state paged.old.shelf).files }
     ensures counts { NoneFalls (S.state paged.old.shelf) (S.state paged.new.shelf) }
-    ensures still { IsSome (S.state paged.old.shelf).files → paged.old.head.pages ≤ room + 1 →
-        (S.state paged.new.shelf).reads ≡ (S.state paged.old.shelf).reads }
+    ensures few { paged.old.fetches ≡ 0 → ReadsOpened H.of query.now (stands_for paged.old.head
+        (told_bytes (S.state paged.old.shelf).files (string_bytes paged.old.name)))
+        paged.old.head.pages bytes.now (S.state paged.old.shelf) (S.state paged.new.shelf) }
 {
+    are_bytes(bytes);
     match finding_of_nodes(alloc, paged, query, bytes) {
         Ok(finding) => say_found(alloc, finding),
         Err(error) => unfetched(alloc, map, &error),
@@ -80,6 +82,7 @@ fn read_beside<H: Hash32, S: Shelf>(
     ensures reads { Reads name.now (S.state paged.old.shelf) (S.state paged.new.shelf) result }
     ensures same { IsSameMap (string_bytes paged.old.name) (string_bytes paged.new.name)
         paged.old.head paged.new.head (S.state paged.old.shelf) (S.state paged.new.shelf) }
+    ensures fetches { paged.new.fetches ≡ paged.old.fetches }
 {
     as_input(paged.read_file(name))
 }
@@ -103,8 +106,9 @@ fn audit_file<H: Hash32, S: Shelf>(
         SaysUntold (auditing H.of map.now query.now proof.now) (S.state paged.old.shelf)
         (S.state paged.new.shelf) result }
     ensures counts { NoneFalls (S.state paged.old.shelf) (S.state paged.new.shelf) }
-    ensures few { IsSome (S.state paged.old.shelf).files → paged.old.head.pages ≤ room + 1 →
-        ReadsOnce proof.now (S.state paged.old.shelf) (S.state paged.new.shelf) }
+    ensures few { paged.old.fetches ≡ 0 → ReadsBeside H.of query.now (stands_for paged.old.head
+        (told_bytes (S.state paged.old.shelf).files (string_bytes paged.old.name)))
+        paged.old.head.pages proof.now (S.state paged.old.shelf) (S.state paged.new.shelf) }
 {
     match read_beside::<H, S>(proof, paged) {
         Ok(Some(bytes)) => audit_bytes::<H, S>(alloc, map, query, proof, &bytes, paged),

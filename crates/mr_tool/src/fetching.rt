@@ -6,7 +6,7 @@ ghost use Rattle.mr_tree.specs.Nodes.{HasSomeCause};
 ghost use Rattle.mr_query.specs.Word.{IsAskable};
 ghost use Rattle.mr_proof.specs.Honest.{proof as honest_proof, opened};
 ghost use Rattle.mr_prove.specs.Causes.{rounds};
-ghost use Rattle.mr_clash.specs.Finding.{found, Collides};
+ghost use Rattle.mr_clash.specs.Finding.{found, opened_accepted, Collides, FindsFor};
 ghost use Rattle.mr_tool.specs.Ending.{SaysRefusal};
 ghost use Rattle.mr_tool.specs.Found.{as_map_error};
 
@@ -59,7 +59,12 @@ pub(crate) fn finding_of_nodes<N: Nodes>(
     ensures told { IfSome (N.stands nodes.old).tree (λ t. IfOk result (λ f.
         f ≡ found (by (N.stands nodes.old).version N.Hash.of) t (N.stands nodes.old).batch
         query.now bytes.now)) }
+    ensures judged { IfOk result (λ f.
+        FindsFor N.Hash.of (N.stands nodes.old) query.now bytes.now f) }
     ensures collides { IfOk result (λ f. Collides N.Hash.of f) }
+    ensures fetched { IfSome (N.stands nodes.old).tree (λ t. N.fetches nodes.new ≤
+        N.fetches nodes.old + opened_accepted (by (N.stands nodes.old).version N.Hash.of) t
+        (N.stands nodes.old).batch query.now bytes.now) }
     ensures cause { IfErr result (HasSomeCause (N.stands nodes.old) (N.faults nodes.old)
         (N.faults nodes.new)) }
     ensures quiet { OnOk result (N.faults nodes.new ≡ N.faults nodes.old) }

@@ -2,13 +2,11 @@
 
 ghost use Rattle.std.specs.Prelude.{◌≡◌, ◌+◌, ◌≤◌, ⊤, ℕ, List, length, [], IfOk};
 ghost use Rattle.mr_outside.specs.Bytes.{AreBytes};
-ghost use Rattle.mr_outside.specs.Reading.{piece_count};
 ghost use Rattle.mr_outside.specs.Told.{OfFile};
 ghost use Rattle.mr_query.specs.Word.{IsAskable};
 ghost use Rattle.mr_query.specs.declared.query.Query as queries;
 ghost use Rattle.mr_check.specs.Judged.{IsTaken};
-ghost use Rattle.mr_tool.specs.Ending.{ReadsOnce};
-ghost use Rattle.mr_tool.specs.Taking.{HasCauses, TakesNext, TakesFile, JudgesFile};
+ghost use Rattle.mr_tool.specs.Taking.{HasCauses, TakesNext, TakesFile, JudgesFile, ReadsToFault};
 
 use crate::ending::Halt;
 use crate::input::are_bytes;
@@ -30,7 +28,6 @@ pub(crate) enum Stop {
 }
 
 impl From<ShelfErr> for Stop {
-    ghost use Rattle.mr_tool.specs.Ending.{ReadsOnce};
     ghost use Rattle.mr_tool.specs.Taking.{stop_of_shelf};
 
     ghost from_gives = { λ e s. s ≡ stop_of_shelf e };
@@ -45,7 +42,6 @@ impl From<ShelfErr> for Stop {
 }
 
 impl From<CheckErr> for Stop {
-    ghost use Rattle.mr_tool.specs.Ending.{ReadsOnce};
     ghost use Rattle.mr_tool.specs.Taking.{stop_of_check};
 
     ghost from_gives = { λ e s. s ≡ stop_of_check e };
@@ -107,11 +103,14 @@ fn take_file<H: Hash32, S: Shelf>(
     requires size { OfFile (S.state shelf.old).files name.now ⊥ (λ bytes. size ≡ length bytes) }
     requires bytes { OfFile (S.state shelf.old).files name.now ⊤ AreBytes }
     requires room { length buffer.old ≡ 65536 }
-    ensures pieces { (S.state shelf.new).reads ≤ (S.state shelf.old).reads + piece_count size }
     ensures causes { HasCauses name.now (S.state shelf.old) (S.state shelf.new) result }
     ensures takes { (root : List ℕ) (q : queries.Query)
         → IsTaken H.of H.holds root q intake []
         → TakesFile H.of H.holds root q (S.state shelf.old).files name.now result }
+    ensures stops { (root : List ℕ) (q : queries.Query)
+        → IsTaken H.of H.holds root q intake []
+        → ReadsToFault H.of root q (S.state shelf.old).files name.now
+        (S.state shelf.old).reads (S.state shelf.new).reads }
 {
     let mut taken = intake;
     let mut at = 0;
@@ -142,7 +141,8 @@ pub(crate) fn judge_file<H: Hash32, S: Shelf>(
     shelf: &mut S,
 ) -> Result<Vec<Record>, Stop>
     requires { IsAskable query.now }
-    ensures once { ReadsOnce name.now (S.state shelf.old) (S.state shelf.new) }
+    ensures stops { ReadsToFault H.of root.now query.now (S.state shelf.old).files name.now
+        (S.state shelf.old).reads (S.state shelf.new).reads }
     ensures causes { HasCauses name.now (S.state shelf.old) (S.state shelf.new) result }
     ensures judges { JudgesFile H.of root.now query.now (S.state shelf.old).files name.now result }
 {

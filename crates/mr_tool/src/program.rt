@@ -139,7 +139,8 @@ pub fn run<H: Hash32, S: Shelf, W: Sink, G: Gate, R: Threads + Sync>(
         let after = world (S.state result.1) (W.state out.new) in
         IsQuiet result.0 before after }
     // Where the files are told, no input that is read whole is read twice; a map that is read page
-    // by page takes its pages once, and for `prove` a large one the nodes of its proof besides.
+    // by page takes its pages once, and a large one besides the nodes that the proof opens; and of
+    // a proof that `check` judges no piece is read behind the one that fixes a fault.
     ensures reads { let before = world (S.state shelf) (W.state out.old) in
         let after = world (S.state result.1) (W.state out.new) in
         ReadsFewWords H.of (map string_bytes words.now) before after }

@@ -12,3 +12,18 @@ returns-clause-compared g c = λ h P spelled held.
     c.in_ok-node.node (option_map pair_of c.in_ok-roots.roots) (option_map pair_of c.first_of.result) c.requires
     spelled held (c.in_ok-roots.ensures g.N.Hash.Hashes.of h P said.version said.batch said.count node.root) node
     c.first_of.ensures
+
+pub returns-in_err-node-clause-fetched : goal.returns-in_err-node-clause-fetched
+returns-in_err-node-clause-fetched g c = λ h P spelled.
+    let said = c.read_head-said.ensures h (part_bytes P) spelled.head spelled.whole in
+    c.in_err-node.ensures.fetched h P c.args.proof.now spelled said.count said.level said.behind
+
+pub returns-in_err-roots-clause-fetched : goal.returns-in_err-roots-clause-fetched
+returns-in_err-roots-clause-fetched g c = λ h P spelled.
+    let said = c.read_head-said.ensures h (part_bytes P) spelled.head spelled.whole in
+    c.in_ok-node.ensures.fetched h P c.args.proof.now spelled said.count said.level said.behind
+
+pub returns-clause-fetched : goal.returns-clause-fetched
+returns-clause-fetched g c = λ h P spelled.
+    let said = c.read_head-said.ensures h (part_bytes P) spelled.head spelled.whole in
+    c.in_ok-node.ensures.fetched h P c.args.proof.now spelled said.count said.level said.behind

@@ -3,6 +3,7 @@ use Rattle.std.specs.Prelude.{Ok}
 use Rattle.mr_clash.specs.Steps.{left}
 use Rattle.mr_clash.specs.declared.error.AuditErr.{AuditErr}
 use Rattle.mr_clash.proofs.Roots.{none_walked, root_alone, other_level, root_walked}
+use Rattle.mr_clash.proofs.Fetches.{fetched_root}
 use Rattle.mr_clash.proofs.auditing.walk_root.Goals as goal
 
 pub returns-then-said-eq0-clause-walked : goal.returns-then-said-eq0-clause-walked
@@ -41,3 +42,9 @@ returns-then-root-said-clause-walked g c = λ h P bytes spelled count level here
       fits = c.is_rect.ensures.fits;
     })
     c.if-root-said.true spelled (λ z. c.if-said-eq0.false (count ∙ z)) level here c.walk.ensures.walked
+
+pub returns-then-root-said-clause-fetched : goal.returns-then-root-said-clause-fetched
+returns-then-root-said-clause-fetched g c = λ h P bytes spelled count level here.
+    fetched_root h P bytes c.in-Some.root.level c.args.said.now.level (left c.args.from.now)
+    (g.N.Nodes.fetches c.args.nodes.now) (g.N.Nodes.fetches c.walk.new.nodes) spelled
+    (λ z. c.if-said-eq0.false (count ∙ z)) c.if-root-said.true level here c.walk.ensures.fetched

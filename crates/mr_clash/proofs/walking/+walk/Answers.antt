@@ -9,6 +9,7 @@ use Rattle.mr_clash.specs.declared.error.AuditErr.{AuditErr}
 use Rattle.mr_clash.proofs.Nodes.{above_zero}
 use Rattle.mr_clash.proofs.Rows.{child_level, walked_at, walked_more, all_walked, other_count}
 use Rattle.mr_clash.proofs.Walks.{pruned_walked, leaf_walked, inner_walked}
+use Rattle.mr_clash.proofs.Fetches.{opened_one, opened_inner, fetched_more}
 use Rattle.mr_clash.proofs.walking.+walk.Goals as goal
 
 pub walk_children-returns-then-from-children-clause-walked : goal.walk_children-returns-then-from-children-clause-walked
@@ -72,6 +73,12 @@ walk_all-loop-child-preserved g t c =
           c.in_ok-one.ensures.kept;
       still = c.in_ok-one.ensures.causes.quiet ∙ c.loop-child.invariant.still;
       unrefused = c.in_ok-one.ensures.answered.none ∙ c.loop-child.invariant.unrefused;
+      fetched = λ Ps rest fits count is.
+          fetched_more hash child.level c.args.level Ps rest c.loop-child.child-index (left c.loop-child.from)
+          (g.N.Nodes.fetches c.args.nodes.now) (g.N.Nodes.fetches c.loop-child.nodes)
+          (g.N.Nodes.fetches c.walk.new.nodes) (omega (arith, count, c.loop-child-test.true)) fits
+          (c.loop-child.invariant.some Ps rest fits count is).left_is level c.in_ok-one.ensures.fetched
+          (c.loop-child.invariant.fetched Ps rest fits count is);
       count = ap length c.in-Ok.ensures.items
           ∙ omega (
             arith,
@@ -91,3 +98,75 @@ walk_all-returns-clause-walked g t c = λ Ps rest fits count is.
     all_walked g.N.Hash.Hashes.of (g.N.Nodes.stands c.args.nodes.now) c.args.level c.args.children.now Ps rest
     c.loop-child.child-index _ (left c.loop-child.from) c.loop-child-test.false count
     (c.loop-child.invariant.some Ps rest fits count is)
+
+-- ---- how many nodes are fetched
+
+pub walk_children-returns-then-from-children-clause-fetched : goal.walk_children-returns-then-from-children-clause-fetched
+walk_children-returns-then-from-children-clause-fetched g t c = λ Ps rest fits is.
+    let a = c.byte-tag.ensures inner_tag (count_of Ps ∷ cuts_bytes Ps ++ rest) is in
+    let n = c.byte-count.ensures (count_of Ps) (cuts_bytes Ps ++ rest) a.1 in
+    c.walk_all.ensures.fetched Ps rest fits.1 (sym n.0 ∙ sym c.from.ensures ∙ c.if-from-children.true) n.1
+
+pub walk-returns-in_err-owned-clause-fetched : goal.walk-returns-in_err-owned-clause-fetched
+walk-returns-in_err-owned-clause-fetched g t c = λ P rest fits is.
+    let one = opened_one P (sym (c.is_pruned.ensures P rest is) ∙ c.if-is_pruned.false) in
+    omega (arith, one, c.in_err-owned.ensures.counted)
+
+pub walk-returns-in_err-leaf-clause-fetched : goal.walk-returns-in_err-leaf-clause-fetched
+walk-returns-in_err-leaf-clause-fetched g t c = λ P rest fits is.
+    let one = opened_one P (sym (c.is_pruned.ensures P rest is) ∙ c.if-is_pruned.false) in
+    omega (arith, one, c.in_ok-owned.ensures.counted)
+
+pub walk-returns-then-child-eq0-clause-fetched : goal.walk-returns-then-child-eq0-clause-fetched
+walk-returns-then-child-eq0-clause-fetched g t c = λ P rest fits is.
+    let one = opened_one P (sym (c.is_pruned.ensures P rest is) ∙ c.if-is_pruned.false) in
+    omega (arith, one, c.in_ok-owned.ensures.counted)
+
+pub walk-returns-in_err-row-clause-fetched : goal.walk-returns-in_err-row-clause-fetched
+walk-returns-in_err-row-clause-fetched g t c = λ P rest fits is.
+    opened_inner c.args.child.now.level P rest (left c.args.from.now) (g.N.Nodes.fetches c.args.nodes.now)
+    (g.N.Nodes.fetches c.fetch.new.nodes) (g.N.Nodes.fetches c.walk_children.new.nodes) c.if-child-eq0.false
+    (sym (c.is_pruned.ensures P rest is) ∙ c.if-is_pruned.false) fits is c.in_ok-owned.ensures.counted
+    c.in_err-row.ensures.fetched
+
+pub walk-returns-in_err-inner-clause-fetched : goal.walk-returns-in_err-inner-clause-fetched
+walk-returns-in_err-inner-clause-fetched g t c = λ P rest fits is.
+    opened_inner c.args.child.now.level P rest (left c.args.from.now) (g.N.Nodes.fetches c.args.nodes.now)
+    (g.N.Nodes.fetches c.fetch.new.nodes) (g.N.Nodes.fetches c.walk_children.new.nodes) c.if-child-eq0.false
+    (sym (c.is_pruned.ensures P rest is) ∙ c.if-is_pruned.false) fits is c.in_ok-owned.ensures.counted
+    c.in_ok-row.ensures.fetched
+
+pub walk-returns-clause-fetched : goal.walk-returns-clause-fetched
+walk-returns-clause-fetched g t c = λ P rest fits is.
+    opened_inner c.args.child.now.level P rest (left c.args.from.now) (g.N.Nodes.fetches c.args.nodes.now)
+    (g.N.Nodes.fetches c.fetch.new.nodes) (g.N.Nodes.fetches c.walk_children.new.nodes) c.if-child-eq0.false
+    (sym (c.is_pruned.ensures P rest is) ∙ c.if-is_pruned.false) fits is c.in_ok-owned.ensures.counted
+    c.in_ok-row.ensures.fetched
+
+pub walk_all-returns-in_err-one-clause-fetched : goal.walk_all-returns-in_err-one-clause-fetched
+walk_all-returns-in_err-one-clause-fetched g t c = λ Ps rest fits count is.
+    let child = c.child-item.result in
+    let level = child_level c.args.level c.args.children.now c.loop-child.child-index child c.loop-child-test.true
+    c.child-item.is c.requires.alike in
+    let more = fetched_more g.N.Hash.Hashes.of child.level c.args.level Ps rest c.loop-child.child-index
+    (left c.loop-child.from) (g.N.Nodes.fetches c.args.nodes.now) (g.N.Nodes.fetches c.loop-child.nodes)
+    (g.N.Nodes.fetches c.walk.new.nodes) (omega (arith, count, c.loop-child-test.true)) fits
+    (c.loop-child.invariant.some Ps rest fits count is).left_is level c.in_err-one.ensures.fetched
+    (c.loop-child.invariant.fetched Ps rest fits count is) in
+    omega (arith, more)
+
+pub walk_all-returns-in-Err-clause-fetched : goal.walk_all-returns-in-Err-clause-fetched
+walk_all-returns-in-Err-clause-fetched g t c = λ Ps rest fits count is.
+    let child = c.child-item.result in
+    let level = child_level c.args.level c.args.children.now c.loop-child.child-index child c.loop-child-test.true
+    c.child-item.is c.requires.alike in
+    let more = fetched_more g.N.Hash.Hashes.of child.level c.args.level Ps rest c.loop-child.child-index
+    (left c.loop-child.from) (g.N.Nodes.fetches c.args.nodes.now) (g.N.Nodes.fetches c.loop-child.nodes)
+    (g.N.Nodes.fetches c.walk.new.nodes) (omega (arith, count, c.loop-child-test.true)) fits
+    (c.loop-child.invariant.some Ps rest fits count is).left_is level c.in_ok-one.ensures.fetched
+    (c.loop-child.invariant.fetched Ps rest fits count is) in
+    omega (arith, more)
+
+pub walk_all-returns-clause-fetched : goal.walk_all-returns-clause-fetched
+walk_all-returns-clause-fetched g t c = λ Ps rest fits count is.
+    let all = c.loop-child.invariant.fetched Ps rest fits count is in omega (arith, all)

@@ -1,34 +1,37 @@
-use Rattle.std.proofs.Common.{[], subst, sym}
-use Rattle.std.specs.Prelude.{Option, Some, OnOk, IfOk, option_map}
+use Rattle.std.proofs.Common.{[], refl, subst, sym}
+use Rattle.std.specs.Prelude.{Option, option_map}
 use Rattle.mr_tree.specs.Digest.{by}
 use Rattle.mr_tree.specs.declared.child.Child.{Child}
-use Rattle.mr_pages.specs.Stands.{whole_tree}
-use Rattle.mr_pages.specs.Spelled.{placed_at}
 use Rattle.mr_pages.specs.Walking.{child_link}
-use Rattle.mr_pages.specs.Source.{Visits, AllKept}
-use Rattle.mr_pages.proofs.Outcomes.{root_visits, kept_all}
+use Rattle.mr_pages.specs.Source.{WalkedAll}
+use Rattle.mr_pages.proofs.Giving.{so_settles, gives_none, gives_so}
+use Rattle.mr_pages.proofs.Outcomes.{root_visits, kept_all, visits_of}
 use Rattle.mr_pages.proofs.checking.visit_all.Goals as goal
 
-pub returns-in-Some-clause-told : goal.returns-in-Some-clause-told
-returns-in-Some-clause-told g c = λ file is.
-    subst (λ (o : Option Child). Visits {A = _} (by file.version g.P.Hash.Hashes.of)
-    (g.P.Source.state c.args.pages.now).pages file.node (option_map child_link o) c.visit.result c.visit.new.seen)
-    (sym c.in-Some.is)
-    (root_visits _ file.version g.P.Hash.Hashes.of (g.P.Source.state c.args.pages.now).pages file.node
-    (child_link c.in-Some.child) c.visit.result c.visit.new.seen (c.visit.ensures.told file is [] c.requires.none))
+pub returns-in-None-clause-told : goal.returns-in-None-clause-told
+returns-in-None-clause-told g c =
+    gives_none (g.P.Source.state c.args.pages.now) c.args.seen.now c.args.seen.now _ refl
+    (λ f. subst (λ (o : Option Child). WalkedAll g.P.Hash.Hashes.of g.P.Source.makes
+    (g.P.Source.state c.args.pages.now).pages (option_map child_link o) (Rattle.std.specs.Prelude.Ok c.none.result)
+    c.args.seen.now f) (sym c.in-None.is)
+    (record { visits_ = record { none = refl; saw = c.requires.none }; made = c.none.ensures }))
 
-pub returns-in-Some-clause-made : goal.returns-in-Some-clause-made
-returns-in-Some-clause-made g c = λ file is.
-    subst (λ (o : Option Child). IfOk c.visit.result (λ m. g.P.Source.makes m
-    (whole_tree (placed_at file.node (option_map child_link o))))) (sym c.in-Some.is) (c.visit.ensures.made file is)
+pub returns-in-Some-clause-told : goal.returns-in-Some-clause-told
+returns-in-Some-clause-told g c =
+    let s = g.P.Source.state c.args.pages.now in
+    so_settles c.visit.result c.visit.ensures.told (gives_so s c.args.seen.now c.visit.new.seen _ _ (λ f walked.
+    subst (λ (o : Option Child). WalkedAll g.P.Hash.Hashes.of g.P.Source.makes s.pages (option_map child_link o)
+    c.visit.result c.visit.new.seen f) (sym c.in-Some.is) (record {
+      visits_ = root_visits _ f.version g.P.Hash.Hashes.of s.pages f.node (child_link c.in-Some.child) c.visit.result
+          c.visit.new.seen (walked.walks [] c.requires.none);
+      made = walked.made;
+    })))
 
 pub returns-in-Some-clause-kept : goal.returns-in-Some-clause-kept
 returns-in-Some-clause-kept g c = λ file is.
-    subst (λ (o : Option Child). OnOk c.visit.result (AllKept file (option_map child_link o)
-    (g.P.Source.keeps c.visit.new.pages))) (sym c.in-Some.is)
-    (kept_all _ (by file.version g.P.Hash.Hashes.of) (g.P.Source.state c.args.pages.now).pages file
-    (Some (child_link c.in-Some.child)) c.visit.result c.args.seen.now c.visit.new.seen
+    let s = g.P.Source.state c.args.pages.now in
+    let root = option_map child_link c.args.root.now in
+    kept_all _ (by file.version g.P.Hash.Hashes.of) s.pages file root c.visit.result c.args.seen.now c.visit.new.seen
     (g.P.Source.keeps c.visit.new.pages) c.requires.none
-    (root_visits _ file.version g.P.Hash.Hashes.of (g.P.Source.state c.args.pages.now).pages file.node
-    (child_link c.in-Some.child) c.visit.result c.visit.new.seen (c.visit.ensures.told file is [] c.requires.none))
-    c.visit.ensures.kept)
+    (visits_of g.P.Hash.Hashes.of g.P.Source.makes s root c.visit.result c.args.seen.now c.visit.new.seen
+    (returns-in-Some-clause-told g c) file is) c.visit.ensures.kept

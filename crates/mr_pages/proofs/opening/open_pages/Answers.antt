@@ -1,11 +1,26 @@
-use Rattle.std.proofs.Common.{refl}
-use Rattle.mr_pages.specs.PageBytes.{form_of}
-use Rattle.mr_pages.specs.File.{pages_of}
-use Rattle.mr_pages.specs.Walking.{head_of}
+use Rattle.std.proofs.lemmas.Result.{err_from_is_err_and}
+use Rattle.mr_pages.proofs.Answered.{told_err, told_ok, some_err, some_ok}
 use Rattle.mr_pages.proofs.opening.open_pages.Goals as goal
 
-pub returns-clause-opens : goal.returns-clause-opens
-returns-clause-opens g c =
-    let file = pages_of (form_of c.args.layout) c.args.pages c.args.bytes.now in
-    let checks = c.in_ok-checked.ensures.told file refl refl in
-    (checks.0, head_of c.in_ok-checked.checked.head, checks.1, c.in_ok-checked.ensures.made file refl, refl)
+pub returns-in_err-checked-clause-told : goal.returns-in_err-checked-clause-told
+returns-in_err-checked-clause-told g c =
+    let p = err_from_is_err_and c.from_residual.result c.from_residual.ensures.1 in
+    rw (p.1, p.2) (told_err g.H.Hashes.of c.args.name.now 0 c.args.pages (g.S.Shelf.state c.args.shelf.now)
+    c.requires.paged c.in_err-checked.field-0.0 c.in_err-checked.ensures.told)
+
+pub returns-in_err-checked-clause-some : goal.returns-in_err-checked-clause-some
+returns-in_err-checked-clause-some g c =
+    let p = err_from_is_err_and c.from_residual.result c.from_residual.ensures.1 in
+    rw (p.1, p.2) (some_err g.H.Hashes.of c.args.name.now _ c.args.pages (g.S.Shelf.state c.args.shelf.now)
+    c.requires.paged c.requires.some c.requires.few c.in_err-checked.field-0.0 g.met.H.Hashes.sized
+    c.in_err-checked.ensures.some)
+
+pub returns-clause-told : goal.returns-clause-told
+returns-clause-told g c =
+    told_ok g.H.Hashes.of c.args.name.now 0 c.args.pages (g.S.Shelf.state c.args.shelf.now) c.requires.paged
+    c.in_ok-checked.checked c.in_ok-checked.ensures.told c.in_ok-checked.ensures.made
+
+pub returns-clause-some : goal.returns-clause-some
+returns-clause-some g c =
+    some_ok g.H.Hashes.of c.args.name.now _ c.args.pages (g.S.Shelf.state c.args.shelf.now) c.requires.paged
+    c.requires.some c.requires.few c.in_ok-checked.checked c.in_ok-checked.ensures.some

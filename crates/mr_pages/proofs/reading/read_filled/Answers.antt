@@ -1,9 +1,5 @@
-use Rattle.mr_pages.proofs.Filled.{ok_piece, ok_zeros_there, ok_within}
+use Rattle.mr_pages.proofs.Filled.{ok_piece, ok_zeros_there}
 use Rattle.mr_pages.proofs.reading.read_filled.Goals as goal
-
-pub returns-clause-within : goal.returns-clause-within
-returns-clause-within g c =
-    ok_within c.read_at.result c.fill.new.page c.read_at.new.into c.read_at.auto.into c.read_at.ensures.fills
 
 pub returns-clause-bytes : goal.returns-clause-bytes
 returns-clause-bytes g c =

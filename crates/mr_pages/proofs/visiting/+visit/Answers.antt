@@ -1,5 +1,5 @@
-use Rattle.std.proofs.Common.{[], false, arith, ◌≡◌, ◌<◌, ◌≤◌, length, inl, inr, ap, sym, subst, take, ◌∙◌}
-use Rattle.std.specs.Prelude.{◌⊎◌, Option, Some, Err, All, IfSome}
+use Rattle.std.proofs.Common.{[], false, arith, ◌≡◌, ◌<◌, ◌≤◌, length, map, inl, inr, ap, refl, sym, subst, take, ◌∙◌}
+use Rattle.std.specs.Prelude.{Some, Ok, Err, All}
 use Rattle.std.proofs.Math.Seq.{take-length}
 use Rattle.std.proofs.lemmas.List.{take_all}
 use Rattle.std.proofs.lemmas.List.Elements.{All-nil, All-more}
@@ -10,51 +10,85 @@ use Rattle.mr_tree.specs.declared.child.Child.{Child}
 use Rattle.mr_pages.specs.Walking.{child_link, page_node, owned}
 use Rattle.mr_pages.specs.Source.{Knows, AreMade}
 use Rattle.mr_pages.proofs.Building.{what_is_found}
-use Rattle.mr_pages.proofs.Walks.{refused_at_entry, number_refused, inner_starts}
+use Rattle.mr_pages.proofs.Giving.{err_settles, gives_none, gives_one, gives_so, gives_still, gives_next}
+use Rattle.mr_pages.proofs.Walks.{AtInner, refused_at_entry, number_refused, inner_starts}
 use Rattle.mr_pages.proofs.Visits.{look_refuses, leaf_passes, inner_known, before_child, child_refuses, child_passes, inner_passes, goes_step, goes_first, along, if_some, leaf_made, child_made, inner_made}
 use Rattle.mr_pages.proofs.visiting.+visit.Goals as goal
 
 pub returns-in-Some-clause-told : goal.returns-in-Some-clause-told
-returns-in-Some-clause-told g t c = λ file is before saw.
-    refused_at_entry (by One g.P.Hash.Hashes.of) (g.P.Source.state c.args.pages.now).pages file.node before c.args.root
-    (child_link c.args.child.now) _ (c.in-Some.ensures.told _ _ _ saw)
+returns-in-Some-clause-told g t c =
+    gives_none (g.P.Source.state c.args.pages.now) c.args.seen.now c.enter.new.self _ c.in-Some.ensures.step
+    (λ f. record {
+      walks = λ before saw. refused_at_entry (by One g.P.Hash.Hashes.of) (g.P.Source.state c.args.pages.now).pages
+          f.node before c.args.root (child_link c.args.child.now) _ (c.in-Some.ensures.told _ _ _ saw);
+      made = tt;
+    })
 
 pub returns-in_err-records-clause-told : goal.returns-in_err-records-clause-told
-returns-in_err-records-clause-told g t c = λ file is before saw.
+returns-in_err-records-clause-told g t c =
     let p = err_from_is_err_and c.from_residual.result c.from_residual.ensures.1 in
-    rw (p.1, p.2) (look_refuses (Unit {0}) (by One g.P.Hash.Hashes.of) (g.P.Source.state c.args.pages.now).pages
-    file.node before
-    c.args.root (child_link c.args.child.now) c.in_err-records.field-0.0 c.enter.new.self
-    (c.in_default.ensures.told _ _ _ saw).0 (c.in_err-records.ensures.told file is))
+    let s = g.P.Source.state c.args.pages.now in
+    rw (p.1, p.2) (err_settles (Unit {0}) (Unit {0}) c.in_err-records.field-0.0 c.in_err-records.ensures.told (λ gave.
+    gives_so s c.args.seen.now c.enter.new.self _ _ (λ f looked. record {
+      walks = λ before saw. look_refuses (Unit {0}) (by One g.P.Hash.Hashes.of) s.pages f.node before c.args.root
+          (child_link c.args.child.now) c.in_err-records.field-0.0 c.enter.new.self
+          (c.in_default.ensures.told _ _ _ saw).0 looked;
+      made = tt;
+    }) (gives_one s c.args.seen.now c.enter.new.self c.args.child.now.id _ c.in_default.ensures.step gave)))
 
 pub returns-then-branch-clause-told : goal.returns-then-branch-clause-told
-returns-then-branch-clause-told g t c = λ file is before saw.
-    let entered = c.in_default.ensures.told _ _ _ saw in
-    let looked = c.in_ok-records.ensures.told file is in
-    number_refused (by One g.P.Hash.Hashes.of) (g.P.Source.state c.args.pages.now).pages file.node before c.args.root
-    (child_link c.args.child.now) c.in-Leaf.records.items c.deref.result.now c.in_ok-meet-in-Leaf.field-0
-    entered.0 looked.0 (looked.1 ∙ ap (λ n. Some (page_node (owned n))) c.in-Leaf.is) c.deref.ensures.value
-    (c.in_ok-meet-in-Leaf.ensures.told _ _ _ entered.1).0 c.if-branch.true
+returns-then-branch-clause-told g t c =
+    let s = g.P.Source.state c.args.pages.now in
+    gives_still s c.args.seen.now c.enter.new.self c.meet.new.self _ c.meet.ensures.same
+    (gives_so s c.args.seen.now c.enter.new.self _ _ (λ f looked. record {
+      walks = λ before saw.
+          let entered = c.in_default.ensures.told _ _ _ saw in
+          number_refused (by One g.P.Hash.Hashes.of) s.pages f.node before c.args.root
+          (child_link c.args.child.now) c.in-Leaf.records.items c.deref.result.now c.in_ok-meet-in-Leaf.field-0
+          entered.0 looked.0 (looked.1 ∙ ap (λ n. Some (page_node (owned n))) c.in-Leaf.is) c.deref.ensures.value
+          (c.in_ok-meet-in-Leaf.ensures.told _ _ _ entered.1).0 c.if-branch.true;
+      made = tt;
+    }) (gives_one s c.args.seen.now c.enter.new.self c.args.child.now.id _ c.in_default.ensures.step
+    c.in_ok-records.ensures.told))
 
 pub returns-in_ok-make-in-Leaf-clause-told : goal.returns-in_ok-make-in-Leaf-clause-told
-returns-in_ok-make-in-Leaf-clause-told g t c = λ file is before saw.
-    let entered = c.in_default.ensures.told _ _ _ saw in
-    let looked = c.in_ok-records.ensures.told file is in
-    leaf_passes (by One g.P.Hash.Hashes.of) (g.P.Source.state c.args.pages.now).pages file.node before c.args.root
-    (child_link c.args.child.now) c.in-Leaf.records.items c.deref.result.now c.in_ok-meet-in-Leaf.field-0
-    c.meet.new.self entered.0 looked.0 (looked.1 ∙ ap (λ n. Some (page_node (owned n))) c.in-Leaf.is)
-    c.deref.ensures.value (c.in_ok-meet-in-Leaf.ensures.told _ _ _ entered.1) c.if-branch.false
+returns-in_ok-make-in-Leaf-clause-told g t c =
+    let s = g.P.Source.state c.args.pages.now in
+    gives_still s c.args.seen.now c.enter.new.self c.meet.new.self _ c.meet.ensures.same
+    (gives_so s c.args.seen.now c.enter.new.self _ _ (λ f looked. record {
+      walks = λ before saw.
+          let entered = c.in_default.ensures.told _ _ _ saw in
+          leaf_passes (by One g.P.Hash.Hashes.of) s.pages f.node before c.args.root
+          (child_link c.args.child.now) c.in-Leaf.records.items c.deref.result.now c.in_ok-meet-in-Leaf.field-0
+          c.meet.new.self entered.0 looked.0 (looked.1 ∙ ap (λ n. Some (page_node (owned n))) c.in-Leaf.is)
+          c.deref.ensures.value (c.in_ok-meet-in-Leaf.ensures.told _ _ _ entered.1) c.if-branch.false;
+      made = leaf_made g.P.Source.makes f.node c.args.root (child_link c.args.child.now) c.in-Leaf.records.items
+          c.new.result.items c.in_ok-make-in-Leaf.field-0
+          (looked.1 ∙ ap (λ n. Some (page_node (owned n))) c.in-Leaf.is)
+          c.new.ensures.items c.in_ok-make-in-Leaf.ensures.made;
+    }) (gives_one s c.args.seen.now c.enter.new.self c.args.child.now.id _ c.in_default.ensures.step
+    c.in_ok-records.ensures.told))
 
 pub loop-one-init : goal.loop-one-init
 loop-one-init g t c = record {
-  told = λ file is before saw.
-      let entered = c.in_default.ensures.told _ _ _ saw in
-      let looked = c.in_ok-records.ensures.told file is in
-      inner_starts (by One g.P.Hash.Hashes.of) (g.P.Source.state c.args.pages.now).pages file.node before c.args.root
-      (child_link c.args.child.now) (Rattle.std.specs.Prelude.map child_link c.in-Inner.children.items)
-      c.enter.new.self entered.0 entered.1 looked.0
-      (looked.1 ∙ ap (λ n. Some (page_node (owned n))) c.in-Inner.is);
-  made = λ file is. subst (λ xs. AreMade g.P.Source.makes xs []) (sym c.new-below.ensures.items) tt;
+  told =
+      let s = g.P.Source.state c.args.pages.now in
+      gives_so s c.args.seen.now c.enter.new.self _ _ (λ f looked.
+      let inner = inner_known g.P.Hash.Hashes.of f.node c.args.root c.args.child.now c.in_ok-records.field-0
+      c.in-Inner.children.items c.in_ok-records.ensures.known (ap owned c.in-Inner.is) looked.1 in
+      record {
+        inner = subst (λ cs. AtInner f.node c.args.root (child_link c.args.child.now) (map child_link cs))
+            (sym c.deref-one-items.ensures.value) inner;
+        passed = λ before saw.
+            let entered = c.in_default.ensures.told _ _ _ saw in
+            inner_starts (by One g.P.Hash.Hashes.of) s.pages f.node before c.args.root
+            (child_link c.args.child.now) (map child_link c.in-Inner.children.items)
+            c.enter.new.self entered.0 entered.1 looked.0
+            (looked.1 ∙ ap (λ n. Some (page_node (owned n))) c.in-Inner.is);
+        made = subst (λ xs. AreMade g.P.Source.makes xs []) (sym c.new-below.ensures.items) tt;
+      })
+      (gives_one s c.args.seen.now c.enter.new.self c.args.child.now.id _ c.in_default.ensures.step
+      c.in_ok-records.ensures.told);
   room = c.in_default.ensures.step.size;
   goes = goes_first c.in_ok-records.field-0 _ _ _ _ c.in_ok-records.ensures.goes c.in_default.ensures.step.one;
   kept = λ page on. elim (c.in_default.ensures.step.others page on) [
@@ -66,54 +100,56 @@ loop-one-init g t c = record {
 }
 
 pub returns-in_err-made-in-Inner-clause-told : goal.returns-in_err-made-in-Inner-clause-told
-returns-in_err-made-in-Inner-clause-told g t c = λ file is before saw.
+returns-in_err-made-in-Inner-clause-told g t c =
     let p = err_from_is_err_and c.from_residual-in_err-made-in-Inner.result
     c.from_residual-in_err-made-in-Inner.ensures.1 in
-    let looked = c.in_ok-records.ensures.told file is in
-    let inner = inner_known g.P.Hash.Hashes.of file.node c.args.root c.args.child.now c.in_ok-records.field-0
-    c.in-Inner.children.items c.in_ok-records.ensures.known (ap owned c.in-Inner.is) looked.1 in
-    let so_far = c.loop-one.invariant.told file is before saw in
-    rw (p.1, p.2) (child_refuses (Unit {0}) (Unit {0}) (by One g.P.Hash.Hashes.of)
-    (g.P.Source.state c.args.pages.now).pages
-    file.node before c.args.root (child_link c.args.child.now) c.in-Inner.children.items c.deref-one-items.result.now
-    c.loop-one.seen c.visit.new.seen c.loop-one.one-index c.one-item.result c.in_err-made-in-Inner.field-0.0 inner
-    c.deref-one-items.ensures.value c.loop-one-test.true c.one-item.is so_far
-    (along (Unit {0}) (by One g.P.Hash.Hashes.of) (g.P.Source.state c.loop-one.pages).pages
-    (g.P.Source.state c.args.pages.now).pages file.node
-    (before_child file.node before c.args.root (child_link c.args.child.now)
-    (take c.loop-one.one-index c.deref-one-items.result.now)) false (child_link c.one-item.result)
-    (Err c.in_err-made-in-Inner.field-0.0) c.loop-one.seen c.visit.new.seen _ _ c.loop-one.invariant.goes.count
-    (c.in_err-made-in-Inner.ensures.told file (c.loop-one.invariant.goes.same ∙ is)
-    (before_child file.node before c.args.root (child_link c.args.child.now)
-    (take c.loop-one.one-index c.deref-one-items.result.now))) so_far.saw))
+    let s = g.P.Source.state c.args.pages.now in
+    let e = c.in_err-made-in-Inner.field-0.0 in
+    let items = c.deref-one-items.result.now in
+    rw (p.1, p.2) (err_settles (Unit {0}) (Unit {0}) e c.in_err-made-in-Inner.ensures.told (λ gave.
+    gives_so s c.args.seen.now c.visit.new.seen _ _ (λ f both. record {
+      walks = λ before saw.
+          let so_far = both.0.passed before saw in
+          child_refuses (Unit {0}) (Unit {0}) (by One g.P.Hash.Hashes.of) s.pages
+          f.node before c.args.root (child_link c.args.child.now) items items
+          c.loop-one.seen c.visit.new.seen c.loop-one.one-index c.one-item.result e both.0.inner
+          refl c.loop-one-test.true c.one-item.is so_far
+          (along (Unit {0}) (by One g.P.Hash.Hashes.of) (g.P.Source.state c.loop-one.pages).pages
+          s.pages f.node
+          (before_child f.node before c.args.root (child_link c.args.child.now)
+          (take c.loop-one.one-index items)) false (child_link c.one-item.result)
+          (Err e) c.loop-one.seen c.visit.new.seen _ _ c.loop-one.invariant.goes.count
+          (both.1.walks (before_child f.node before c.args.root (child_link c.args.child.now)
+          (take c.loop-one.one-index items))) so_far.saw);
+      made = tt;
+    }) (gives_next s (g.P.Source.state c.loop-one.pages) c.args.seen.now c.loop-one.seen c.visit.new.seen _ _
+    c.loop-one.invariant.goes.from_ c.loop-one.invariant.goes.same c.loop-one.invariant.told gave)))
 
 pub loop-one-preserved : goal.loop-one-preserved
 loop-one-preserved g t c = record {
-  told = λ file is before saw.
-      let looked = c.in_ok-records.ensures.told file is in
-      let inner = inner_known g.P.Hash.Hashes.of file.node c.args.root c.args.child.now c.in_ok-records.field-0
-      c.in-Inner.children.items c.in_ok-records.ensures.known (ap owned c.in-Inner.is) looked.1 in
-      let so_far = c.loop-one.invariant.told file is before saw in
-      child_passes (by One g.P.Hash.Hashes.of) (g.P.Source.state c.args.pages.now).pages
-      file.node before c.args.root (child_link c.args.child.now) c.in-Inner.children.items
-      c.deref-one-items.result.now c.loop-one.seen c.visit.new.seen c.loop-one.one-index c.one-item.result inner
-      c.deref-one-items.ensures.value c.loop-one-test.true c.one-item.is so_far
-      (along (Unit {0}) (by One g.P.Hash.Hashes.of) (g.P.Source.state c.loop-one.pages).pages
-      (g.P.Source.state c.args.pages.now).pages file.node _ _ _ (Rattle.std.specs.Prelude.Ok tt) c.loop-one.seen _ _ _
-      c.loop-one.invariant.goes.count
-      (c.in_ok-made-in-Inner.ensures.told file (c.loop-one.invariant.goes.same ∙ is)
-      (before_child file.node before c.args.root (child_link c.args.child.now)
-      (take c.loop-one.one-index c.deref-one-items.result.now))) so_far.saw);
-  made = λ file is.
-      let looked = c.in_ok-records.ensures.told file is in
-      let inner = inner_known g.P.Hash.Hashes.of file.node c.args.root c.args.child.now c.in_ok-records.field-0
-      c.in-Inner.children.items c.in_ok-records.ensures.known (ap owned c.in-Inner.is) looked.1 in
-      child_made g.P.Source.makes file.node c.args.root (child_link c.args.child.now) c.in-Inner.children.items
-      c.deref-one-items.result.now c.loop-one.below.items c.push.new.self.items c.in_ok-made-in-Inner.made
-      c.loop-one.one-index c.one-item.result inner c.deref-one-items.ensures.value c.loop-one-test.true c.one-item.is
-      (c.loop-one.invariant.made file is)
-      (c.in_ok-made-in-Inner.ensures.made file (c.loop-one.invariant.goes.same ∙ is))
-      c.in_ok-push-in-Inner.ensures.items;
+  told =
+      let s = g.P.Source.state c.args.pages.now in
+      let items = c.deref-one-items.result.now in
+      gives_so s c.args.seen.now c.visit.new.seen _ _ (λ f both. record {
+        inner = both.0.inner;
+        passed = λ before saw.
+            let so_far = both.0.passed before saw in
+            child_passes (by One g.P.Hash.Hashes.of) s.pages
+            f.node before c.args.root (child_link c.args.child.now) items
+            items c.loop-one.seen c.visit.new.seen c.loop-one.one-index c.one-item.result both.0.inner
+            refl c.loop-one-test.true c.one-item.is so_far
+            (along (Unit {0}) (by One g.P.Hash.Hashes.of) (g.P.Source.state c.loop-one.pages).pages
+            s.pages f.node _ _ _ (Ok tt) c.loop-one.seen _ _ _
+            c.loop-one.invariant.goes.count
+            (both.1.walks (before_child f.node before c.args.root (child_link c.args.child.now)
+            (take c.loop-one.one-index items))) so_far.saw);
+        made = child_made g.P.Source.makes f.node c.args.root (child_link c.args.child.now) items
+            items c.loop-one.below.items c.push.new.self.items c.in_ok-made-in-Inner.made
+            c.loop-one.one-index c.one-item.result both.0.inner refl c.loop-one-test.true c.one-item.is
+            both.0.made both.1.made c.in_ok-push-in-Inner.ensures.items;
+      }) (gives_next s (g.P.Source.state c.loop-one.pages) c.args.seen.now c.loop-one.seen c.visit.new.seen _ _
+      c.loop-one.invariant.goes.from_ c.loop-one.invariant.goes.same c.loop-one.invariant.told
+      c.in_ok-made-in-Inner.ensures.told);
   room = c.visit.ensures.room ∙ c.loop-one.invariant.room;
   goes = goes_step c.in_ok-made-in-Inner.made _ _ _ _ _ _ c.loop-one.invariant.goes
       c.in_ok-made-in-Inner.ensures.goes;
@@ -149,38 +185,22 @@ make-requires-in-Inner g t c =
           (take_all c.loop-one.one-index c.deref-one-items.result.now (omega arith) ∙ c.deref-one-items.ensures.value)
           c.loop-one.invariant.inside);
       told = if_some (g.P.Source.state c.loop-one.pages).file _ (λ f e.
-          let looked = c.in_ok-records.ensures.told f (sym c.loop-one.invariant.goes.same ∙ e) in
+          let looked = c.in_ok-records.ensures.told.so f (inl (sym c.loop-one.invariant.goes.same ∙ e)) in
           (what_is_found f.node (child_link c.args.child.now) _ looked.1).there
           ∙ ap (λ n. Some (page_node (owned n))) c.in-Inner.is);
     }
 
 pub returns-in_ok-make-in-Inner-clause-told : goal.returns-in_ok-make-in-Inner-clause-told
-returns-in_ok-make-in-Inner-clause-told g t c = λ file is before saw.
-    let looked = c.in_ok-records.ensures.told file is in
-    let inner = inner_known g.P.Hash.Hashes.of file.node c.args.root c.args.child.now c.in_ok-records.field-0
-    c.in-Inner.children.items c.in_ok-records.ensures.known (ap owned c.in-Inner.is) looked.1 in
-    let end : c.loop-one.one-index ≡ length c.deref-one-items.result.now = omega arith in
-    inner_passes (by One g.P.Hash.Hashes.of) (g.P.Source.state c.args.pages.now).pages file.node before c.args.root
-    (child_link c.args.child.now) c.in-Inner.children.items c.deref-one-items.result.now c.loop-one.seen
-    c.loop-one.one-index inner c.deref-one-items.ensures.value
-    (ap (λ n. take n c.deref-one-items.result.now) end ∙ take-length c.deref-one-items.result.now)
-    (c.loop-one.invariant.told file is before saw)
-
-pub returns-in_ok-make-in-Leaf-clause-made : goal.returns-in_ok-make-in-Leaf-clause-made
-returns-in_ok-make-in-Leaf-clause-made g t c = λ file is.
-    leaf_made g.P.Source.makes file.node c.args.root (child_link c.args.child.now) c.in-Leaf.records.items
-    c.new.result.items c.in_ok-make-in-Leaf.field-0
-    ((c.in_ok-records.ensures.told file is).1 ∙ ap (λ n. Some (page_node (owned n))) c.in-Leaf.is)
-    c.new.ensures.items c.in_ok-make-in-Leaf.ensures.made
-
-pub returns-in_ok-make-in-Inner-clause-made : goal.returns-in_ok-make-in-Inner-clause-made
-returns-in_ok-make-in-Inner-clause-made g t c = λ file is.
-    let looked = c.in_ok-records.ensures.told file is in
-    let inner = inner_known g.P.Hash.Hashes.of file.node c.args.root c.args.child.now c.in_ok-records.field-0
-    c.in-Inner.children.items c.in_ok-records.ensures.known (ap owned c.in-Inner.is) looked.1 in
-    let end : c.loop-one.one-index ≡ length c.deref-one-items.result.now = omega arith in
-    inner_made g.P.Source.makes file.node c.args.root (child_link c.args.child.now) c.in-Inner.children.items
-    c.deref-one-items.result.now c.loop-one.below.items c.in_ok-make-in-Inner.field-0 c.loop-one.one-index inner
-    c.deref-one-items.ensures.value
-    (ap (λ n. take n c.deref-one-items.result.now) end ∙ take-length c.deref-one-items.result.now)
-    (c.loop-one.invariant.made file is) c.in_ok-make-in-Inner.ensures.made
+returns-in_ok-make-in-Inner-clause-told g t c =
+    let s = g.P.Source.state c.args.pages.now in
+    let items = c.deref-one-items.result.now in
+    let end : c.loop-one.one-index ≡ length items = omega arith in
+    let whole : take c.loop-one.one-index items ≡ items = ap (λ n. take n items) end ∙ take-length items in
+    gives_so s c.args.seen.now c.loop-one.seen _ _ (λ f so_far. record {
+      walks = λ before saw. inner_passes (by One g.P.Hash.Hashes.of) s.pages f.node before c.args.root
+          (child_link c.args.child.now) items items c.loop-one.seen
+          c.loop-one.one-index so_far.inner refl whole (so_far.passed before saw);
+      made = inner_made g.P.Source.makes f.node c.args.root (child_link c.args.child.now) items
+          items c.loop-one.below.items c.in_ok-make-in-Inner.field-0 c.loop-one.one-index so_far.inner
+          refl whole so_far.made c.in_ok-make-in-Inner.ensures.made;
+    }) c.loop-one.invariant.told

@@ -2,7 +2,8 @@ use Rattle.std.proofs.Common.{subst, sym, ◌∙◌}
 use Rattle.std.specs.Prelude.{IfSome}
 use Rattle.std.proofs.lemmas.Result.{err_from_is_err_and}
 use Rattle.mr_tree.specs.Nodes.{MayFetch}
-use Rattle.mr_store.proofs.Wholes.{none_linked, whole_well, whole_snapshot, whole_stands, miscounted, stops_all}
+use Rattle.mr_store.specs.Stored.{IsSaid}
+use Rattle.mr_store.proofs.Wholes.{none_linked, whole_well, whole_said, whole_snapshot, whole_stands, miscounted, stops_all}
 use Rattle.mr_store.proofs.copying.copied_from.Goals as goal
 
 pub copy-requires-clause-may : goal.copy-requires-clause-may
@@ -54,3 +55,11 @@ returns-clause-stands g c = λ u told.
     c.in_ok-copied.copied c.new-list.result.items c.copy.new.list.items c.in_ok-seen.seen c.copy.new.seen c.args.pages
     c.requires.top c.requires.root c.new-list.ensures.items c.in_ok-seen.ensures.told c.in_ok-copied.ensures.copied
     u told
+
+pub returns-clause-says : goal.returns-clause-says
+returns-clause-says g c =
+    subst (IsSaid g.N.Hash.Hashes.of c.args.top.now) (sym c.over.ensures)
+    (whole_said g.N.Hash.Hashes.of (g.N.Nodes.stands c.args.nodes.now) c.args.top.now c.args.root.now
+    c.in_ok-copied.copied c.new-list.result.items c.copy.new.list.items c.in_ok-seen.seen c.copy.new.seen c.args.pages
+    c.requires.top c.requires.root c.new-list.ensures.items c.in_ok-seen.ensures.told c.in_ok-copied.ensures.copied
+    (sym c.if-count-top.false ∙ c.count.ensures))

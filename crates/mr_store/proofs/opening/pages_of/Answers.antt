@@ -15,5 +15,6 @@ returns-in-Some-clause-pages g c =
 
 pub returns-in-None-clause-refused : goal.returns-in-None-clause-refused
 returns-in-None-clause-refused g c =
-    odd_refuses g.H.Hashes.of c.args.name.now (g.S.Shelf.state c.args.shelf.now) (g.S.Shelf.state c.size.new.self)
+    odd_refuses g.H.Hashes.of g.met.H.Hashes.sized c.args.name.now (g.S.Shelf.state c.args.shelf.now)
+    (g.S.Shelf.state c.size.new.self)
     c.in_ok-size.size c.in_ok-size.ensures.length c.in-None.ensures c.in_ok-size.ensures.causes.quiet

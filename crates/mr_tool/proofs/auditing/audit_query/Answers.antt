@@ -43,4 +43,4 @@ returns-in-Ok g c =
     c.audit_file-came.result) (sym (ap g.S.Shelf.state c.close.ensures))
     (audited hash (sized g) c.args.map.now c.args.query.now c.args.proof.now before mid
     (g.S.Shelf.state later.shelf) (stands_for paged.head (told_bytes mid.files (string_bytes paged.name))) paged.head
-    o.files o.quiet o.answers o.pages o.reads o.more e.counts e.few c.audit_file-came.result e.told e.untold)
+    o.files o.quiet o.answers o.pages o.reads o.more e.counts (e.few o.none) c.audit_file-came.result e.told e.untold)

@@ -1,8 +1,6 @@
-use Rattle.std.proofs.Common.{arith}
 use Rattle.std.proofs.lemmas.Result.{err_from_is_err_and}
-use Rattle.mr_outside.proofs.Pieces.{OfFile-pieces}
-use Rattle.mr_tool.proofs.Counting.{once_of}
 use Rattle.mr_tool.proofs.Taking.{ended}
+use Rattle.mr_tool.proofs.ToFault.{none_to_fault}
 use Rattle.mr_tool.proofs.pieces.judge_file.Goals as goal
 
 pub returns-in_err-taken-clause-judges : goal.returns-in_err-taken-clause-judges
@@ -32,19 +30,33 @@ returns-clause-judges g c =
       verdict_is = c.in_ok-end.ensures c.args.root.now c.args.query.now all.bytes all.taken;
     }
 
--- each piece was read once
-pub returns-in_err-end-clause-once : goal.returns-in_err-end-clause-once
-returns-in_err-end-clause-once g c =
-    let before = g.S.Shelf.state c.args.shelf.now in
-    let after = g.S.Shelf.state c.take_file.new.shelf in
-    once_of before.files c.args.name.now before.reads after.reads
-    (OfFile-pieces before.files c.args.name.now c.in_ok-size.size before.reads after.reads
-    (omega (arith, c.in_ok-size.ensures.reads, c.in_ok-taken.ensures.pieces)) c.in_ok-size.ensures.length)
+-- it was read up to the piece that fixes a fault
+pub returns-in_err-taken-clause-stops : goal.returns-in_err-taken-clause-stops
+returns-in_err-taken-clause-stops g c =
+    rw c.in_ok-size.ensures.reads at (rw c.in_ok-size.ensures.files at
+    (c.take_file.ensures.stops c.args.root.now c.args.query.now c.in_ok-intake.ensures))
 
-pub returns-clause-once : goal.returns-clause-once
-returns-clause-once g c =
-    let before = g.S.Shelf.state c.args.shelf.now in
-    let after = g.S.Shelf.state c.take_file.new.shelf in
-    once_of before.files c.args.name.now before.reads after.reads
-    (OfFile-pieces before.files c.args.name.now c.in_ok-size.size before.reads after.reads
-    (omega (arith, c.in_ok-size.ensures.reads, c.in_ok-taken.ensures.pieces)) c.in_ok-size.ensures.length)
+pub returns-in_err-end-clause-stops : goal.returns-in_err-end-clause-stops
+returns-in_err-end-clause-stops g c =
+    rw c.in_ok-size.ensures.reads at (rw c.in_ok-size.ensures.files at
+    (c.take_file.ensures.stops c.args.root.now c.args.query.now c.in_ok-intake.ensures))
+
+pub returns-clause-stops : goal.returns-clause-stops
+returns-clause-stops g c =
+    rw c.in_ok-size.ensures.reads at (rw c.in_ok-size.ensures.files at
+    (c.take_file.ensures.stops c.args.root.now c.args.query.now c.in_ok-intake.ensures))
+
+pub returns-in_err-size-clause-stops : goal.returns-in_err-size-clause-stops
+returns-in_err-size-clause-stops g c =
+    none_to_fault g.H.Hashes.of c.args.root.now c.args.query.now (g.S.Shelf.state c.args.shelf.now).files
+    c.args.name.now _ _ c.in_err-size.ensures.reads
+
+pub returns-in_err-buffer-clause-stops : goal.returns-in_err-buffer-clause-stops
+returns-in_err-buffer-clause-stops g c =
+    none_to_fault g.H.Hashes.of c.args.root.now c.args.query.now (g.S.Shelf.state c.args.shelf.now).files
+    c.args.name.now _ _ c.in_ok-size.ensures.reads
+
+pub returns-in_err-intake-clause-stops : goal.returns-in_err-intake-clause-stops
+returns-in_err-intake-clause-stops g c =
+    none_to_fault g.H.Hashes.of c.args.root.now c.args.query.now (g.S.Shelf.state c.args.shelf.now).files
+    c.args.name.now _ _ c.in_ok-size.ensures.reads

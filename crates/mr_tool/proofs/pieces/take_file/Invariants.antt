@@ -1,17 +1,18 @@
-use Rattle.std.proofs.Common.{◌≡◌, ◌-◌, ◌+◌, ◌≤◌, [], List, ℕ}
-use Rattle.mr_outside.specs.Reading.{piece_count}
+use Rattle.std.proofs.Common.{◌≡◌, ◌-◌, [], List, ℕ}
 use Rattle.mr_query.specs.declared.query.Query.{Query}
 use Rattle.mr_check.specs.Judged.{IsTaken}
 use Rattle.mr_tool.specs.Ending.{NoneFalls}
 use Rattle.mr_tool.proofs.Taking.{HasTaken}
+use Rattle.mr_tool.proofs.ToFault.{ReadTo}
 use Rattle.mr_tool.proofs.pieces.take_file.Given as goal
 
 abbrev pub invariant-loop-at : goal.invariant-loop-at
 invariant-loop-at g l = record {
   counts : NoneFalls (g.S.Shelf.state l.initial.shelf) (g.S.Shelf.state l.shelf);
   files : (g.S.Shelf.state l.shelf).files ≡ (g.S.Shelf.state l.initial.shelf).files;
-  pieces : (g.S.Shelf.state l.shelf).reads + piece_count (l.size - l.at)
-      ≤ (g.S.Shelf.state l.initial.shelf).reads + piece_count l.size;
+  stops : (root : List ℕ) (q : Query) → IsTaken g.H.Hashes.of g.H.Hashes.holds root q l.initial.taken []
+      → ReadTo g.H.Hashes.of root q (g.S.Shelf.state l.initial.shelf).files l.name l.size l.at
+      (g.S.Shelf.state l.initial.shelf).reads (g.S.Shelf.state l.shelf).reads;
   faults : (g.S.Shelf.state l.shelf).faults ≡ (g.S.Shelf.state l.initial.shelf).faults;
   taken : (root : List ℕ) (q : Query) → IsTaken g.H.Hashes.of g.H.Hashes.holds root q l.initial.taken []
       → HasTaken g.H.Hashes.of g.H.Hashes.holds root q (g.S.Shelf.state l.initial.shelf).files l.name l.size l.at

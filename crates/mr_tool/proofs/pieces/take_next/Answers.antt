@@ -24,4 +24,4 @@ returns-clause-takes g c = λ root q front had.
     (take c.args.wanted c.args.buffer.now) c.read_at.new.into (drop c.args.wanted c.args.buffer.now) room
     c.read_at.auto.into c.in_ok-count.ensures.fills
     c.in_ok-count.ensures.gives c.are_bytes.ensures in
-    (_, is, (c.in_ok-next.ensures.taken root q front had).0)
+    let taken = c.in_ok-next.ensures.taken root q front had in (_, is, taken.0, taken.1)

@@ -8,6 +8,7 @@ returns-in-Err g c = record {
   opened = record {
     answers = answers_of g.H.Hashes.of c.are_sized.ensures (g.S.Shelf.state c.args.shelf) c.args.name.now
         c.in-Err.error c.make_ready.ensures.are c.in-Err.ensures.refused.fault;
+    some = c.in-Err.ensures.refused.some;
     why = c.in-Err.ensures.refused.why;
     files = c.make_ready.ensures.files;
     later = c.make_ready.ensures.faults;

@@ -1,5 +1,9 @@
+use Rattle.std.proofs.Common.{subst, sym}
 use Rattle.std.specs.String.{string_bytes}
-use Rattle.mr_store.specs.Stored.{told_bytes, stands_for}
+use Rattle.mr_tree.specs.Nodes.{IsTop}
+use Rattle.mr_tree.specs.Snapshot.{standing}
+use Rattle.mr_store.specs.Stored.{told_bytes, stands_for, IsSaid}
+use Rattle.mr_store.proofs.Maps.{top_is}
 use Rattle.mr_store.proofs.Blames.{cause_of}
 use Rattle.mr_store.proofs.paged.Paged.snapshot.Goals as goal
 
@@ -10,3 +14,16 @@ returns-in-Err-clause-cause g c =
     cause_of (stands_for old.head (told_bytes before.files (string_bytes old.name)))
     before.faults (g.S.Shelf.state c.copied.new.nodes.shelf).faults c.in-Err.stop c.refusal.result
     c.in-Err.ensures.cause c.refusal.ensures
+
+pub copied-requires-after_bounds : goal.copied-requires-after_bounds
+copied-requires-after_bounds g c κs within =
+    let old = c.args.self.now in
+    let files = (g.S.Shelf.state old.shelf).files in
+    subst (IsTop g.H.Hashes.of (stands_for old.head (told_bytes files (string_bytes old.name))))
+    (sym c.top_of-top.ensures)
+    (top_is g.H.Hashes.of files (string_bytes old.name) old.head old.cache.entries old.cache.cap old.store)
+
+pub returns-in-Ok-clause-says : goal.returns-in-Ok-clause-says
+returns-in-Ok-clause-says g c =
+    subst (λ top. IsSaid g.H.Hashes.of top (standing c.in-Ok.snapshot.nodes.items c.in-Ok.snapshot.top))
+    c.top_of-top.ensures c.in-Ok.ensures.says

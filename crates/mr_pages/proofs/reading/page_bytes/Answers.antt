@@ -1,7 +1,7 @@
 use Rattle.std.proofs.Common.{ℕ, replicate}
 use Rattle.std.proofs.lemmas.List.{length-replicate}
-use Rattle.mr_store.proofs.PageReads.{page_told}
-use Rattle.mr_store.proofs.reading.page_bytes.Goals as goal
+use Rattle.mr_pages.proofs.PageReads.{page_told}
+use Rattle.mr_pages.proofs.reading.page_bytes.Goals as goal
 
 pub returns-clause-told : goal.returns-clause-told
 returns-clause-told g c =

@@ -3,7 +3,7 @@ use Rattle.mr_tree.specs.declared.tree.Tree.TheVariants as tree
 use Rattle.mr_pages.specs.declared.node.Node as owned_type
 use Rattle.mr_pages.specs.Source.{tree_over}
 use Rattle.mr_pages.proofs.Visits.{made_are}
-use Rattle.mr_pages.proofs.bytes.MapBytesSource.make.Goals as goal
+use Rattle.mr_pages.proofs.file_pages.FilePagesSource.make.Goals as goal
 
 pub returns-clause-made : goal.returns-clause-made
 returns-clause-made g c = λ ts all.

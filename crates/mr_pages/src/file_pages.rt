@@ -1,19 +1,21 @@
-//! The pages of a file whose bytes are in memory.
+//! The pages of a file on a shelf, of which its tree is made.
 
-ghost use Rattle.std.specs.Prelude.{◌≡◌, ◌≤◌, ◌/◌, ◌^◌, ⊤, true, false, List, IfOk, OnOk, MatchOption};
+ghost use Rattle.std.specs.Prelude.{◌≡◌, ◌/◌, ◌≤◌, ⊤, true, false, List, IfOk, OnOk, MatchOption};
+ghost use Rattle.std.proofs.Props.{props};
 ghost use Rattle.mr_tree.specs.declared.tree.Tree as trees;
+ghost use Rattle.mr_pages.specs.PageBytes.{first_form, IsLayout};
+ghost use Rattle.mr_pages.specs.File.{is_odd_size};
 ghost use Rattle.mr_pages.specs.Page.{page_limit};
-ghost use Rattle.mr_pages.specs.Source.{AreMade, Stay, in_memory, tree_over};
-ghost use Rattle.mr_pages.specs.PageBytes.{node_limit, form_of, IsLayout};
-ghost use Rattle.mr_pages.specs.File.{page_at, is_odd_size};
+ghost use Rattle.mr_pages.specs.Source.{AreMade, IsPaged, Stay, on_shelf, tree_over};
 
 use crate::head::MapHead;
 use crate::layout::Layout;
 use crate::node::Node;
-use crate::page::{free_on, head_on, node_on};
+use crate::page::{read_free_page, read_head, read_page};
+use crate::reading::page_bytes;
 use crate::rule::MapRule;
 use crate::source::Source;
-use mr_outside::{Items, ShelfErr};
+use mr_outside::{Items, Shelf, ShelfErr};
 use mr_tree::{Child, Hashes, NodeView, Tree};
 use std::alloc::AllocError;
 use std::marker::PhantomData;
@@ -34,38 +36,24 @@ pub fn page_count(layout: Layout, size: u64) -> Option<u32>
     Some((size / page_size) as u32)
 }
 
-// The bytes of a page, as many as are there.
-fn page_bytes(layout: Layout, bytes: &[u8], page: u32) -> &[u8]
-    requires { IsLayout layout }
-    ensures { result.now ≡ page_at (form_of layout) bytes.now page }
-{
-    let start = page as usize * layout.size;
-    if start >= bytes.len() {
-        return &[];
-    }
-    let (_, behind) = bytes.split_at(start);
-    let (page, _) = behind.split_at(behind.len().min(layout.size));
-    page
-}
-
-/// So many pages of a file whose bytes are in memory, of which the tree is made.
+/// So many pages of a file on a shelf, each read by itself.
 #[derive(Drop)]
-pub struct MapBytes<'a, H: Hashes> {
-    pub layout: Layout,
-    pub bytes: &'a [u8],
+pub struct FilePages<'a, 'b, S: Shelf, H: Hashes> {
+    pub shelf: &'a mut S,
+    pub name: &'b str,
     pub pages: u32,
     pub hash: PhantomData<H>,
-    ghost room: { node_limit ≤ layout.size },
-    ghost small: { layout.size ≤ 2 ^ 16 },
     ghost few: { pages ≤ page_limit },
+    ghost paged: { IsPaged first_form pages (S.state shelf.now).files name.now } by { Prim.hlevel props },
 }
 
-impl<H: Hashes> Source for MapBytes<'_, H> {
+impl<S: Shelf, H: Hashes> Source for FilePages<'_, '_, S, H> {
     type Hash = H;
 
     type Made = Tree;
 
-    ghost state = { λ s. in_memory (form_of s.layout) s.pages s.bytes.now };
+    ghost state = { λ s. on_shelf first_form s.shelf.ghost_name s.pages (S.state s.shelf.now)
+        s.name.now };
 
     ghost keeps = { λ s page. ⊤ };
 
@@ -76,18 +64,18 @@ impl<H: Hashes> Source for MapBytes<'_, H> {
     }
 
     fn head(&mut self) -> Result<Result<MapHead, MapRule>, ShelfErr> {
-        let page = page_bytes(self.layout, self.bytes, 0);
-        Ok(head_on(self.layout, page, self.pages))
+        let page = page_bytes(self.shelf, self.name, 0)?;
+        Ok(read_head(&page, self.pages))
     }
 
     fn node(&mut self, page: u32, level: u8, into: &mut NodeView) -> Result<bool, ShelfErr> {
-        let bytes = page_bytes(self.layout, self.bytes, page);
-        Ok(node_on(self.layout, bytes, level, into))
+        let bytes = page_bytes(self.shelf, self.name, page)?;
+        Ok(read_page(&bytes, level, into))
     }
 
     fn free(&mut self, page: u32) -> Result<Option<u32>, ShelfErr> {
-        let bytes = page_bytes(self.layout, self.bytes, page);
-        Ok(free_on(self.layout, bytes))
+        let bytes = page_bytes(self.shelf, self.name, page)?;
+        Ok(read_free_page(&bytes))
     }
 
     fn none(&self) -> Tree {
@@ -95,8 +83,10 @@ impl<H: Hashes> Source for MapBytes<'_, H> {
     }
 
     fn make(&mut self, _child: &Child, node: Node, below: Vec<Tree>) -> Result<Tree, AllocError>
-        ensures same { in_memory (form_of self.new.layout) self.new.pages self.new.bytes.now
-            ≡ in_memory (form_of self.old.layout) self.old.pages self.old.bytes.now }
+        ensures same { on_shelf first_form self.new.shelf.ghost_name self.new.pages
+            (S.state self.new.shelf.now) self.new.name.now
+            ≡ on_shelf first_form self.old.shelf.ghost_name self.old.pages
+            (S.state self.old.shelf.now) self.old.name.now }
         ensures made { IfOk result (λ made. (ts : List trees.Tree) →
             AreMade (λ one t. one ≡ t) below.items ts → made ≡ tree_over node ts) }
         ensures kept { OnOk result ⊤ }

@@ -1,0 +1,81 @@
+-- How many nodes of the map are fetched beside the items of a proof.
+use Rattle.std.proofs.Common.{◌≡◌, ℕ, suc, ◌+◌, ◌≤◌, ◌<◌, true, false, List, [], ◌++◌, append_assoc, append-nil, refl, sym, ap, subst, ◌∙◌, arith}
+use Rattle.std.specs.Prelude.{Option, Some, None, IfSome, Ok}
+use Rattle.mr_record.specs.declared.record.Record.{Record}
+use Rattle.mr_tree.specs.Digest.{by}
+use Rattle.mr_tree.specs.Nodes.{Standing, IsTop}
+use Rattle.mr_tree.specs.declared.nodes.Top.{Top}
+use Rattle.mr_tree.specs.declared.tree.Tree.{Tree}
+use Rattle.mr_query.specs.declared.query.Query.{Query}
+use Rattle.mr_proof.specs.declared.head.Head.{Head}
+use Rattle.mr_proof.specs.Cut.{Cut, Cuts, Pruned, Leaf, Inner, count_of, opened_nodes, all_opened}
+use Rattle.mr_proof.specs.Spelling.{cut_bytes, cuts_bytes, part_bytes, FitsCut, FitCuts, IsSpelled}
+use Rattle.mr_proof.specs.Honest.{opened_of}
+use Rattle.mr_proof.specs.Reading.{verdict}
+use Rattle.mr_proof.proofs.Pairs.{pair_found}
+use Rattle.mr_clash.specs.Finding.{opened_said, opened_in, opened_by, opened_accepted, root_at}
+use Rattle.mr_clash.specs.Steps.{is_pruned, FetchesItem, FetchesChildren}
+use Rattle.mr_clash.proofs.Taking.{drop_cuts, next_cut}
+use Rattle.mr_clash.proofs.Whole.{verdict_is}
+
+-- an item that is not pruned opens its node
+pub opened_one : (P : Cut) → is_pruned P ≡ false → 1 ≤ opened_nodes P
+opened_one (Pruned part) is = absurd cc
+opened_one (Leaf rs) is = omega arith
+opened_one (Inner Ps) is = omega arith
+
+-- an inner node and what is fetched below it
+pub opened_inner : (v : ℕ) (P : Cut) (rest before : List ℕ) (old mid new : ℕ) → (v ≡ 0 → ⊥) → is_pruned P ≡ false
+    → FitsCut v P → before ≡ cut_bytes P ++ rest → mid ≤ old + 1 → FetchesChildren v before mid new
+    → new ≤ old + opened_nodes P
+opened_inner v (Pruned part) rest before old mid new above is fits e one few = absurd cc
+opened_inner v (Leaf rs) rest before old mid new above is fits e one few = absurd (above fits.at_leaf)
+opened_inner v (Inner Ps) rest before old mid new above is fits e one few =
+    let below = few Ps rest fits e in omega (arith, below, one)
+
+-- one more of some items side by side
+pub fetched_more : (hash : List ℕ → List ℕ) (v w : ℕ) (Ps : Cuts) (rest : List ℕ) (i : ℕ) (bytes : List ℕ)
+    (old mid new : ℕ) → i < count_of Ps → FitCuts w Ps → bytes ≡ cuts_bytes (drop_cuts i Ps) ++ rest → v ≡ w
+    → FetchesItem v bytes mid new → mid + all_opened (drop_cuts i Ps) ≤ old + all_opened Ps
+    → new + all_opened (drop_cuts (i + 1) Ps) ≤ old + all_opened Ps
+fetched_more hash v w Ps rest i bytes old mid new lt fits here level few so_far =
+    let n = next_cut hash w Ps i lt fits in
+    let Qs = drop_cuts (suc i) Ps in
+    let own = few n.cut (cuts_bytes Qs ++ rest) (subst (λ k. FitsCut k n.cut) (sym level) n.fits)
+    (here ∙ ap (λ Qs. cuts_bytes Qs ++ rest) n.here ∙ append_assoc (cut_bytes n.cut) (cuts_bytes Qs) rest) in
+    let sum = ap all_opened n.here in
+    let plus = ap (λ k. all_opened (drop_cuts k Ps)) (suc_is i) in
+    omega (arith, own, sum, plus, so_far)
+  where
+    suc_is : (i : ℕ) → suc i ≡ i + 1
+    suc_is i = omega arith
+
+-- the root item
+pub fetched_root : (h : Head) (P : Option Cut) (bytes : List ℕ) (v w : ℕ) (before : List ℕ) (old new : ℕ)
+    → IsSpelled h P bytes → (h.count ≡ 0 → ⊥) → v ≡ w → w ≡ h.level → before ≡ part_bytes P
+    → FetchesItem v before old new → new ≤ old + opened_of P
+fetched_root h None bytes v w before old new spelled some one level here few = absurd (some spelled.part)
+fetched_root h (Some P) bytes v w before old new spelled some one level here few =
+    few P [] (subst (λ k. FitsCut k P) (sym (one ∙ level)) spelled.part.1) (here ∙ sym (append-nil (cut_bytes P)))
+
+-- ---- the whole
+
+-- nothing is fetched for bytes that are refused
+pub none_fetched : (o : Option Tree) (n : ℕ) (bound : Tree → ℕ) → IfSome o (λ t. n ≤ n + bound t)
+none_fetched None n bound = tt
+none_fetched (Some t) n bound = omega arith
+
+-- and for those that are accepted what they open
+pub few_fetched : (hash : List ℕ → List ℕ) (s : Standing) (top : Top) (q : Query) (bytes root : List ℕ)
+    (answer : List Record) (h : Head) (P : Option Cut) (old new : ℕ) → IsTop hash s top → root ≡ hash (root_at top)
+    → verdict hash root q bytes ≡ Ok answer → IsSpelled h P bytes → new ≤ old + opened_of P
+    → IfSome s.tree (λ t. new ≤ old + opened_accepted (by s.version hash) t s.batch q bytes)
+few_fetched hash s top q bytes root answer h P old new is e exact spelled few = by_tree s.tree refl
+  where
+    by_tree : (o : Option Tree) → s.tree ≡ o
+        → IfSome o (λ t. new ≤ old + opened_accepted (by s.version hash) t s.batch q bytes)
+    by_tree None told = tt
+    by_tree (Some t) told =
+        let is_verdict = ap (λ v. opened_by v bytes) (verdict_is hash s top q bytes root is e t told ∙ exact) in
+        let is_pair = ap opened_said (pair_found h P bytes spelled) in
+        omega (arith, is_verdict, is_pair, few)

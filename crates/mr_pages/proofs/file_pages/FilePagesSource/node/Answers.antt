@@ -1,0 +1,13 @@
+use Rattle.std.proofs.Common.{sym, subst}
+use Rattle.mr_pages.specs.Faults.{of_level}
+use Rattle.mr_pages.specs.Walking.{Shows}
+use Rattle.mr_pages.proofs.PageReads.{shelf_gives}
+use Rattle.mr_pages.proofs.file_pages.FilePagesSource.node.Goals as goal
+
+pub returns-clause-shows : goal.returns-clause-shows
+returns-clause-shows g c =
+    let s = c.args.self.now in
+    shelf_gives s.name.now s.shelf.ghost_name s.pages c.args.page c.in_ok-bytes.bytes (g.S.Shelf.state s.shelf.now) _
+    s.paged c.requires c.in_ok-bytes.ensures.told c.in_ok-bytes.ensures.is
+    (λ f h. subst (λ o. Shows c.read_page.result c.read_page.new.into (of_level c.args.level o)) (sym h.node)
+    c.read_page.ensures.exact)
