@@ -1,14 +1,14 @@
 -- The text of an ending: its line, then its records.
-use Rattle.std.proofs.Common.{◌≡◌, ℕ, List, [], ◌++◌, sym, ap, subst, ◌∙◌, append_assoc, append-nil, arith}
+use Rattle.std.proofs.Common.{◌≡◌, ℕ, List, [], ◌∷◌, ◌++◌, refl, sym, ap, subst, ◌∙◌, append_assoc, append-nil, arith}
 use Rattle.std.specs.Prelude.{Result, Ok, Err, OnOk}
 use Rattle.mr_outside.specs.Causes.{SinkCauses}
 use Rattle.mr_outside.specs.Faults.{Rose}
 use Rattle.mr_outside.specs.State.{Sunk}
 use Rattle.mr_outside.specs.Told.{Takes, TakesFront}
 use Rattle.mr_outside.specs.declared.sink.SinkErr.{SinkErr}
-use Rattle.mr_outside.proofs.Taking.{Takes-append}
+use Rattle.mr_outside.proofs.Taking.{Takes-none, Takes-append}
 use Rattle.mr_record.specs.declared.record.Record.{Record}
-use Rattle.mr_record.specs.RecordText.{text_of}
+use Rattle.mr_record.specs.RecordText.{line_of, text_of}
 
 -- a line alone
 pub line_alone : (line : List ℕ) (records : List Record) → records ≡ [] → line
@@ -20,6 +20,18 @@ line_alone line records none = ap (λ rs. line ++ text_of rs) none ∙ append-ni
 pub no_records : (records : List Record) → records ≡ [] → text_of records ≡ []
 unfolding text_of
 no_records records none = ap text_of none
+
+-- the text of two lists of records
+pub text_both : (xs ys : List Record) → text_of (xs ++ ys) ≡ text_of xs ++ text_of ys
+unfolding text_of
+text_both [] ys = refl
+text_both (x ∷ xs) ys =
+    ap (λ text. (line_of x ++ 10 ∷ []) ++ text) (text_both xs ys)
+    ∙ sym (append_assoc (line_of x ++ 10 ∷ []) (text_of xs) (text_of ys))
+
+-- nothing was taken
+pub front_none : (s : Sunk) (text : List ℕ) → TakesFront s s text
+front_none s text = record { front = []; rest = text; whole = refl; takes = Takes-none s }
 
 -- a front of the first part
 pub front_before : (before after : Sunk) (first second : List ℕ) → TakesFront before after first

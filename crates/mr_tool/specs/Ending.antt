@@ -11,6 +11,9 @@ use Rattle.mr_outside.specs.declared.shelf.ShelfErr.{ShelfErr}
 use Rattle.mr_outside.specs.declared.shelf.ShelfErr.TheVariants as shelf
 use Rattle.mr_record.specs.Bytes.{AreBytes}
 use Rattle.mr_record.specs.RecordText.{text_of}
+use Rattle.mr_record.specs.declared.record.Record.{Record}
+use Rattle.mr_query.specs.Scan.{by_number}
+use Rattle.mr_tree.specs.Tree.{records}
 use Rattle.mr_pages.specs.PageBytes.{first_form}
 use Rattle.mr_pages.specs.Opening.{pages_in}
 use Rattle.mr_pages.specs.Law.{Agrees, IsMap}
@@ -33,6 +36,8 @@ use Rattle.mr_tool.specs.Plan.{Plan, comes, reads, opens, rereads, judges, Input
 use Rattle.mr_tool.specs.Rereading.{Rereading, MaySay}
 use Rattle.mr_tool.specs.Say.{ends, needs_map, says_missing, say_written}
 use Rattle.mr_tool.specs.declared.ending.Ending.{Ending}
+use Rattle.mr_tool.specs.declared.ending.Shown.{Shown}
+use Rattle.mr_tool.specs.declared.ending.Shown.TheVariants as shown
 use Rattle.mr_tool.specs.declared.ending.Halt.{Halt}
 use Rattle.mr_tool.specs.declared.ending.Halt.TheVariants as halts
 use Rattle.mr_pages.specs.declared.opening.Opened.{Opened}
@@ -40,9 +45,14 @@ use Rattle.mr_tool.specs.declared.status.Status.{Status}
 use Rattle.mr_tool.specs.declared.text.Text.{Text}
 use Rattle.mr_tool.specs.declared.status.Status.TheVariants.{BadWords, BadMap, Outside, NoMemory}
 
+-- the records that are printed: these, or those of a tree in rising number
+abbrev pub shown_of : Shown → List Record
+shown_of (shown.Records list) = list.items
+shown_of (shown.OfTree alloc tree) = by_number (records tree)
+
 -- the text of an ending: its line, then a line for each record
 abbrev pub printed_of : Ending → List ℕ
-printed_of ending = string_bytes ending.line ++ text_of ending.records.items
+printed_of ending = string_bytes ending.line ++ text_of (shown_of ending.records)
 
 -- the ending is what is said, for a reason that is not outside
 pub record Gives (said : Outcome) (ending : Ending) : Type 0 where

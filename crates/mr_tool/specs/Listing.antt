@@ -1,5 +1,5 @@
 -- Records with their numbers beside them. This serves private functions.
-use Rattle.std.specs.Prelude.{ℕ}
+use Rattle.std.specs.Prelude.{ℕ, List, map}
 use Rattle.mr_record.specs.declared.record.Record.{Record}
 use Rattle.mr_tool.specs.declared.listing.Numbered.{Numbered}
 
@@ -8,3 +8,7 @@ seen e = (e.number, e.item.now)
 
 abbrev pub numbered : Record → ℕ × Record
 numbered r = (r.number, r)
+
+-- the records alone
+abbrev pub items_of : List Numbered → List Record
+items_of es = map (λ (e : Numbered). e.item.now) es

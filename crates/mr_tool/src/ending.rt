@@ -3,13 +3,23 @@
 ghost use Rattle.std.specs.Prelude.{◌≡◌, ◌++◌};
 ghost use Rattle.std.specs.String.{string_bytes};
 ghost use Rattle.mr_record.specs.RecordText.{text_of};
+ghost use Rattle.mr_query.specs.Scan.{by_number};
+ghost use Rattle.mr_tree.specs.Tree.{records as records_of};
 ghost use Rattle.mr_tool.specs.Ending.{halt_of, printed_of};
 ghost use Rattle.mr_tool.specs.declared.ending.Halt.TheVariants as halts;
 
 use crate::Status;
 use mr_outside::ShelfErr;
 use mr_record::Record;
+use mr_tree::Tree;
 use std::alloc::{AllocError, Global};
+
+// The records that are printed: these, or those of a tree in rising number.
+#[derive(Drop)]
+pub(crate) enum Shown {
+    Records(Vec<Record>),
+    OfTree(Global, Tree),
+}
 
 // What a command comes to: how it ends and what it prints, a text that may be empty and then a
 // line for each record.
@@ -17,7 +27,7 @@ use std::alloc::{AllocError, Global};
 pub(crate) struct Ending {
     pub(crate) status: Status,
     pub(crate) line: String,
-    pub(crate) records: Vec<Record>,
+    pub(crate) records: Shown,
 }
 
 impl Ending {
@@ -29,7 +39,7 @@ impl Ending {
         Ending {
             status,
             line,
-            records: Vec::new(alloc),
+            records: Shown::Records(Vec::new(alloc)),
         }
     }
 
@@ -41,7 +51,7 @@ impl Ending {
         Ending {
             status,
             line,
-            records,
+            records: Shown::Records(records),
         }
     }
 
@@ -53,7 +63,19 @@ impl Ending {
         Ending {
             status,
             line: String::new(alloc),
-            records,
+            records: Shown::Records(records),
+        }
+    }
+
+    // Prints the records of a tree in rising number. The tree is kept until then, and not copied.
+    pub(crate) fn tree(alloc: Global, status: Status, tree: Tree) -> Ending
+        ensures status { result.status ≡ status }
+        ensures printed { printed_of result ≡ text_of (by_number (records_of tree)) }
+    {
+        Ending {
+            status,
+            line: String::new(alloc),
+            records: Shown::OfTree(alloc, tree),
         }
     }
 }

@@ -5,10 +5,11 @@ ghost use Rattle.std.specs.String.{string_bytes};
 ghost use Rattle.mr_outside.specs.Causes.{SinkCauses};
 ghost use Rattle.mr_outside.specs.Told.{Takes, TakesFront};
 ghost use Rattle.mr_record.specs.RecordText.{text_of};
-ghost use Rattle.mr_tool.specs.Ending.{Finishes, Prints, printed_of};
+ghost use Rattle.mr_tool.specs.Ending.{Finishes, Prints, printed_of, shown_of};
 
 use crate::Status;
-use crate::ending::{Ending, Halt};
+use crate::ending::{Ending, Halt, Shown};
+use crate::listing::write_tree;
 use mr_outside::{Sink, SinkErr, write_all};
 use mr_record::write_lines;
 
@@ -20,7 +21,21 @@ fn write_ending<W: Sink>(out: &mut W, ending: &Ending) -> Result<(), SinkErr>
     ensures causes { SinkCauses (W.state out.old) (W.state out.new) result }
 {
     write_all(out, ending.line.as_bytes())?;
-    write_lines(out, &ending.records)
+    write_shown(out, &ending.records)
+}
+
+// Writes a line for each record that is shown.
+fn write_shown<W: Sink>(out: &mut W, records: &Shown) -> Result<(), SinkErr>
+    ensures whole { OnOk result
+        (Takes (W.state out.old) (W.state out.new) (text_of (shown_of records.now))) }
+    ensures front { TakesFront (W.state out.old) (W.state out.new)
+        (text_of (shown_of records.now)) }
+    ensures causes { SinkCauses (W.state out.old) (W.state out.new) result }
+{
+    match records {
+        Shown::Records(list) => write_lines(out, list),
+        Shown::OfTree(alloc, tree) => write_tree(*alloc, out, tree),
+    }
 }
 
 // Prints a line, the last thing that a run does.

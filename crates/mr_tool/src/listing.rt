@@ -2,17 +2,20 @@
 
 ghost use Rattle.std.specs.Prelude.{◌≡◌, ◌++◌, map, IfOk, OnOk};
 ghost use Rattle.mr_record.specs.Sorting.{sorted_by_key};
-ghost use Rattle.mr_query.specs.Scan.{by_number as in_order};
+ghost use Rattle.mr_outside.specs.Causes.{SinkCauses};
+ghost use Rattle.mr_outside.specs.Told.{Takes, TakesFront};
+ghost use Rattle.mr_record.specs.RecordText.{text_of};
+ghost use Rattle.mr_query.specs.Scan.{by_number};
 ghost use Rattle.mr_tree.specs.Tree.{records};
-ghost use Rattle.mr_tool.specs.Ending.{Comes, Gives};
-ghost use Rattle.mr_tool.specs.Listing.{seen, numbered as numbered_record};
-ghost use Rattle.mr_tool.specs.Say.{say_list, say_list_of};
+ghost use Rattle.mr_tool.specs.Ending.{Comes};
+ghost use Rattle.mr_tool.specs.Listing.{items_of, seen, numbered as numbered_record};
+ghost use Rattle.mr_tool.specs.Say.{say_list};
 
 use crate::Status;
 use crate::ending::{Ending, Halt};
 use crate::opening::open_map;
-use mr_outside::Shelf;
-use mr_record::Record;
+use mr_outside::{Shelf, Sink, SinkErr};
+use mr_record::{Record, write_lines};
 use mr_tree::{Hash32, Tree};
 use std::alloc::{AllocError, Global};
 
@@ -73,26 +76,57 @@ fn sort(entries: &mut Vec<Numbered<'_>>) -> Result<(), AllocError>
 
 // Copies of the records.
 fn copies(alloc: Global, entries: &[Numbered<'_>]) -> Result<Vec<Record>, AllocError>
-    ensures { IfOk result (λ v. v.items ≡ map (λ e. e.item.now) entries.now) }
+    ensures { IfOk result (λ v. v.items ≡ items_of entries.now) }
 {
     entries.iter().map(|entry| *entry.item).collect(alloc)
 }
 
-// The records of a tree in rising number.
-fn by_number(alloc: Global, tree: &Tree) -> Result<Vec<Record>, AllocError>
-    ensures { IfOk result (λ v. v.items ≡ in_order (records tree.now)) }
+// Writes a line for each of these records, which are copied at once.
+fn write_some<W: Sink>(alloc: Global, out: &mut W, entries: &[Numbered<'_>]) -> Result<(), SinkErr>
+    ensures whole { OnOk result
+        (Takes (W.state out.old) (W.state out.new) (text_of (items_of entries.now))) }
+    ensures front { TakesFront (W.state out.old) (W.state out.new)
+        (text_of (items_of entries.now)) }
+    ensures causes { SinkCauses (W.state out.old) (W.state out.new) result }
+{
+    let list = copies(alloc, entries)?;
+    write_lines(out, &list)
+}
+
+// How many records are copied at once.
+const COPIED: usize = 32_768;
+
+// Writes a line for each of these records.
+fn write_entries<W: Sink>(
+    alloc: Global,
+    out: &mut W,
+    entries: &[Numbered<'_>],
+) -> Result<(), SinkErr>
+    ensures whole { OnOk result
+        (Takes (W.state out.old) (W.state out.new) (text_of (items_of entries.now))) }
+    ensures front { TakesFront (W.state out.old) (W.state out.new)
+        (text_of (items_of entries.now)) }
+    ensures causes { SinkCauses (W.state out.old) (W.state out.new) result }
+{
+    if entries.len() <= COPIED {
+        return write_some(alloc, out, entries);
+    }
+    let (some, others) = entries.split_at(COPIED);
+    write_some(alloc, out, some)?;
+    write_entries(alloc, out, others)
+}
+
+// Writes a line for each record of a tree, in rising number.
+pub(crate) fn write_tree<W: Sink>(alloc: Global, out: &mut W, tree: &Tree) -> Result<(), SinkErr>
+    ensures whole { OnOk result (Takes (W.state out.old) (W.state out.new)
+        (text_of (by_number (records tree.now)))) }
+    ensures front { TakesFront (W.state out.old) (W.state out.new)
+        (text_of (by_number (records tree.now))) }
+    ensures causes { SinkCauses (W.state out.old) (W.state out.new) result }
 {
     let mut entries = entries_of(alloc, tree)?;
     sort(&mut entries)?;
-    copies(alloc, &entries)
-}
-
-// What is said of a map with this tree, which is given up.
-fn list_tree(alloc: Global, tree: Tree) -> Result<Ending, AllocError>
-    ensures { IfOk result (λ e. Gives (say_list_of tree) e) }
-{
-    let list = by_number(alloc, &tree)?;
-    Ok(Ending::records(alloc, Status::Done, list))
+    write_entries(alloc, out, &entries)
 }
 
 // The records of the map in a file, in rising number.
@@ -104,7 +138,7 @@ pub(crate) fn list<H: Hash32, S: Shelf>(
     ensures { Comes (say_list H.of name.now) (S.state shelf.old) (S.state shelf.new) result }
 {
     match open_map::<H, S>(alloc, name, shelf)? {
-        Ok(map) => Ok(list_tree(alloc, map.tree)?),
+        Ok(map) => Ok(Ending::tree(alloc, Status::Done, map.tree)),
         Err(ending) => Ok(ending),
     }
 }

@@ -1,33 +1,29 @@
 use Rattle.std.proofs.Common.{subst}
-use Rattle.std.specs.Prelude.{OnOk}
 use Rattle.std.specs.String.{string_bytes}
-use Rattle.mr_outside.specs.Told.{Takes, TakesFront}
+use Rattle.mr_outside.specs.Told.{Takes}
 use Rattle.mr_record.specs.RecordText.{text_of}
+use Rattle.mr_tool.specs.Ending.{shown_of}
 use Rattle.mr_tool.proofs.Endings.{front_after, whole_after, causes_after}
 use Rattle.mr_tool.proofs.finish.write_ending.Goals as goal
 
 pub returns-clause-front : goal.returns-clause-front
 returns-clause-front g c =
     let S = g.W.Sink.state in
-    front_after (S c.args.out.now) (S c.write_all.new.out) (S c.write_lines.new.out)
-    (string_bytes c.args.ending.now.line) (text_of c.args.ending.now.records.items)
+    front_after (S c.args.out.now) (S c.write_all.new.out) (S c.write_shown.new.out)
+    (string_bytes c.args.ending.now.line) (text_of (shown_of c.args.ending.now.records))
     (subst (Takes (S c.args.out.now) (S c.write_all.new.out)) c.as_bytes.ensures.value
-    c.in_ok-write_all.ensures.whole)
-    (subst (λ records. TakesFront (S c.write_all.new.out) (S c.write_lines.new.out)
-    (text_of records)) c.deref.ensures.value c.write_lines.ensures.front)
+    c.in_ok-write_all.ensures.whole) c.write_shown.ensures.front
 
 pub returns-clause-whole : goal.returns-clause-whole
 returns-clause-whole g c =
     let S = g.W.Sink.state in
-    whole_after (S c.args.out.now) (S c.write_all.new.out) (S c.write_lines.new.out)
-    (string_bytes c.args.ending.now.line) (text_of c.args.ending.now.records.items) c.write_lines.result
+    whole_after (S c.args.out.now) (S c.write_all.new.out) (S c.write_shown.new.out)
+    (string_bytes c.args.ending.now.line) (text_of (shown_of c.args.ending.now.records)) c.write_shown.result
     (subst (Takes (S c.args.out.now) (S c.write_all.new.out)) c.as_bytes.ensures.value
-    c.in_ok-write_all.ensures.whole)
-    (subst (λ records. OnOk c.write_lines.result (Takes (S c.write_all.new.out) (S c.write_lines.new.out)
-    (text_of records))) c.deref.ensures.value c.write_lines.ensures.whole)
+    c.in_ok-write_all.ensures.whole) c.write_shown.ensures.whole
 
 pub returns-clause-causes : goal.returns-clause-causes
 returns-clause-causes g c =
     let S = g.W.Sink.state in
-    causes_after (S c.args.out.now) (S c.write_all.new.out) (S c.write_lines.new.out) c.write_lines.result
-    c.in_ok-write_all.ensures.causes.quiet c.write_lines.ensures.causes
+    causes_after (S c.args.out.now) (S c.write_all.new.out) (S c.write_shown.new.out) c.write_shown.result
+    c.in_ok-write_all.ensures.causes.quiet c.write_shown.ensures.causes

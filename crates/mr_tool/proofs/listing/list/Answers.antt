@@ -3,7 +3,8 @@ use Rattle.std.specs.Prelude.{Ok}
 use Rattle.mr_tool.specs.Ending.{Comes, Opens}
 use Rattle.mr_tool.specs.Plan.{comes}
 use Rattle.mr_tool.specs.Say.{say_list, say_list_of}
-use Rattle.mr_tool.proofs.Going.{halted_is, comes_map, comes_at_once, comes_given, out_of_memory}
+use Rattle.mr_tool.proofs.Going.{halted_is, comes_map, comes_at_once}
+use Rattle.mr_tool.proofs.Verdicts.{gives}
 use Rattle.mr_tool.proofs.listing.list.Goals as goal
 
 pub returns-in_err-map : goal.returns-in_err-map
@@ -13,29 +14,18 @@ returns-in_err-map g c =
     (sym (halted_is c.from_residual.result c.in_err-map.field-0.0 c.from_residual.ensures.1))
     (c.in_err-map.ensures (λ map. comes (say_list_of map.tree)) (λ map. tt))
 
-pub returns-in_ok-list_tree-in-Ok : goal.returns-in_ok-list_tree-in-Ok
-returns-in_ok-list_tree-in-Ok g c =
+pub returns-in-Ok : goal.returns-in-Ok
+returns-in-Ok g c =
     let hash = g.H.Hashes.of in
     let before = g.S.Shelf.state c.args.shelf.now in
     let after = g.S.Shelf.state c.open_map.new.shelf in
     comes_map hash c.args.name.now (λ map. comes (say_list_of map.tree)) before after after c.in-Ok.map
-    (Ok c.in_ok-list_tree-in-Ok.field-0)
+    (Ok c.tree.result)
     (subst (λ opened. Opens hash c.args.name.now before after (Ok opened)) c.in-Ok.is c.in_ok-map.ensures)
     (λ map. tt)
-    (comes_at_once (say_list_of c.in-Ok.map.tree) after c.in_ok-list_tree-in-Ok.field-0 refl
-    c.in_ok-list_tree-in-Ok.ensures)
-
-pub returns-in_err-list_tree-in-Ok : goal.returns-in_err-list_tree-in-Ok
-returns-in_err-list_tree-in-Ok g c =
-    let hash = g.H.Hashes.of in
-    let before = g.S.Shelf.state c.args.shelf.now in
-    let after = g.S.Shelf.state c.open_map.new.shelf in
-    let result = c.from_residual-in_err-list_tree-in-Ok.result in
-    comes_map hash c.args.name.now (λ map. comes (say_list_of map.tree)) before after after c.in-Ok.map result
-    (subst (λ opened. Opens hash c.args.name.now before after (Ok opened)) c.in-Ok.is c.in_ok-map.ensures)
-    (λ map. tt)
-    (comes_given (say_list_of c.in-Ok.map.tree) after result refl
-    (out_of_memory (say_list_of c.in-Ok.map.tree) result c.from_residual-in_err-list_tree-in-Ok.ensures.1))
+    (comes_at_once (say_list_of c.in-Ok.map.tree) after c.tree.result refl
+    (gives (say_list_of c.in-Ok.map.tree) c.tree.result ((λ e. cc), (λ e. cc)) c.tree.ensures.status
+    c.tree.ensures.printed))
 
 pub returns-in-Err : goal.returns-in-Err
 returns-in-Err g c =
