@@ -44,7 +44,8 @@ pub struct FilePages<'a, 'b, S: Shelf, H: Hashes> {
     pub pages: u32,
     pub hash: PhantomData<H>,
     ghost few: { pages ≤ page_limit },
-    ghost paged: { IsPaged first_form pages (S.state shelf.now).files name.now } by { Prim.hlevel props },
+    ghost paged: { IsPaged first_form pages (S.state shelf.now).files
+        name.now } by { Prim.hlevel props },
 }
 
 impl<S: Shelf, H: Hashes> Source for FilePages<'_, '_, S, H> {

@@ -41,7 +41,7 @@ const CALLS: &[Made<'static>] = &[
     },
     Made {
         words: "list m",
-        calls: "size m\nread_at m\n",
+        calls: "size m\nread_at m\nread_at m\nread_at m\nread_at m\n",
         pieces: 0,
     },
     Made {
@@ -62,8 +62,8 @@ const CALLS: &[Made<'static>] = &[
     },
     Made {
         words: "apply m b n",
-        calls: "size m\nread_at m\nsize b\nread_at b\ncreate n\nappend n\nsync n\nwrite_at n\n\
-            sync n\n",
+        calls: "size m\nread_at m\nread_at m\nread_at m\nread_at m\nsize b\nread_at b\ncreate n\n\
+            append n\nsync n\nwrite_at n\nsync n\n",
         pieces: 0,
     },
     Made {

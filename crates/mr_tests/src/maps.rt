@@ -298,7 +298,7 @@ const LISTED: &[Row<'static>] = &[
         name: "calls past the last one fail",
         words: "list m",
         files: MAP_OF_TWO,
-        fails: &[Shelf(3), Sink(2)],
+        fails: &[Shelf(6), Sink(2)],
         status: Done,
         text: SEVENTEEN,
         made: &[],

@@ -15,8 +15,8 @@ returns-in_err-made-clause-told g c =
     let p = err_from_is_err_and c.from_residual-in_err-made.result c.from_residual-in_err-made.ensures.1 in
     let s = g.P.Source.state c.args.pages.now in
     rw (p.1, p.2) (err_settles (Unit {0}) (Unit {0}) c.in_err-made.field-0.0 c.in_err-made.ensures.told
-    (gives_all s c.in_ok-seen.seen c.visit_all.new.seen _ _ (c.visit_all.ensures.room ∙ c.in_ok-seen.ensures.told.count ∙ c.count.ensures)
-    (λ file walked. record {
+    (gives_all s c.in_ok-seen.seen c.visit_all.new.seen _ _
+    (c.visit_all.ensures.room ∙ c.in_ok-seen.ensures.told.count ∙ c.count.ensures) (λ file walked. record {
       checks = λ same sealed. visits_stop g.P.Hash.Hashes.of file (head_of c.args.head.now) sealed
           c.visit_all.result s.pages c.in_err-made.field-0.0 c.visit_all.new.seen (sym same) walked.visits_;
       made = tt;
@@ -42,8 +42,9 @@ returns-in_err-chain-clause-told g c =
     let t = g.P.Source.state c.visit_all.new.pages in
     let e = c.in_err-chain.field-0.0 in
     rw (q.1, q.2) (err_settles (Unit {0}) (Unit {0}) e c.in_err-chain.ensures.told (λ gave.
-    gives_all s c.in_ok-seen.seen c.chain.new.seen _ _ (c.chain.ensures.room ∙ c.visit_all.ensures.room ∙ c.in_ok-seen.ensures.told.count
-    ∙ c.count.ensures) (λ file both. record {
+    gives_all s c.in_ok-seen.seen c.chain.new.seen _ _
+    (c.chain.ensures.room ∙ c.visit_all.ensures.room ∙ c.in_ok-seen.ensures.told.count ∙ c.count.ensures)
+    (λ file both. record {
       checks = λ same sealed.
           let vs = walk file.node (head_of c.args.head.now).root in
           let p = same_pages (by file.version g.P.Hash.Hashes.of) s.pages file.pages vs c.visit_all.new.seen

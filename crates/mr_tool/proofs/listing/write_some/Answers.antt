@@ -12,8 +12,8 @@ pub returns-clause-whole : goal.returns-clause-whole
 returns-clause-whole g c =
     subst (λ rs. OnOk c.write_lines.result (Takes (g.W.Sink.state c.args.out.now) (g.W.Sink.state c.write_lines.new.out)
     (text_of rs))) c.in_ok-list.ensures
-    (subst (λ rs. OnOk c.write_lines.result (Takes (g.W.Sink.state c.args.out.now) (g.W.Sink.state c.write_lines.new.out)
-    (text_of rs))) c.deref.ensures.value c.write_lines.ensures.whole)
+    (subst (λ rs. OnOk c.write_lines.result (Takes (g.W.Sink.state c.args.out.now)
+    (g.W.Sink.state c.write_lines.new.out) (text_of rs))) c.deref.ensures.value c.write_lines.ensures.whole)
 
 pub returns-clause-front : goal.returns-clause-front
 returns-clause-front g c =
