@@ -24,7 +24,7 @@ use mr_check::{CheckErr, check};
 use mr_outside::Gate;
 use mr_pack::pack_joined_distinct;
 use mr_query::Query;
-use mr_tree::{Hash32, Nodes, Snapshot, Tree, level_of};
+use mr_tree::{Hash32, Hashes, Nodes, Snapshot, Tree, level_of};
 use std::alloc::{AllocError, Global};
 use std::thread::Threads;
 
@@ -39,7 +39,7 @@ pub(crate) struct Totals {
 }
 
 // How many records a proof proves to be the answer to a query.
-fn answer_size<H: Hash32>(
+fn answer_size<H: Hashes>(
     alloc: Global,
     tree: &Tree,
     root: &[u8; 32],
