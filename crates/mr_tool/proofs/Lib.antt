@@ -14,5 +14,7 @@ pub mod Batches
 pub mod Taking
 pub mod Verdicts
 pub mod Audits
+pub mod Served
+pub mod Bundles
 pub mod Promises
 pub mod WholeRuns

@@ -42,7 +42,7 @@ use Rattle.mr_tool.specs.Rereading.{Rereading, Differs, proving, auditing, IsRef
 use Rattle.mr_tool.specs.Say.{needs_map, say_prove_of, say_written}
 use Rattle.mr_tool.specs.declared.ending.Ending.{Ending}
 use Rattle.mr_tool.specs.declared.ending.Halt.{Halt}
-use Rattle.mr_tool.specs.declared.text.Text.{Text}
+use Rattle.mr_bundle.specs.declared.text.Text.{Text}
 use Rattle.mr_tool.proofs.Counting.{AllowsFrom}
 use Rattle.mr_tool.proofs.Going.{Answered, is_judged, comes_map, opens_map, opens_refused, opens_given_up, opens_halted}
 use Rattle.mr_tool.proofs.Rereading.{IsBlamed, comes_but, comes_told, comes_untold, fetch_blamed, fetch_stopped, says_last, says_refused, stops_with}
@@ -327,7 +327,7 @@ few_beside hash h bytes proof r m e t batch stands pages few still = elim (cases
 ]
 
 -- where it is not opened
-few_refused : (told : Option Files) (name : List ℕ) (r e : ℕ) (P : List ℕ → ℕ → Type 0)
+pub few_refused : (told : Option Files) (name : List ℕ) (r e : ℕ) (P : List ℕ → ℕ → Type 0)
     → ((bytes : List ℕ) → P bytes (pages_in bytes))
     → OfFile told name (e ≡ r) (λ bytes. e ≤ r + pages_in bytes)
     → OfFiles told (λ files. (n : ℕ) × (e ≤ r + n) × MatchOption (file files name) (n ≡ 0) (λ bytes. P bytes n))

@@ -17,7 +17,7 @@ use Rattle.mr_store.specs.Stored.{room}
 use Rattle.mr_tool.specs.First.{first}
 use Rattle.mr_tool.specs.Found.{Found, Shows}
 use Rattle.mr_tool.specs.Plan.{Input, Plan, comes, reads, opens, rereads}
-use Rattle.mr_tool.specs.Rereading.{Rereading, proving, auditing}
+use Rattle.mr_tool.specs.Rereading.{Rereading, proving, auditing, serving}
 
 -- in how many pieces an input is read whole
 abbrev pub pieces_of : Input → ℕ
@@ -35,19 +35,21 @@ IsFewOf hash q bytes n = (n ≤ pages_in bytes)
     ⊎ (IsLarge bytes × ((t : Tree) × (batch : ℕ) × IsMap first_form hash bytes t batch
     × (n ≤ pages_in bytes + rounds q * opened (first hash) t q)))
 
--- the pages of a file of these bytes, and the pieces of a proof where it stands for a map; of a
--- large map nothing more is said, as nothing says how many nodes an audit fetches
+-- the pages of a file of these bytes, and the pieces of a proof or a script where it stands for a
+-- map; of a large map nothing more is said, as nothing says how many nodes an audit fetches
 abbrev pub IsFewBeside : (List ℕ → List ℕ) → List ℕ → Input → ℕ → Type 0
 IsFewBeside hash bytes proof n = (n ≤ pages_in bytes)
     ⊎ ((t : Tree) × (batch : ℕ) × IsMap first_form hash bytes t batch
     × ((n ≤ pages_in bytes + pieces_of proof) ⊎ IsLarge bytes))
 
--- so many reads of the map, and of the proof for an audit
+-- so many reads of the map, and of the proof for an audit or the script for a bundle
 abbrev pub AllowsPages : Rereading → Files → ℕ → Type 0
 AllowsPages (proving hash map q proof) files n =
     MatchOption (file files map) (n ≡ 0) (λ bytes. IsFewOf hash q bytes n)
 AllowsPages (auditing hash map q proof) files n =
     MatchOption (file files map) (n ≡ 0) (λ bytes. IsFewBeside hash bytes (file files proof) n)
+AllowsPages (serving hash map script bundle) files n =
+    MatchOption (file files map) (n ≡ 0) (λ bytes. IsFewBeside hash bytes (file files script) n)
 
 -- so many reads: each input once, and no more where the command stops
 abbrev pub AllowsReads : Plan → Files → ℕ → Type 0

@@ -17,9 +17,9 @@ ghost use Rattle.mr_tool.specs.Say.{prints};
 
 use crate::Status;
 use crate::ending::{Ending, Halt};
-use crate::fetching::proof_of_nodes;
 use crate::lines::{map_lines, push_queries, push_totals};
 use mr_batch::{generate, generate_queries};
+use mr_bundle::proof_of_nodes;
 use mr_check::{CheckErr, check};
 use mr_outside::Gate;
 use mr_pack::pack_joined_distinct;

@@ -16,21 +16,29 @@ use std::alloc::{AllocError, Global};
 #[derive(Drop)]
 pub(crate) struct Ending {
     pub(crate) status: Status,
-    pub(crate) line: String,
+    pub(crate) text: Vec<u8>,
     pub(crate) records: Vec<Record>,
 }
 
 impl Ending {
+    // Prints this text alone.
+    pub(crate) fn text(alloc: Global, status: Status, text: Vec<u8>) -> Ending
+        ensures status { result.status ≡ status }
+        ensures printed { printed_of result ≡ text.items }
+    {
+        Ending {
+            status,
+            text,
+            records: Vec::new(alloc),
+        }
+    }
+
     // Prints this line alone.
     pub(crate) fn line(alloc: Global, status: Status, line: String) -> Ending
         ensures status { result.status ≡ status }
         ensures printed { printed_of result ≡ string_bytes line }
     {
-        Ending {
-            status,
-            line,
-            records: Vec::new(alloc),
-        }
+        Ending::text(alloc, status, line.into_bytes())
     }
 
     // Prints this line, and then these records.
@@ -40,7 +48,7 @@ impl Ending {
     {
         Ending {
             status,
-            line,
+            text: line.into_bytes(),
             records,
         }
     }
@@ -52,7 +60,7 @@ impl Ending {
     {
         Ending {
             status,
-            line: String::new(alloc),
+            text: Vec::new(alloc),
             records,
         }
     }

@@ -1,6 +1,5 @@
 use Rattle.std.proofs.Common.{subst}
 use Rattle.std.specs.Prelude.{OnOk}
-use Rattle.std.specs.String.{string_bytes}
 use Rattle.mr_outside.specs.Told.{Takes, TakesFront}
 use Rattle.mr_record.specs.RecordText.{text_of}
 use Rattle.mr_tool.proofs.Endings.{front_after, whole_after, causes_after}
@@ -10,8 +9,8 @@ pub returns-clause-front : goal.returns-clause-front
 returns-clause-front g c =
     let S = g.W.Sink.state in
     front_after (S c.args.out.now) (S c.write_all.new.out) (S c.write_lines.new.out)
-    (string_bytes c.args.ending.now.line) (text_of c.args.ending.now.records.items)
-    (subst (Takes (S c.args.out.now) (S c.write_all.new.out)) c.as_bytes.ensures.value
+    c.args.ending.now.text.items (text_of c.args.ending.now.records.items)
+    (subst (Takes (S c.args.out.now) (S c.write_all.new.out)) c.as_slice.ensures.value
     c.in_ok-write_all.ensures.whole)
     (subst (λ records. TakesFront (S c.write_all.new.out) (S c.write_lines.new.out)
     (text_of records)) c.deref.ensures.value c.write_lines.ensures.front)
@@ -20,8 +19,8 @@ pub returns-clause-whole : goal.returns-clause-whole
 returns-clause-whole g c =
     let S = g.W.Sink.state in
     whole_after (S c.args.out.now) (S c.write_all.new.out) (S c.write_lines.new.out)
-    (string_bytes c.args.ending.now.line) (text_of c.args.ending.now.records.items) c.write_lines.result
-    (subst (Takes (S c.args.out.now) (S c.write_all.new.out)) c.as_bytes.ensures.value
+    c.args.ending.now.text.items (text_of c.args.ending.now.records.items) c.write_lines.result
+    (subst (Takes (S c.args.out.now) (S c.write_all.new.out)) c.as_slice.ensures.value
     c.in_ok-write_all.ensures.whole)
     (subst (λ records. OnOk c.write_lines.result (Takes (S c.write_all.new.out) (S c.write_lines.new.out)
     (text_of records))) c.deref.ensures.value c.write_lines.ensures.whole)
