@@ -18,11 +18,11 @@ use crate::{CheckErr, Intake};
 use mr_proof::{accepted_is_honest, honest_is_accepted};
 use mr_query::Query;
 use mr_record::Record;
-use mr_tree::Hash32;
+use mr_tree::Hashes;
 use std::alloc::Global;
 
 // What is answered for a proof.
-fn answered_by<H: Hash32>(
+fn answered_by<H: Hashes>(
     alloc: Global,
     root: &[u8; 32],
     q: &Query,
@@ -44,7 +44,7 @@ fn answered_by<H: Hash32>(
 /// once, from the front; kept are the records in the region of the proof, and a hasher and a
 /// rectangle for each of at most eight levels. The work is in proportion to the proof's length, and
 /// that of a sort of the records that were kept. A `Judge` takes the proof in pieces.
-pub fn check<H: Hash32>(
+pub fn check<H: Hashes>(
     alloc: Global,
     root: &[u8; 32],
     q: &Query,

@@ -12,20 +12,20 @@ use crate::arranging::arrange;
 use crate::{CheckErr, Fed, Judge};
 use mr_query::{Query, answer};
 use mr_record::Record;
-use mr_tree::Hash32;
+use mr_tree::Hashes;
 use std::alloc::{AllocError, Global};
 
 /// A proof that is checked as it comes, for one query against one root digest: its judge, and the
 /// records that were handed out so far. The bytes are not kept.
 #[derive(Drop)]
-pub struct Intake<H: Hash32> {
+pub struct Intake<H: Hashes> {
     judge: Judge<H>,
     query: Query,
     kept: Vec<Record>,
 }
 
 // Feeds a piece, and keeps the records that it hands out.
-fn gather<H: Hash32>(
+fn gather<H: Hashes>(
     judge: &mut Judge<H>,
     piece: &[u8],
     kept: &mut Vec<Record>,
@@ -47,7 +47,7 @@ fn gather<H: Hash32>(
     }
 }
 
-impl<H: Hash32> Intake<H> {
+impl<H: Hashes> Intake<H> {
     ghost use Rattle.mr_check.specs.Judged.{IsTaken};
 
     /// A proof of which nothing has come yet. Room is made for all that judging needs, and later

@@ -22,7 +22,7 @@ use mr_outside::Buffer;
 use mr_proof::{Fault, Head, kind_of};
 use mr_query::Query;
 use mr_record::Record;
-use mr_tree::{Gathering, Hash32, Hashes};
+use mr_tree::{Gathering, Hashes};
 use std::alloc::{AllocError, Global};
 
 /// Judges a proof for one query against one root digest, as its bytes come in pieces of any size.
@@ -32,7 +32,7 @@ use std::alloc::{AllocError, Global};
 /// It does not keep the bytes. Contracts go by a relation: a judge stands for the bytes that it was
 /// fed, and what they say of the bytes so far holds for each string that it stands for.
 #[derive(Drop)]
-pub struct Judge<H: Hash32> {
+pub struct Judge<H: Hashes> {
     root: [u8; 32],
     query: Query,
     reader: Reader<H>,
@@ -85,7 +85,7 @@ fn feed<H: Hashes>(q: &Query, r: &mut Reader<H>, piece: &[u8]) -> Fed
     }
 }
 
-impl<H: Hash32> Judge<H> {
+impl<H: Hashes> Judge<H> {
     ghost use Rattle.mr_check.specs.Judged.{StandsFor};
 
     /// A judge that was fed nothing. It makes room for all that it will need.

@@ -4,5 +4,6 @@ pub mod Nearest
 pub mod Parts
 pub mod Ranks
 pub mod Scans
+pub mod Scripts
 pub mod Sorting
 pub mod Words

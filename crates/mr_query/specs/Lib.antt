@@ -1,5 +1,6 @@
 -- what has to be believed, in reading order
 pub mod Word
+pub mod Script
 pub mod Nearest
 pub mod Region
 pub mod Scan

@@ -1,10 +1,12 @@
-//! Queries: their words, the part of the map that they ask for, and what a scan answers.
+//! Queries: their words and scripts of them, the part of the map that they ask for, and what a
+//! scan answers.
 #![tactic(auto)]
 
 mod area;
 mod circle;
 mod comma;
 mod query;
+mod script;
 mod selection;
 mod window;
 mod word;
@@ -13,6 +15,7 @@ mod write;
 pub use area::Area;
 pub use circle::{Circle, Everywhere};
 pub use query::{NEIGHBOUR_LIMIT, Query, QueryFault, is_query};
+pub use script::read_script;
 pub use selection::{answer, rank};
 pub use window::Window;
 pub use word::read_query;

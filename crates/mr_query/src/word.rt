@@ -100,8 +100,9 @@ fn read_nearest_word(word: &[u8]) -> Result<Query, QueryFault>
     }
 }
 
+// The query that some bytes spell as a word.
 #[tactic(auto, unfolding(crate::specs::Word::query_of))]
-fn read_word(word: &[u8]) -> Result<Query, QueryFault>
+pub(crate) fn read_word(word: &[u8]) -> Result<Query, QueryFault>
     ensures { result ≡ query_of word.now }
 {
     match word {

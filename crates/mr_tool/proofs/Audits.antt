@@ -30,7 +30,7 @@ use Rattle.mr_tool.specs.Say.{needs, needs_map, say_audit_of, say_finding, says_
 use Rattle.mr_tool.specs.declared.ending.Ending.{Ending}
 use Rattle.mr_tool.specs.declared.ending.Halt.{Halt}
 use Rattle.mr_tool.specs.declared.ending.Halt.TheVariants as halts
-use Rattle.mr_tool.proofs.Counting.{OnceFrom, few_none}
+use Rattle.mr_tool.proofs.Counting.{OnceFrom, few_none, once_none}
 use Rattle.mr_tool.proofs.Going.{comes_given, comes_read, comes_missed, comes_unread, judged_needs}
 use Rattle.mr_tool.proofs.Pages.{HasMap, few_beside, few_there, at_input, has_map, told_on, with_same}
 use Rattle.mr_tool.proofs.Rereading.{comes_but, comes_told, comes_untold, fetch_blamed, fetch_stopped, says_refused, stops_with}
@@ -120,17 +120,13 @@ module _ (hash : List ℕ → List ℕ) (map : List ℕ) (q : Query) (proof byte
 
 -- ---- behind the file of a proof
 
-once_same : (told : Option Files) (name : List ℕ) (n : ℕ) → OnceFrom told name n n
-once_same None name n = tt
-once_same (Some files) name n = omega arith
-
 reads_both : (n : ℕ) (name : List ℕ) (before after : Shelved) (read : Option (Vec ℕ))
     → Reads name before after (Ok read) → Reads name (with_reads n before) (with_reads n after) (Ok read)
 reads_both n name before after read got = record {
   counts = record { faults = got.counts.faults; reads = omega arith };
   files = got.files;
   read = same read got.read;
-  once = once_same before.files name n;
+  once = once_none before.files name n;
 }
   where
     same : (read : Option (Vec ℕ)) → Read name before after (Ok read)
@@ -144,7 +140,7 @@ reads_but name before after result got = record {
   counts = record { faults = got.counts.faults; reads = omega arith };
   files = got.files;
   read = same result got.read;
-  once = once_same before.files name after.reads;
+  once = once_none before.files name after.reads;
 }
   where
     same : (result : Result (Option (Vec ℕ)) Halt) → Read name before after result
@@ -160,7 +156,7 @@ stops_before old mid new halts.Words faults stops = stops
 stops_before old mid new halts.Shelf faults stops = subst (λ n. Rose n new.faults) faults stops
 stops_before old mid new halts.NoMemory faults stops = stops
 
-untold_from : (reading : Rereading) (old mid new : Shelved) (result : Result Ending Halt) → mid.files ≡ old.files
+pub untold_from : (reading : Rereading) (old mid new : Shelved) (result : Result Ending Halt) → mid.files ≡ old.files
     → mid.faults ≡ old.faults → SaysUntold reading mid new result → SaysUntold reading old new result
 untold_from reading old mid new (Ok ending) files faults says = (
   says.0,

@@ -94,3 +94,23 @@ pub once_of : (told : Option Files) (name : List ℕ) (before after : ℕ)
     → OnceFrom told name before after
 once_of None name before after few = tt
 once_of (Some files) name before after few = once_in (file files name) before after few
+
+-- where nothing is read
+pub once_none : (told : Option Files) (name : List ℕ) (n : ℕ) → OnceFrom told name n n
+once_none None name n = tt
+once_none (Some files) name n = omega arith
+
+-- behind a file that is read, a command reads no more where it then comes to an outcome
+pub few_pieces : (told : Option Files) (files : Files) (name : List ℕ) (said : List ℕ → Outcome) (r t : ℕ)
+    → told ≡ Some files → AllowsFrom told (needs name (λ b. comes (said b))) r t
+    → t ≤ r + pieces_of (file files name)
+few_pieces told files name said r t is few =
+    let on = subst (λ o. AllowsFrom o (needs name (λ b. comes (said b))) r t) is few in
+    elim on.2.4 [
+      | inl none ↦ omega (arith, on.1, on.2.2, on.2.3, none)
+      | inr more ↦ omega (arith, on.1, on.2.2, on.2.3, last (file files name) on.2.1 more)
+    ]
+  where
+    last : (input : Option (List ℕ)) (n : ℕ) → AllowsReads (given name (λ b. comes (said b)) input) files n → n ≡ 0
+    last None n allows = allows
+    last (Some bytes) n allows = allows

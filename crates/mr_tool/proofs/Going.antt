@@ -275,7 +275,7 @@ reads_of name before after (Err shelf.NoMemory) result held causes files reads p
       once = once_of before.files name before.reads after.reads pieces;
     })
 
-comes_missing : (name : List ℕ) (next : List ℕ → Plan) (before after : Shelved) (ending : Ending)
+pub comes_missing : (name : List ℕ) (next : List ℕ → Plan) (before after : Shelved) (ending : Ending)
     → NoneFalls before after → TakenFrom before.files name next before.reads after.reads
     → after.files ≡ before.files
     → AreJudged (needs name next) before.files
@@ -292,7 +292,7 @@ comes_missing name next before after ending counts once files judged misses stat
 }
 
 -- and where the command stopped
-comes_halted : (name : List ℕ) (next : List ℕ → Plan) (before after : Shelved) (halt : Halt)
+pub comes_halted : (name : List ℕ) (next : List ℕ → Plan) (before after : Shelved) (halt : Halt)
     → NoneFalls before after → TakenFrom before.files name next before.reads after.reads
     → after.files ≡ before.files
     → AreJudged (needs name next) before.files → Stops before after halt

@@ -15,5 +15,7 @@ pub mod Taking
 pub mod ToFault
 pub mod Verdicts
 pub mod Audits
+pub mod Served
+pub mod Bundles
 pub mod Promises
 pub mod WholeRuns

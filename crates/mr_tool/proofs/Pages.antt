@@ -38,7 +38,7 @@ use Rattle.mr_tool.specs.Rereading.{Rereading, proving, auditing, IsRefused, May
 use Rattle.mr_tool.specs.Say.{needs_map, say_prove_of, say_written}
 use Rattle.mr_tool.specs.declared.ending.Ending.{Ending}
 use Rattle.mr_tool.specs.declared.ending.Halt.{Halt}
-use Rattle.mr_tool.specs.declared.text.Text.{Text}
+use Rattle.mr_bundle.specs.declared.text.Text.{Text}
 use Rattle.mr_tool.proofs.Counting.{AllowsFrom}
 use Rattle.mr_tool.proofs.Going.{Answered, is_judged, comes_map, opens_map, opens_refused, opens_given_up, opens_halted}
 use Rattle.mr_tool.proofs.Rereading.{IsBlamed, comes_but, comes_told, comes_untold, fetch_blamed, fetch_stopped, says_last, says_refused, stops_with}
@@ -321,7 +321,7 @@ files_told h None name told = absurd (not_some told)
 files_told h (Some files) name told = refl
 
 -- where it is not opened
-few_refused : (told : Option Files) (name : List ℕ) (r e : ℕ) (P : List ℕ → ℕ → Type 0)
+pub few_refused : (told : Option Files) (name : List ℕ) (r e : ℕ) (P : List ℕ → ℕ → Type 0)
     → ((bytes : List ℕ) → P bytes (pages_in bytes))
     → OfFile told name (e ≡ r) (λ bytes. e ≤ r + pages_in bytes)
     → OfFiles told (λ files. (n : ℕ) × (e ≤ r + n) × MatchOption (file files name) (n ≡ 0) (λ bytes. P bytes n))

@@ -6,7 +6,7 @@ use Rattle.mr_outside.specs.Told.{OfFiles}
 use Rattle.mr_tool.specs.Ending.{AreJudged, Ends, GivesUp}
 use Rattle.mr_tool.specs.Outcome.{Outcome, Written, Nothing, File, IsLeft, MayLeave}
 use Rattle.mr_tool.specs.Plan.{Plan, comes, reads, opens, rereads, judges, Input, IsInput, Leads, IsOutcomeOver}
-use Rattle.mr_tool.specs.Rereading.{Rereading, proving, auditing, MaySay}
+use Rattle.mr_tool.specs.Rereading.{Rereading, proving, auditing, serving, MaySay}
 use Rattle.mr_tool.specs.Saying.{says_missing}
 use Rattle.mr_tool.specs.declared.status.Status.{Status}
 use Rattle.mr_tool.proofs.Showing.{found_in, one_found}
@@ -20,6 +20,7 @@ input_of (Some files) name = (file files name, refl)
 may_miss : (reading : Rereading) → (said : Outcome) × MaySay reading said
 may_miss (proving hash map query proof) = (says_missing map, inl (inl refl))
 may_miss (auditing hash map query proof) = (says_missing map, inl (inl refl))
+may_miss (serving hash map script bundle) = (says_missing map, inl (inl refl))
 
 -- each plan leads to an outcome
 pub leads_on : (plan : Plan) (told : Option Files) → AreJudged plan told → (said : Outcome) × Leads plan told said

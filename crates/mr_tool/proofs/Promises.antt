@@ -17,6 +17,7 @@ use Rattle.mr_tree.specs.Tree.{records}
 use Rattle.mr_tree.specs.WellFormed.{WellFormed}
 use Rattle.mr_tree.specs.declared.tree.Tree.{Tree}
 use Rattle.mr_query.specs.Scan.{scan}
+use Rattle.mr_query.specs.Script.{queries_of_text}
 use Rattle.mr_query.specs.Word.{IsAskable, IsQuery}
 use Rattle.mr_query.specs.declared.query.Query.{Query}
 use Rattle.mr_proof.specs.declared.rule.Fault.{Fault}
@@ -45,9 +46,9 @@ use Rattle.mr_tool.specs.First.{first}
 use Rattle.mr_tool.specs.Found.{Found}
 use Rattle.mr_tool.specs.Outcome.{Outcome}
 use Rattle.mr_tool.specs.Plan.{Plan, comes, opens, rereads, Input, IsInput}
-use Rattle.mr_tool.specs.Rereading.{Rereading, proving, auditing, MaySay}
-use Rattle.mr_tool.specs.Promises.{Holds, HoldsRecords, HoldsMap, HoldsProof, HoldsBatch, IsInOrder, CompletesWords, AnswersHonest, PrintsScan, IsWorth, AcceptsHonestOrCollides, Delivers, SaysWorth, AuditsAccepted, CollidesRightly}
-use Rattle.mr_tool.specs.Say.{given, given_map, needs, needs_map, prints, say, say_root_of, say_build_of, say_list_of, say_apply, say_apply_of, say_prove_of, say_check, say_check_of, say_audit, say_audit_of, say_finding, say_make_of}
+use Rattle.mr_tool.specs.Rereading.{Rereading, proving, auditing, serving, MaySay}
+use Rattle.mr_tool.specs.Promises.{Holds, HoldsRecords, HoldsMap, HoldsProof, HoldsBatch, HoldsScript, HoldsBundle, IsInOrder, CompletesWords, AnswersHonest, PrintsScan, IsWorth, AcceptsHonestOrCollides, Delivers, SaysWorth, AuditsAccepted, CollidesRightly}
+use Rattle.mr_tool.specs.Say.{given, given_map, needs, needs_map, prints, say, say_root_of, say_build_of, say_list_of, say_apply, say_apply_of, say_prove_of, say_check, say_check_of, say_audit, say_audit_of, say_finding, say_script, say_serve, say_serve_of, given_queries, say_parts, say_parts_of, say_check_all, say_make_of}
 use Rattle.mr_tool.specs.Lines.{sound_line, collision_lines}
 use Rattle.mr_tool.specs.Words.{IsWord, words_of, Spells}
 use Rattle.mr_tool.specs.declared.ending.Ending.{Ending}
@@ -59,6 +60,7 @@ use Rattle.mr_tool.specs.declared.status.Status.TheVariants.{Done, Refused, BadM
 use Rattle.mr_tool.specs.declared.words.Command.{Command}
 use Rattle.mr_tool.specs.declared.words.Command.TheVariants as commands
 use Rattle.mr_tool.proofs.Batches.{says_applied}
+use Rattle.mr_tool.proofs.Bundles.{parts_done, served_done}
 use Rattle.mr_tool.proofs.Verdicts.{says_verdict, says_finding}
 
 -- ---- to the end, or stopped
@@ -359,6 +361,30 @@ module _ (hash : List ℕ → List ℕ) (before after : Option Files) (status : 
       let proved = verdict_from hash root q holds.bytes holds.answer may holds.proves in
       on.0 ∙ ap (λ (o : Outcome). o.status) (says_verdict hash root q holds.bytes (Ok holds.answer) proved)
 
+  serve_done : (map script bundle : List ℕ) → HoldsScript hash before map script
+      → Ends (say_serve hash map script bundle) before after status text → status ≡ Done
+  serve_done map script bundle holds ends =
+      let held = map_at holds.tree holds.batch in
+      let next = say_script hash script bundle in
+      let said : List ℕ → Outcome = λ text. say_serve_of hash bundle held (queries_of_text text) in
+      let mapped = map_on hash map holds.bytes holds.tree holds.batch before after status text holds.held holds.stands
+      next (told_ends before after map holds.bytes (serving hash map script bundle) (needs_map hash map next) status
+      text holds.held ends) in
+      let last = ends_on script holds.text before after status text holds.beside (λ text. comes (said text)) mapped in
+      last.0 ∙ ap (λ r. (say_serve_of hash bundle held r).status) holds.right
+      ∙ served_done hash bundle held holds.queries
+
+  check_all_done : (root script bundle : List ℕ) → HoldsBundle hash before root script bundle
+      → Ends (say_check_all hash root script bundle) before after status text → status ≡ Done
+  check_all_done root script bundle holds ends =
+      let next = say_parts hash root bundle in
+      let on = ends_on script holds.text before after status text holds.held
+      (λ text. given_queries next (queries_of_text text)) ends in
+      let asked = subst (λ r. Ends (given_queries next r) before after status text) holds.right on in
+      let last = ends_on bundle holds.bytes before after status text holds.beside
+      (λ bytes. comes (say_parts_of hash root holds.queries bytes)) asked in
+      last.0 ∙ parts_done hash root holds.queries holds.bytes holds.unbroken holds.accepted
+
   done : IsSized hash → (command : Command) → AllByRecursion IsWord (words_of command) → IsInOrder hash before command
       → Ends (say hash (Some command)) before after status text → status ≡ Done
   done sized (commands.Root name) each holds ends = text_done name.now (say_root_of hash) (λ list. refl) holds ends
@@ -376,6 +402,10 @@ module _ (hash : List ℕ → List ℕ) (before after : Option Files) (status : 
   done sized (commands.Audit map q name) each holds ends =
       audit_done hash before after status text map.now q name.now holds.tree holds.batch holds.bytes
       (proof (first hash) holds.tree holds.batch q) holds.held holds.stands holds.own sized each.1.1.0 refl ends
+  done sized (commands.Serve map script bundle) each holds ends =
+      serve_done map.now script.now bundle.now holds ends
+  done sized (commands.CheckAll root script bundle) each holds ends =
+      check_all_done root script.now bundle.now holds ends
   done sized (commands.Make count seed records) each holds ends = ends.0 ∙ make_done count seed records.now
   done sized (commands.Demo count seed) each holds ends = ends.0
 

@@ -19,12 +19,12 @@ use Rattle.mr_tool.specs.Found.{as_map_error, bad_map_line}
 use Rattle.mr_tool.specs.Outcome.{Outcome, Written, Nothing, File, IsLeft, MayLeave}
 use Rattle.mr_tool.specs.Plan.{Plan, comes, rereads}
 use Rattle.mr_tool.specs.Rereading.{Rereading, IsSomeFault, IsRefused, MaySay}
-use Rattle.mr_tool.specs.Saying.{ends, says_missing}
+use Rattle.mr_tool.specs.Say.{ends, needs, says_missing}
 use Rattle.mr_tool.specs.declared.ending.Ending.{Ending}
 use Rattle.mr_tool.specs.declared.ending.Halt.{Halt}
 use Rattle.mr_tool.specs.declared.ending.Halt.TheVariants as halts
 use Rattle.mr_tool.specs.declared.status.Status.TheVariants.{BadMap, Outside}
-use Rattle.mr_tool.proofs.Counting.{AllowsFrom, few_none}
+use Rattle.mr_tool.proofs.Counting.{AllowsFrom, few_none, few_stopped, once_none}
 
 -- ---- another count of reads
 
@@ -65,6 +65,18 @@ comes_but said before after result on = record {
   outside = blames_with (comes said) after.reads before after result on.outside;
   quiet = calm_with (comes said) after.reads before after result on.quiet;
   few = few_none before.files said after.reads after.reads refl;
+}
+
+-- the same of a command that reads one file more
+pub needs_but : (name : List ℕ) (next : List ℕ → Plan) (before after : Shelved) (result : Result Ending Halt)
+    → Comes (needs name next) before after result → ComesBut (needs name next) before after result
+needs_but name next before after result on = record {
+  counts = record { faults = on.counts.faults; reads = omega arith };
+  judged = on.judged;
+  came = came_with (needs name next) after.reads before after result on.came;
+  outside = blames_with (needs name next) after.reads before after result on.outside;
+  quiet = calm_with (needs name next) after.reads before after result on.quiet;
+  few = few_stopped before.files name next after.reads after.reads (once_none before.files name after.reads);
 }
 
 -- ---- over files that are told
@@ -136,7 +148,7 @@ module _ (reading : Rereading) (next : Plan) (before after : Shelved) where
     }
 
 -- the last step is what may be said
-last_leaves : (written : Written) (before after : Option Files) → before ≡ None → MayLeave written before after
+pub last_leaves : (written : Written) (before after : Option Files) → before ≡ None → MayLeave written before after
     → after ≡ before
 last_leaves Nothing before after none may = may
 last_leaves (File name content) before after none (inl same) = same

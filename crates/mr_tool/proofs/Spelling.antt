@@ -9,7 +9,7 @@ use Rattle.mr_query.specs.Word.{IsQuery, query_of, word_of}
 use Rattle.mr_query.specs.declared.query.Query.{Query}
 use Rattle.mr_query.specs.declared.query.QueryFault.{QueryFault}
 use Rattle.mr_query.proofs.Words.{query_read}
-use Rattle.mr_tool.specs.Say.{say_root, say_build, say_list, say_apply, say_prove, say_check, say_audit, say_make, say_demo}
+use Rattle.mr_tool.specs.Say.{say_root, say_build, say_list, say_apply, say_prove, say_check, say_audit, say_serve, say_check_all, say_make, say_demo}
 use Rattle.mr_tool.specs.Spelling.{IsSpelled, AsksAs, IsAsked, IsBetween, digest_of_word}
 use Rattle.mr_tool.specs.Words.{IsDigest, Spells}
 use Rattle.mr_tool.specs.declared.words.Command.{Command}
@@ -102,6 +102,20 @@ ask_same words (commands.Audit map_a query_a proof_a) (commands.Audit map_b quer
     spells_b.each.1.1.0 (third_of _ _ _ _ _ _ _ _ e) in
     let proofs : proof_a.now ≡ proof_b.now = fourth_of _ _ _ _ _ _ _ _ e in
     λ hash i. say_audit hash (maps i) (queries i) (proofs i)
+ask_same words (commands.Serve map_a script_a bundle_a) (commands.Serve map_b script_b bundle_b) spells_a spells_b =
+    let e = sym spells_a.spelled ∙ spells_b.spelled in
+    let maps : map_a.now ≡ map_b.now = second_of _ _ _ _ _ _ _ _ e in
+    let scripts : script_a.now ≡ script_b.now = third_of _ _ _ _ _ _ _ _ e in
+    let bundles : bundle_a.now ≡ bundle_b.now = fourth_of _ _ _ _ _ _ _ _ e in
+    λ hash i. say_serve hash (maps i) (scripts i) (bundles i)
+ask_same words (commands.CheckAll root_a script_a bundle_a) (commands.CheckAll root_b script_b bundle_b)
+    spells_a spells_b =
+    let e = sym spells_a.spelled ∙ spells_b.spelled in
+    let roots : root_a ≡ root_b = one_digest root_a root_b spells_a.each.1.0 spells_b.each.1.0
+    (second_of _ _ _ _ _ _ _ _ e) in
+    let scripts : script_a.now ≡ script_b.now = third_of _ _ _ _ _ _ _ _ e in
+    let bundles : bundle_a.now ≡ bundle_b.now = fourth_of _ _ _ _ _ _ _ _ e in
+    λ hash i. say_check_all hash (roots i) (scripts i) (bundles i)
 ask_same words (commands.Build map_a records_a) (commands.Build map_b records_b) spells_a spells_b =
     let e = sym spells_a.spelled ∙ spells_b.spelled in
     let maps : map_a.now ≡ map_b.now = second_of_two _ _ _ _ _ _ e in
@@ -184,19 +198,24 @@ not_three name a b not_build not_demo command spells =
     let long = ap length spells.spelled in absurd (omega (arith, long))
 
 pub not_four : (name a b c : List ℕ) → (name ≡ codes "apply" → ⊥) → (name ≡ codes "prove" → ⊥)
-    → (name ≡ codes "check" → ⊥) → (name ≡ codes "audit" → ⊥) → (name ≡ codes "make" → ⊥)
+    → (name ≡ codes "check" → ⊥) → (name ≡ codes "audit" → ⊥) → (name ≡ codes "serve" → ⊥)
+    → (name ≡ codes "check-all" → ⊥) → (name ≡ codes "make" → ⊥)
     → IsSpelled (name ∷ a ∷ b ∷ c ∷ []) None
-not_four name a b c not_apply not_prove not_check not_audit not_make (commands.Apply old batch new) spells =
-    let same : name ≡ codes "apply" = cc in absurd (not_apply same)
-not_four name a b c not_apply not_prove not_check not_audit not_make (commands.Prove map asked proof) spells =
-    let same : name ≡ codes "prove" = cc in absurd (not_prove same)
-not_four name a b c not_apply not_prove not_check not_audit not_make (commands.Check root asked proof) spells =
-    let same : name ≡ codes "check" = cc in absurd (not_check same)
-not_four name a b c not_apply not_prove not_check not_audit not_make (commands.Audit map asked proof) spells =
-    let same : name ≡ codes "audit" = cc in absurd (not_audit same)
-not_four name a b c not_apply not_prove not_check not_audit not_make (commands.Make count seed records) spells =
-    let same : name ≡ codes "make" = cc in absurd (not_make same)
-not_four name a b c not_apply not_prove not_check not_audit not_make command spells =
+not_four name a b c not_apply not_prove not_check not_audit not_serve not_all not_make (commands.Apply old batch new)
+    spells = let same : name ≡ codes "apply" = cc in absurd (not_apply same)
+not_four name a b c not_apply not_prove not_check not_audit not_serve not_all not_make (commands.Prove map asked proof)
+    spells = let same : name ≡ codes "prove" = cc in absurd (not_prove same)
+not_four name a b c not_apply not_prove not_check not_audit not_serve not_all not_make (commands.Check root asked proof)
+    spells = let same : name ≡ codes "check" = cc in absurd (not_check same)
+not_four name a b c not_apply not_prove not_check not_audit not_serve not_all not_make (commands.Audit map asked proof)
+    spells = let same : name ≡ codes "audit" = cc in absurd (not_audit same)
+not_four name a b c not_apply not_prove not_check not_audit not_serve not_all not_make
+    (commands.Serve map script bundle) spells = let same : name ≡ codes "serve" = cc in absurd (not_serve same)
+not_four name a b c not_apply not_prove not_check not_audit not_serve not_all not_make
+    (commands.CheckAll root script bundle) spells = let same : name ≡ codes "check-all" = cc in absurd (not_all same)
+not_four name a b c not_apply not_prove not_check not_audit not_serve not_all not_make (commands.Make count seed file)
+    spells = let same : name ≡ codes "make" = cc in absurd (not_make same)
+not_four name a b c not_apply not_prove not_check not_audit not_serve not_all not_make command spells =
     let long = ap length spells.spelled in absurd (omega (arith, long))
 
 -- where it names the three files of a map, of a batch and of the map after it, they have names, which differ
@@ -233,6 +252,42 @@ is_apply old batch new a b c is_a is_b is_c some_old some_batch some_new apart =
     (((λ same. apart.2 (sym is_b ∙ same ∙ is_c)), tt), (tt, tt)),
   );
   spelled = λ i. codes "apply" ∷ sym is_a i ∷ sym is_b i ∷ sym is_c i ∷ [];
+}
+
+-- the same for the three files of a map, of a script and of a bundle
+pub no_serve : (map script bundle : List ℕ)
+    → (0 < length map → 0 < length script → 0 < length bundle → (map ≢ script) × (map ≢ bundle) × (script ≢ bundle) → ⊥)
+    → IsSpelled (codes "serve" ∷ map ∷ script ∷ bundle ∷ []) None
+no_serve map script bundle none (commands.Serve o b n) spells =
+    let maps : map ≡ o.now = second_of _ _ _ _ _ _ _ _ spells.spelled in
+    let scripts : script ≡ b.now = third_of _ _ _ _ _ _ _ _ spells.spelled in
+    let bundles : bundle ≡ n.now = fourth_of _ _ _ _ _ _ _ _ spells.spelled in
+    absurd (none (subst (λ n. 0 < length n) (sym maps) spells.each.1.0)
+    (subst (λ n. 0 < length n) (sym scripts) spells.each.1.1.0)
+    (subst (λ n. 0 < length n) (sym bundles) spells.each.1.1.1.0) (
+      (λ same. spells.apart.0.0 (sym maps ∙ same ∙ scripts)),
+      (λ same. spells.apart.0.1.0 (sym maps ∙ same ∙ bundles)),
+      (λ same. spells.apart.1.0.0 (sym scripts ∙ same ∙ bundles)),
+    ))
+no_serve map script bundle none command spells = absurd (other_key _ _ _ _ refl spells.spelled)
+
+-- the command `serve` of these words
+pub is_serve : (map script bundle : List ℕ) (a b c : Bor (List ℕ)) → a.now ≡ map → b.now ≡ script → c.now ≡ bundle
+    → 0 < length map → 0 < length script → 0 < length bundle → (map ≢ script) × (map ≢ bundle) × (script ≢ bundle)
+    → Spells (codes "serve" ∷ map ∷ script ∷ bundle ∷ []) (commands.Serve a b c)
+is_serve map script bundle a b c is_a is_b is_c some_map some_script some_bundle apart = record {
+  each = (
+    tt,
+    (
+      subst (λ n. 0 < length n) (sym is_a) some_map,
+      (subst (λ n. 0 < length n) (sym is_b) some_script, (subst (λ n. 0 < length n) (sym is_c) some_bundle, tt)),
+    ),
+  );
+  apart = (
+    ((λ same. apart.0 (sym is_a ∙ same ∙ is_b)), ((λ same. apart.1 (sym is_a ∙ same ∙ is_c)), tt)),
+    (((λ same. apart.2 (sym is_b ∙ same ∙ is_c)), tt), (tt, tt)),
+  );
+  spelled = λ i. codes "serve" ∷ sym is_a i ∷ sym is_b i ∷ sym is_c i ∷ [];
 }
 
 -- words of `prove` or `audit` have a query between two files
@@ -275,6 +330,18 @@ no_check root asked proof none (commands.Check d q name) spells =
     (third_of _ _ _ _ _ _ _ _ spells.spelled) named)
 no_check root asked proof none command spells = absurd (other_key _ _ _ _ refl spells.spelled)
 
+pub no_check_all : (root script bundle : List ℕ)
+    → ((d : List ℕ) → IsDigest d → root ≡ encode_lower d → 0 < length script → 0 < length bundle → script ≢ bundle → ⊥)
+    → IsSpelled (codes "check-all" ∷ root ∷ script ∷ bundle ∷ []) None
+no_check_all root script bundle none (commands.CheckAll d s b) spells =
+    let scripts : script ≡ s.now = third_of _ _ _ _ _ _ _ _ spells.spelled in
+    let bundles : bundle ≡ b.now = fourth_of _ _ _ _ _ _ _ _ spells.spelled in
+    none d spells.each.1.0 (second_of _ _ _ _ _ _ _ _ spells.spelled)
+    (subst (λ n. 0 < length n) (sym scripts) spells.each.1.1.0)
+    (subst (λ n. 0 < length n) (sym bundles) spells.each.1.1.1.0)
+    (λ same. spells.apart.0.0 (sym scripts ∙ same ∙ bundles))
+no_check_all root script bundle none command spells = absurd (other_key _ _ _ _ refl spells.spelled)
+
 -- no command has so many words
 pub no_length : (words : List (List ℕ)) → (length words ≡ 2 → ⊥) → (length words ≡ 3 → ⊥) → (length words ≡ 4 → ⊥)
     → IsSpelled words None
@@ -288,6 +355,8 @@ no_length words not_2 not_3 not_4 (commands.Check root asked proof) spells = not
     (ap length spells.spelled)
 no_length words not_2 not_3 not_4 (commands.Audit map asked proof) spells = not_4
     (ap length spells.spelled)
+no_length words not_2 not_3 not_4 (commands.Serve map script bundle) spells = not_4 (ap length spells.spelled)
+no_length words not_2 not_3 not_4 (commands.CheckAll root script bundle) spells = not_4 (ap length spells.spelled)
 no_length words not_2 not_3 not_4 (commands.Make count seed records) spells = not_4
     (ap length spells.spelled)
 no_length words not_2 not_3 not_4 (commands.Demo count seed) spells = not_3 (ap length spells.spelled)
@@ -296,6 +365,14 @@ pub no_digest : (root asked proof : List ℕ) → digest_of_word root ≡ None
     → IsSpelled (codes "check" ∷ root ∷ asked ∷ proof ∷ []) None
 no_digest root asked proof none = no_check root asked proof
     (λ d is e q isq eq named. none_some d (sym none ∙ ap digest_of_word e ∙ digest_read d is))
+  where
+    none_some : (d : List ℕ) → ◌≡◌ {A = Option (List ℕ)} None (Some d) → ⊥
+    none_some d e = absurd cc
+
+pub no_root : (root script bundle : List ℕ) → digest_of_word root ≡ None
+    → IsSpelled (codes "check-all" ∷ root ∷ script ∷ bundle ∷ []) None
+no_root root script bundle none = no_check_all root script bundle
+    (λ d is e named_script named_bundle apart. none_some d (sym none ∙ ap digest_of_word e ∙ digest_read d is))
   where
     none_some : (d : List ℕ) → ◌≡◌ {A = Option (List ℕ)} None (Some d) → ⊥
     none_some d e = absurd cc
@@ -312,3 +389,22 @@ is_check root asked proof d q name d_is q_is named is =
       apart = (tt, tt);
       spelled = λ i. codes "check" ∷ d_is.1 i ∷ q_is.1 i ∷ sym is i ∷ [];
     }
+
+-- the command `check-all` of these words
+pub is_check_all : (root script bundle d : List ℕ) (s b : Bor (List ℕ)) → IsDigest d × (root ≡ encode_lower d)
+    → 0 < length script → 0 < length bundle → script ≢ bundle → s.now ≡ script → b.now ≡ bundle
+    → Spells (codes "check-all" ∷ root ∷ script ∷ bundle ∷ []) (commands.CheckAll d s b)
+is_check_all root script bundle d s b d_is named_script named_bundle apart is_script is_bundle = record {
+  each = (
+    tt,
+    (
+      d_is.0,
+      (
+        subst (λ n. 0 < length n) (sym is_script) named_script,
+        (subst (λ n. 0 < length n) (sym is_bundle) named_bundle, tt),
+      ),
+    ),
+  );
+  apart = (((λ same. apart (sym is_script ∙ same ∙ is_bundle)), tt), (tt, tt));
+  spelled = λ i. codes "check-all" ∷ d_is.1 i ∷ sym is_script i ∷ sym is_bundle i ∷ [];
+}

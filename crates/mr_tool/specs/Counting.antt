@@ -18,7 +18,7 @@ use Rattle.mr_store.specs.Stored.{room}
 use Rattle.mr_tool.specs.First.{first}
 use Rattle.mr_tool.specs.Found.{Found, Shows}
 use Rattle.mr_tool.specs.Plan.{Input, Plan, comes, reads, opens, rereads, judges}
-use Rattle.mr_tool.specs.Rereading.{Rereading, proving, auditing}
+use Rattle.mr_tool.specs.Rereading.{Rereading, proving, auditing, serving}
 
 -- in how many pieces an input is read whole
 abbrev pub pieces_of : Input → ℕ
@@ -54,12 +54,21 @@ IsFewBeside hash q bytes proof n = (n ≤ pages_in bytes)
     × ((n ≤ pages_in bytes + pieces_of proof) ⊎ (IsLarge bytes
     × (n ≤ pages_in bytes + pieces_of proof + opened_beside hash t batch q proof))))
 
--- so many reads of the map, and of the proof for an audit
+-- the pages of a file of these bytes, and the pieces of a script where it stands for a map; of a
+-- large map nothing more is said
+abbrev pub IsFewServed : (List ℕ → List ℕ) → List ℕ → Input → ℕ → Type 0
+IsFewServed hash bytes script n = (n ≤ pages_in bytes)
+    ⊎ ((t : Tree) × (batch : ℕ) × IsMap first_form hash bytes t batch
+    × ((n ≤ pages_in bytes + pieces_of script) ⊎ IsLarge bytes))
+
+-- so many reads of the map, and of the proof for an audit or the script for a bundle
 abbrev pub AllowsPages : Rereading → Files → ℕ → Type 0
 AllowsPages (proving hash map q proof) files n =
     MatchOption (file files map) (n ≡ 0) (λ bytes. IsFewOf hash q bytes n)
 AllowsPages (auditing hash map q proof) files n =
     MatchOption (file files map) (n ≡ 0) (λ bytes. IsFewBeside hash q bytes (file files proof) n)
+AllowsPages (serving hash map script bundle) files n =
+    MatchOption (file files map) (n ≡ 0) (λ bytes. IsFewServed hash bytes (file files script) n)
 
 -- So many pieces of a proof are read: none behind the one with which its verdict is a fault that is
 -- that of all longer strings.

@@ -42,7 +42,7 @@ use Rattle.mr_tool.specs.declared.ending.Halt.{Halt}
 use Rattle.mr_tool.specs.declared.ending.Halt.TheVariants as halts
 use Rattle.mr_pages.specs.declared.opening.Opened.{Opened}
 use Rattle.mr_tool.specs.declared.status.Status.{Status}
-use Rattle.mr_tool.specs.declared.text.Text.{Text}
+use Rattle.mr_bundle.specs.declared.text.Text.{Text}
 use Rattle.mr_tool.specs.declared.status.Status.TheVariants.{BadWords, BadMap, Outside, NoMemory}
 
 -- the records that are printed: these, or those of a tree in rising number
@@ -50,9 +50,9 @@ abbrev pub shown_of : Shown → List Record
 shown_of (shown.Records list) = list.items
 shown_of (shown.OfTree alloc tree) = by_number (records tree)
 
--- the text of an ending: its line, then a line for each record
+-- what is printed of an ending: its text, then a line for each record
 abbrev pub printed_of : Ending → List ℕ
-printed_of ending = string_bytes ending.line ++ text_of (shown_of ending.records)
+printed_of ending = ending.text.items ++ text_of (shown_of ending.records)
 
 -- the ending is what is said, for a reason that is not outside
 pub record Gives (said : Outcome) (ending : Ending) : Type 0 where

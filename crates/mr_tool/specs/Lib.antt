@@ -5,6 +5,7 @@ pub mod Found
 pub mod Outcome
 pub mod Lines
 pub mod Refusal
+pub mod Judged
 pub mod Saying
 pub mod Rereading
 pub mod Plan

@@ -53,6 +53,11 @@ unfoldable pub collision_lines : (owned shown : List ℕ) → List ℕ
 collision_lines owned shown = codes "collision" ++ 10 ∷ encode_lower owned
     ++ 10 ∷ encode_lower shown ++ 10 ∷ []
 
+-- `served QUERIES LENGTH`
+unfoldable pub served_line : (queries size : ℕ) → List ℕ
+served_line queries size =
+    codes "served " ++ decimal queries ++ codes " " ++ decimal size ++ 10 ∷ []
+
 -- a name and a number, as `records 5`
 abbrev pub count_line : (name : List ℕ) → ℕ → List ℕ
 count_line name n = name ++ 32 ∷ decimal n ++ 10 ∷ []

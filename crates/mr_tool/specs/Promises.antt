@@ -1,7 +1,7 @@
 -- What a run promises of inputs that are in order, of honest proofs and of accepted ones: theorems
 -- over what it answers, in the form in which they are quoted. They speak of files that are told,
 -- but for the commands that read none.
-use Rattle.std.specs.Prelude.{◌≡◌, ◌⊎◌, ⊤, ℕ, ◌^◌, ◌<◌, List, ◌++◌, Option, Some, None, Ok}
+use Rattle.std.specs.Prelude.{◌≡◌, ◌⊎◌, ⊤, ℕ, ◌^◌, ◌<◌, true, List, ◌++◌, length, All, Option, Some, None, Ok}
 use Rattle.std.specs.Borrow.{Bor}
 use Rattle.mr_outside.specs.Files.{Files, file}
 use Rattle.mr_outside.specs.Told.{Takes}
@@ -19,13 +19,18 @@ use Rattle.mr_batch.specs.Applied.{IsAdmissible}
 use Rattle.mr_batch.specs.BatchText.{batch_of_text}
 use Rattle.mr_batch.specs.Changes.{Changes}
 use Rattle.mr_query.specs.Scan.{scan}
+use Rattle.mr_query.specs.Script.{queries_of_text}
 use Rattle.mr_query.specs.declared.query.Query.{Query}
 use Rattle.mr_proof.specs.Accepted.{Proves}
 use Rattle.mr_proof.specs.Clash.{Pair, clash, IsCollision, NoneAnd}
 use Rattle.mr_proof.specs.Honest as honest
 use Rattle.mr_proof.specs.Tight.{asks}
+use Rattle.mr_bundle.specs.Bundle.{parts}
+use Rattle.mr_bundle.specs.Verdicts.{verdicts}
+use Rattle.mr_bundle.specs.declared.verdict.Verdict.{Verdict}
 use Rattle.mr_tool.specs.Answer.{World, IsWhole, HasStopped}
 use Rattle.mr_tool.specs.First.{first}
+use Rattle.mr_tool.specs.Judged.{is_accepted}
 use Rattle.mr_tool.specs.Outcome.{Outcome}
 use Rattle.mr_tool.specs.Lines.{sound_line, collision_lines}
 use Rattle.mr_tool.specs.Say.{ends, prints}
@@ -87,6 +92,37 @@ pub record HoldsBatch (hash : List ℕ → List ℕ) (told : Option Files) (map 
   pub right : batch_of_text text ≡ Ok changes
   pub may : IsAdmissible (records tree) batch changes
 
+-- a map, and a script without a fault
+pub record HoldsScript (hash : List ℕ → List ℕ) (told : Option Files) (map : List ℕ)
+    (name : List ℕ) : Type 0 where
+  pub bytes : List ℕ
+  pub held : Holds told map bytes
+  pub tree : Tree
+  pub batch : ℕ
+  pub stands : IsMap first_form hash bytes tree batch
+  pub text : List ℕ
+  pub beside : Holds told name text
+  pub queries : List Query
+  pub right : queries_of_text text ≡ Ok queries
+
+-- the verdict is an answer
+abbrev pub IsAccepted : Verdict → Type 0
+IsAccepted v = is_accepted v ≡ true
+
+-- a script without a fault, and a bundle for its queries that is not broken, each part of which is
+-- accepted
+pub record HoldsBundle (hash : List ℕ → List ℕ) (told : Option Files) (root : List ℕ)
+    (script : List ℕ) (name : List ℕ) : Type 0 where
+  pub text : List ℕ
+  pub held : Holds told script text
+  pub queries : List Query
+  pub right : queries_of_text text ≡ Ok queries
+  pub bytes : List ℕ
+  pub beside : Holds told name bytes
+  pub unbroken : (parts bytes (length queries)).broken ≡ None
+  pub accepted : All IsAccepted
+      (verdicts hash root queries bytes (parts bytes (length queries)).list)
+
 -- the inputs of a command are there, and each is in order
 abbrev pub IsInOrder : (List ℕ → List ℕ) → Option Files → Command → Type 0
 IsInOrder hash told (commands.Root name) = HoldsRecords told name.now
@@ -96,6 +132,10 @@ IsInOrder hash told (commands.Apply old batch new) = HoldsBatch hash told old.no
 IsInOrder hash told (commands.Prove map q proof) = HoldsMap hash told map.now
 IsInOrder hash told (commands.Check root q proof) = HoldsProof hash told root q proof.now
 IsInOrder hash told (commands.Audit map q proof) = HoldsHonest hash told map.now q proof.now
+IsInOrder hash told (commands.Serve map script bundle) =
+    HoldsScript hash told map.now script.now
+IsInOrder hash told (commands.CheckAll root script bundle) =
+    HoldsBundle hash told root script.now bundle.now
 IsInOrder hash told (commands.Make count seed records) = ⊤
 IsInOrder hash told (commands.Demo count seed) = ⊤
 

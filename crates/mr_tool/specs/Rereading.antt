@@ -3,24 +3,28 @@
 use Rattle.std.specs.Prelude.{◌≡◌, ◌≢◌, ◌⊎◌, ⊤, ℕ, List, Err}
 use Rattle.mr_record.specs.Bytes.{AreBytes}
 use Rattle.mr_tree.specs.Nodes.{Standing}
+use Rattle.mr_tree.specs.WellFormed.{WellFormed}
+use Rattle.mr_pages.specs.declared.opening.Opened.{Opened}
 use Rattle.mr_pages.specs.Opening.{SomeBytes}
 use Rattle.mr_pages.specs.PageBytes.{first_form}
 use Rattle.mr_pages.specs.declared.error.MapErr.TheVariants as errors
 use Rattle.mr_pages.specs.declared.rule.MapFault.{MapFault}
 use Rattle.mr_pages.specs.declared.rule.MapRule.{MapRule}
 use Rattle.mr_pages.specs.declared.rule.MapRule.TheVariants as rule
+use Rattle.mr_query.specs.Script.{queries_of_text}
 use Rattle.mr_query.specs.declared.query.Query.{Query}
 use Rattle.mr_clash.specs.Finding.{Collides, FindsFor}
 use Rattle.mr_clash.specs.declared.finding.Finding.{Finding}
 use Rattle.mr_tool.specs.Found.{bad_map_line}
 use Rattle.mr_tool.specs.Outcome.{Outcome}
-use Rattle.mr_tool.specs.Saying.{ends, says_missing, say_written, say_finding}
+use Rattle.mr_tool.specs.Saying.{ends, says_missing, say_written, say_finding, say_serve_of}
 use Rattle.mr_tool.specs.declared.status.Status.TheVariants.{BadMap}
 
--- `prove` or `audit`, with its words
+-- `prove`, `audit` or `serve`, with its words
 pub data Rereading : Type 0 where
   proving : (hash : List ℕ → List ℕ) (map : List ℕ) (query : Query) (proof : List ℕ) → Rereading
   auditing : (hash : List ℕ → List ℕ) (map : List ℕ) (query : Query) (proof : List ℕ) → Rereading
+  serving : (hash : List ℕ → List ℕ) (map script bundle : List ℕ) → Rereading
 
 -- a page that is read again is no node any more, names one outside the file, or has another digest
 -- than before
@@ -55,9 +59,13 @@ pub record IsFinding (hash : List ℕ → List ℕ) (query : Query) (finding : F
   pub collides : Collides hash finding
 
 -- what is said of a map of which not all reads give the same bytes: that it is refused; else some
--- bytes are written, or what was found is said
+-- bytes are written, or what was found is said; or the bundle of some map is, for the queries of
+-- some script
 abbrev pub MaySay : Rereading → Outcome → Type 0
 MaySay (proving hash map query proof) said = IsRefused hash map said
     ⊎ ((bytes : List ℕ) × (said ≡ say_written proof bytes))
 MaySay (auditing hash map query proof) said = IsRefused hash map said ⊎ (said ≡ says_missing proof)
     ⊎ ((finding : Finding) × IsFinding hash query finding × (said ≡ say_finding finding))
+MaySay (serving hash map script bundle) said = IsRefused hash map said ⊎ (said ≡ says_missing script)
+    ⊎ ((held : Opened) × ∥ WellFormed held.tree ∥₁ × (text : List ℕ)
+    × (said ≡ say_serve_of hash bundle held (queries_of_text text)))

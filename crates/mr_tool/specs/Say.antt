@@ -14,6 +14,7 @@ use Rattle.mr_batch.specs.Replay.{replay}
 use Rattle.mr_batch.specs.Workload.{generated}
 use Rattle.mr_batch.specs.declared.admission.BatchFault.{BatchFault}
 use Rattle.mr_query.specs.Scan.{by_number}
+use Rattle.mr_query.specs.Script.{queries_of_text}
 use Rattle.mr_query.specs.declared.query.Query.{Query}
 use Rattle.mr_proof.specs.declared.rule.Fault.{Fault}
 use Rattle.mr_proof.specs.Honest as honest
@@ -25,8 +26,8 @@ use Rattle.mr_tool.specs.Found.{Found, bad_map_line}
 use Rattle.mr_tool.specs.Lines.{digest_line, bad_words_line, bad_text_line, bad_batch_line, made_line}
 use Rattle.mr_tool.specs.Outcome.{Outcome, File, map_of}
 use Rattle.mr_tool.specs.Plan.{Input, Plan, comes, reads, opens, rereads, judges}
-use Rattle.mr_tool.specs.Rereading.{proving, auditing}
-pub use Rattle.mr_tool.specs.Saying.{ends, prints, says_missing, say_text, say_written, say_finding}
+use Rattle.mr_tool.specs.Rereading.{proving, auditing, serving}
+pub use Rattle.mr_tool.specs.Saying.{ends, prints, says_missing, say_text, say_written, say_finding, say_bundle, held_in, say_serve_of, say_verdicts, say_parts_of}
 use Rattle.mr_tool.specs.Refusal.{refused_line}
 use Rattle.mr_pages.specs.declared.opening.Opened.{Opened}
 use Rattle.mr_tool.specs.declared.status.Status.TheVariants.{Done, BadWords, Refused, BadText, BadMap, BadBatch}
@@ -142,6 +143,32 @@ say_audit hash name query proof = rereads (auditing hash name query proof)
     (needs_map hash name
     (λ map. needs proof (λ bytes. comes (say_audit_of hash query map bytes))))
 
+-- the bundle for the script in a file on a map, in another file
+abbrev pub say_script : (List ℕ → List ℕ) → (script bundle : List ℕ) → Opened → Plan
+say_script hash script bundle map =
+    needs script (λ text. comes (say_serve_of hash bundle map (queries_of_text text)))
+
+-- `serve MAP SCRIPT BUNDLE`: the proofs for the queries of a script on the map in a file, written
+-- to another one
+abbrev pub say_serve : (List ℕ → List ℕ) → (map script bundle : List ℕ) → Plan
+say_serve hash map script bundle = rereads (serving hash map script bundle)
+    (needs_map hash map (say_script hash script bundle))
+
+-- what follows on the queries of a text, or the line on the text's first fault
+abbrev pub given_queries : (List Query → Plan) → Result (List Query) TextFault → Plan
+given_queries next (Ok queries) = next queries
+given_queries next (Err fault) = comes (ends BadText (bad_text_line fault))
+
+-- what is said of the bundle in a file, for some queries
+abbrev pub say_parts : (List ℕ → List ℕ) → (root bundle : List ℕ) → List Query → Plan
+say_parts hash root bundle queries =
+    needs bundle (λ bytes. comes (say_parts_of hash root queries bytes))
+
+-- `check-all ROOT SCRIPT BUNDLE`: the verdicts on the parts of the bundle in a file
+abbrev pub say_check_all : (List ℕ → List ℕ) → (root script bundle : List ℕ) → Plan
+say_check_all hash root script bundle = needs script
+    (λ text. given_queries (say_parts hash root bundle) (queries_of_text text))
+
 -- the text of generated records in a file, and how many they are
 unfoldable pub say_make_of : (count seed : ℕ) → List ℕ → Outcome
 say_make_of count seed records =
@@ -165,5 +192,9 @@ say hash (Some (commands.Apply old batch new)) = say_apply hash old.now batch.no
 say hash (Some (commands.Prove map query proof)) = say_prove hash map.now query proof.now
 say hash (Some (commands.Check root query proof)) = say_check hash root query proof.now
 say hash (Some (commands.Audit map query proof)) = say_audit hash map.now query proof.now
+say hash (Some (commands.Serve map script bundle)) =
+    say_serve hash map.now script.now bundle.now
+say hash (Some (commands.CheckAll root script bundle)) =
+    say_check_all hash root script.now bundle.now
 say hash (Some (commands.Make count seed records)) = say_make count seed records.now
 say hash (Some (commands.Demo count seed)) = say_demo hash count seed

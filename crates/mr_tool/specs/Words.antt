@@ -63,6 +63,10 @@ words_of (commands.Check root asked proof) =
     key (codes "check") ∷ digest root ∷ query asked ∷ file proof.now ∷ []
 words_of (commands.Audit map asked proof) =
     key (codes "audit") ∷ file map.now ∷ query asked ∷ file proof.now ∷ []
+words_of (commands.Serve map script bundle) =
+    key (codes "serve") ∷ file map.now ∷ file script.now ∷ file bundle.now ∷ []
+words_of (commands.CheckAll root script bundle) =
+    key (codes "check-all") ∷ digest root ∷ file script.now ∷ file bundle.now ∷ []
 words_of (commands.Make count seed records) =
     key (codes "make") ∷ number 0 count_limit count ∷ seed_word seed ∷ file records.now ∷ []
 words_of (commands.Demo count seed) =

@@ -17,14 +17,14 @@ ghost use Rattle.mr_tool.specs.Say.{prints};
 
 use crate::Status;
 use crate::ending::{Ending, Halt};
-use crate::fetching::proof_of_nodes;
 use crate::lines::{map_lines, push_queries, push_totals};
 use mr_batch::{generate, generate_queries};
+use mr_bundle::proof_of_nodes;
 use mr_check::{CheckErr, check};
 use mr_outside::Gate;
 use mr_pack::pack_joined_distinct;
 use mr_query::Query;
-use mr_tree::{Hash32, Nodes, Snapshot, Tree, level_of};
+use mr_tree::{Hash32, Hashes, Nodes, Snapshot, Tree, level_of};
 use std::alloc::{AllocError, Global};
 use std::thread::Threads;
 
@@ -39,7 +39,7 @@ pub(crate) struct Totals {
 }
 
 // How many records a proof proves to be the answer to a query.
-fn answer_size<H: Hash32>(
+fn answer_size<H: Hashes>(
     alloc: Global,
     tree: &Tree,
     root: &[u8; 32],

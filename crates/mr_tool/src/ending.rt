@@ -26,21 +26,29 @@ pub(crate) enum Shown {
 #[derive(Drop)]
 pub(crate) struct Ending {
     pub(crate) status: Status,
-    pub(crate) line: String,
+    pub(crate) text: Vec<u8>,
     pub(crate) records: Shown,
 }
 
 impl Ending {
+    // Prints this text alone.
+    pub(crate) fn text(alloc: Global, status: Status, text: Vec<u8>) -> Ending
+        ensures status { result.status ≡ status }
+        ensures printed { printed_of result ≡ text.items }
+    {
+        Ending {
+            status,
+            text,
+            records: Shown::Records(Vec::new(alloc)),
+        }
+    }
+
     // Prints this line alone.
     pub(crate) fn line(alloc: Global, status: Status, line: String) -> Ending
         ensures status { result.status ≡ status }
         ensures printed { printed_of result ≡ string_bytes line }
     {
-        Ending {
-            status,
-            line,
-            records: Shown::Records(Vec::new(alloc)),
-        }
+        Ending::text(alloc, status, line.into_bytes())
     }
 
     // Prints this line, and then these records.
@@ -50,7 +58,7 @@ impl Ending {
     {
         Ending {
             status,
-            line,
+            text: line.into_bytes(),
             records: Shown::Records(records),
         }
     }
@@ -62,7 +70,7 @@ impl Ending {
     {
         Ending {
             status,
-            line: String::new(alloc),
+            text: Vec::new(alloc),
             records: Shown::Records(records),
         }
     }
@@ -74,7 +82,7 @@ impl Ending {
     {
         Ending {
             status,
-            line: String::new(alloc),
+            text: Vec::new(alloc),
             records: Shown::OfTree(alloc, tree),
         }
     }

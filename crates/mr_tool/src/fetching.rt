@@ -1,51 +1,20 @@
-//! Proofs and findings of a map whose nodes are fetched one by one.
+//! Findings of a map whose nodes are fetched one by one.
 
-ghost use Rattle.std.specs.Prelude.{◌≡◌, ◌≤◌, ◌+◌, ◌*◌, IfOk, IfErr, IfSome, OnOk};
+ghost use Rattle.std.specs.Prelude.{◌≡◌, IfOk, IfErr, IfSome, OnOk};
 ghost use Rattle.mr_tree.specs.Digest.{by};
 ghost use Rattle.mr_tree.specs.Nodes.{HasSomeCause};
 ghost use Rattle.mr_query.specs.Word.{IsAskable};
-ghost use Rattle.mr_proof.specs.Honest.{proof as honest_proof, opened};
-ghost use Rattle.mr_prove.specs.Causes.{rounds};
 ghost use Rattle.mr_clash.specs.Finding.{found, opened_accepted, Collides, FindsFor};
 ghost use Rattle.mr_tool.specs.Ending.{SaysRefusal};
 ghost use Rattle.mr_tool.specs.Found.{as_map_error};
 
 use crate::ending::{Ending, Halt};
 use crate::opening::unopened;
-use crate::text::Text;
 use mr_clash::{AuditErr, Finding, audit};
 use mr_pages::{MapErr, MapFault, MapRule};
-use mr_prove::{ProveErr, prove};
 use mr_query::Query;
 use mr_tree::{Nodes, NodesErr};
 use std::alloc::Global;
-
-// The proof for a query on the map of these nodes, or why one of them was not fetched.
-pub(crate) fn proof_of_nodes<N: Nodes>(
-    alloc: Global,
-    nodes: &mut N,
-    query: &Query,
-) -> Result<Text, NodesErr>
-    requires { IsAskable query.now }
-    ensures kept { N.kept nodes.old nodes.new }
-    ensures written { IfSome (N.stands nodes.old).tree (λ t. IfOk result (λ text. text.bytes.items
-        ≡ honest_proof (by (N.stands nodes.old).version N.Hash.of) t (N.stands nodes.old).batch
-        query.now)) }
-    ensures fetched { IfSome (N.stands nodes.old).tree (λ t. N.fetches nodes.new ≤
-        N.fetches nodes.old + rounds query.now * opened (by (N.stands nodes.old).version N.Hash.of)
-        t query.now) }
-    ensures cause { IfErr result (HasSomeCause (N.stands nodes.old) (N.faults nodes.old)
-        (N.faults nodes.new)) }
-    ensures quiet { OnOk result (N.faults nodes.new ≡ N.faults nodes.old) }
-{
-    let mut out = Text::new(alloc);
-    match prove(alloc, nodes, query, &mut out) {
-        Ok(()) => Ok(out),
-        Err(ProveErr::NoMemory) => Err(NodesErr::NoMemory),
-        Err(ProveErr::Nodes(error)) => Err(error),
-        Err(ProveErr::Sink) => unreachable!(),
-    }
-}
 
 // What is found of the bytes of a proof, by these nodes, or why one of them was not fetched.
 pub(crate) fn finding_of_nodes<N: Nodes>(

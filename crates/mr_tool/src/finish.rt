@@ -20,7 +20,7 @@ fn write_ending<W: Sink>(out: &mut W, ending: &Ending) -> Result<(), SinkErr>
     ensures front { TakesFront (W.state out.old) (W.state out.new) (printed_of ending.now) }
     ensures causes { SinkCauses (W.state out.old) (W.state out.new) result }
 {
-    write_all(out, ending.line.as_bytes())?;
+    write_all(out, ending.text.as_slice())?;
     write_shown(out, &ending.records)
 }
 

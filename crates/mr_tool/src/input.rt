@@ -1,9 +1,11 @@
 //! Inputs, and what is said of one that is missing or is no text of its kind.
 
-ghost use Rattle.std.specs.Prelude.{IfOk};
+ghost use Rattle.std.specs.Prelude.{◌≤◌, length, All, IfOk};
 ghost use Rattle.mr_record.specs.Answer.{Answers};
 ghost use Rattle.mr_record.specs.Bytes.{AreBytes};
 ghost use Rattle.mr_record.specs.RecordText.{IsRecordList, records_of_text};
+ghost use Rattle.mr_query.specs.Script.{queries_of_text, script_limit};
+ghost use Rattle.mr_query.specs.Word.{IsAskable};
 ghost use Rattle.mr_tool.specs.Ending.{GivesOrStops, IsAsRead, Misses, Reads};
 ghost use Rattle.mr_tool.specs.Lines.{bad_text_line as line_of};
 ghost use Rattle.mr_tool.specs.Say.{ends};
@@ -12,6 +14,7 @@ use crate::Status;
 use crate::ending::{Ending, Halt};
 use crate::lines::{bad_text_line, missing_line};
 use mr_outside::{Shelf, ShelfErr, read_all};
+use mr_query::{Query, read_script};
 use mr_record::{Record, TextErr, TextFault, read_lines};
 use std::alloc::Global;
 
@@ -52,6 +55,15 @@ pub(crate) fn records_in(alloc: Global, text: Vec<u8>) -> Result<Vec<Record>, Te
     ensures list { IfOk result (λ v. IsRecordList v.items) }
 {
     read_lines(alloc, &text)
+}
+
+// The queries of a text, which is given up for them.
+pub(crate) fn queries_in(alloc: Global, text: Vec<u8>) -> Result<Vec<Query>, TextErr>
+    ensures exact { Answers result (queries_of_text text.items) }
+    ensures askable { IfOk result (λ v. All IsAskable v.items) }
+    ensures few { IfOk result (λ v. length v.items ≤ script_limit) }
+{
+    read_script(alloc, &text)
 }
 
 // The ending over a file that is missing.

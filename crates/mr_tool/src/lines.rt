@@ -5,7 +5,7 @@ ghost use Rattle.std.specs.String.{string_bytes};
 ghost use Rattle.hex.specs.Hex.{encode_lower};
 ghost use Rattle.mr_tool.specs.Demo.{map_lines as lines_on_map, query_lines as lines_on_queries, total_lines as lines_on_totals};
 ghost use Rattle.mr_tool.specs.Found.{kept_text, bad_map_line};
-ghost use Rattle.mr_tool.specs.Lines.{bad_text_line, bad_batch_line, batch_fault_text, numbers_text, missing_line, proof_line as line_of_proof, count_line as line_of_count, made_line as line_made, digest_line, collision_lines as collision_text, sound_line as line_of_sound};
+ghost use Rattle.mr_tool.specs.Lines.{bad_text_line, bad_batch_line, batch_fault_text, numbers_text, missing_line, proof_line as line_of_proof, served_line as line_of_served, count_line as line_of_count, made_line as line_made, digest_line, collision_lines as collision_text, sound_line as line_of_sound};
 ghost use Rattle.mr_tool.specs.Refusal.{found_text, refused_line};
 
 use mr_batch::BatchFault;
@@ -150,6 +150,16 @@ pub(crate) fn proof_line(alloc: Global, size: usize) -> Result<String, AllocErro
     ensures { IfOk result (λ s. string_bytes s ≡ line_of_proof size) }
 {
     let mut line = format!(in alloc; "proof {size}")?;
+    line.push('\n')?;
+    Ok(line)
+}
+
+// The line on a bundle that was written: `served QUERIES LENGTH`.
+#[tactic(auto, unfolding(crate::specs::Lines::served_line))]
+pub(crate) fn served_line(alloc: Global, queries: usize, size: usize) -> Result<String, AllocError>
+    ensures { IfOk result (λ s. string_bytes s ≡ line_of_served queries size) }
+{
+    let mut line = format!(in alloc; "served {queries} {size}")?;
     line.push('\n')?;
     Ok(line)
 }

@@ -9,8 +9,9 @@ ghost use Rattle.mr_tool.specs.Say.{say_make};
 use crate::ending::{Ending, Halt};
 use crate::lines::made_line;
 use crate::saving::save_text;
-use crate::text::{Text, text_of_records};
+use crate::text::text_of_records;
 use mr_batch::generate;
+use mr_bundle::Text;
 use mr_outside::Shelf;
 use std::alloc::{AllocError, Global};
 

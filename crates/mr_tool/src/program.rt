@@ -14,6 +14,7 @@ use crate::applying::apply;
 use crate::auditing::audit_query;
 use crate::building::build;
 use crate::checking::check_proof;
+use crate::checking_all::check_bundle;
 use crate::demonstrating::demo;
 use crate::ending::{Ending, Halt};
 use crate::finish::finish;
@@ -21,6 +22,7 @@ use crate::listing::list;
 use crate::making::make;
 use crate::proving::prove_query;
 use crate::root::root;
+use crate::serving::serve;
 use crate::{Command, Status, read_words};
 use mr_outside::{Gate, Shelf, Sink};
 use mr_tree::Hash32;
@@ -70,6 +72,16 @@ fn carry_out<H: Hash32, S: Shelf, G: Gate, R: Threads + Sync>(
         Command::Audit(map, query, proof) => {
             audit_query::<H, S>(alloc, *map, query, *proof, shelf)
         }
+        Command::Serve(map, script, bundle) => {
+            serve::<H, S, G, R>(rt, alloc, *map, *script, *bundle, shelf, gate)
+        }
+        Command::CheckAll(digest, script, bundle) => {
+            let mut shelf = shelf;
+            let came = check_bundle::<H, S, G, R>(
+                rt, alloc, digest, *script, *bundle, &mut shelf, gate,
+            );
+            (came, shelf)
+        }
         Command::Make(count, seed, records) => {
             let mut shelf = shelf;
             let came = make(alloc, *count, *seed, *records, &mut shelf);
@@ -113,7 +125,8 @@ fn answered<H: Hash32, S: Shelf, W: Sink, G: Gate, R: Threads + Sync>(
 ///
 /// Inputs are read from the shelf by name, and all that is printed goes to the sink. Where a map is
 /// made of records, the digests of its leaves are computed in joined halves, and the gate is passed
-/// before and after each leaf.
+/// before and after each leaf; so are the queries of a script proved and the parts of a bundle
+/// checked, each a piece.
 pub fn run<H: Hash32, S: Shelf, W: Sink, G: Gate, R: Threads + Sync>(
     rt: &R,
     alloc: Global,

@@ -6,11 +6,11 @@ ghost use Rattle.mr_tool.specs.Plan.{comes};
 ghost use Rattle.mr_tool.specs.Say.{say_prove, say_written};
 
 use crate::ending::{Ending, Halt};
-use crate::fetching::{proof_of_nodes, unfetched};
+use crate::fetching::unfetched;
 use crate::lines::proof_line;
 use crate::opening::unopened;
 use crate::saving::save_text;
-use crate::text::Text;
+use mr_bundle::{Text, proof_of_nodes};
 use mr_outside::Shelf;
 use mr_query::Query;
 use mr_store::Paged;

@@ -1,6 +1,6 @@
 //! The words of a command.
 
-ghost use Rattle.std.specs.Prelude.{◌≡◌, ◌≢◌, ◌↔◌, ◌∷◌, [], IsTrue, Option, codes, map};
+ghost use Rattle.std.specs.Prelude.{◌≡◌, ◌≢◌, ◌↔◌, ◌<◌, ◌∷◌, [], IsTrue, Option, length, codes, map};
 ghost use Rattle.std.specs.String.{string_bytes};
 ghost use Rattle.std.specs.List.{list_all};
 ghost use Rattle.mr_record.specs.RecordText.{is_lower_digit};
@@ -36,6 +36,13 @@ pub enum Command<'a> {
     /// Say what the proof in the second file is worth against the map in the first one, for a
     /// query.
     Audit(&'a str, Query, &'a str),
+    /// Write the proofs for the queries of the script in the second file, on the map in the first
+    /// one, to the third one as a bundle, and print how many they are and the bundle's length.
+    Serve(&'a str, &'a str, &'a str),
+    /// Print the verdict on each part of the bundle in the second file, against a root digest and
+    /// for the query at its place in the script in the first one, and how many were accepted,
+    /// refused and missing.
+    CheckAll([u8; 32], &'a str, &'a str),
     /// Write so many generated records, from 0 to 2^20, to a file, and print how many they are. The
     /// second number is the seed.
     Make(u32, u64, &'a str),
@@ -97,6 +104,19 @@ fn apply_words<'a>(old: &'a str, batch: &'a str, new: &'a str) -> Option<Command
     Some(Command::Apply(old, batch, new))
 }
 
+// The command `serve` on three files.
+fn serve_words<'a>(map: &'a str, script: &'a str, bundle: &'a str) -> Option<Command<'a>>
+    ensures { IsSpelled (codes "serve" ∷ map.now ∷ script.now ∷ bundle.now ∷ []) result }
+{
+    if map.is_empty() || script.is_empty() || bundle.is_empty() {
+        return None;
+    }
+    if !are_apart(map, script, bundle) {
+        return None;
+    }
+    Some(Command::Serve(map, script, bundle))
+}
+
 fn are_lower_digits(word: &str) -> bool
     ensures { result ≡ list_all is_lower_digit word.now }
 {
@@ -128,6 +148,25 @@ fn check_words<'a>(root: &str, query: &str, proof: &'a str) -> Option<Command<'a
         return None;
     }
     Some(Command::Check(digest, asked, proof))
+}
+
+// The two name different files.
+fn are_two(a: &str, b: &str) -> bool
+    ensures { IsTrue result ↔ (0 < length a.now) × (0 < length b.now) × (a.now ≢ b.now) }
+{
+    !a.is_empty() && !b.is_empty() && a != b
+}
+
+// The command `check-all` on a root digest and two files.
+fn check_all_words<'a>(root: &str, script: &'a str, bundle: &'a str) -> Option<Command<'a>>
+    ensures { IsSpelled (codes "check-all" ∷ root.now ∷ script.now ∷ bundle.now ∷ []) result }
+{
+    let digest = read_digest(root)?;
+    if are_two(script, bundle) {
+        Some(Command::CheckAll(digest, script, bundle))
+    } else {
+        None
+    }
 }
 
 // The query that a word spells, between the files of a map and of a proof, as `prove` and `audit`
@@ -208,6 +247,8 @@ fn four_words<'a>(name: &str, a: &'a str, b: &'a str, c: &'a str) -> Option<Comm
         "prove" => Some(Command::Prove(a, query_between(a, b, c)?, c)),
         "check" => check_words(a, b, c),
         "audit" => Some(Command::Audit(a, query_between(a, b, c)?, c)),
+        "serve" => serve_words(a, b, c),
+        "check-all" => check_all_words(a, b, c),
         "make" => make_words(a, b, c),
         _ => None,
     }

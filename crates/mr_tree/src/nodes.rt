@@ -6,7 +6,7 @@ ghost use Rattle.mr_tree.specs.declared.nodes.NodesErr as error;
 ghost use Rattle.mr_tree.specs.WellFormed.{WellFormed};
 ghost use Rattle.mr_tree.specs.Nodes.{Standing, HasIds, IsTop, MayFetch, Shows, HasCause, top_version, root_entry};
 
-use crate::{Child, Entry, Hash32, NodeView};
+use crate::{Child, Entry, Hashes, NodeView};
 use mr_record::Version;
 
 /// What a map says of itself: the batch that it stands at, the number of its records, and the entry
@@ -64,7 +64,7 @@ pub enum NodesErr {
 
 /// A map whose nodes are fetched one by one, each by the entry that its parent holds of it.
 pub trait Nodes {
-    type Hash: Hash32;
+    type Hash: Hashes;
 
     // what no call changes: the version, the batch, how far ids go, the tree and the tree under
     // each id

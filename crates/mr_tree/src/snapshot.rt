@@ -17,13 +17,13 @@ ghost use Rattle.mr_tree.specs.SnapshotLaws.{has_ids};
 use crate::digest::count;
 use crate::placing::{level_over, rooted};
 use crate::stored::Stored;
-use crate::{Child, Hash32, NodeView, Nodes, NodesErr, Top, Tree};
+use crate::{Child, Hashes, NodeView, Nodes, NodesErr, Top, Tree};
 use std::alloc::{AllocError, Global};
 use std::marker::PhantomData;
 
 /// A whole tree, kept as a list of its nodes. Threads may share it, each with a reader of its own.
 #[derive(Drop)]
-pub struct Snapshot<H: Hash32> {
+pub struct Snapshot<H: Hashes> {
     nodes: Vec<Stored>,
     top: Top,
     hash: PhantomData<H>,
@@ -33,12 +33,12 @@ pub struct Snapshot<H: Hash32> {
 
 /// Fetches nodes of a snapshot. It needs no memory, and no fetch fails.
 #[derive(Drop)]
-pub struct Reader<'a, H: Hash32> {
+pub struct Reader<'a, H: Hashes> {
     snapshot: &'a Snapshot<H>,
     fetches: u64,
 }
 
-impl<H: Hash32> Snapshot<H> {
+impl<H: Hashes> Snapshot<H> {
     /// Keeps a copy of the tree of a map that stands at this batch.
     pub fn of(alloc: Global, tree: &Tree, batch: u64) -> Result<Snapshot<H>, AllocError>
         requires { WellFormed tree.now }
@@ -105,7 +105,7 @@ fn show_at(nodes: &[Stored], place: usize, into: &mut NodeView)
     show(&nodes[place], into);
 }
 
-impl<'a, H: Hash32> Nodes for Reader<'a, H> {
+impl<'a, H: Hashes> Nodes for Reader<'a, H> {
     type Hash = H;
 
     ghost stands = { λ r. standing r.snapshot.now.nodes.items r.snapshot.now.top };

@@ -40,7 +40,7 @@ returns-then-is_reached-clause-fetched g c =
     c.loop-next.invariant.bounded
 
 pub visit-requires-clause-within : goal.visit-requires-clause-within
-visit-requires-clause-within g c = λ κs h.
+visit-requires-clause-within g c =
     let hash = g.N.Hash.Hashes.of in
     let s = g.N.Nodes.stands c.args.nodes.now in
     let p = c.args.center.now in

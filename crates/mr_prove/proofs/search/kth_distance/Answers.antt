@@ -17,7 +17,7 @@ returns-clause-radius g c =
     → IsRadius k (distances c.args.center.now (records t)) r)) c.from.ensures c.best_first.ensures.radius)
 
 pub best_first-requires-clause-searching : goal.best_first-requires-clause-searching
-best_first-requires-clause-searching g c = λ κs h.
+best_first-requires-clause-searching g c =
     let hash = g.N.Hash.Hashes.of in
     let p = c.args.center.now in
     let s = g.N.Nodes.stands c.args.nodes.now in
@@ -26,7 +26,7 @@ best_first-requires-clause-searching g c = λ κs h.
     (searching_start hash c.from.result p s queue (c.in_ok-queue.ensures.root c.from.result))
 
 pub best_first-requires-clause-bounded : goal.best_first-requires-clause-bounded
-best_first-requires-clause-bounded g c = λ κs h.
+best_first-requires-clause-bounded g c =
     bounded_start g.N.Hash.Hashes.of c.from.result c.args.center.now (g.N.Nodes.stands c.args.nodes.now)
     (heap_items c.in_ok-queue.queue) (g.N.Nodes.fetches c.args.nodes.now)
     (c.in_ok-queue.ensures.root c.from.result)

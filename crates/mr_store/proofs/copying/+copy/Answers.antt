@@ -1,4 +1,4 @@
-use Rattle.std.proofs.Common.{[], false, arith, refl, sym, subst, ◌∙◌}
+use Rattle.std.proofs.Common.{rules, [], false, arith, refl, sym, subst, ◌∙◌}
 use Rattle.std.proofs.lemmas.List.{take_all}
 use Rattle.std.proofs.lemmas.Result.{err_from_is_err_and}
 use Rattle.mr_tree.specs.Nodes.{Standing, Shows}
@@ -119,13 +119,14 @@ returns-in_err-push-in-Inner-clause-kept g t c =
     g.met.N.Nodes.kept_on c.args.nodes.now c.loop-one.nodes c.copy.new.nodes c.loop-one.invariant.kept
     c.copy.ensures.kept
 
-pub copy-requires-clause-may : goal.copy-requires-clause-may
-copy-requires-clause-may g t c κs within =
+pub copy-requires : goal.copy-requires
+copy-requires g t c κs within =
     let s = g.N.Nodes.stands c.args.nodes.now in
     let hash = g.N.Hash.Hashes.of in
     let shows = subst (λ n. Shows hash s c.args.child.now (owned n)) c.in-Inner.is c.in_ok-records.ensures.shows in
-    may_next hash s (g.N.Nodes.stands c.loop-one.nodes) c.args.child.now c.one-item.result
+    let may = may_next hash s (g.N.Nodes.stands c.loop-one.nodes) c.args.child.now c.one-item.result
     c.deref-one-items.result.now c.loop-one.one-index
     (g.met.N.Nodes.kept_stands c.args.nodes.now c.loop-one.nodes c.loop-one.invariant.kept)
     (subst (λ xs. Shows hash s c.args.child.now (Inner xs)) (sym c.deref-one-items.ensures.value) shows)
-    c.loop-one-test.true c.one-item.is
+    c.loop-one-test.true c.one-item.is in
+    (search rules, (search rules, (search rules, (may, search rules))))

@@ -4,12 +4,12 @@ use Rattle.mr_store.proofs.Wholes.{empty_well, empty_whole, empty_said, empty_st
 use Rattle.mr_store.proofs.copying.copied.Goals as goal
 
 pub over-requires-clause-whole : goal.over-requires-clause-whole
-over-requires-clause-whole g c κs within =
+over-requires-clause-whole g c =
     empty_whole g.N.Hash.Hashes.of (g.N.Nodes.stands c.args.nodes.now) c.args.top.now c.new.result.items
     c.requires c.in-None.is c.new.ensures.items
 
 pub over-requires-clause-well_formed : goal.over-requires-clause-well_formed
-over-requires-clause-well_formed g c κs within = empty_well
+over-requires-clause-well_formed g c = empty_well
 
 pub returns-in-None-clause-stands : goal.returns-in-None-clause-stands
 returns-in-None-clause-stands g c = λ u told.

@@ -7,12 +7,12 @@ use Rattle.mr_store.proofs.Wholes.{none_linked, whole_well, whole_said, whole_sn
 use Rattle.mr_store.proofs.copying.copied_from.Goals as goal
 
 pub copy-requires-clause-may : goal.copy-requires-clause-may
-copy-requires-clause-may g c κs within =
+copy-requires-clause-may g c =
     subst (λ o. IfSome o (MayFetch g.N.Hash.Hashes.of (g.N.Nodes.stands c.args.nodes.now))) c.requires.root
     c.requires.top.root
 
 pub copy-requires-clause-linked : goal.copy-requires-clause-linked
-copy-requires-clause-linked g c κs within =
+copy-requires-clause-linked g c =
     none_linked g.N.Hash.Hashes.of c.new-list.result.items c.new-list.ensures.items
 
 pub returns-in_err-copied-clause-cause : goal.returns-in_err-copied-clause-cause
@@ -24,14 +24,14 @@ returns-in_err-copied-clause-cause g c =
     (g.met.N.Nodes.well_formed c.args.nodes.now) c.in_err-copied.ensures.cause)
 
 pub over-requires-clause-whole : goal.over-requires-clause-whole
-over-requires-clause-whole g c κs within =
+over-requires-clause-whole g c =
     whole_snapshot g.N.Hash.Hashes.of (g.N.Nodes.stands c.args.nodes.now) c.args.top.now c.args.root.now
     c.in_ok-copied.copied c.new-list.result.items c.copy.new.list.items c.in_ok-seen.seen c.copy.new.seen c.args.pages
     c.requires.top c.requires.root c.new-list.ensures.items c.in_ok-seen.ensures.told c.in_ok-copied.ensures.copied
     (sym c.if-count-top.false ∙ c.count.ensures)
 
 pub over-requires-clause-well_formed : goal.over-requires-clause-well_formed
-over-requires-clause-well_formed g c κs within =
+over-requires-clause-well_formed g c =
     whole_well g.N.Hash.Hashes.of (g.N.Nodes.stands c.args.nodes.now) c.args.top.now c.args.root.now
     c.in_ok-copied.copied c.new-list.result.items c.copy.new.list.items c.in_ok-seen.seen c.copy.new.seen c.args.pages
     c.requires.top c.requires.root c.new-list.ensures.items c.in_ok-seen.ensures.told c.in_ok-copied.ensures.copied

@@ -1,5 +1,4 @@
 use Rattle.std.proofs.Common.{subst}
-use Rattle.std.specs.String.{string_bytes}
 use Rattle.mr_outside.specs.Told.{Takes}
 use Rattle.mr_record.specs.RecordText.{text_of}
 use Rattle.mr_tool.specs.Ending.{shown_of}
@@ -10,16 +9,16 @@ pub returns-clause-front : goal.returns-clause-front
 returns-clause-front g c =
     let S = g.W.Sink.state in
     front_after (S c.args.out.now) (S c.write_all.new.out) (S c.write_shown.new.out)
-    (string_bytes c.args.ending.now.line) (text_of (shown_of c.args.ending.now.records))
-    (subst (Takes (S c.args.out.now) (S c.write_all.new.out)) c.as_bytes.ensures.value
+    c.args.ending.now.text.items (text_of (shown_of c.args.ending.now.records))
+    (subst (Takes (S c.args.out.now) (S c.write_all.new.out)) c.as_slice.ensures.value
     c.in_ok-write_all.ensures.whole) c.write_shown.ensures.front
 
 pub returns-clause-whole : goal.returns-clause-whole
 returns-clause-whole g c =
     let S = g.W.Sink.state in
     whole_after (S c.args.out.now) (S c.write_all.new.out) (S c.write_shown.new.out)
-    (string_bytes c.args.ending.now.line) (text_of (shown_of c.args.ending.now.records)) c.write_shown.result
-    (subst (Takes (S c.args.out.now) (S c.write_all.new.out)) c.as_bytes.ensures.value
+    c.args.ending.now.text.items (text_of (shown_of c.args.ending.now.records)) c.write_shown.result
+    (subst (Takes (S c.args.out.now) (S c.write_all.new.out)) c.as_slice.ensures.value
     c.in_ok-write_all.ensures.whole) c.write_shown.ensures.whole
 
 pub returns-clause-causes : goal.returns-clause-causes

@@ -24,3 +24,10 @@ returns-in-Audit g c = as_said g.H.Hashes.of _ _ _ _ c.audit_query.result.0 c.in
 
 pub returns-in-Make : goal.returns-in-Make
 returns-in-Make g c = as_said g.H.Hashes.of _ _ _ _ c.make-came.result c.in-Make.is c.make-came.ensures
+
+pub returns-in-Serve : goal.returns-in-Serve
+returns-in-Serve g c = as_said g.H.Hashes.of _ _ _ _ c.serve.result.0 c.in-Serve.is c.serve.ensures
+
+pub returns-in-CheckAll : goal.returns-in-CheckAll
+returns-in-CheckAll g c = as_said g.H.Hashes.of _ _ _ _ c.check_bundle-came.result c.in-CheckAll.is
+    c.check_bundle-came.ensures

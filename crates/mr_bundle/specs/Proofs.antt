@@ -1,0 +1,23 @@
+-- The proofs for many queries on one map.
+use Rattle.std.specs.Prelude.{ℕ, List, map}
+use Rattle.mr_tree.specs.Digest.{Scheme, by}
+use Rattle.mr_tree.specs.Nodes.{top_version}
+use Rattle.mr_tree.specs.Snapshot.{tree_of}
+use Rattle.mr_tree.specs.declared.nodes.Top.{Top}
+use Rattle.mr_tree.specs.declared.stored.Stored.{Stored}
+use Rattle.mr_tree.specs.declared.tree.Tree.{Tree}
+use Rattle.mr_query.specs.declared.query.Query.{Query}
+use Rattle.mr_proof.specs.Honest.{proof}
+use Rattle.mr_bundle.specs.Bundle.{bundle_of}
+
+-- the honest proofs for some queries on a map, in the order of the queries
+abbrev pub proofs : Scheme → Tree → (batch : ℕ) → List Query → List (List ℕ)
+proofs s t batch queries = map (proof s t batch) queries
+
+-- their bundle
+unfoldable pub bundle : Scheme → Tree → (batch : ℕ) → List Query → List ℕ
+bundle s t batch queries = bundle_of (proofs s t batch queries)
+
+-- the honest proof on the map whose nodes and head these are
+abbrev pub proof_in : (List ℕ → List ℕ) → List Stored → Top → Query → List ℕ
+proof_in hash nodes top q = proof (by (top_version top) hash) (tree_of nodes top) top.batch q

@@ -1,0 +1,267 @@
+-- What `check-all` says of a bundle, and what it comes to behind each step.
+use Rattle.std.proofs.Common.{◌≡◌, ℕ, suc, ◌+◌, ◌<◌, ◌≤◌, Bool, true, false, cond, ◌&&◌, eqb, List, [], ◌∷◌, ◌++◌, length, get_or, map, take, refl, sym, ap, subst, ◌∙◌, arith, append_assoc, append-nil}
+use Rattle.std.specs.Prelude.{Option, Some, None, Result, Ok, Err, All, is_none, OnOk, flat_map, codes, decimal}
+use Rattle.std.specs.Global.{Vec}
+use Rattle.std.specs.List.{AllByRecursion}
+use Rattle.std.proofs.lemmas.Bool.{eq-eqb}
+use Rattle.std.proofs.lemmas.List.{flat_map_more, length-map, length-take-le, take_more}
+use Rattle.std.proofs.lemmas.List.Elements.{recursion_from_All}
+use Rattle.std.proofs.lemmas.List.Sums.{sum_by-cons}
+use Rattle.std.proofs.lemmas.Slice.Zip.{length-zip}
+use Rattle.mr_outside.specs.Files.{Files}
+use Rattle.mr_outside.specs.State.{Shelved}
+use Rattle.mr_record.specs.RecordText.{text_of}
+use Rattle.mr_record.specs.declared.record.Record.{Record}
+use Rattle.mr_record.specs.declared.text_fault.TextFault.{TextFault}
+use Rattle.mr_query.specs.Script.{queries_of_text}
+use Rattle.mr_query.specs.declared.query.Query.{Query}
+use Rattle.mr_bundle.specs.Bundle.{parts, part_bytes, bundle_of, bytes_of}
+use Rattle.mr_bundle.specs.Proofs.{bundle, proofs}
+use Rattle.mr_bundle.specs.Verdicts.{asked, judged, verdicts as verdicts_of}
+use Rattle.mr_bundle.specs.declared.reading.Part.{Part}
+use Rattle.mr_bundle.specs.declared.verdict.Verdict.{Verdict}
+use Rattle.mr_bundle.specs.declared.verdict.Verdict.TheVariants as verdicts
+use Rattle.mr_pages.specs.declared.opening.Opened.{Opened}
+use Rattle.mr_proof.specs.declared.rule.Fault.{Fault}
+use Rattle.mr_tool.specs.Answer.{IsSettled}
+use Rattle.mr_tool.specs.Ending.{AreJudged, Comes, Gives, GivesOrStops, Misses, Reads, Stops, printed_of}
+use Rattle.mr_tool.specs.First.{first}
+use Rattle.mr_tool.specs.Judged.{is_accepted, verdict_text, verdict_lines, accepted_count, bundle_text, bundle_status}
+use Rattle.mr_tool.specs.Lines.{bad_text_line}
+use Rattle.mr_tool.specs.Outcome.{Outcome, Nothing}
+use Rattle.mr_tool.specs.Plan.{Plan, Input, IsInput, comes}
+use Rattle.mr_tool.specs.Promises.{IsAccepted}
+use Rattle.mr_tool.specs.Refusal.{refused_line}
+use Rattle.mr_tool.specs.Say.{given_queries, needs, say_parts}
+use Rattle.mr_tool.specs.Saying.{ends, say_bundle, say_parts_of, say_serve_of, say_verdicts}
+use Rattle.mr_tool.specs.declared.ending.Ending.{Ending}
+use Rattle.mr_tool.specs.declared.ending.Halt.{Halt}
+use Rattle.mr_tool.specs.declared.ending.Halt.TheVariants as halts
+use Rattle.mr_tool.specs.declared.status.Status.{Status}
+use Rattle.mr_tool.specs.declared.status.Status.TheVariants.{Done, Refused, BadText}
+use Rattle.mr_tool.proofs.Counting.{once_none}
+use Rattle.mr_tool.proofs.Going.{comes_given, comes_halted, comes_missing, comes_on, judged_needs}
+use Rattle.mr_tool.proofs.Verdicts.{gives}
+
+-- ---- the bytes
+
+pub bundle_none : bundle_of [] ≡ []
+unfolding bundle_of
+bundle_none = refl
+
+-- one proof more
+pub bundle_more : (list : List (List ℕ)) (i : ℕ) (p : List ℕ) → i < length list → p ≡ get_or list i p
+    → bundle_of (take (i + 1) list) ≡ bundle_of (take i list) ++ part_bytes p
+unfolding bundle_of
+bundle_more list i p here at =
+    ap (flat_map part_bytes) (take_more list i p here)
+    ∙ sym (flat_map_more part_bytes [] (take i list) (get_or list i p))
+    ∙ ap (λ x. flat_map part_bytes (take i list) ++ part_bytes x) (sym at)
+
+-- ---- the lines
+
+before_text : (a b c d t : List ℕ) → (a ++ b ++ c ++ d ++ 10 ∷ []) ++ t ≡ a ++ b ++ c ++ d ++ 10 ∷ t
+before_text a b c d t = simp append_assoc
+
+-- a line, and then the records
+accepted_text : (query : ℕ) (answer : List Record) (old between new : List ℕ)
+    → between ≡ old ++ (codes "query " ++ decimal query ++ codes " ok " ++ decimal (length answer) ++ 10 ∷ [])
+    → new ≡ between ++ text_of answer → new ≡ old ++ verdict_text query (verdicts.Accepted answer)
+unfolding verdict_text
+accepted_text query answer old between new line rest =
+    rest ∙ ap (λ t. t ++ text_of answer) line
+    ∙ append_assoc old (codes "query " ++ decimal query ++ codes " ok " ++ decimal (length answer) ++ 10 ∷ [])
+    (text_of answer)
+    ∙ ap (λ t. old ++ t) (before_text (codes "query ") (decimal query) (codes " ok ") (decimal (length answer))
+    (text_of answer))
+
+pub accepted_after : {E : Type 0} (query : ℕ) (answer : List Record) (old between new : List ℕ) (result : Result Unit E)
+    → between ≡ old ++ (codes "query " ++ decimal query ++ codes " ok " ++ decimal (length answer) ++ 10 ∷ [])
+    → OnOk result (new ≡ between ++ text_of answer)
+    → OnOk result (new ≡ old ++ verdict_text query (verdicts.Accepted answer))
+accepted_after query answer old between new (Ok done) line rest = accepted_text query answer old between new line rest
+accepted_after query answer old between new (Err e) line rest = tt
+
+before_line : (a b c t : List ℕ) → (a ++ b ++ c) ++ t ≡ a ++ b ++ c ++ t
+before_line a b c t = simp append_assoc
+
+pub refused_text : (query : ℕ) (fault : Fault) (line : List ℕ)
+    → line ≡ (codes "query " ++ decimal query ++ codes " ") ++ refused_line fault
+    → line ≡ verdict_text query (verdicts.Refused fault)
+unfolding verdict_text
+refused_text query fault line is = is ∙ before_line (codes "query ") (decimal query) (codes " ") (refused_line fault)
+
+plus_none : (n : ℕ) → n ≡ n + 0
+plus_none n = omega arith
+
+one_on : (n m : ℕ) → (n + 1) + m ≡ n + suc m
+one_on n m = omega arith
+
+-- one verdict more
+pub lines_more : (query : ℕ) (vs : List Verdict) (v : Verdict)
+    → verdict_lines query (vs ++ v ∷ []) ≡ verdict_lines query vs ++ verdict_text (query + length vs) v
+lines_more query [] v = append-nil (verdict_text query v) ∙ ap (λ n. verdict_text n v) (plus_none query)
+lines_more query (w ∷ vs) v =
+    ap (λ t. verdict_text query w ++ t) (lines_more (query + 1) vs v
+    ∙ ap (λ n. verdict_lines (query + 1) vs ++ verdict_text n v) (one_on query (length vs)))
+    ∙ sym (append_assoc (verdict_text query w) (verdict_lines (query + 1) vs) (verdict_text (query + suc (length vs)) v))
+
+-- the step of the loop
+pub more_lines : (vs : List Verdict) (i : ℕ) (v : Verdict) (old so_far new : List ℕ) → i < length vs
+    → v ≡ get_or vs i v → so_far ≡ old ++ verdict_lines 1 (take i vs) → new ≡ so_far ++ verdict_text (i + 1) v
+    → new ≡ old ++ verdict_lines 1 (take (i + 1) vs)
+more_lines vs i v old so_far new here at is put =
+    put ∙ ap (λ t. t ++ verdict_text (i + 1) v) is
+    ∙ append_assoc old (verdict_lines 1 (take i vs)) (verdict_text (i + 1) v)
+    ∙ ap (λ t. old ++ t) ((λ j. verdict_lines 1 (take i vs) ++ verdict_text (place j) (at j))
+    ∙ sym (lines_more 1 (take i vs) (get_or vs i v))
+    ∙ ap (verdict_lines 1) (sym (take_more vs i v here)))
+  where
+    long : length (take i vs) ≡ i
+    long = length-take-le i vs (omega arith)
+
+    place : i + 1 ≡ 1 + length (take i vs)
+    place = omega (arith, long)
+
+-- ---- the status
+
+-- either status is settled
+pub settled_status : (vs : List Verdict) (broken : Option ℕ) → IsSettled (bundle_status vs broken)
+settled_status vs broken = by_cases (eqb (accepted_count vs) (length vs) && is_none broken)
+  where
+    by_cases : (b : Bool) → IsSettled (cond b Done Refused)
+    by_cases true = ((λ e. cc), (λ e. cc))
+    by_cases false = ((λ e. cc), (λ e. cc))
+
+pub says_parts : (hash : List ℕ → List ℕ) (root : List ℕ) (queries : List Query) (bytes : List ℕ) (vs : List Verdict)
+    (broken : Option ℕ) → vs ≡ verdicts_of hash root queries bytes (parts bytes (length queries)).list
+    → broken ≡ (parts bytes (length queries)).broken
+    → say_verdicts (length queries) vs broken ≡ say_parts_of hash root queries bytes
+unfolding say_parts_of
+says_parts hash root queries bytes vs broken is at = λ i. say_verdicts (length queries) (is i) (at i)
+
+parts_write : (hash : List ℕ → List ℕ) (root : List ℕ) (queries : List Query) (bytes : List ℕ)
+    → (say_parts_of hash root queries bytes).written ≡ Nothing
+unfolding say_parts_of
+parts_write hash root queries bytes = refl
+
+pub parts_given : (hash : List ℕ → List ℕ) (root : List ℕ) (queries : List Query) (bytes : List ℕ) (at : Shelved)
+    (result : Result Ending Halt) → GivesOrStops (say_parts_of hash root queries bytes) result
+    → Comes (comes (say_parts_of hash root queries bytes)) at at result
+parts_given hash root queries bytes at result =
+    comes_given (say_parts_of hash root queries bytes) at result (parts_write hash root queries bytes)
+
+-- an ending of this status and text
+pub gives_parts : (hash : List ℕ → List ℕ) (root : List ℕ) (queries : List Query) (bytes : List ℕ) (vs : List Verdict)
+    (broken : Option ℕ) (ending : Ending)
+    → vs ≡ verdicts_of hash root queries bytes (parts bytes (length queries)).list
+    → broken ≡ (parts bytes (length queries)).broken → ending.status ≡ bundle_status vs broken
+    → printed_of ending ≡ bundle_text (length queries) vs broken
+    → Gives (say_parts_of hash root queries bytes) ending
+gives_parts hash root queries bytes vs broken ending is at status printed =
+    subst (λ said. Gives said ending) (says_parts hash root queries bytes vs broken is at)
+    (gives (say_verdicts (length queries) vs broken) ending (settled_status vs broken) status printed)
+
+pub verdicts_few : (hash : List ℕ → List ℕ) (root : List ℕ) (queries : List Query) (bytes : List ℕ) (ps : List Part)
+    → length (verdicts_of hash root queries bytes ps) ≤ length queries
+verdicts_few hash root queries bytes ps =
+    omega (arith, length-map (asked queries bytes ps) (judged hash root), length-zip queries (map (bytes_of bytes) ps))
+
+-- ---- all accepted
+
+counted : (v : Verdict) (vs : List Verdict) → accepted_count (v ∷ vs) ≡ cond (is_accepted v) 1 0 + accepted_count vs
+counted v vs = sum_by-cons (λ x. cond (is_accepted x) 1 0) v vs
+
+all_counted : (vs : List Verdict) → AllByRecursion IsAccepted vs → accepted_count vs ≡ length vs
+all_counted [] all = refl
+all_counted (v ∷ vs) all =
+    let one : ◌≡◌ {A = ℕ} (cond (is_accepted v) 1 0) 1 = ap (λ b. cond b 1 0) all.0 in
+    omega (arith, counted v vs, all_counted vs all.1, one)
+
+pub parts_done : (hash : List ℕ → List ℕ) (root : List ℕ) (queries : List Query) (bytes : List ℕ)
+    → (parts bytes (length queries)).broken ≡ None
+    → All IsAccepted (verdicts_of hash root queries bytes (parts bytes (length queries)).list)
+    → (say_parts_of hash root queries bytes).status ≡ Done
+unfolding say_parts_of
+parts_done hash root queries bytes unbroken accepted =
+    let vs = verdicts_of hash root queries bytes (parts bytes (length queries)).list in
+    let same = all_counted vs (recursion_from_All IsAccepted vs accepted) in
+    (λ i. cond (eq-eqb (accepted_count vs) (length vs) same i && is_none (unbroken i)) Done Refused)
+
+-- ---- the bundle of a server
+
+pub says_served : (hash : List ℕ → List ℕ) (name : List ℕ) (map : Opened) (queries : List Query) (list : List (List ℕ))
+    (bytes : List ℕ) → list ≡ proofs (first hash) map.tree map.batch queries → bytes ≡ bundle_of list
+    → say_bundle name (length queries) bytes ≡ say_serve_of hash name map (Ok queries)
+unfolding say_serve_of bundle
+says_served hash name map queries list bytes are is =
+    ap (say_bundle name (length queries)) (is ∙ ap bundle_of are)
+
+pub served_done : (hash : List ℕ → List ℕ) (name : List ℕ) (map : Opened) (queries : List Query)
+    → (say_serve_of hash name map (Ok queries)).status ≡ Done
+unfolding say_serve_of
+served_done hash name map queries = refl
+
+-- the script has a fault
+fault_says : (hash : List ℕ → List ℕ) (name : List ℕ) (map : Opened) (fault : TextFault)
+    → ends BadText (bad_text_line fault) ≡ say_serve_of hash name map (Err fault)
+unfolding say_serve_of
+fault_says hash name map fault = refl
+
+pub fault_given : (hash : List ℕ → List ℕ) (name : List ℕ) (map : Opened) (r : Result (List Query) TextFault)
+    (fault : TextFault) (at : Shelved) (result : Result Ending Halt) → r ≡ Err fault
+    → GivesOrStops (ends BadText (bad_text_line fault)) result → Comes (comes (say_serve_of hash name map r)) at at result
+fault_given hash name map r fault at result is says =
+    subst (λ said. Comes (comes said) at at result)
+    (fault_says hash name map fault ∙ ap (say_serve_of hash name map) (sym is))
+    (comes_given (ends BadText (bad_text_line fault)) at result refl says)
+
+-- ---- behind the queries of a script
+
+module _ (hash : List ℕ → List ℕ) (root bundle : List ℕ) where
+  abbrev on_queries : Result (List Query) TextFault → Plan
+  on_queries = given_queries (say_parts hash root bundle)
+
+  judged_queries : (told : Option Files) (r : Result (List Query) TextFault) → AreJudged (on_queries r) told
+  judged_queries told (Ok queries) = judged_needs bundle (say_parts_of hash root queries) told
+  judged_queries told (Err fault) = tt
+
+  pub no_memory : (at : Shelved) (r : Result (List Query) TextFault) → Comes (on_queries r) at at (Err halts.NoMemory)
+  no_memory at (Ok queries) =
+      comes_halted bundle (λ bytes. comes (say_parts_of hash root queries bytes)) at at halts.NoMemory
+      (record { faults = omega arith; reads = omega arith }) (once_none at.files bundle at.reads) refl
+      (judged_needs bundle (say_parts_of hash root queries) at.files) tt
+  no_memory at (Err fault) = comes_given (ends BadText (bad_text_line fault)) at (Err halts.NoMemory) refl refl
+
+  judged_script : (script : List ℕ) (told : Option Files)
+      → AreJudged (needs script (λ text. on_queries (queries_of_text text))) told
+  judged_script script told None is = tt
+  judged_script script told (Some text) is = judged_queries told (queries_of_text text)
+
+  pub script_read : (script : List ℕ) (before between after : Shelved) (text : Vec ℕ) (read : Option (Vec ℕ))
+      (result : Result Ending Halt) → read ≡ Some text → Reads script before between (Ok read)
+      → Comes (on_queries (queries_of_text text.items)) between after result
+      → Comes (needs script (λ text. on_queries (queries_of_text text))) before after result
+  script_read script before between after text read result was got on =
+      let was_read : Reads script before between (Ok (Some text)) =
+      subst (λ r. Reads script before between (Ok r)) was got in
+      comes_on script (λ text. on_queries (queries_of_text text)) text.items before between after
+      (record { counts = was_read.counts; files = was_read.files; faults = was_read.read.2 }) was_read.once
+      was_read.read.0 was_read.read.1 (judged_script script before.files) result on
+
+  pub script_missed : (script : List ℕ) (before after : Shelved) (read : Option (Vec ℕ)) (result : Result Ending Halt)
+      → read ≡ None → Reads script before after (Ok read) → Misses script result
+      → Comes (needs script (λ text. on_queries (queries_of_text text))) before after result
+  script_missed script before after read (Ok ending) was got misses =
+      let missed : Reads script before after (Ok None) = subst (λ r. Reads script before after (Ok r)) was got in
+      comes_missing script (λ text. on_queries (queries_of_text text)) before after ending missed.counts missed.once
+      missed.files (judged_script script before.files) missed.read misses.0 misses.1
+  script_missed script before after read (Err halt) was got is =
+      comes_halted script (λ text. on_queries (queries_of_text text)) before after halt got.counts got.once got.files
+      (judged_script script before.files) (subst (Stops before after) (sym is) tt)
+
+  pub script_unread : (script : List ℕ) (before after : Shelved) (halt : Halt) → Reads script before after (Err halt)
+      → Comes (needs script (λ text. on_queries (queries_of_text text))) before after (Err halt)
+  script_unread script before after halt got =
+      comes_halted script (λ text. on_queries (queries_of_text text)) before after halt got.counts got.once got.files
+      (judged_script script before.files) got.read

@@ -1,0 +1,135 @@
+//! The command `serve`.
+
+ghost use Rattle.std.specs.Prelude.{◌≡◌, All, IfOk, Ok};
+ghost use Rattle.mr_query.specs.Script.{queries_of_text};
+ghost use Rattle.mr_query.specs.Word.{IsAskable};
+ghost use Rattle.mr_bundle.specs.Bundle.{IsShort, bundle_of};
+ghost use Rattle.mr_tool.specs.Ending.{Comes};
+ghost use Rattle.mr_tool.specs.Plan.{comes};
+ghost use Rattle.mr_tool.specs.Say.{held_in, say_script, say_serve, say_serve_of};
+
+use crate::ending::{Ending, Halt};
+use crate::fetching::unfetched;
+use crate::input::{bad_text, missing, queries_in, read};
+use crate::lines::served_line;
+use crate::opening::unopened;
+use crate::saving::save_text;
+use mr_bundle::{Proof, Text, prove_all, put_part};
+use mr_outside::{Gate, Shelf};
+use mr_query::Query;
+use mr_record::TextErr;
+use mr_store::Paged;
+use mr_tree::{Hash32, Snapshot};
+use std::alloc::{AllocError, Global};
+use std::thread::Threads;
+
+// The bundle of some proofs.
+fn bundled(alloc: Global, list: &[Proof]) -> Result<Text, AllocError>
+    requires { All IsShort list.now }
+    ensures { IfOk result (λ t. t.bytes.items ≡ bundle_of list.now) }
+{
+    let mut out = Text::new(alloc);
+    for proof in list {
+        put_part(&mut out, proof.as_slice())?;
+    }
+    Ok(out)
+}
+
+// The bundle for some queries on a map in memory, in a file, and the line on it.
+fn serve_queries<H: Hash32, S: Shelf, G: Gate, R: Threads + Sync>(
+    rt: &R,
+    alloc: Global,
+    nodes: &Snapshot<H>,
+    queries: &[Query],
+    bundle: &str,
+    shelf: &mut S,
+    gate: &G,
+) -> Result<Ending, Halt>
+    requires { All IsAskable queries.now }
+    ensures { let map = held_in nodes.now.nodes.items nodes.now.top in
+        Comes (comes (say_serve_of H.of bundle.now map (Ok queries.now))) (S.state shelf.old)
+        (S.state shelf.new) result }
+{
+    let list = prove_all::<H, G, R>(rt, alloc, nodes, queries, gate)?;
+    let text = bundled(alloc, &list)?;
+    let line = served_line(alloc, queries.len(), text.bytes().len())?;
+    save_text(alloc, line, bundle, text.bytes(), shelf)
+}
+
+// The same for the queries of a text, or its fault.
+fn serve_text<H: Hash32, S: Shelf, G: Gate, R: Threads + Sync>(
+    rt: &R,
+    alloc: Global,
+    nodes: &Snapshot<H>,
+    text: Vec<u8>,
+    bundle: &str,
+    shelf: &mut S,
+    gate: &G,
+) -> Result<Ending, Halt>
+    ensures { let map = held_in nodes.now.nodes.items nodes.now.top in
+        Comes (comes (say_serve_of H.of bundle.now map (queries_of_text text.items)))
+        (S.state shelf.old) (S.state shelf.new) result }
+{
+    match queries_in(alloc, text) {
+        Ok(queries) => {
+            serve_queries::<H, S, G, R>(rt, alloc, nodes, &queries, bundle, shelf, gate)
+        }
+        Err(TextErr::Text(fault)) => bad_text(alloc, &fault),
+        Err(TextErr::NoMemory) => Err(Halt::NoMemory),
+    }
+}
+
+// The same for the script in a file.
+fn serve_script<H: Hash32, S: Shelf, G: Gate, R: Threads + Sync>(
+    rt: &R,
+    alloc: Global,
+    nodes: &Snapshot<H>,
+    script: &str,
+    bundle: &str,
+    shelf: &mut S,
+    gate: &G,
+) -> Result<Ending, Halt>
+    ensures { let map = held_in nodes.now.nodes.items nodes.now.top in
+        Comes (say_script H.of script.now bundle.now map) (S.state shelf.old)
+        (S.state shelf.new) result }
+{
+    match read(alloc, script, shelf) {
+        Ok(Some(text)) => {
+            serve_text::<H, S, G, R>(rt, alloc, nodes, text, bundle, shelf, gate)
+        }
+        Ok(None) => missing(alloc, script),
+        Err(halt) => Err(halt),
+    }
+}
+
+// The proofs for the queries of a script on the map in a file, written to another one. The map is
+// taken into memory, once, and the script is read behind it. The shelf is handed back.
+pub(crate) fn serve<H: Hash32, S: Shelf, G: Gate, R: Threads + Sync>(
+    rt: &R,
+    alloc: Global,
+    map: &str,
+    script: &str,
+    bundle: &str,
+    shelf: S,
+    gate: &G,
+) -> (Result<Ending, Halt>, S)
+    ensures { Comes (say_serve H.of map.now script.now bundle.now) (S.state shelf)
+        (S.state result.1) result.0 }
+{
+    match Paged::<S, H>::open_map(alloc, shelf, map) {
+        Err((shelf, error)) => (unopened(alloc, map, &error), shelf),
+        Ok(paged) => {
+            let mut paged = paged;
+            match paged.snapshot() {
+                Err(error) => (unfetched(alloc, map, &error), paged.close()),
+                Ok(nodes) => {
+                    let mut shelf = paged.close();
+                    let came = serve_script::<H, S, G, R>(
+                        rt, alloc, &nodes, script, bundle, &mut shelf, gate,
+                    );
+                    (came, shelf)
+                }
+            }
+        }
+    }
+}
