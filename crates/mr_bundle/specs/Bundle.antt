@@ -1,5 +1,5 @@
 -- A bundle: proofs in order, each behind its length, and how its parts are read again.
-use Rattle.std.specs.Prelude.{ℕ, zero, suc, ◌+◌, ◌^◌, ◌<◌, ◌≤◌, nat_le, nat_lt, ◌&&◌, if◌then◌else◌, List, [], ◌∷◌, ◌++◌, length, take, drop, slice_range, Option, Some, None, flat_map}
+use Rattle.std.specs.Prelude.{◌≡◌, ℕ, zero, suc, ◌+◌, ◌^◌, ◌<◌, ◌≤◌, nat_le, nat_lt, ◌&&◌, if◌then◌else◌, List, [], ◌∷◌, ◌++◌, length, map, take, drop, slice_range, All, Option, Some, None, flat_map}
 use Rattle.std.specs.Int.{w32, from_be_bytes, to_be_bytes}
 use Rattle.mr_bundle.specs.declared.reading.Part.{Part}
 
@@ -65,3 +65,21 @@ pub record LiesIn (size : ℕ) (part : Part) : Type 0 where
 -- its bytes
 abbrev pub bytes_of : List ℕ → Part → List ℕ
 bytes_of bundle part = slice_range bundle part.start part.end
+
+-- what some parts hold
+abbrev pub held_in : List ℕ → List Part → List (List ℕ)
+held_in bundle parts = map (bytes_of bundle) parts
+
+-- ---- both ways
+
+-- the bytes are the bundle of these proofs, one for each of so many queries
+pub record IsBundleOf (bytes : List ℕ) (queries : ℕ) (proofs : List (List ℕ)) : Type 0 where
+  pub count : length proofs ≡ queries
+  pub short : All IsShort proofs
+  pub spelled : bytes ≡ bundle_of proofs
+
+-- nothing is broken, and these proofs are what the parts hold
+pub record AreRead (bytes : List ℕ) (list : List Part) (broken : Option ℕ)
+    (proofs : List (List ℕ)) : Type 0 where
+  pub whole : broken ≡ None
+  pub held : held_in bytes list ≡ proofs

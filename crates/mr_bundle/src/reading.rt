@@ -1,8 +1,9 @@
 //! The parts of a bundle.
 
-ghost use Rattle.std.specs.Prelude.{◌≡◌, ◌≤◌, List, ℕ, length, map, All, IfOk, IfSome, None};
-ghost use Rattle.mr_bundle.specs.Bundle.{LiesIn, IsShort, bundle_of, bytes_of, parts, part_at as whole_at};
+ghost use Rattle.std.specs.Prelude.{◌≡◌, ◌≤◌, List, ℕ, length, All, IfOk, IfSome, None};
+ghost use Rattle.mr_bundle.specs.Bundle.{AreRead, IsBundleOf, LiesIn, held_in, part_at as whole_at, parts};
 
+use mr_outside::Items;
 use mr_record::u32_of_bytes;
 use std::alloc::{AllocError, Global};
 
@@ -16,9 +17,9 @@ pub struct Part {
 /// The parts of a bundle that are whole, in order.
 #[derive(Drop)]
 pub struct Parts {
-    pub list: Vec<Part>,
-    /// Where reading stopped: the place of the length of the first part that is not whole, or, where
-    /// all are, of the first byte that is left.
+    pub list: Items<Part>,
+    /// Where reading stopped: the place of the length of the first part that is not whole, or,
+    /// where all are, of the first byte that is left.
     pub broken: Option<usize>,
 }
 
@@ -44,15 +45,12 @@ fn part_at(bytes: &[u8], at: usize) -> Option<Part>
     })
 }
 
-/// The parts of a bundle for so many queries. Part `i` is whole where four bytes of length and as
-/// many bytes as they say are there; the first part that is not breaks the bundle, and that part
-/// and all later ones are missing. Bytes that are left behind the last part break it too. It
-/// refuses for want of memory alone.
-pub fn read_bundle(alloc: Global, bytes: &[u8], queries: usize) -> Result<Parts, AllocError>
-    ensures list { IfOk result (λ p. p.list.items ≡ (parts bytes.now queries).list) }
+// What `read_bundle` answers, by the definition.
+fn cut_parts(alloc: Global, bytes: &[u8], queries: usize) -> Result<Parts, AllocError>
+    ensures list { IfOk result (λ p. p.list ≡ (parts bytes.now queries).list) }
     ensures broken { IfOk result (λ p. p.broken ≡ (parts bytes.now queries).broken) }
-    ensures lie { IfOk result (λ p. All (LiesIn (length bytes.now)) p.list.items) }
-    ensures few { IfOk result (λ p. length p.list.items ≤ queries) }
+    ensures lie { IfOk result (λ p. All (LiesIn (length bytes.now)) p.list) }
+    ensures few { IfOk result (λ p. length p.list ≤ queries) }
 {
     let mut list = Vec::new(alloc);
     let mut left = queries;
@@ -60,7 +58,7 @@ pub fn read_bundle(alloc: Global, bytes: &[u8], queries: usize) -> Result<Parts,
     while left > 0 {
         let Some(part) = part_at(bytes, at) else {
             return Ok(Parts {
-                list,
+                list: Items::of(list),
                 broken: Some(at),
             });
         };
@@ -69,5 +67,26 @@ pub fn read_bundle(alloc: Global, bytes: &[u8], queries: usize) -> Result<Parts,
         left -= 1;
     }
     let broken = if at < bytes.len() { Some(at) } else { None };
-    Ok(Parts { list, broken })
+    Ok(Parts {
+        list: Items::of(list),
+        broken,
+    })
+}
+
+/// The parts of a bundle for so many queries. Part `i` is whole where four bytes of length and as
+/// many bytes as they say are there; the first part that is not breaks the bundle, and that part
+/// and all later ones are missing. Bytes that are left behind the last part break it too. So a
+/// bundle that is not broken is the one spelling of the proofs that its parts hold. It refuses for
+/// want of memory alone.
+pub fn read_bundle(alloc: Global, bytes: &[u8], queries: usize) -> Result<Parts, AllocError>
+    ensures list { IfOk result (λ p. p.list ≡ (parts bytes.now queries).list) }
+    ensures broken { IfOk result (λ p. p.broken ≡ (parts bytes.now queries).broken) }
+    ensures lie { IfOk result (λ p. All (LiesIn (length bytes.now)) p.list) }
+    ensures few { IfOk result (λ p. length p.list ≤ queries) }
+    ensures written { IfOk result (λ p. p.broken ≡ None
+        → IsBundleOf bytes.now queries (held_in bytes.now p.list)) }
+    ensures read { (proofs : List (List ℕ)) → IsBundleOf bytes.now queries proofs
+        → IfOk result (λ p. AreRead bytes.now p.list p.broken proofs) }
+{
+    cut_parts(alloc, bytes, queries)
 }

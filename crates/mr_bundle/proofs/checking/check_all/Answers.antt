@@ -1,6 +1,3 @@
-use Rattle.std.proofs.Common.{◌≡◌, map, ap, sym, subst, ◌∙◌}
-use Rattle.std.specs.Prelude.{IfOk}
-use Rattle.mr_bundle.specs.Verdicts.{verdicts}
 use Rattle.mr_bundle.proofs.Zipped.{judged_all}
 use Rattle.mr_bundle.proofs.checking.check_all.Goals as goal
 

@@ -1,9 +1,4 @@
-use Rattle.std.proofs.Common.{rules, ◌≡◌, ℕ, ◌+◌, List, map, take, refl, sym, ap, ◌∙◌, arith}
-use Rattle.std.proofs.lemmas.List.{take_all}
-use Rattle.std.proofs.lemmas.List.Elements.{All-push}
-use Rattle.mr_query.specs.Word.{IsAskable}
-use Rattle.mr_bundle.specs.Verdicts.{asked, seen}
-use Rattle.mr_bundle.specs.declared.checking.Asked.{Asked}
+use Rattle.std.proofs.Common.{rules, ◌∙◌}
 use Rattle.mr_bundle.proofs.Zipped.{one_more, all_asked}
 use Rattle.mr_bundle.proofs.checking.pair.Goals as goal
 

@@ -1,4 +1,4 @@
-use Rattle.std.proofs.Common.{get_or, map, take, sym, ap, subst}
+use Rattle.std.proofs.Common.{get_or, map, take, sym, subst}
 use Rattle.std.specs.Prelude.{All}
 use Rattle.std.proofs.lemmas.List.{map_more, take_all}
 use Rattle.std.proofs.lemmas.List.Elements.{All-push}
