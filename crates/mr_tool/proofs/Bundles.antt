@@ -8,7 +8,7 @@ use Rattle.std.proofs.lemmas.List.{flat_map_more, length-map, length-take-le, ta
 use Rattle.std.proofs.lemmas.List.Elements.{recursion_from_All}
 use Rattle.std.proofs.lemmas.List.Sums.{sum_by-cons}
 use Rattle.std.proofs.lemmas.Slice.Zip.{length-zip}
-use Rattle.mr_outside.specs.Files.{Files}
+use Rattle.mr_outside.specs.Files.{Files, file}
 use Rattle.mr_outside.specs.State.{Shelved}
 use Rattle.mr_record.specs.RecordText.{text_of}
 use Rattle.mr_record.specs.declared.record.Record.{Record}
@@ -32,14 +32,15 @@ use Rattle.mr_tool.specs.Outcome.{Outcome, Nothing}
 use Rattle.mr_tool.specs.Plan.{Plan, Input, IsInput, comes}
 use Rattle.mr_tool.specs.Promises.{IsAccepted}
 use Rattle.mr_tool.specs.Refusal.{refused_line}
-use Rattle.mr_tool.specs.Say.{given_queries, needs, say_parts}
+use Rattle.mr_tool.specs.Counting.{pieces_of, reads_taken}
+use Rattle.mr_tool.specs.Say.{given, given_queries, needs, say_parts}
 use Rattle.mr_tool.specs.Saying.{ends, say_bundle, say_parts_of, say_serve_of, say_verdicts}
 use Rattle.mr_tool.specs.declared.ending.Ending.{Ending}
 use Rattle.mr_tool.specs.declared.ending.Halt.{Halt}
 use Rattle.mr_tool.specs.declared.ending.Halt.TheVariants as halts
 use Rattle.mr_tool.specs.declared.status.Status.{Status}
 use Rattle.mr_tool.specs.declared.status.Status.TheVariants.{Done, Refused, BadText}
-use Rattle.mr_tool.proofs.Counting.{once_none}
+use Rattle.mr_tool.proofs.Counting.{OnceFrom, TakenFrom, text_taken, once_none}
 use Rattle.mr_tool.proofs.Going.{comes_given, comes_halted, comes_missing, comes_on, judged_needs}
 use Rattle.mr_tool.proofs.Verdicts.{gives}
 
@@ -229,7 +230,8 @@ module _ (hash : List ℕ → List ℕ) (root bundle : List ℕ) where
   pub no_memory : (at : Shelved) (r : Result (List Query) TextFault) → Comes (on_queries r) at at (Err halts.NoMemory)
   no_memory at (Ok queries) =
       comes_halted bundle (λ bytes. comes (say_parts_of hash root queries bytes)) at at halts.NoMemory
-      (record { faults = omega arith; reads = omega arith }) (once_none at.files bundle at.reads) refl
+      (record { faults = omega arith; reads = omega arith })
+      (text_taken at.files bundle (say_parts_of hash root queries) at.reads at.reads (once_none at.files bundle at.reads)) refl
       (judged_needs bundle (say_parts_of hash root queries) at.files) tt
   no_memory at (Err fault) = comes_given (ends BadText (bad_text_line fault)) at (Err halts.NoMemory) refl refl
 
@@ -237,6 +239,22 @@ module _ (hash : List ℕ → List ℕ) (root bundle : List ℕ) where
       → AreJudged (needs script (λ text. on_queries (queries_of_text text))) told
   judged_script script told None is = tt
   judged_script script told (Some text) is = judged_queries told (queries_of_text text)
+
+  taken : (script : List ℕ) (told : Option Files) (before after : ℕ) → OnceFrom told script before after
+      → TakenFrom told script (λ text. on_queries (queries_of_text text)) before after
+  taken script None before after once = tt
+  taken script (Some files) before after once = by_input (file files script) once
+    where
+      in_pieces : (text : List ℕ) (r : Result (List Query) TextFault)
+          → reads_taken (on_queries r) (Some text) ≡ pieces_of (Some text)
+      in_pieces text (Ok queries) = refl
+      in_pieces text (Err fault) = refl
+
+      by_input : (input : Input) → after ≤ before + pieces_of input
+          → after ≤ before + reads_taken (given script (λ text. on_queries (queries_of_text text)) input) input
+      by_input None once = once
+      by_input (Some text) once =
+          subst (λ n. after ≤ before + n) (sym (in_pieces text (queries_of_text text))) once
 
   pub script_read : (script : List ℕ) (before between after : Shelved) (text : Vec ℕ) (read : Option (Vec ℕ))
       (result : Result Ending Halt) → read ≡ Some text → Reads script before between (Ok read)
@@ -246,22 +264,24 @@ module _ (hash : List ℕ → List ℕ) (root bundle : List ℕ) where
       let was_read : Reads script before between (Ok (Some text)) =
       subst (λ r. Reads script before between (Ok r)) was got in
       comes_on script (λ text. on_queries (queries_of_text text)) text.items before between after
-      (record { counts = was_read.counts; files = was_read.files; faults = was_read.read.2 }) was_read.once
-      was_read.read.0 was_read.read.1 (judged_script script before.files) result on
+      (record { counts = was_read.counts; files = was_read.files; faults = was_read.read.2 })
+      (taken script before.files before.reads between.reads was_read.once) was_read.read.0 was_read.read.1 (judged_script script before.files) result on
 
   pub script_missed : (script : List ℕ) (before after : Shelved) (read : Option (Vec ℕ)) (result : Result Ending Halt)
       → read ≡ None → Reads script before after (Ok read) → Misses script result
       → Comes (needs script (λ text. on_queries (queries_of_text text))) before after result
   script_missed script before after read (Ok ending) was got misses =
       let missed : Reads script before after (Ok None) = subst (λ r. Reads script before after (Ok r)) was got in
-      comes_missing script (λ text. on_queries (queries_of_text text)) before after ending missed.counts missed.once
-      missed.files (judged_script script before.files) missed.read misses.0 misses.1
+      comes_missing script (λ text. on_queries (queries_of_text text)) before after ending missed.counts
+      (taken script before.files before.reads after.reads missed.once) missed.files (judged_script script before.files) missed.read misses.0 misses.1
   script_missed script before after read (Err halt) was got is =
-      comes_halted script (λ text. on_queries (queries_of_text text)) before after halt got.counts got.once got.files
+      comes_halted script (λ text. on_queries (queries_of_text text)) before after halt got.counts
+      (taken script before.files before.reads after.reads got.once) got.files
       (judged_script script before.files) (subst (Stops before after) (sym is) tt)
 
   pub script_unread : (script : List ℕ) (before after : Shelved) (halt : Halt) → Reads script before after (Err halt)
       → Comes (needs script (λ text. on_queries (queries_of_text text))) before after (Err halt)
   script_unread script before after halt got =
-      comes_halted script (λ text. on_queries (queries_of_text text)) before after halt got.counts got.once got.files
+      comes_halted script (λ text. on_queries (queries_of_text text)) before after halt got.counts
+      (taken script before.files before.reads after.reads got.once) got.files
       (judged_script script before.files) got.read

@@ -1,10 +1,12 @@
 -- `serve` on a map that is opened page by page and taken into memory.
-use Rattle.std.proofs.Common.{◌≡◌, ℕ, ◌+◌, ◌≤◌, List, length, refl, sym, ap, subst, ◌∙◌, inl, inr, arith}
+use Rattle.std.proofs.Common.{◌≡◌, ℕ, ◌+◌, ◌<◌, ◌≤◌, ltb, List, length, refl, sym, ap, subst, ◌∙◌, inl, inr, arith}
 use Rattle.std.specs.Prelude.{Option, Some, None, IfErr, IfSome, IsSome, Result, Ok, Err}
+use Rattle.std.proofs.lemmas.Bool.{cases_Bool, ltb-true, ltb-false}
 use Rattle.mr_outside.specs.Files.{Files, file}
 use Rattle.mr_outside.specs.Faults.{Rose}
 use Rattle.mr_outside.specs.State.{Shelved}
 use Rattle.mr_outside.specs.Told.{OfFile, OfFiles}
+use Rattle.mr_record.specs.Bytes.{AreBytes}
 use Rattle.mr_record.specs.declared.version.Version.TheVariants.{One}
 use Rattle.mr_tree.specs.Nodes.{Standing, HasSomeCause}
 use Rattle.mr_tree.specs.Snapshot.{standing, standing_of, tree_of}
@@ -13,13 +15,15 @@ use Rattle.mr_tree.specs.declared.nodes.NodesErr.{NodesErr}
 use Rattle.mr_tree.specs.declared.nodes.Top.{Top}
 use Rattle.mr_tree.specs.declared.stored.Stored.{Stored}
 use Rattle.mr_tree.specs.declared.tree.Tree.{Tree}
+use Rattle.mr_pages.specs.Law.{IsMap}
+use Rattle.mr_pages.specs.PageBytes.{first_form}
 use Rattle.mr_pages.specs.declared.error.MapErr.{MapErr}
 use Rattle.mr_pages.specs.declared.head.MapHead.{MapHead}
 use Rattle.mr_pages.specs.declared.opening.Opened.{Opened}
 use Rattle.mr_query.specs.Script.{queries_of_text}
 use Rattle.mr_store.specs.Opening.{TellsMap, RefusesMap, pages_in}
 use Rattle.mr_store.specs.Stored.{Keeps, StandsFor, room}
-use Rattle.mr_tool.specs.Counting.{pieces_of, IsFewBeside, ReadsFew}
+use Rattle.mr_tool.specs.Counting.{pieces_of, IsFewServed, ReadsFew}
 use Rattle.mr_tool.specs.Ending.{Comes, Ends, GivesUp, GoesOn, NoneFalls, SaysRefusal, SaysUntold, printed_of}
 use Rattle.mr_tool.specs.Found.{as_map_error}
 use Rattle.mr_tool.specs.Outcome.{Outcome}
@@ -32,7 +36,7 @@ use Rattle.mr_tool.specs.declared.status.Status.TheVariants.{Outside}
 use Rattle.mr_tool.proofs.Audits.{untold_from}
 use Rattle.mr_tool.proofs.Counting.{AllowsFrom, few_pieces}
 use Rattle.mr_tool.proofs.Going.{judged_needs}
-use Rattle.mr_tool.proofs.Pages.{HasMap, at_input, few_beside, few_refused, few_there, has_map, told_halted, told_on, with_same}
+use Rattle.mr_tool.proofs.Pages.{HasMap, at_input, few_refused, few_there, has_map, told_halted, told_on, with_same}
 use Rattle.mr_tool.proofs.Rereading.{comes_told, comes_untold, fetch_blamed, fetch_stopped, last_leaves, needs_but, says_refused}
 
 same_tree : (a b : Tree) → ◌≡◌ {A = Option Tree} (Some a) (Some b) → a ≡ b
@@ -52,7 +56,7 @@ one_map s nodes top t e =
 -- a file was read, and what came of it may be said
 module _ (reading : Rereading) (name : List ℕ) (said : List ℕ → Outcome) (before after : Shelved)
     (none : before.files ≡ None) (may_miss : MaySay reading (says_missing name))
-    (may : (bytes : List ℕ) → MaySay reading (said bytes)) where
+    (may : (bytes : List ℕ) → AreBytes bytes → MaySay reading (said bytes)) where
   abbrev plan : Plan
   plan = needs name (λ b. comes (said b))
 
@@ -78,16 +82,16 @@ module _ (reading : Rereading) (name : List ℕ) (said : List ℕ → Outcome) (
       at_end (Some bytes) may = last_leaves (said bytes).written before.files after.files none may
 
   says_needs : (result : Result Ending Halt) → Comes plan before after result → SaysUntold reading before after result
-  says_needs (Ok ending) on = by_input on.came.0 on.came.3
+  says_needs (Ok ending) on = by_input on.came.0 on.came.2 on.came.3
     where
       outside : ending.status ≡ Outside → Rose before.faults after.faults
       outside is = elim (on.outside is) [ inl rose ↦ rose | inr lacks ↦ absurd (no_input lacks) ]
 
-      by_input : (input : Input)
+      by_input : (input : Input) → IfSome input AreBytes
           → Ends (given name (λ b. comes (said b)) input) before.files after.files ending.status (printed_of ending)
           → SaysUntold reading before after (Ok ending)
-      by_input None ends = (says_missing name, may_miss, ends.0, ends.1, ends.2, outside, on.quiet)
-      by_input (Some bytes) ends = (said bytes, may bytes, ends.0, ends.1, ends.2, outside, on.quiet)
+      by_input None are ends = (says_missing name, may_miss, ends.0, ends.1, ends.2, outside, on.quiet)
+      by_input (Some bytes) are ends = (said bytes, may bytes are, ends.0, ends.1, ends.2, outside, on.quiet)
   says_needs (Err halt) on = (on.came.0, stays on.came.1)
 
 -- ---- a map that is not opened
@@ -102,8 +106,31 @@ serving_refused hash map script bundle next before after e r = by_told before.fi
         → AllowsFrom o (rereads (serving hash map script bundle) next) before.reads after.reads
     by_told None few = tt
     by_told (Some files) few =
-        few_refused (Some files) map before.reads after.reads (λ bytes n. IsFewBeside hash bytes (file files script) n)
+        few_refused (Some files) map before.reads after.reads (λ bytes n. IsFewServed hash bytes (file files script) n)
         (λ bytes. inl (omega arith)) few
+
+-- the pages of the map, and the pieces of the script
+few_script : (hash : List ℕ → List ℕ) (h : MapHead) (bytes : List ℕ) (script : Input) (r m e : ℕ) (t : Tree)
+    (batch : ℕ) → IsMap first_form hash bytes t batch → h.pages ≡ pages_in bytes → m ≤ r + pages_in bytes
+    → (h.pages ≤ room + 1 → e ≤ m + pieces_of script)
+    → (n : ℕ) × (e ≤ r + n) × IsFewServed hash bytes script n
+few_script hash h bytes script r m e t batch stands pages few still = elim (cases_Bool (ltb (room + 1) h.pages)) [
+  | inl large ↦ (
+    e,
+    omega arith,
+    inr (
+      t,
+      batch,
+      stands,
+      inr (subst (λ n. room + 1 < n) pages (ltb-true (room + 1) h.pages large)),
+    ),
+  )
+  | inr small ↦ (
+    pages_in bytes + pieces_of script,
+    omega (arith, few, still (ltb-false (room + 1) h.pages small)),
+    inr (t, batch, stands, inl (omega arith)),
+  )
+]
 
 -- ---- a map that is opened, and taken into memory
 
@@ -136,8 +163,8 @@ module _ (hash : List ℕ → List ℕ) (sized : (xs : List ℕ) → length (has
       let few_are = at_input before.files files map has.bytes ⊥ (λ bytes. mid.reads ≤ before.reads + pages_in bytes)
       told has.input few in
       few_there before.files files map has.bytes before.reads after.reads
-      (λ files bytes n. IsFewBeside hash bytes (file files script) n) told has.input
-      (few_beside hash h has.bytes (file files script) before.reads mid.reads after.reads has.tree s.batch has.stands
+      (λ files bytes n. IsFewServed hash bytes (file files script) n) told has.input
+      (few_script hash h has.bytes (file files script) before.reads mid.reads after.reads has.tree s.batch has.stands
       pages_are few_are
       (λ small. omega (arith, pieces, kept.still (subst IsSome (sym (same ∙ told)) refl) small)))
 
@@ -161,7 +188,7 @@ module _ (hash : List ℕ → List ℕ) (sized : (xs : List ℕ) → length (has
           comes_untold reading (needs_map hash map on_map) before after none result counts
           (untold_from reading before end after result (kept.files ∙ same) (calm ∙ quiet)
           (says_needs reading script (said m) end after (kept.files ∙ same ∙ none) (inr (inl refl))
-          (λ bytes. inr (inr (m, well, bytes, refl))) result on))
+          (λ bytes are. inr (inr (m, well, bytes, are, refl))) result on))
       by_files (Some files) told =
           let has = has_map hash sized map before s mid same quiet answers files told in
           let m : Opened = record { tree = has.tree; batch = s.batch } in
@@ -191,8 +218,8 @@ module _ (hash : List ℕ → List ℕ) (sized : (xs : List ℕ) → length (has
           → Comes (rereads reading (needs_map hash map on_map)) before end result
       by_files None none =
           comes_untold reading (needs_map hash map on_map) before end none result counts
-          (says_refused reading map (λ said is. inl is) before end (kept.files ∙ same) (as_map_error e) result
-          (fetch_blamed s e before end shifted) says)
+          (says_refused hash reading map (λ said is. inl is) before end (kept.files ∙ same) (as_map_error e) result
+          (fetch_blamed hash s e before end shifted) says)
       by_files (Some files) told =
           let has = has_map hash sized map before s mid same quiet answers files told in
           let stop = fetch_stopped map s has.tree e before end result has.told shifted says in

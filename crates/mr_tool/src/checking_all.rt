@@ -31,7 +31,7 @@ fn check_bytes<H: Hash32, G: Gate, R: Threads + Sync>(
     ensures { GivesOrStops (say_parts_of H.of root.now queries.now bytes.now) result }
 {
     let parts = read_bundle(alloc, bytes, queries.len())?;
-    let list = check_all::<H, G, R>(rt, alloc, root, queries, bytes, &parts.list, gate)?;
+    let list = check_all::<H, G, R>(rt, alloc, root, queries, bytes, parts.list.as_slice(), gate)?;
     let accepted = count_accepted(&list);
     let text = judged_text(alloc, queries.len(), &list, accepted, parts.broken)?;
     let status = judged_status(&list, accepted, parts.broken);

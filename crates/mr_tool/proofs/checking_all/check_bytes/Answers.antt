@@ -7,8 +7,8 @@ use Rattle.mr_tool.proofs.checking_all.check_bytes.Goals as goal
 
 pub judged_text-requires-clause-few : goal.judged_text-requires-clause-few
 judged_text-requires-clause-few g c =
-    subst (λ l. length l ≤ length c.args.queries.now) (sym (c.deref-3.ensures.value ∙ c.in_ok-list.ensures))
-    (verdicts_few g.H.Hashes.of c.args.root.now c.args.queries.now c.args.bytes.now c.deref.result.now)
+    subst (λ l. length l ≤ length c.args.queries.now) (sym (c.deref-2.ensures.value ∙ c.in_ok-list.ensures))
+    (verdicts_few g.H.Hashes.of c.args.root.now c.args.queries.now c.args.bytes.now c.as_slice.result.now)
 
 pub returns : goal.returns
 returns g c =
@@ -18,9 +18,9 @@ returns g c =
     let bytes = c.args.bytes.now in
     let broken = c.in_ok-parts.parts.broken in
     gives_parts hash root queries bytes c.in_ok-list.list.items broken c.text.result
-    (c.in_ok-list.ensures ∙ ap (verdicts hash root queries bytes) (c.deref.ensures.value ∙ c.in_ok-parts.ensures.list))
+    (c.in_ok-list.ensures ∙ ap (verdicts hash root queries bytes) (c.as_slice.ensures ∙ c.in_ok-parts.ensures.list))
     c.in_ok-parts.ensures.broken
     (c.text.ensures.status ∙ c.judged_status-status.ensures
-    ∙ ap (λ l. bundle_status l broken) c.deref-4.ensures.value)
+    ∙ ap (λ l. bundle_status l broken) c.deref-3.ensures.value)
     (c.text.ensures.printed ∙ ap (λ (v : Vec ℕ). v.items) c.into_bytes.ensures ∙ c.in_ok-text.ensures
-    ∙ ap (λ l. bundle_text (length queries) l broken) c.deref-3.ensures.value)
+    ∙ ap (λ l. bundle_text (length queries) l broken) c.deref-2.ensures.value)

@@ -15,8 +15,8 @@ returns-in-Err-clause-cause g c =
     before.faults (g.S.Shelf.state c.copied.new.nodes.shelf).faults c.in-Err.stop c.refusal.result
     c.in-Err.ensures.cause c.refusal.ensures
 
-pub copied-requires-after_bounds : goal.copied-requires-after_bounds
-copied-requires-after_bounds g c κs within =
+pub copied-requires : goal.copied-requires
+copied-requires g c =
     let old = c.args.self.now in
     let files = (g.S.Shelf.state old.shelf).files in
     subst (IsTop g.H.Hashes.of (stands_for old.head (told_bytes files (string_bytes old.name))))
