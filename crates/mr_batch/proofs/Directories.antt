@@ -8,7 +8,7 @@ use Rattle.mr_record.specs.declared.record.Record.{Record}
 use Rattle.mr_record.specs.RecordText.{has_number}
 use Rattle.mr_batch.specs.Directory.{Entries, rect_at, rect_in, IsDirectoryOf}
 
-rect_in-push : (rs : List Record) (r : Record) (n : ℕ) → has_number r.number rs ≡ false →
+pub rect_in-push : (rs : List Record) (r : Record) (n : ℕ) → has_number r.number rs ≡ false →
     rect_in (rs ++ r ∷ []) n ≡ cond (eqb r.number n) (Some r.rect) (rect_in rs n)
 rect_in-push [] r n new = refl
 rect_in-push (s ∷ rs) r n new =
