@@ -21,7 +21,7 @@ rect_in-push (s ∷ rs) r n new =
     rw (t, f) refl)
     (λ (f : eqb s.number n ≡ false). rw f ih) (cases_Bool (eqb s.number n))
 
-rect_in-absent : (rs : List Record) (n : ℕ) → has_number n rs ≡ false → rect_in rs n ≡ None
+pub rect_in-absent : (rs : List Record) (n : ℕ) → has_number n rs ≡ false → rect_in rs n ≡ None
 rect_in-absent [] n none = refl
 rect_in-absent (r ∷ rs) n none =
     let parts = or_parts (eqb r.number n) (has_number n rs) none in

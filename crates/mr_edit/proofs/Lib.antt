@@ -18,4 +18,5 @@ pub mod Removed
 pub mod Counts
 pub mod Dropped
 pub mod Sound
+pub mod Directed
 pub mod Turns

@@ -17,7 +17,6 @@ mod removing;
 mod replaying;
 mod root;
 mod stand;
-mod step;
 
 pub use deleting::delete;
 pub use desk::Desk;
@@ -28,4 +27,3 @@ pub use listing::directory;
 pub use replaying::replay;
 pub use root::insert;
 pub use stand::Stand;
-pub use step::Step;
