@@ -1,5 +1,5 @@
 -- What a change of pages leaves.
-use Rattle.std.specs.Prelude.{◌≡◌, ⊤, ◌⊎◌, ℕ, ◌+◌, ◌<◌, ◌≤◌, length, List, [], ◌∷◌, ◌++◌, Option, Some, option_map, map}
+use Rattle.std.specs.Prelude.{◌≡◌, ⊤, ◌⊎◌, ℕ, ◌+◌, ◌<◌, ◌≤◌, length, List, [], ◌∷◌, ◌++◌, Option, Some, IsSomeAnd, option_map, map}
 use Rattle.mr_geom.specs.Rectangle.{Rectangle}
 use Rattle.mr_record.specs.declared.record.Record.{Record}
 use Rattle.mr_tree.specs.Digest.{Scheme}
@@ -125,6 +125,10 @@ pub record Raises (scheme : Scheme) (told : Option Book) (free : ℕ)
 abbrev pub NeverMap : EditErr → Type 0 → Type 0
 NeverMap (errors.Map fault) holds = holds → ⊥
 NeverMap e holds = ⊤
+
+-- the page is in the file
+abbrev pub CanWrite : (told : Option Book) → (page : ℕ) → Type 0
+CanWrite told page = IsSomeAnd told (λ b. page < b.size)
 
 -- a page can be taken: one is free, or the file may grow
 pub record CanTake (told : Option Book) (free : ℕ) : Type 0 where

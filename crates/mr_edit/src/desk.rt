@@ -1,12 +1,12 @@
 //! A file under edit and its free pages.
 
-ghost use Rattle.std.specs.Prelude.{◌≡◌, ◌≤◌, ◌+◌, length, map, All, IfOk, IfErr, ⊤};
+ghost use Rattle.std.specs.Prelude.{◌≡◌, ◌≤◌, ◌+◌, length, map, All, IfOk, IfErr};
 ghost use Rattle.mr_record.specs.declared.version.Version.TheVariants.{One};
 ghost use Rattle.mr_tree.specs.Digest.{by};
 ghost use Rattle.mr_tree.specs.declared.child.Child as child_types;
 ghost use Rattle.mr_tree.specs.declared.tree.Tree.TheOpen.{Leaf, Inner};
 ghost use Rattle.mr_pages.specs.Walking.{child_link};
-ghost use Rattle.mr_edit.specs.Outcome.{TakesPage, Writes, NeverMap, CanTake};
+ghost use Rattle.mr_edit.specs.Outcome.{TakesPage, Writes, NeverMap, CanTake, CanWrite};
 
 use crate::{EditErr, PageFile};
 use mr_pages::{FIRST, child_on};
@@ -47,7 +47,7 @@ pub(crate) fn write_leaf<H: Hashes, F: PageFile>(
     ensures writes { IfOk result (λ c. Writes (by One H.of) (F.told desk.old.file) desk.old.free
         (F.told desk.new.file) desk.new.free page (Leaf records.now) c) }
     ensures level { IfOk result (λ c. c.level ≡ 0) }
-    ensures sound { IfErr result (λ e. NeverMap e ⊤) }
+    ensures sound { IfErr result (λ e. NeverMap e (CanWrite (F.told desk.old.file) page)) }
 {
     let mut view = NodeView::new();
     view.set_leaf(records);
@@ -70,7 +70,7 @@ pub(crate) fn write_inner<H: Hashes, F: PageFile>(
     ensures writes { IfOk result (λ c. Writes (by One H.of) (F.told desk.old.file) desk.old.free
         (F.told desk.new.file) desk.new.free page (Inner (map child_link children.now)) c) }
     ensures level { IfOk result (λ c. c.level ≡ level) }
-    ensures sound { IfErr result (λ e. NeverMap e ⊤) }
+    ensures sound { IfErr result (λ e. NeverMap e (CanWrite (F.told desk.old.file) page)) }
 {
     let mut view = NodeView::new();
     view.set_inner(level, children);

@@ -1,11 +1,11 @@
 //! The pages of a map file under edit.
 
-ghost use Rattle.std.specs.Prelude.{◌≡◌, ⊤, ℕ, ◌<◌, ◌≤◌, Option, option_map, IfSome, IsSomeAnd, IfOk, IfErr, OnOk};
+ghost use Rattle.std.specs.Prelude.{◌≡◌, ℕ, ◌<◌, ◌≤◌, Option, option_map, IfSome, IsSomeAnd, IfOk, IfErr, OnOk};
 ghost use Rattle.mr_tree.specs.View.{size, level_of};
 ghost use Rattle.mr_pages.specs.Page.{page_limit};
 ghost use Rattle.mr_pages.specs.Walking.{page_node};
 ghost use Rattle.mr_edit.specs.Book.{Book, HasNode, HasFree, with_sheet, node_sheet, free_sheet, longer};
-ghost use Rattle.mr_edit.specs.Outcome.{NeverMap};
+ghost use Rattle.mr_edit.specs.Outcome.{NeverMap, CanWrite};
 
 use crate::EditErr;
 use mr_tree::{Child, NodeView};
@@ -36,15 +36,16 @@ pub trait PageFile {
     fn write(&mut self, page: u32, view: &NodeView) -> Result<(), EditErr>
         requires page { 1 ≤ page }
         requires some { 1 ≤ size view.now }
-        ensures sound { IfErr result (λ e. NeverMap e ⊤) }
+        ensures sound { IfErr result (λ e. NeverMap e (CanWrite (told self.old) page)) }
         ensures put { OnOk result (told self.new
             ≡ option_map (with_sheet page (node_sheet (page_node view.now))) (told self.old)) };
 
     /// Makes a page a free one.
     fn write_free(&mut self, page: u32, next: u32) -> Result<(), EditErr>
         requires { 1 ≤ page }
-        ensures { OnOk result (told self.new
-            ≡ option_map (with_sheet page (free_sheet next)) (told self.old)) };
+        ensures put { OnOk result (told self.new
+            ≡ option_map (with_sheet page (free_sheet next)) (told self.old)) }
+        ensures sound { IfErr result (λ e. NeverMap e (CanWrite (told self.old) page)) };
 
     /// Adds a page at the end, and answers its number.
     fn grow(&mut self) -> Result<u32, EditErr>

@@ -1,8 +1,9 @@
 //! Pages that are free again.
 
-ghost use Rattle.std.specs.Prelude.{◌≡◌, ◌≤◌, ◌∷◌, [], OnOk};
+ghost use Rattle.std.specs.Prelude.{◌≡◌, ◌≤◌, ◌∷◌, [], IfErr, OnOk};
 ghost use Rattle.mr_record.specs.declared.version.Version.TheVariants.{One};
 ghost use Rattle.mr_tree.specs.Digest.{by};
+ghost use Rattle.mr_edit.specs.Outcome.{NeverMap, CanWrite};
 ghost use Rattle.mr_edit.specs.Removal.{FreesPage, Frees};
 
 use crate::{Desk, EditErr, PageFile};
@@ -12,8 +13,9 @@ use mr_tree::{Child, Hashes, NodeView};
 // Makes a page a free one.
 pub(crate) fn free_page<F: PageFile>(desk: &mut Desk<F>, page: u32) -> Result<(), EditErr>
     requires { 1 ≤ page }
-    ensures { OnOk result (FreesPage (F.told desk.old.file) desk.old.free
+    ensures frees { OnOk result (FreesPage (F.told desk.old.file) desk.old.free
         (F.told desk.new.file) desk.new.free page) }
+    ensures sound { IfErr result (λ e. NeverMap e (CanWrite (F.told desk.old.file) page)) }
 {
     desk.file.write_free(page, desk.free)?;
     desk.free = page;

@@ -30,7 +30,7 @@ returns-in_ok-extend_from_slice g t c =
     c.args.child.now rs c.args.list.now.items c.extend_from_slice.new.self.items c.in_ok-read.ensures.same
     (subst (λ n. IfSome (g.F.PageFile.told c.args.desk.now.file) (λ b. HasNode b c.args.child.now.id (page_node n))) is
     c.in_ok-read.ensures.node)
-    c.in_ok-free_page.ensures
+    c.in_ok-free_page.ensures.frees
     (c.in_ok-extend_from_slice.ensures.items ∙ ap (λ us. c.args.list.now.items ++ us) c.records.ensures.value)
 
 pub returns-after-loop-one : goal.returns-after-loop-one
@@ -46,7 +46,7 @@ returns-after-loop-one g t c =
     c.args.child.now cs c.args.list.now.items c.loop-one.list.items c.in_ok-read.ensures.same
     (subst (λ n. IfSome (g.F.PageFile.told c.args.desk.now.file) (λ b. HasNode b c.args.child.now.id (page_node n))) (is
     ∙ ap node.Inner (sym c.children-one-items.ensures.value)) c.in_ok-read.ensures.node)
-    c.in_ok-free_page.ensures
+    c.in_ok-free_page.ensures.frees
     (subst (λ us. Frees (by One g.H.Hashes.of) (g.F.PageFile.told c.free_page.new.desk.file) c.free_page.new.desk.free
     (g.F.PageFile.told c.loop-one.desk.file) c.loop-one.desk.free us c.args.list.now.items c.loop-one.list.items)
     all c.loop-one.invariant)

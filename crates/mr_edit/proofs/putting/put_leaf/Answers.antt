@@ -3,7 +3,7 @@ use Rattle.mr_record.specs.declared.version.Version.TheVariants.{One}
 use Rattle.mr_tree.specs.Digest.{by}
 use Rattle.mr_tree.specs.declared.tree.Tree.TheOpen as node
 use Rattle.mr_edit.specs.Outcome.{Writes, CanPut}
-use Rattle.mr_edit.proofs.Sound.{never, can_take, handed}
+use Rattle.mr_edit.proofs.Sound.{never, can_take, can_write, both_write, still_write, handed}
 use Rattle.mr_edit.proofs.Splitting.{leaf_whole, leaf_split}
 use Rattle.mr_edit.proofs.putting.put_leaf.Goals as goal
 
@@ -71,3 +71,35 @@ returns-in_err-other-clause-sound g c =
     c.from_residual-in_err-other.ensures.1
     (never c.in_err-other.field-0.0 _ _ (can_take (g.F.PageFile.told c.args.desk.now.file) c.args.desk.now.free
     c.args.page) c.in_err-other.ensures.sound)
+
+pub returns-in_err-first-clause-sound : goal.returns-in_err-first-clause-sound
+returns-in_err-first-clause-sound g c =
+    handed c.from_residual-in_err-first.result c.in_err-first.field-0.0
+    (CanPut (g.F.PageFile.told c.args.desk.now.file) c.args.desk.now.free c.args.page)
+    c.from_residual-in_err-first.ensures.1
+    (never c.in_err-first.field-0.0 _ _
+    (λ k. (both_write (g.F.PageFile.told c.args.desk.now.file) (g.F.PageFile.told c.take_page.new.desk.file)
+    c.args.desk.now.free c.take_page.new.desk.free c.args.page c.in_ok-other.other c.in_ok-other.ensures.takes k).0)
+    c.in_err-first.ensures.sound)
+
+pub returns-in_err-second-clause-sound : goal.returns-in_err-second-clause-sound
+returns-in_err-second-clause-sound g c =
+    handed c.from_residual-in_err-second.result c.in_err-second.field-0.0
+    (CanPut (g.F.PageFile.told c.args.desk.now.file) c.args.desk.now.free c.args.page)
+    c.from_residual-in_err-second.ensures.1
+    (never c.in_err-second.field-0.0 _ _
+    (λ k. still_write (g.F.PageFile.told c.take_page.new.desk.file) (g.F.PageFile.told c.write_leaf.new.desk.file)
+    c.args.page
+    c.in_ok-other.other _ c.in_ok-first.ensures.writes.put
+    (both_write (g.F.PageFile.told c.args.desk.now.file) (g.F.PageFile.told c.take_page.new.desk.file)
+    c.args.desk.now.free c.take_page.new.desk.free c.args.page c.in_ok-other.other c.in_ok-other.ensures.takes k).1)
+    c.in_err-second.ensures.sound)
+
+pub returns-in_err-first-2-clause-sound : goal.returns-in_err-first-2-clause-sound
+returns-in_err-first-2-clause-sound g c =
+    handed c.from_residual-in_err-first-2.result c.in_err-first-2.field-0.0
+    (CanPut (g.F.PageFile.told c.args.desk.now.file) c.args.desk.now.free c.args.page)
+    c.from_residual-in_err-first-2.ensures.1
+    (never c.in_err-first-2.field-0.0 _ _ (can_write (g.F.PageFile.told c.args.desk.now.file) c.args.desk.now.free
+    c.args.page)
+    c.in_err-first-2.ensures.sound)

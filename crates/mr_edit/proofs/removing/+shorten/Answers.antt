@@ -46,5 +46,5 @@ returns g t c =
     e c.in_ok-read.ensures.same
     (subst (λ n. IfSome (g.F.PageFile.told c.args.desk.now.file) (λ b. HasNode b c.args.child.now.id (page_node n))) is
     c.in_ok-read.ensures.node)
-    c.if-children-ne1.false c.index-children-0.is c.in_ok-free_page.ensures h)
+    c.if-children-ne1.false c.index-children-0.is c.in_ok-free_page.ensures.frees h)
     c.shorten.ensures

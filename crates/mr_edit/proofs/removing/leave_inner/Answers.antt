@@ -13,7 +13,7 @@ returns-in_ok-append-clause-leaves g c =
     (g.F.PageFile.told c.free_page.new.desk.file) (g.F.PageFile.told c.free_subtrees.new.desk.file)
     c.args.desk.now.free c.free_page.new.desk.free c.free_subtrees.new.desk.free
     c.args.page c.args.children.now c.args.aside.items c.free_subtrees.new.list.items c.append.new.self.items few
-    c.in_ok-append.ensures.items c.in_ok-free_page.ensures
+    c.in_ok-append.ensures.items c.in_ok-free_page.ensures.frees
     (subst (λ (us : List Record). Frees (by One g.H.Hashes.of) (g.F.PageFile.told c.free_page.new.desk.file)
     c.free_page.new.desk.free (g.F.PageFile.told c.free_subtrees.new.desk.file) c.free_subtrees.new.desk.free
     c.args.children.now us c.free_subtrees.new.list.items)

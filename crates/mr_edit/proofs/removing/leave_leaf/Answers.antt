@@ -12,7 +12,7 @@ returns-in_ok-free_page-clause-leaves g c =
     leaf_gone (by One g.H.Hashes.of) (g.F.PageFile.told c.args.desk.now.file)
     (g.F.PageFile.told c.free_page.new.desk.file) c.args.desk.now.free c.free_page.new.desk.free c.args.page
     c.args.records.items
-    few c.in_ok-free_page.ensures
+    few c.in_ok-free_page.ensures.frees
 
 pub returns-in_ok-entry-clause-leaves : goal.returns-in_ok-entry-clause-leaves
 returns-in_ok-entry-clause-leaves g c =

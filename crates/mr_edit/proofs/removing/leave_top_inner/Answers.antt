@@ -9,7 +9,7 @@ returns-in_ok-entry g c =
     (g.F.PageFile.told c.free_page.new.desk.file) (g.F.PageFile.told c.shorten.new.desk.file) c.args.desk.now.free
     c.free_page.new.desk.free c.shorten.new.desk.free
     c.args.page c.args.children.now c.args.aside.items c.index-children-0.result c.in_ok-entry.entry
-    c.if-children-eq1.true c.index-children-0.is c.in_ok-free_page.ensures c.in_ok-entry.ensures
+    c.if-children-eq1.true c.index-children-0.is c.in_ok-free_page.ensures.frees c.in_ok-entry.ensures
 
 pub returns-in_ok-entry-2 : goal.returns-in_ok-entry-2
 returns-in_ok-entry-2 g c =

@@ -12,7 +12,7 @@ returns-then-len-eq0 g c =
     top_leaf_gone (by One g.H.Hashes.of) (g.F.PageFile.told c.args.desk.now.file)
     (g.F.PageFile.told c.free_page.new.desk.file) c.args.desk.now.free c.free_page.new.desk.free c.args.page
     c.args.records.items c.new.result.items
-    none c.new.ensures.items c.in_ok-free_page.ensures
+    none c.new.ensures.items c.in_ok-free_page.ensures.frees
 
 pub returns : goal.returns
 returns g c =
