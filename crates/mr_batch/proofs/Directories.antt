@@ -8,7 +8,7 @@ use Rattle.mr_record.specs.declared.record.Record.{Record}
 use Rattle.mr_record.specs.RecordText.{has_number}
 use Rattle.mr_batch.specs.Directory.{Entries, rect_at, rect_in, IsDirectoryOf}
 
-rect_in-push : (rs : List Record) (r : Record) (n : ℕ) → has_number r.number rs ≡ false →
+pub rect_in-push : (rs : List Record) (r : Record) (n : ℕ) → has_number r.number rs ≡ false →
     rect_in (rs ++ r ∷ []) n ≡ cond (eqb r.number n) (Some r.rect) (rect_in rs n)
 rect_in-push [] r n new = refl
 rect_in-push (s ∷ rs) r n new =
@@ -21,7 +21,7 @@ rect_in-push (s ∷ rs) r n new =
     rw (t, f) refl)
     (λ (f : eqb s.number n ≡ false). rw f ih) (cases_Bool (eqb s.number n))
 
-rect_in-absent : (rs : List Record) (n : ℕ) → has_number n rs ≡ false → rect_in rs n ≡ None
+pub rect_in-absent : (rs : List Record) (n : ℕ) → has_number n rs ≡ false → rect_in rs n ≡ None
 rect_in-absent [] n none = refl
 rect_in-absent (r ∷ rs) n none =
     let parts = or_parts (eqb r.number n) (has_number n rs) none in

@@ -1,8 +1,9 @@
 -- Changes of records in another order: what may be made of one list may be made of each other order
 -- of it, and leaves the same in some order. So trees that change as the records do follow them.
-use Rattle.std.proofs.Common.{◌≡◌, ℕ, zero, suc, ◌<◌, Bool, true, false, cond, not, eqb, ltb, ◌&&◌, List, [], ◌∷◌, length, get_or, set, swap, filter, Option, Some, None, refl, sym, subst, ◌∙◌, arith, ◌++◌}
+use Rattle.std.proofs.Common.{◌≡◌, ℕ, zero, suc, ◌<◌, Bool, true, false, cond, not, eqb, ltb, ◌&&◌, List, [], ◌∷◌, length, get_or, set, swap, filter, Option, Some, None, refl, sym, ap, subst, ◌∙◌, arith, ◌++◌}
 use Rattle.std.specs.Prelude.{◌≢◌, All}
 use Rattle.std.specs.List.Sorted.{IsPermutation}
+use Rattle.std.proofs.lemmas.Bool.{eqb-true}
 use Rattle.std.proofs.lemmas.List.Elements.{All-cons}
 use Rattle.std.proofs.lemmas.List.Kept.{AllPairs-cons}
 use Rattle.std.proofs.lemmas.List.Sorted.{IsPermutation-refl, IsPermutation-cons, IsPermutation-keeps, IsPermutation-trans, IsPermutation-append_left, IsPermutation-append_comm, IsPermutation-to_front, All-permutation, list_any-IsPermutation, length_permutation}
@@ -13,6 +14,7 @@ use Rattle.mr_batch.specs.declared.change.Change.{Change}
 use Rattle.mr_batch.specs.declared.change.Change.TheVariants.{Add, Remove}
 use Rattle.mr_batch.proofs.Numbered.{Apart, apart_head, apart_tail}
 use Rattle.mr_batch.proofs.Walking.{without-here, without-absent}
+use Rattle.mr_batch.specs.Directory.{rect_in}
 use Rattle.mr_batch.specs.Applied.{without, may_make, made, applied}
 
 -- ---- some of a list in another order
@@ -119,6 +121,38 @@ pub apart_permuted : (xs ys : List Record) → IsPermutation xs ys → Apart xs 
 apart_permuted xs ys p =
     (along_permutation ApartToo (λ zs. record { mixed = IsPermutation-refl zs; apart = λ all. all }) apart_skip
     apart_turn apart_chain xs ys p).apart
+
+-- the rectangle of each number is the same
+record RectsToo (xs ys : List Record) : Type 0 where
+  too : ApartToo xs ys
+  rects : Apart xs → (n : ℕ) → rect_in xs n ≡ rect_in ys n
+
+rects_turn : (r s : Record) (xs : List Record) (n : ℕ) (a b : Bool) → eqb r.number n ≡ a → eqb s.number n ≡ b →
+    r.number ≢ s.number → cond a (Some r.rect) (cond b (Some s.rect) (rect_in xs n))
+    ≡ cond b (Some s.rect) (cond a (Some r.rect) (rect_in xs n))
+rects_turn r s xs n true true p q other = absurd (other (eqb-true r.number n p ∙ sym (eqb-true s.number n q)))
+rects_turn r s xs n true false p q other = refl
+rects_turn r s xs n false true p q other = refl
+rects_turn r s xs n false false p q other = refl
+
+pub rects_permuted : (xs ys : List Record) → IsPermutation xs ys → Apart xs → (n : ℕ) → rect_in xs n ≡ rect_in ys n
+rects_permuted xs ys p =
+    (along_permutation RectsToo
+    (λ zs. record { too = record { mixed = IsPermutation-refl zs; apart = λ all. all }; rects = λ all n. refl })
+    (λ r us vs h. record {
+      too = apart_skip r us vs h.too;
+      rects = λ all n. ap (cond (eqb r.number n) (Some r.rect)) (h.rects (apart_tail r us all) n);
+    })
+    (λ r s zs. record {
+      too = apart_turn r s zs;
+      rects = λ all n.
+          rects_turn r s zs n (eqb r.number n) (eqb s.number n) refl refl
+          (head_differs r (s ∷ zs) all 0 s (omega arith));
+    })
+    (λ us vs ws h k. record {
+      too = apart_chain us vs ws h.too k.too;
+      rects = λ all n. h.rects all n ∙ k.rects (h.too.apart all) n;
+    }) xs ys p).rects
 
 -- new has the old records and r
 pub addition_leaves : (old new : List Record) (r : Record) → IsPermutation (r ∷ old) new →

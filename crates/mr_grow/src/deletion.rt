@@ -128,8 +128,8 @@ fn shorten(tree: Tree) -> Tree
     }
 }
 
-// Sorts records by rising number.
-fn sort(records: &mut Vec<Record>) -> Result<(), AllocError>
+/// Sorts records by rising number.
+pub fn sort_by_number(records: &mut Vec<Record>) -> Result<(), AllocError>
     ensures { OnOk result (records.new.items
         ≡ sorted_by_key (λ (r : types.Record). r.number) records.old.items) }
 {
@@ -157,7 +157,7 @@ pub fn shrink(alloc: Global, tree: Tree, number: u64) -> Result<Tree, AllocError
     ensures records { IfOk result (λ t. WithoutOne number (records_in tree) (records_in t)) }
 {
     let Left { tree, mut aside } = take_out(alloc, tree, number)?;
-    sort(&mut aside)?;
+    sort_by_number(&mut aside)?;
     put_all(alloc, shorten(tree), &aside)
 }
 

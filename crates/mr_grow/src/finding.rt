@@ -7,8 +7,8 @@ ghost use Rattle.mr_grow.specs.Found.{has as has_number, is_numbered, place_of};
 use mr_record::Record;
 use mr_tree::Tree;
 
-// The position of the first record with a number, the length where there is none.
-pub(crate) fn position_of(records: &[Record], number: u64) -> usize
+/// The position of the first record with a number, the length where there is none.
+pub fn position_of(records: &[Record], number: u64) -> usize
     ensures { result ≡ place_of (is_numbered number) records.now }
 {
     let mut at = 0;

@@ -12,5 +12,8 @@ mod insertion;
 mod nodes;
 mod parts;
 
-pub use deletion::{DropErr, delete, shrink};
+pub use deletion::{DropErr, delete, shrink, sort_by_number};
+pub use finding::position_of;
 pub use insertion::{GrowErr, grow, insert};
+pub use nodes::rects_of;
+pub use parts::part;

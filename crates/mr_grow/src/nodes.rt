@@ -22,8 +22,8 @@ pub struct Stand {
     pub second: Option<Tree>,
 }
 
-// The rectangles of some records.
-fn rects_of(alloc: Global, records: &[Record]) -> Result<Vec<Rect>, AllocError>
+/// The rectangles of some records, in map units.
+pub fn rects_of(alloc: Global, records: &[Record]) -> Result<Vec<Rect>, AllocError>
     ensures { IfOk result (λ v. v.items ≡ map (λ (r : types.Record). r.rect) records.now) }
 {
     records.iter().map(|record| record.rect).collect(alloc)

@@ -33,6 +33,7 @@ pub use opening::{Opened, open_plain};
 pub use page::{
     read_free_page, read_head, read_page, write_free_page, write_head_page, write_page,
 };
+pub use putting::child_on;
 pub use reading::page_bytes;
 pub use rule::{MapFault, MapRule};
 pub use saving::save_plain;

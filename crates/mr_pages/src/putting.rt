@@ -16,8 +16,8 @@ use crate::page::put_node;
 use mr_tree::{Child, Hashes, NodeView, Tree};
 use std::alloc::{AllocError, Global};
 
-// What is said of the node that a view shows, where it stands on this page.
-fn child_on<H: Hashes>(layout: Layout, view: &NodeView, page: u32) -> Child
+/// What is said of the node that a view shows, where it stands on this page.
+pub fn child_on<H: Hashes>(layout: Layout, view: &NodeView, page: u32) -> Child
     requires { 1 ≤ size view.now }
     ensures { child_link result ≡ record {
       page = page;

@@ -105,7 +105,7 @@ all_known : (hash : List ℕ → List ℕ) (s : Standing) → IsSome s.tree → 
 all_known hash s told [] may = tt
 all_known hash s told (c ∷ cs) may = (may.0.known told, all_known hash s told cs may.1)
 
-round_told : (hash : List ℕ → List ℕ) (s : Standing) (c : Child) (n : view.Node) → IsSome s.tree →
+pub round_told : (hash : List ℕ → List ℕ) (s : Standing) (c : Child) (n : view.Node) → IsSome s.tree →
     MayFetch hash s c → Shows hash s c n → is_round c n ≡ true
 round_told hash s c n told may shows = at (s.node c.id) (may.known told) shows.node
   where
@@ -131,7 +131,7 @@ filled_told root s t (Inner cs) is f =
     ∙ sym (length-map cs child_link) in
     ap not (le-ltb _ _ (inner_filled root (map child_link cs) is.0 count (subst (FilledAs root) is.1 f)))
 
-full_told : (hash : List ℕ → List ℕ) (s : Standing) (root : Bool) (c : Child) (n : view.Node) → IsSome s.tree →
+pub full_told : (hash : List ℕ → List ℕ) (s : Standing) (root : Bool) (c : Child) (n : view.Node) → IsSome s.tree →
     MayFetch hash s c → Shows hash s c n → IsFull s root c → Fills root n ≡ true
 full_told hash s root c n told may shows full = at (s.node c.id) refl (may.known told) shows.node
   where
@@ -199,13 +199,13 @@ pub may_next : (hash : List ℕ → List ℕ) (s s' : Standing) (child d : Child
 may_next hash s s' child d children i same shows within is =
     subst (λ x. MayFetch hash x d) (sym same) (subst (MayFetch hash s) (sym is) (shows.children i d within))
 
-split_list : {A : Type 0} (xs : List A) (i : ℕ) (x : A) → i < length xs → x ≡ get_or xs i x →
+pub split_list : {A : Type 0} (xs : List A) (i : ℕ) (x : A) → i < length xs → x ≡ get_or xs i x →
     xs ≡ take i xs ++ x ∷ drop (suc i) xs
 split_list [] i x within is = absurd (omega (arith, within))
 split_list (y ∷ ys) zero x within is = ap (λ z. z ∷ ys) (sym is)
 split_list (y ∷ ys) (suc i) x within is = ap (λ zs. y ∷ zs) (split_list ys i x (omega (arith, within)) is)
 
-split_some : (us : List Tree) (t : Tree) (os : List (Option Tree)) (ts : List Tree) →
+pub split_some : (us : List Tree) (t : Tree) (os : List (Option Tree)) (ts : List Tree) →
     map Some us ++ Some t ∷ os ≡ map Some ts → (vs : List Tree) × (ts ≡ us ++ t ∷ vs)
 split_some [] t os [] e = let no : ⊥ = cc in absurd no
 split_some [] t os (u ∷ ts) e =
@@ -217,11 +217,11 @@ split_some (v ∷ us) t os (u ∷ ts) e =
     (rest.0, λ i. sym one i ∷ rest.1 i)
 
 -- a tree that comes behind others in a row
-record InRow (root : Bool) (ns : List ℕ) (us : List Tree) (t : Tree) : Type 0 where
-  full : FilledAs false t
-  fresh : Fresh (ns ++ numbers_of (flat_map records us)) (numbers_of (records t))
+pub record InRow (root : Bool) (ns : List ℕ) (us : List Tree) (t : Tree) : Type 0 where
+  pub full : FilledAs false t
+  pub fresh : Fresh (ns ++ numbers_of (flat_map records us)) (numbers_of (records t))
 
-in_row : (root : Bool) (ns : List ℕ) (us vs ts : List Tree) (t : Tree) → ts ≡ us ++ t ∷ vs →
+pub in_row : (root : Bool) (ns : List ℕ) (us vs ts : List Tree) (t : Tree) → ts ≡ us ++ t ∷ vs →
     FilledAs root (tree.Inner ts) → Fresh ns (numbers_of (records (tree.Inner ts))) → InRow root ns us t
 in_row root ns us vs ts t is full fresh =
     let all = subst (AllByRecursion (every-Tree IsFilled)) is (filled_below root ts full) in

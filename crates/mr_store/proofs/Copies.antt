@@ -69,7 +69,7 @@ pub told_leaf : (s : Standing) (o : Option Tree) (rs : List Record) → IsSome o
 told_leaf s None rs some node = let none : IsSome {T = Tree} None = some in cc
 told_leaf s (Some t) rs some node = ap Some node
 
-told_inner : (s : Standing) (o : Option Tree) (cs : List Child) (us : List Tree) → IsSome o →
+pub told_inner : (s : Standing) (o : Option Tree) (cs : List Child) (us : List Tree) → IsSome o →
     IfSome o (λ t. IsNodeOf s t (Inner cs)) → map (λ (d : Child). s.node d.id) cs ≡ map Some us →
     o ≡ Some (tree.Inner us)
 told_inner s None cs us some node same = let none : IsSome {T = Tree} None = some in cc

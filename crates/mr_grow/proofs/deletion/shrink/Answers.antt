@@ -18,7 +18,7 @@ put_all-requires c =
 pub returns-clause-exact : goal.returns-clause-exact
 returns-clause-exact c =
     let short = c.shorten.ensures ∙ ap (λ (r : Rest). shortened r.tree) c.in_ok-tree.ensures in
-    let by_number = c.deref.ensures.value ∙ c.in_ok-sort.ensures ∙ ap
+    let by_number = c.deref.ensures.value ∙ c.in_ok-sort_by_number.ensures ∙ ap
     (λ (r : Rest). sorted_by_key (λ (s : Record). s.number) r.aside) c.in_ok-tree.ensures in
     IfOk-weaker c.put_all.result _ _ (λ t h. h ∙ (λ i. all_in (by_number i) (short i))) c.put_all.ensures
 

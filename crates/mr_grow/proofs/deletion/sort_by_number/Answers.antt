@@ -2,7 +2,7 @@ use Rattle.std.proofs.Common.{◌≡◌, rules}
 use Rattle.std.proofs.lemmas.List.Sorted.{answers_always}
 use Rattle.mr_record.proofs.Sorting.{sorted_by_key_is}
 use Rattle.mr_record.specs.declared.record.Record.{Record}
-use Rattle.mr_grow.proofs.deletion.sort.Goals as goal
+use Rattle.mr_grow.proofs.deletion.sort_by_number.Goals as goal
 
 pub returns : goal.returns
 returns c =

@@ -1,0 +1,14 @@
+use Rattle.std.proofs.Common.{take}
+use Rattle.mr_record.specs.declared.version.Version.TheVariants.{One}
+use Rattle.mr_tree.specs.Digest.{by}
+use Rattle.mr_edit.specs.Removal.{Frees}
+use Rattle.mr_edit.proofs.freeing.+free_subtree.Given as goal
+
+abbrev pub decreases-free_subtree : goal.decreases-free_subtree
+decreases-free_subtree g l = l.child.now.level
+
+-- the first ones are freed
+abbrev pub invariant-loop-one : goal.invariant-loop-one
+invariant-loop-one g l =
+    Frees (by One g.H.Hashes.of) (g.F.PageFile.told l.initial.desk.file) l.initial.desk.free
+    (g.F.PageFile.told l.desk.file) l.desk.free (take l.one-index l.one-items) l.initial.list.items l.list.items

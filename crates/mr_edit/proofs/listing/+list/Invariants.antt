@@ -1,0 +1,14 @@
+use Rattle.std.proofs.Common.{◌≡◌, take}
+use Rattle.mr_edit.specs.Listing.{ListsAll}
+use Rattle.mr_edit.proofs.listing.+list.Given as goal
+
+abbrev pub decreases-list : goal.decreases-list
+decreases-list g l = l.child.now.level
+
+-- the records below the first ones are listed
+abbrev pub invariant-loop-one : goal.invariant-loop-one
+invariant-loop-one g l = record {
+  kept : g.N.Nodes.kept l.fn.nodes l.nodes;
+  quiet : g.N.Nodes.faults l.nodes ≡ g.N.Nodes.faults l.fn.nodes;
+  all : ListsAll (g.N.Nodes.stands l.fn.nodes) (take l.one-index l.one-items) l.fn.dir l.dir;
+}

@@ -1,0 +1,72 @@
+use Rattle.std.proofs.Common.{◌≡◌, ◌<◌, ◌+◌, ◌++◌, ◌∷◌, [], length, map, sym, ap, subst, ◌∙◌, arith}
+use Rattle.std.specs.Prelude.{IfSome}
+use Rattle.std.proofs.lemmas.Result.{IfOk-weaker}
+use Rattle.std.proofs.lemmas.List.Elements.{recursion_from_All}
+use Rattle.mr_record.specs.declared.version.Version.TheVariants.{One}
+use Rattle.mr_tree.specs.Digest.{by}
+use Rattle.mr_tree.specs.View.{records_in, children_in, level_of}
+use Rattle.mr_tree.specs.declared.child.Child.{Child}
+use Rattle.mr_tree.specs.declared.tree.Tree.TheOpen as node
+use Rattle.mr_split.specs.Choice.{choose}
+use Rattle.mr_pages.specs.Walking.{page_node}
+use Rattle.mr_edit.specs.Book.{HasNode}
+use Rattle.mr_edit.specs.Held.{entries}
+use Rattle.mr_edit.specs.Outcome.{PutsInner}
+use Rattle.mr_edit.proofs.Levels.{AreBelow, replaced_below}
+use Rattle.mr_edit.proofs.Descending.{grows_leaf, grows_below}
+use Rattle.mr_edit.proofs.putting.+put_into.Goals as goal
+
+pub put_inner-requires-clause-below : goal.put_inner-requires-clause-below
+put_inner-requires-clause-below g t c =
+    let cs = c.in_ok-children.children.items in
+    let view = c.read.new.into in
+    let same : cs ≡ children_in view = c.in_ok-children.ensures.items ∙ c.children.ensures.value in
+    let shown : AreBelow (level_of view) (children_in view) = recursion_from_All
+    (λ (x : Child). x.level + 1 ≡ level_of view) (children_in view) c.children.ensures.alike in
+    let below : AreBelow c.level-level.result cs =
+    subst (λ n. AreBelow n cs) (sym c.level-level.ensures.value) (subst (AreBelow (level_of view)) (sym same) shown) in
+    let within : c.in_ok-at.at < length cs = omega (arith, c.in_ok-at.ensures.within, ap length c.deref.ensures.value)
+    in
+    subst (AreBelow c.level-level.result) (sym c.in_ok-children-2.ensures)
+    (replaced_below c.level-level.result c.in_ok-at.at cs (entries c.in_ok-stand.stand) c.index.result.now below within
+    c.index.ensures c.in_ok-stand.ensures.level)
+
+pub returns-in_ok-records-clause-grows : goal.returns-in_ok-records-clause-grows
+returns-in_ok-records-clause-grows g t c =
+    let view = c.read.new.into in
+    let rs = records_in view in
+    let is = c.records.ensures.leaf (sym c.level-level.ensures.value ∙ c.if-level-eq0.true) in
+    IfOk-weaker c.put_leaf.result _ _
+    (λ s h. grows_leaf (by One g.H.Hashes.of) (g.F.PageFile.told c.args.desk.now.file)
+    (g.F.PageFile.told c.read.new.self) (g.F.PageFile.told c.put_leaf.new.desk.file)
+    c.args.desk.now.free c.put_leaf.new.desk.free c.args.child.now c.args.one.now rs c.in_ok-records.records.items
+    (entries s) c.in_ok-read.ensures.same
+    (subst (λ n. IfSome (g.F.PageFile.told c.args.desk.now.file) (λ b. HasNode b c.args.child.now.id (page_node n))) is
+    c.in_ok-read.ensures.node)
+    (c.in_ok-records.ensures ∙ ap (λ us. us ++ c.args.one.now ∷ []) c.records.ensures.value) h)
+    c.put_leaf.ensures.puts
+
+pub returns-in_ok-children-2-clause-grows : goal.returns-in_ok-children-2-clause-grows
+returns-in_ok-children-2-clause-grows g t c =
+    let cs = c.in_ok-children.children.items in
+    let view = c.read.new.into in
+    let same : cs ≡ children_in view = c.in_ok-children.ensures.items ∙ c.children.ensures.value in
+    let high : 0 < c.level-level.result = omega (arith, c.if-level-eq0.false) in
+    let is = c.children.ensures.inner (subst (λ n. 0 < n) c.level-level.ensures.value high) in
+    let within : c.in_ok-at.at < length cs = omega (arith, c.in_ok-at.ensures.within, ap length c.deref.ensures.value)
+    in
+    IfOk-weaker c.put_inner.result _ _
+    (λ s h. grows_below (by One g.H.Hashes.of) (g.F.PageFile.told c.args.desk.now.file)
+    (g.F.PageFile.told c.read.new.self) (g.F.PageFile.told c.put_into.new.desk.file)
+    (g.F.PageFile.told c.put_inner.new.desk.file)
+    c.args.desk.now.free c.put_into.new.desk.free c.put_inner.new.desk.free c.args.child.now c.args.one.now
+    c.in_ok-at.at cs (entries c.in_ok-stand.stand) (entries s) c.index.result.now
+    c.in_ok-read.ensures.same
+    (subst (λ n. IfSome (g.F.PageFile.told c.args.desk.now.file) (λ b. HasNode b c.args.child.now.id (page_node n))) (is
+    ∙ ap node.Inner (sym same)) c.in_ok-read.ensures.node)
+    (c.in_ok-at.ensures.value ∙ ap (λ us. choose (map (λ (x : Child). x.rect) us) c.args.one.now.rect)
+    c.deref.ensures.value) within c.index.ensures c.in_ok-stand.ensures.grows
+    (subst (λ us. PutsInner (by One g.H.Hashes.of) (g.F.PageFile.told c.put_into.new.desk.file) c.put_into.new.desk.free
+    (g.F.PageFile.told c.put_inner.new.desk.file) c.put_inner.new.desk.free c.args.child.now.id us (entries s))
+    c.in_ok-children-2.ensures h))
+    c.put_inner.ensures.puts

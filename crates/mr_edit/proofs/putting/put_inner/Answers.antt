@@ -1,0 +1,123 @@
+use Rattle.std.proofs.Common.{◌≡◌, ◌<◌, ◌≤◌, ◌+◌, length, map, sym, ap, subst, ◌∙◌, arith}
+use Rattle.std.specs.Prelude.{All}
+use Rattle.std.proofs.lemmas.List.Elements.{All-from_recursion}
+use Rattle.mr_record.specs.declared.version.Version.TheVariants.{One}
+use Rattle.mr_tree.specs.Digest.{by}
+use Rattle.mr_tree.specs.declared.child.Child.{Child}
+use Rattle.mr_tree.specs.declared.tree.Tree.TheOpen as node
+use Rattle.mr_pages.specs.Walking.{child_link}
+use Rattle.mr_edit.specs.Outcome.{Writes, CanPut}
+use Rattle.mr_edit.proofs.Sound.{never, can_take, can_write, both_write, still_write, handed}
+use Rattle.mr_edit.proofs.Levels.{first_below, second_below}
+use Rattle.mr_edit.proofs.Splitting.{inner_whole, inner_split}
+use Rattle.mr_edit.proofs.putting.put_inner.Goals as goal
+
+pub write_inner-requires-clause-some : goal.write_inner-requires-clause-some
+write_inner-requires-clause-some g c = omega (
+  arith,
+  c.in_ok-front.ensures.first_size.least_is,
+  ap length c.deref.ensures.value,
+)
+
+pub write_inner-requires-clause-few : goal.write_inner-requires-clause-few
+write_inner-requires-clause-few g c = omega (
+  arith,
+  c.in_ok-front.ensures.first_size.most_is,
+  ap length c.deref.ensures.value,
+)
+
+pub write_inner-requires-then-len-clause-some : goal.write_inner-requires-then-len-clause-some
+write_inner-requires-then-len-clause-some g c = omega (
+  arith,
+  c.in_ok-front.ensures.second_size.least_is,
+  ap length c.deref-then-len.ensures.value,
+)
+
+pub write_inner-requires-then-len-clause-few : goal.write_inner-requires-then-len-clause-few
+write_inner-requires-then-len-clause-few g c = omega (
+  arith,
+  c.in_ok-front.ensures.second_size.most_is,
+  ap length c.deref-then-len.ensures.value,
+)
+
+pub write_inner-requires-clause-below : goal.write_inner-requires-clause-below
+write_inner-requires-clause-below g c =
+    let P = λ (x : Child). x.level + 1 ≡ c.args.level in
+    subst (All P) (sym (c.deref.ensures.value ∙ c.in_ok-front.ensures.first_is))
+    (All-from_recursion P _ (first_below c.args.level _ c.args.children.items c.requires.below))
+
+pub write_inner-requires-then-len-clause-below : goal.write_inner-requires-then-len-clause-below
+write_inner-requires-then-len-clause-below g c =
+    let P = λ (x : Child). x.level + 1 ≡ c.args.level in
+    subst (All P) (sym (c.deref-then-len.ensures.value ∙ c.in_ok-front.ensures.second_is))
+    (All-from_recursion P _ (second_below c.args.level _ c.args.children.items c.requires.below))
+
+pub returns-in_ok-second-clause-puts : goal.returns-in_ok-second-clause-puts
+returns-in_ok-second-clause-puts g c =
+    let xs = c.args.children.items in
+    let many : 64 < length xs = omega (arith, c.len.ensures, c.args.children.ok, c.if-len.true) in
+    inner_split (by One g.H.Hashes.of) (g.F.PageFile.told c.args.desk.now.file)
+    (g.F.PageFile.told c.take_page.new.desk.file) (g.F.PageFile.told c.write_inner.new.desk.file)
+    (g.F.PageFile.told c.write_inner-then-len.new.desk.file) c.args.desk.now.free c.take_page.new.desk.free
+    c.write_inner.new.desk.free c.write_inner-then-len.new.desk.free c.args.page c.in_ok-other.other
+    xs c.in_ok-front.front.items c.in_ok-front.back.items c.in_ok-first.first c.in_ok-second.second many
+    c.in_ok-front.ensures c.in_ok-other.ensures.takes
+    (subst (λ us. Writes (by One g.H.Hashes.of) (g.F.PageFile.told c.take_page.new.desk.file) c.take_page.new.desk.free
+    (g.F.PageFile.told c.write_inner.new.desk.file) c.write_inner.new.desk.free c.args.page
+    (node.Inner (map child_link us)) c.in_ok-first.first) c.deref.ensures.value c.in_ok-first.ensures.writes)
+    (subst (λ us. Writes (by One g.H.Hashes.of) (g.F.PageFile.told c.write_inner.new.desk.file)
+    c.write_inner.new.desk.free (g.F.PageFile.told c.write_inner-then-len.new.desk.file)
+    c.write_inner-then-len.new.desk.free c.in_ok-other.other (node.Inner (map child_link us)) c.in_ok-second.second)
+    c.deref-then-len.ensures.value c.in_ok-second.ensures.writes)
+
+pub returns-in_ok-first-2-clause-puts : goal.returns-in_ok-first-2-clause-puts
+returns-in_ok-first-2-clause-puts g c =
+    let xs = c.args.children.items in
+    let few : length xs ≤ 64 = omega (arith, c.len.ensures, c.args.children.ok, c.if-len.false) in
+    inner_whole (by One g.H.Hashes.of) (g.F.PageFile.told c.args.desk.now.file)
+    (g.F.PageFile.told c.write_inner-else-len.new.desk.file) c.args.desk.now.free
+    c.write_inner-else-len.new.desk.free c.args.page xs c.in_ok-first-2.first few
+    (subst (λ us. Writes (by One g.H.Hashes.of) (g.F.PageFile.told c.args.desk.now.file) c.args.desk.now.free
+    (g.F.PageFile.told c.write_inner-else-len.new.desk.file) c.write_inner-else-len.new.desk.free c.args.page
+    (node.Inner (map child_link us)) c.in_ok-first-2.first) c.deref-else-len.ensures.value
+    c.in_ok-first-2.ensures.writes)
+
+pub returns-in_err-other-clause-sound : goal.returns-in_err-other-clause-sound
+returns-in_err-other-clause-sound g c =
+    handed c.from_residual-in_err-other.result c.in_err-other.field-0.0
+    (CanPut (g.F.PageFile.told c.args.desk.now.file) c.args.desk.now.free c.args.page)
+    c.from_residual-in_err-other.ensures.1
+    (never c.in_err-other.field-0.0 _ _ (can_take (g.F.PageFile.told c.args.desk.now.file) c.args.desk.now.free
+    c.args.page) c.in_err-other.ensures.sound)
+
+pub returns-in_err-first-clause-sound : goal.returns-in_err-first-clause-sound
+returns-in_err-first-clause-sound g c =
+    handed c.from_residual-in_err-first.result c.in_err-first.field-0.0
+    (CanPut (g.F.PageFile.told c.args.desk.now.file) c.args.desk.now.free c.args.page)
+    c.from_residual-in_err-first.ensures.1
+    (never c.in_err-first.field-0.0 _ _
+    (λ k. (both_write (g.F.PageFile.told c.args.desk.now.file) (g.F.PageFile.told c.take_page.new.desk.file)
+    c.args.desk.now.free c.take_page.new.desk.free c.args.page c.in_ok-other.other c.in_ok-other.ensures.takes k).0)
+    c.in_err-first.ensures.sound)
+
+pub returns-in_err-second-clause-sound : goal.returns-in_err-second-clause-sound
+returns-in_err-second-clause-sound g c =
+    handed c.from_residual-in_err-second.result c.in_err-second.field-0.0
+    (CanPut (g.F.PageFile.told c.args.desk.now.file) c.args.desk.now.free c.args.page)
+    c.from_residual-in_err-second.ensures.1
+    (never c.in_err-second.field-0.0 _ _
+    (λ k. still_write (g.F.PageFile.told c.take_page.new.desk.file) (g.F.PageFile.told c.write_inner.new.desk.file)
+    c.args.page
+    c.in_ok-other.other _ c.in_ok-first.ensures.writes.put
+    (both_write (g.F.PageFile.told c.args.desk.now.file) (g.F.PageFile.told c.take_page.new.desk.file)
+    c.args.desk.now.free c.take_page.new.desk.free c.args.page c.in_ok-other.other c.in_ok-other.ensures.takes k).1)
+    c.in_err-second.ensures.sound)
+
+pub returns-in_err-first-2-clause-sound : goal.returns-in_err-first-2-clause-sound
+returns-in_err-first-2-clause-sound g c =
+    handed c.from_residual-in_err-first-2.result c.in_err-first-2.field-0.0
+    (CanPut (g.F.PageFile.told c.args.desk.now.file) c.args.desk.now.free c.args.page)
+    c.from_residual-in_err-first-2.ensures.1
+    (never c.in_err-first-2.field-0.0 _ _ (can_write (g.F.PageFile.told c.args.desk.now.file) c.args.desk.now.free
+    c.args.page)
+    c.in_err-first-2.ensures.sound)

@@ -1,0 +1,10 @@
+use Rattle.mr_record.specs.declared.version.Version.TheVariants.{One}
+use Rattle.mr_tree.specs.Digest.{by}
+use Rattle.mr_edit.proofs.Turns.{ReplaysFirst}
+use Rattle.mr_edit.proofs.replaying.replay.Given as goal
+
+-- the first ones were made
+abbrev pub invariant-loop-i : goal.invariant-loop-i
+invariant-loop-i g l =
+    ReplaysFirst (by One g.H.Hashes.of) (g.F.PageFile.told l.initial.desk.file) l.initial.desk.free l.initial.root
+    l.initial.dir (g.F.PageFile.told l.desk.file) l.desk.free l.root l.dir l.batch l.i

@@ -1,0 +1,34 @@
+-- Which tree a draft stands for: the file of a map without page 0, whose place is taken by what the
+-- draft keeps, the root's entry and the first free page.
+use Rattle.std.specs.Prelude.{◌≡◌, ℕ, List, ◌∷◌, ◌++◌, Option, Some, option_map, IfSome}
+use Rattle.mr_record.specs.declared.record.Record.{Record}
+use Rattle.mr_tree.specs.Digest.{Scheme}
+use Rattle.mr_tree.specs.declared.child.Child.{Child}
+use Rattle.mr_tree.specs.declared.tree.Tree.{Tree}
+use Rattle.mr_pages.specs.Stands.{Placed, link_of, IsWritten, IsChain, whole_tree, whole_pages}
+use Rattle.mr_pages.specs.Walking.{child_link}
+use Rattle.mr_grow.specs.Grow.{ins}
+use Rattle.mr_edit.specs.Book.{Book, HasNode, HasFree, Owned}
+use Rattle.mr_edit.specs.Outcome.{Uses}
+
+pub record Drafted (scheme : Scheme) (told : Option Book) (free : ℕ) (root : Option Child)
+    (t : Tree) : Type 0 where
+  pub book : Book
+  pub is : told ≡ Some book
+  pub placed : Option Placed
+  pub tree : whole_tree placed ≡ t
+  pub root_is : option_map child_link root ≡ option_map (link_of scheme) placed
+  pub written : IfSome placed (IsWritten scheme (HasNode book))
+  pub chain : List ℕ
+  pub linked : IsChain (HasFree book) free chain
+  pub owned : Owned book.size (0 ∷ (whole_pages placed ++ chain))
+
+-- an insertion: whatever the draft stood for, it then stands for that with the record, and pages
+-- were
+-- used as they may be
+abbrev pub Inserts : Scheme → (told : Option Book) → (free : ℕ) → Option Child →
+    (told' : Option Book) → (free' : ℕ) → Child → Record → Type 0
+Inserts scheme told free root told' free' c one =
+    (t : Tree) (d : Drafted scheme told free root t) →
+    (e : Drafted scheme told' free' (Some c) (ins one t))
+    × Uses d.book.size d.chain e.book.size e.chain

@@ -1,0 +1,31 @@
+-- What the entries of nodes stand for.
+use Rattle.std.specs.Prelude.{◌≡◌, ℕ, List, ◌∷◌, map}
+use Rattle.std.specs.List.{flat_map, AllZip}
+use Rattle.std.specs.Option.{option_to_list}
+use Rattle.mr_tree.specs.Digest.{Scheme}
+use Rattle.mr_tree.specs.declared.child.Child.{Child}
+use Rattle.mr_tree.specs.declared.tree.Tree.{Tree}
+use Rattle.mr_pages.specs.Stands.{Placed, tree_of, pages_of, link_of, IsWritten}
+use Rattle.mr_pages.specs.Walking.{child_link}
+use Rattle.mr_edit.specs.Book.{Book, HasNode}
+use Rattle.mr_edit.specs.declared.stand.Stand.{Stand}
+
+-- the entry is that of this tree, whose nodes stand on their pages
+pub record Names (scheme : Scheme) (b : Book) (c : Child) (P : Placed) : Type 0 where
+  pub said : child_link c ≡ link_of scheme P
+  pub written : IsWritten scheme (HasNode b) P
+
+-- each entry is that of its tree
+abbrev pub Name : Scheme → Book → List Child → List Placed → Type 0
+Name scheme b cs Ps = AllZip (Names scheme b) cs Ps
+
+-- the trees alone, and all their pages
+abbrev pub trees : List Placed → List Tree
+trees Ps = map tree_of Ps
+
+abbrev pub pages : List Placed → List ℕ
+pages Ps = flat_map pages_of Ps
+
+-- the entries in a subtree's place
+abbrev pub entries : Stand → List Child
+entries s = s.first ∷ option_to_list s.second

@@ -1,0 +1,57 @@
+//! The pages of a map file under edit.
+
+ghost use Rattle.std.specs.Prelude.{◌≡◌, ℕ, ◌<◌, ◌≤◌, Option, option_map, IfSome, IsSomeAnd, IfOk, IfErr, OnOk};
+ghost use Rattle.mr_tree.specs.View.{size, level_of};
+ghost use Rattle.mr_pages.specs.Page.{page_limit};
+ghost use Rattle.mr_pages.specs.Walking.{page_node};
+ghost use Rattle.mr_edit.specs.Book.{Book, HasNode, HasFree, with_sheet, node_sheet, free_sheet, longer};
+ghost use Rattle.mr_edit.specs.Outcome.{NeverMap, CanWrite};
+
+use crate::EditErr;
+use mr_tree::{Child, NodeView};
+
+/// A file whose page 0 is left alone, page by page, behind a cache.
+pub trait PageFile {
+    // its pages, where they are told
+    ghost told: { Self → Option Book };
+
+    /// Reads the node of which the child is the entry, and checks it against that.
+    fn read(&mut self, child: &Child, into: &mut NodeView) -> Result<(), EditErr>
+        ensures same { told self.new ≡ told self.old }
+        ensures page { OnOk result (1 ≤ child.now.id) }
+        ensures level { OnOk result (level_of into.new ≡ child.now.level) }
+        ensures some { OnOk result (1 ≤ size into.new) }
+        ensures node { OnOk result (IfSome (told self.old)
+            (λ b. HasNode b child.now.id (page_node into.new))) };
+
+    /// The page that a free page names.
+    fn read_free(&mut self, page: u32) -> Result<u32, EditErr>
+        requires { 1 ≤ page }
+        ensures same { told self.new ≡ told self.old }
+        ensures free { IfOk result (λ next. IfSome (told self.old) (λ b. HasFree b page next)) }
+        ensures sound { IfErr result (λ e. NeverMap e
+            (IsSomeAnd (told self.old) (λ b. (next : ℕ) × HasFree b page next))) };
+
+    /// Writes a node on a page.
+    fn write(&mut self, page: u32, view: &NodeView) -> Result<(), EditErr>
+        requires page { 1 ≤ page }
+        requires some { 1 ≤ size view.now }
+        ensures sound { IfErr result (λ e. NeverMap e (CanWrite (told self.old) page)) }
+        ensures put { OnOk result (told self.new
+            ≡ option_map (with_sheet page (node_sheet (page_node view.now))) (told self.old)) };
+
+    /// Makes a page a free one.
+    fn write_free(&mut self, page: u32, next: u32) -> Result<(), EditErr>
+        requires { 1 ≤ page }
+        ensures put { OnOk result (told self.new
+            ≡ option_map (with_sheet page (free_sheet next)) (told self.old)) }
+        ensures sound { IfErr result (λ e. NeverMap e (CanWrite (told self.old) page)) };
+
+    /// Adds a page at the end, and answers its number.
+    fn grow(&mut self) -> Result<u32, EditErr>
+        ensures told { OnOk result (told self.new ≡ option_map longer (told self.old)) }
+        ensures positive { IfOk result (λ page. 1 ≤ page) }
+        ensures last { IfOk result (λ page. IfSome (told self.old) (λ b. page ≡ b.size)) }
+        ensures sound { IfErr result (λ e. NeverMap e
+            (IsSomeAnd (told self.old) (λ b. b.size < page_limit))) };
+}

@@ -1,0 +1,191 @@
+//! Insertion below an entry.
+
+ghost use Rattle.std.specs.Prelude.{◌≡◌, ◌≤◌, ◌<◌, ◌+◌, ◌++◌, ◌∷◌, [], suc, length, map, take, drop, All, IfOk, IfErr};
+ghost use Rattle.std.specs.List.{AllByRecursion};
+ghost use Rattle.mr_record.specs.declared.record.Record as record_types;
+ghost use Rattle.mr_record.specs.declared.version.Version.TheVariants.{One};
+ghost use Rattle.mr_tree.specs.Digest.{by};
+ghost use Rattle.mr_tree.specs.declared.child.Child as child_types;
+ghost use Rattle.mr_split.specs.Choice.{choose as chosen};
+ghost use Rattle.mr_edit.specs.Held.{entries};
+ghost use Rattle.mr_edit.specs.Outcome.{Grows, PutsLeaf, PutsInner, Halves, NeverMap, CanPut};
+
+use crate::desk::{take_page, write_inner, write_leaf};
+use crate::{Desk, EditErr, PageFile, Stand};
+use mr_geom::Rect;
+use mr_grow::{part, rects_of};
+use mr_record::Record;
+use mr_split::{choose, sides};
+use mr_tree::{Child, Hashes, INNER_FILL, INNER_LIMIT, LEAF_FILL, LEAF_LIMIT, NodeView};
+use std::alloc::{AllocError, Global};
+
+// A list of records with one more.
+fn with_record(alloc: Global, records: &[Record], one: &Record) -> Result<Vec<Record>, AllocError>
+    ensures { IfOk result (λ v. v.items ≡ records.now ++ one.now ∷ []) }
+{
+    let mut list = Vec::from_slice(alloc, records)?;
+    list.push(*one)?;
+    Ok(list)
+}
+
+// Puts the entries that stand in an entry's place there.
+fn replace(mut children: Vec<Child>, at: usize, stand: Stand) -> Result<Vec<Child>, AllocError>
+    requires { at < length children.items }
+    ensures { IfOk result (λ v. v.items
+        ≡ take at children.items ++ (entries stand ++ drop (suc at) children.items)) }
+{
+    let Stand { first, second } = stand;
+    children.remove(at);
+    if let Some(second) = second {
+        children.insert(at, second)?;
+    }
+    children.insert(at, first)?;
+    Ok(children)
+}
+
+// The rectangles of some entries.
+fn outlines_of(alloc: Global, children: &[Child]) -> Result<Vec<Rect>, AllocError>
+    ensures { IfOk result (λ v. v.items ≡ map (λ (c : child_types.Child). c.rect) children.now) }
+{
+    children.iter().map(|child| child.rect).collect(alloc)
+}
+
+// The place of the child that takes a record.
+fn place_for(alloc: Global, children: &[Child], one: &Record) -> Result<usize, AllocError>
+    requires { 1 ≤ length children.now }
+    ensures value { IfOk result (λ at. at
+        ≡ chosen (map (λ (c : child_types.Child). c.rect) children.now) one.now.rect) }
+    ensures within { IfOk result (λ at. at < length children.now) }
+{
+    let rects = outlines_of(alloc, children)?;
+    Ok(choose(&rects, &one.rect))
+}
+
+// The records of a leaf that is split, dealt out to two.
+fn halve_records(
+    alloc: Global,
+    records: Vec<Record>,
+) -> Result<(Vec<Record>, Vec<Record>), AllocError>
+    requires { length records.items ≡ 17 }
+    ensures { IfOk result (λ p. Halves 6 16 (map (λ (r : record_types.Record). r.rect)
+        records.items) records.items p.0.items p.1.items) }
+{
+    let rects = rects_of(alloc, &records)?;
+    let sides = sides(alloc, &rects, LEAF_FILL as usize)?;
+    part(alloc, records, &sides)
+}
+
+// The entries of an inner node that is split, dealt out to two.
+fn halve_children(
+    alloc: Global,
+    children: Vec<Child>,
+) -> Result<(Vec<Child>, Vec<Child>), AllocError>
+    requires { length children.items ≡ 65 }
+    ensures { IfOk result (λ p. Halves 24 64 (map (λ (c : child_types.Child). c.rect)
+        children.items) children.items p.0.items p.1.items) }
+{
+    let rects = outlines_of(alloc, &children)?;
+    let sides = sides(alloc, &rects, INNER_FILL as usize)?;
+    part(alloc, children, &sides)
+}
+
+// Writes the records of a leaf, and splits it where they are too many.
+fn put_leaf<H: Hashes, F: PageFile>(
+    alloc: Global,
+    desk: &mut Desk<F>,
+    page: u32,
+    records: Vec<Record>,
+) -> Result<Stand, EditErr>
+    requires page { 1 ≤ page }
+    requires some { 1 ≤ length records.items }
+    requires few { length records.items ≤ 17 }
+    ensures puts { IfOk result (λ s. PutsLeaf (by One H.of) (F.told desk.old.file) desk.old.free
+        (F.told desk.new.file) desk.new.free page records.items (entries s)) }
+    ensures level { IfOk result
+        (λ s. AllByRecursion (λ (c : child_types.Child). c.level ≡ 0) (entries s)) }
+    ensures sound { IfErr result (λ e. NeverMap e
+        (CanPut (F.told desk.old.file) desk.old.free page)) }
+{
+    if records.len() > LEAF_LIMIT as usize {
+        let (front, back) = halve_records(alloc, records)?;
+        let other = take_page(desk)?;
+        let first = write_leaf::<H, F>(desk, page, &front)?;
+        let second = write_leaf::<H, F>(desk, other, &back)?;
+        Ok(Stand {
+            first,
+            second: Some(second),
+        })
+    } else {
+        let first = write_leaf::<H, F>(desk, page, &records)?;
+        Ok(Stand {
+            first,
+            second: None,
+        })
+    }
+}
+
+// Writes the entries of an inner node, and splits it where they are too many.
+fn put_inner<H: Hashes, F: PageFile>(
+    alloc: Global,
+    desk: &mut Desk<F>,
+    page: u32,
+    level: u8,
+    children: Vec<Child>,
+) -> Result<Stand, EditErr>
+    requires page { 1 ≤ page }
+    requires level { (1 ≤ level) × (level ≤ 7) }
+    requires some { 1 ≤ length children.items }
+    requires few { length children.items ≤ 65 }
+    requires below { AllByRecursion (λ (c : child_types.Child). c.level + 1 ≡ level)
+        children.items }
+    ensures puts { IfOk result (λ s. PutsInner (by One H.of) (F.told desk.old.file) desk.old.free
+        (F.told desk.new.file) desk.new.free page children.items (entries s)) }
+    ensures level { IfOk result
+        (λ s. AllByRecursion (λ (c : child_types.Child). c.level ≡ level) (entries s)) }
+    ensures sound { IfErr result (λ e. NeverMap e
+        (CanPut (F.told desk.old.file) desk.old.free page)) }
+{
+    if children.len() > INNER_LIMIT as usize {
+        let (front, back) = halve_children(alloc, children)?;
+        let other = take_page(desk)?;
+        let first = write_inner::<H, F>(desk, page, level, &front)?;
+        let second = write_inner::<H, F>(desk, other, level, &back)?;
+        Ok(Stand {
+            first,
+            second: Some(second),
+        })
+    } else {
+        let first = write_inner::<H, F>(desk, page, level, &children)?;
+        Ok(Stand {
+            first,
+            second: None,
+        })
+    }
+}
+
+// Puts a record into the subtree below an entry.
+pub(crate) fn put_into<H: Hashes, F: PageFile>(
+    alloc: Global,
+    desk: &mut Desk<F>,
+    child: &Child,
+    one: &Record,
+) -> Result<Stand, EditErr>
+    ensures grows { IfOk result (λ s. Grows (by One H.of) (F.told desk.old.file) desk.old.free
+        (F.told desk.new.file) desk.new.free child.now one.now (entries s)) }
+    ensures level { IfOk result
+        (λ s. AllByRecursion (λ (c : child_types.Child). c.level ≡ child.now.level) (entries s)) }
+{
+    let mut view = NodeView::new();
+    desk.file.read(child, &mut view)?;
+    let level = view.level();
+    if level == 0 {
+        let records = with_record(alloc, view.records(), one)?;
+        put_leaf::<H, F>(alloc, desk, child.id, records)
+    } else {
+        let children = Vec::from_slice(alloc, view.children())?;
+        let at = place_for(alloc, &children, one)?;
+        let stand = put_into::<H, F>(alloc, desk, &children[at], one)?;
+        let children = replace(children, at, stand)?;
+        put_inner::<H, F>(alloc, desk, child.id, level, children)
+    }
+}

@@ -1,0 +1,297 @@
+//! Deletion below an entry.
+
+ghost use Rattle.std.specs.Prelude.{◌≡◌, ◌≢◌, ◌≤◌, ◌<◌, ◌+◌, ◌++◌, ◌∷◌, [], suc, length, map, take, drop, true, false, IfOk, IfSome};
+ghost use Rattle.std.specs.List.{AllByRecursion};
+ghost use Rattle.std.specs.Option.{option_to_list};
+ghost use Rattle.mr_geom.specs.Rectangle.{union};
+ghost use Rattle.mr_record.specs.declared.version.Version.TheVariants.{One};
+ghost use Rattle.mr_tree.specs.Digest.{by};
+ghost use Rattle.mr_tree.specs.declared.child.Child as child_types;
+ghost use Rattle.mr_edit.specs.Removal.{LeavesLeaf, LeavesInner, Shortens, Searches};
+
+use crate::desk::{write_inner, write_leaf};
+use crate::freeing::{free_page, free_subtrees};
+use crate::{Desk, EditErr, Left, PageFile};
+use mr_geom::Rect;
+use mr_grow::position_of;
+use mr_pages::{MapFault, MapRule};
+use mr_record::Record;
+use mr_tree::{Child, Hashes, INNER_FILL, LEAF_FILL, NodeView};
+use std::alloc::{AllocError, Global};
+
+// Whether a rectangle lies in that of an entry.
+fn may_hold(child: &Child, rect: &Rect) -> bool
+    ensures { result ≡ false → union child.now.rect rect.now ≢ child.now.rect }
+{
+    child.rect.union(rect) == child.rect
+}
+
+// Writes what is left of a leaf below the root, or sets it aside.
+fn leave_leaf<H: Hashes, F: PageFile>(
+    alloc: Global,
+    desk: &mut Desk<F>,
+    page: u32,
+    records: Vec<Record>,
+) -> Result<Left, EditErr>
+    requires page { 1 ≤ page }
+    requires few { length records.items ≤ 16 }
+    ensures leaves { IfOk result (λ l. LeavesLeaf (by One H.of) false (F.told desk.old.file)
+        desk.old.free (F.told desk.new.file) desk.new.free page records.items
+        (option_to_list l.entry) l.aside.items) }
+    ensures level { IfOk result
+        (λ l. AllByRecursion (λ (c : child_types.Child). c.level ≡ 0) (option_to_list l.entry)) }
+{
+    if records.len() < LEAF_FILL as usize {
+        free_page(desk, page)?;
+        Ok(Left {
+            entry: None,
+            aside: records,
+        })
+    } else {
+        let entry = write_leaf::<H, F>(desk, page, &records)?;
+        Ok(Left {
+            entry: Some(entry),
+            aside: Vec::new(alloc),
+        })
+    }
+}
+
+// Writes what is left of a leaf that is the root.
+fn leave_top_leaf<H: Hashes, F: PageFile>(
+    alloc: Global,
+    desk: &mut Desk<F>,
+    page: u32,
+    records: Vec<Record>,
+) -> Result<Left, EditErr>
+    requires page { 1 ≤ page }
+    requires few { length records.items ≤ 16 }
+    ensures { IfOk result (λ l. LeavesLeaf (by One H.of) true (F.told desk.old.file) desk.old.free
+        (F.told desk.new.file) desk.new.free page records.items (option_to_list l.entry)
+        l.aside.items) }
+{
+    if records.len() == 0 {
+        free_page(desk, page)?;
+        Ok(Left {
+            entry: None,
+            aside: Vec::new(alloc),
+        })
+    } else {
+        let entry = write_leaf::<H, F>(desk, page, &records)?;
+        Ok(Left {
+            entry: Some(entry),
+            aside: Vec::new(alloc),
+        })
+    }
+}
+
+// Writes what is left of an inner node below the root, or sets all records below it aside.
+fn leave_inner<H: Hashes, F: PageFile>(
+    alloc: Global,
+    desk: &mut Desk<F>,
+    page: u32,
+    level: u8,
+    children: &[Child],
+    mut aside: Vec<Record>,
+) -> Result<Left, EditErr>
+    requires page { 1 ≤ page }
+    requires level { (1 ≤ level) × (level ≤ 7) }
+    requires few { length children.now ≤ 64 }
+    requires below { AllByRecursion (λ (c : child_types.Child). c.level + 1 ≡ level)
+        children.now }
+    ensures leaves { IfOk result (λ l. LeavesInner (by One H.of) false (F.told desk.old.file)
+        desk.old.free (F.told desk.new.file) desk.new.free page children.now aside.items
+        (option_to_list l.entry) l.aside.items) }
+    ensures level { IfOk result (λ l. AllByRecursion (λ (c : child_types.Child). c.level ≡ level)
+        (option_to_list l.entry)) }
+{
+    if children.len() < INNER_FILL as usize {
+        let mut records = Vec::new(alloc);
+        free_page(desk, page)?;
+        free_subtrees::<H, F>(desk, children, &mut records)?;
+        records.append(&mut aside)?;
+        Ok(Left {
+            entry: None,
+            aside: records,
+        })
+    } else {
+        let entry = write_inner::<H, F>(desk, page, level, children)?;
+        Ok(Left {
+            entry: Some(entry),
+            aside,
+        })
+    }
+}
+
+// The root that a node gives way to: itself, unless it has one child.
+fn shorten<H: Hashes, F: PageFile>(desk: &mut Desk<F>, child: &Child) -> Result<Child, EditErr>
+    ensures { IfOk result (λ c. Shortens (by One H.of) (F.told desk.old.file) desk.old.free
+        (F.told desk.new.file) desk.new.free child.now c) }
+{
+    let mut view = NodeView::new();
+    desk.file.read(child, &mut view)?;
+    if view.level() == 0 {
+        let _records = view.records();
+        return Ok(*child);
+    }
+    let children = view.children();
+    if children.len() != 1 {
+        return Ok(*child);
+    }
+    free_page(desk, child.id)?;
+    shorten::<H, F>(desk, &children[0])
+}
+
+// Writes what is left of an inner node that is the root, or frees it where one child is left.
+fn leave_top_inner<H: Hashes, F: PageFile>(
+    desk: &mut Desk<F>,
+    page: u32,
+    level: u8,
+    children: &[Child],
+    aside: Vec<Record>,
+) -> Result<Left, EditErr>
+    requires page { 1 ≤ page }
+    requires level { (1 ≤ level) × (level ≤ 7) }
+    requires few { length children.now ≤ 64 }
+    requires below { AllByRecursion (λ (c : child_types.Child). c.level + 1 ≡ level)
+        children.now }
+    ensures { IfOk result (λ l. LeavesInner (by One H.of) true (F.told desk.old.file) desk.old.free
+        (F.told desk.new.file) desk.new.free page children.now aside.items
+        (option_to_list l.entry) l.aside.items) }
+{
+    if children.is_empty() {
+        return Err(EditErr::Map(MapFault {
+            page,
+            rule: MapRule::Page,
+        }));
+    }
+    if children.len() == 1 {
+        free_page(desk, page)?;
+        let entry = shorten::<H, F>(desk, &children[0])?;
+        Ok(Left {
+            entry: Some(entry),
+            aside,
+        })
+    } else {
+        let entry = write_inner::<H, F>(desk, page, level, children)?;
+        Ok(Left {
+            entry: Some(entry),
+            aside,
+        })
+    }
+}
+
+// The same by whether it is the root.
+fn leave<H: Hashes, F: PageFile>(
+    alloc: Global,
+    desk: &mut Desk<F>,
+    page: u32,
+    level: u8,
+    children: &[Child],
+    aside: Vec<Record>,
+    root: bool,
+) -> Result<Left, EditErr>
+    requires page { 1 ≤ page }
+    requires level { (1 ≤ level) × (level ≤ 7) }
+    requires few { length children.now ≤ 64 }
+    requires below { AllByRecursion (λ (c : child_types.Child). c.level + 1 ≡ level)
+        children.now }
+    ensures leaves { IfOk result (λ l. LeavesInner (by One H.of) root (F.told desk.old.file)
+        desk.old.free (F.told desk.new.file) desk.new.free page children.now aside.items
+        (option_to_list l.entry) l.aside.items) }
+    ensures level { IfOk result (λ l. root ≡ false → AllByRecursion
+        (λ (c : child_types.Child). c.level ≡ level) (option_to_list l.entry)) }
+{
+    if root {
+        leave_top_inner::<H, F>(desk, page, level, children, aside)
+    } else {
+        leave_inner::<H, F>(alloc, desk, page, level, children, aside)
+    }
+}
+
+// The same of a leaf.
+fn leave_records<H: Hashes, F: PageFile>(
+    alloc: Global,
+    desk: &mut Desk<F>,
+    page: u32,
+    records: Vec<Record>,
+    root: bool,
+) -> Result<Left, EditErr>
+    requires page { 1 ≤ page }
+    requires few { length records.items ≤ 16 }
+    ensures leaves { IfOk result (λ l. LeavesLeaf (by One H.of) root (F.told desk.old.file)
+        desk.old.free (F.told desk.new.file) desk.new.free page records.items
+        (option_to_list l.entry) l.aside.items) }
+    ensures level { IfOk result (λ l. root ≡ false → AllByRecursion
+        (λ (c : child_types.Child). c.level ≡ 0) (option_to_list l.entry)) }
+{
+    if root {
+        leave_top_leaf::<H, F>(alloc, desk, page, records)
+    } else {
+        leave_leaf::<H, F>(alloc, desk, page, records)
+    }
+}
+
+// The entries with what stands in the place of one.
+fn replaced(
+    alloc: Global,
+    children: &[Child],
+    at: usize,
+    entry: Option<Child>,
+) -> Result<Vec<Child>, AllocError>
+    requires { at < length children.now }
+    ensures { IfOk result (λ v. v.items
+        ≡ take at children.now ++ (option_to_list entry ++ drop (suc at) children.now)) }
+{
+    let mut list = Vec::from_slice(alloc, children)?;
+    list.remove(at);
+    if let Some(entry) = entry {
+        list.insert(at, entry)?;
+    }
+    Ok(list)
+}
+
+// Takes a record out of the subtree below an entry, if it is there. Only nodes whose rectangle
+// holds the record's are read.
+pub(crate) fn take_out<H: Hashes, F: PageFile>(
+    alloc: Global,
+    desk: &mut Desk<F>,
+    child: &Child,
+    number: u64,
+    rect: &Rect,
+    root: bool,
+) -> Result<Option<Left>, EditErr>
+    ensures searches { IfOk result (λ found. Searches (by One H.of) root (F.told desk.old.file)
+        desk.old.free (F.told desk.new.file) desk.new.free child.now number rect.now found) }
+    ensures level { IfOk result (λ found. root ≡ false → IfSome found
+        (λ l. AllByRecursion (λ (c : child_types.Child). c.level ≡ child.now.level)
+        (option_to_list l.entry))) }
+{
+    let mut view = NodeView::new();
+    desk.file.read(child, &mut view)?;
+    let level = view.level();
+    if level == 0 {
+        let mut records = Vec::from_slice(alloc, view.records())?;
+        let at = position_of(&records, number);
+        if at >= records.len() {
+            return Ok(None);
+        }
+        records.remove(at);
+        Ok(Some(leave_records::<H, F>(alloc, desk, child.id, records, root)?))
+    } else {
+        let children = view.children();
+        for at in 0..children.len() {
+            if !may_hold(&children[at], rect) {
+                continue;
+            }
+            let found = take_out::<H, F>(alloc, desk, &children[at], number, rect, false)?;
+            let Some(left) = found else {
+                continue;
+            };
+            let Left { entry, aside } = left;
+            let rest = replaced(alloc, children, at, entry)?;
+            let left = leave::<H, F>(alloc, desk, child.id, level, &rest, aside, root)?;
+            return Ok(Some(left));
+        }
+        Ok(None)
+    }
+}
