@@ -5,7 +5,7 @@ ghost use Rattle.std.specs.Prelude.{◌≡◌};
 use crate::assertions::{all_hold, holds};
 use crate::bench::{file_of, ran, ran_on, shelf_of};
 use mr_outside::{MemShelf, NoGate, Shelf, ShelfErr};
-use mr_tool::Status::{self, BadMap, Done};
+use mr_tool::Status::{self, BadMap, Done, Outside};
 use mr_tree::XorHash;
 use std::alloc::{AllocError, Global};
 use std::process::Abort;
@@ -66,11 +66,12 @@ fn a_large_map_is_read_once_and_then_by_nodes(rt: HostRuntime) {
 }
 
 // Tells nothing, and gives the bytes of a map and of a proof. After so many reads one byte of the
-// map is another, or nothing is left of it.
+// map is another, or nothing is left of it, or it is gone.
 #[derive(Drop)]
 struct Turned {
     map: Vec<u8>,
     proof: Vec<u8>,
+    faults: u64,
     reads: u64,
     after: u64,
     turn: Turn,
@@ -81,14 +82,16 @@ enum Turn {
     No,
     Byte(usize, u8),
     Cut,
+    Gone,
 }
 
 impl Turned {
     fn turn(&mut self)
-        ensures { self.new.reads ≡ self.old.reads }
+        ensures reads { self.new.reads ≡ self.old.reads }
+        ensures faults { self.new.faults ≡ self.old.faults }
     {
         match self.turn {
-            Turn::No => {}
+            Turn::No | Turn::Gone => {}
             Turn::Byte(at, byte) => {
                 if at < self.map.len() {
                     self.map[at] = byte;
@@ -96,6 +99,11 @@ impl Turned {
             }
             Turn::Cut => self.map.truncate(0),
         }
+    }
+
+    // Whether there is no file of this name any more.
+    fn is_gone(&self, name: &str) -> bool {
+        name == "m" && self.reads >= self.after && matches!(self.turn, Turn::Gone)
     }
 
     fn bytes(&self, name: &str) -> &[u8] {
@@ -110,13 +118,17 @@ impl Turned {
 impl Shelf for Turned {
     ghost use Rattle.mr_outside.specs.Edge.{untold_shelf};
 
-    ghost state = { λ s. untold_shelf 0 s.reads };
+    ghost state = { λ s. untold_shelf s.faults s.reads };
 
     fn size(&mut self, name: &str) -> Result<u64, ShelfErr> {
         Ok(self.bytes(name).len() as u64)
     }
 
     fn read_at(&mut self, name: &str, at: u64, into: &mut [u8]) -> Result<usize, ShelfErr> {
+        if self.is_gone(name) {
+            self.faults = self.faults.saturating_add(1);
+            return Err(ShelfErr::Missing);
+        }
         if self.reads >= self.after {
             self.turn();
         }
@@ -155,7 +167,8 @@ struct Row {
     text: &'static str,
 }
 
-// Page 3 is the first leaf's, which is not kept when the last of 320 pages was read.
+// Page 3 is the first leaf's, and page 130 the third inner node's below the root, none of which is
+// kept when it is sought again. The first child of page 130 is page 131.
 const ROWS: &[Row] = &[
     Row {
         name: "a proof of a map that stays",
@@ -186,6 +199,20 @@ const ROWS: &[Row] = &[
         text: "bad map page 3 Page\n",
     },
     Row {
+        name: "a proof of a map that is gone",
+        words: WHOLE,
+        turn: Turn::Gone,
+        status: Outside,
+        text: "missing m\n",
+    },
+    Row {
+        name: "a proof of a map with a child behind its end",
+        words: WHOLE,
+        turn: Turn::Byte(532_483, 0xff),
+        status: BadMap,
+        text: "bad map page 4278190211 Outside\n",
+    },
+    Row {
         name: "an audit on a map that stays",
         words: WHOLE_AUDIT,
         turn: Turn::No,
@@ -199,6 +226,20 @@ const ROWS: &[Row] = &[
         status: BadMap,
         text: "bad map page 3 Changed held ",
     },
+    Row {
+        name: "an audit on a map that is gone",
+        words: WHOLE_AUDIT,
+        turn: Turn::Gone,
+        status: Outside,
+        text: "missing m\n",
+    },
+    Row {
+        name: "an audit on a map with a child behind its end",
+        words: WHOLE_AUDIT,
+        turn: Turn::Byte(532_483, 0xff),
+        status: BadMap,
+        text: "bad map page 4278190211 Outside\n",
+    },
 ];
 
 // Whether the command line ends so over the map and the proof of a shelf.
@@ -211,6 +252,7 @@ fn is_so<R: Threads + Sync>(
     let turned = Turned {
         map: file_of(alloc, shelf, "m")?,
         proof: file_of(alloc, shelf, "p")?,
+        faults: 0,
         reads: 0,
         after: 320,
         turn: row.turn,
