@@ -3,10 +3,12 @@
 
 use crate::assertions::holds;
 use crate::bench::{ran, shelf_of};
+use crate::bundles::BOTH;
 use crate::joined::{numbers, plain};
 use crate::maps::SEVENTEEN;
 use crate::parts::Part::Text;
-use mr_outside::Gate;
+use crate::rows::SEVEN;
+use mr_outside::{Gate, MemShelf, NoGate};
 use mr_record::read_lines;
 use mr_tool::Status;
 use mr_tree::Sha;
@@ -188,5 +190,81 @@ fn gate_build(rt: HostRuntime) {
         &rt,
         "the first is held",
         is_built_holding(&rt, rt.alloc(), 0, 1),
+    );
+}
+
+// Whether no piece was held to its last turn, and both passed with these numbers.
+fn is_held(gate: &Holding, numbers: &[u64]) -> bool {
+    gate.expired.load(Ordering::SeqCst) == 0 && is_passed(&gate.passages, numbers)
+}
+
+// A shelf with the map of one record, and a script of two queries.
+fn with_map<R: Threads + Sync>(rt: &R, alloc: Global) -> Result<MemShelf, AllocError> {
+    let files = &[("r", &[Text(SEVEN)] as &[_]), ("s", &[Text(BOTH)])];
+    let shelf = shelf_of(alloc, files, &[])?;
+    let (_, _, left) = ran::<Sha, _, _, R>(rt, alloc, "build m r", shelf, &[], &NoGate)?;
+    Ok(left)
+}
+
+// Whether those queries are proved through a gate that holds one of them, each with the length of
+// its proof.
+fn is_served_holding<R: Threads + Sync>(
+    rt: &R,
+    alloc: Global,
+    held: usize,
+    awaited: usize,
+) -> Result<bool, AllocError> {
+    let gate = gate_that_holds(alloc, held, awaited)?;
+    let shelf = with_map(rt, alloc)?;
+    let (status, said, _) = ran::<Sha, _, _, R>(rt, alloc, "serve m s u", shelf, &[], &gate)?;
+    Ok(status == Status::Done && said.as_slice() == b"served 2 130\n" && is_held(&gate, &[50, 72]))
+}
+
+#[test]
+fn gate_serve(rt: HostRuntime) {
+    holds(
+        &rt,
+        "the second is held",
+        is_served_holding(&rt, rt.alloc(), 1, 0),
+    );
+    holds(
+        &rt,
+        "the first is held",
+        is_served_holding(&rt, rt.alloc(), 0, 1),
+    );
+}
+
+// Against the root of that map, from a program of another language.
+const CHECK: &str =
+    "check-all 716d2dec7b832d185f91843ff8c9a4cc84e0d747d8631967f03309e3076584b6 s u";
+
+const VERDICTS: &[u8] =
+    b"query 1 ok 1\n7 0 0 0 0 -\nquery 2 ok 0\naccepted 2 refused 0 missing 0\n";
+
+// Whether their proofs are checked so, each with the number of records that it answers.
+fn is_checked_holding<R: Threads + Sync>(
+    rt: &R,
+    alloc: Global,
+    held: usize,
+    awaited: usize,
+) -> Result<bool, AllocError> {
+    let gate = gate_that_holds(alloc, held, awaited)?;
+    let shelf = with_map(rt, alloc)?;
+    let (_, _, left) = ran::<Sha, _, _, R>(rt, alloc, "serve m s u", shelf, &[], &NoGate)?;
+    let (status, said, _) = ran::<Sha, _, _, R>(rt, alloc, CHECK, left, &[], &gate)?;
+    Ok(status == Status::Done && said.as_slice() == VERDICTS && is_held(&gate, &[1, 0]))
+}
+
+#[test]
+fn gate_check(rt: HostRuntime) {
+    holds(
+        &rt,
+        "the second is held",
+        is_checked_holding(&rt, rt.alloc(), 1, 0),
+    );
+    holds(
+        &rt,
+        "the first is held",
+        is_checked_holding(&rt, rt.alloc(), 0, 1),
     );
 }

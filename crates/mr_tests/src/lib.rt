@@ -10,6 +10,8 @@ mod audits;
 #[cfg(test)]
 mod bench;
 #[cfg(test)]
+mod bundles;
+#[cfg(test)]
 mod calls;
 #[cfg(test)]
 mod changes;

@@ -30,7 +30,7 @@ const HEAD_OF_ONE: Part<'static> = Map {
 };
 
 // The map of record 7 at (0,0).
-const ONE: &[Part<'static>] = &[HEAD_OF_ONE, Seal, Leaf(SEVEN), Fill];
+pub const ONE: &[Part<'static>] = &[HEAD_OF_ONE, Seal, Leaf(SEVEN), Fill];
 
 const MAP_OF_ONE: &[File<'static>] = &[("m", ONE)];
 
