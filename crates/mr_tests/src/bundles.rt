@@ -1,7 +1,6 @@
 //! Bundles: proofs for the queries of a script, and the verdicts on their parts.
 
-use crate::bench::Row;
-use crate::bench::rows_hold;
+use crate::bench::{Row, rows_hold};
 use crate::maps::ONE;
 use crate::parts::Part::{Leaf, Pruned, Raw, Text, Window, Zeros};
 use crate::parts::{File, Part};

@@ -74,9 +74,7 @@ fn check_text<H: Hash32, S: Shelf, G: Gate, R: Threads + Sync>(
         (queries_of_text text.items)) (S.state shelf.old) (S.state shelf.new) result }
 {
     match queries_in(alloc, text) {
-        Ok(queries) => {
-            check_file::<H, S, G, R>(rt, alloc, root, &queries, bundle, shelf, gate)
-        }
+        Ok(queries) => { check_file::<H, S, G, R>(rt, alloc, root, &queries, bundle, shelf, gate) }
         Err(TextErr::Text(fault)) => bad_text(alloc, &fault),
         Err(TextErr::NoMemory) => Err(Halt::NoMemory),
     }
@@ -97,9 +95,7 @@ pub(crate) fn check_bundle<H: Hash32, S: Shelf, G: Gate, R: Threads + Sync>(
         (S.state shelf.new) result }
 {
     match read(alloc, script, shelf) {
-        Ok(Some(text)) => {
-            check_text::<H, S, G, R>(rt, alloc, root, text, bundle, shelf, gate)
-        }
+        Ok(Some(text)) => { check_text::<H, S, G, R>(rt, alloc, root, text, bundle, shelf, gate) }
         Ok(None) => missing(alloc, script),
         Err(halt) => Err(halt),
     }

@@ -49,12 +49,7 @@ fn query_refused(alloc: Global, query: usize, fault: &Fault) -> Result<String, A
 }
 
 // Puts the line on a part that is refused.
-fn put_refused(
-    alloc: Global,
-    out: &mut Text,
-    query: usize,
-    fault: &Fault,
-) -> Result<(), AllocError>
+fn put_refused(alloc: Global, out: &mut Text, query: usize, fault: &Fault) -> Result<(), AllocError>
     ensures { OnOk result (out.new.bytes.items ≡ out.old.bytes.items
         ++ verdict_text query (verdicts.Refused fault.now)) }
 {
@@ -128,8 +123,7 @@ fn put_summary(
     ensures { OnOk result (out.new.bytes.items ≡ out.old.bytes.items
         ++ line_of_summary accepted refused missing) }
 {
-    let mut line =
-        format!(in alloc; "accepted {accepted} refused {refused} missing {missing}")?;
+    let mut line = format!(in alloc; "accepted {accepted} refused {refused} missing {missing}")?;
     line.push('\n')?;
     out.put(line.as_bytes())
 }

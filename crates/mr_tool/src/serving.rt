@@ -94,9 +94,7 @@ fn serve_script<H: Hash32, S: Shelf, G: Gate, R: Threads + Sync>(
         (S.state shelf.new) result }
 {
     match read(alloc, script, shelf) {
-        Ok(Some(text)) => {
-            serve_text::<H, S, G, R>(rt, alloc, nodes, text, bundle, shelf, gate)
-        }
+        Ok(Some(text)) => { serve_text::<H, S, G, R>(rt, alloc, nodes, text, bundle, shelf, gate) }
         Ok(None) => missing(alloc, script),
         Err(halt) => Err(halt),
     }
