@@ -43,7 +43,8 @@ module _ (queries : List Query) (bundle : List ℕ) (parts : List Part) (few : l
   all_asked i past = take_all i (asked queries bundle parts) (omega (arith, asked_length, past))
 
 -- what is found of each
-pub judged_all : {E : Type 0} (hash : List ℕ → List ℕ) (root : List ℕ) (queries : List Query) (bundle : List ℕ) (parts : List Part)
+pub judged_all : {E : Type 0} (hash : List ℕ → List ℕ) (root : List ℕ) (queries : List Query) (bundle : List ℕ)
+    (parts : List Part)
     (all lent : List Asked) (result : Result (Vec Verdict) E) → lent ≡ all
     → map seen all ≡ asked queries bundle parts
     → IfOk result (λ v. v.items ≡ map (λ (one : Asked). judged hash root (seen one)) lent)

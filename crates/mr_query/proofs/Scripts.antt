@@ -26,7 +26,8 @@ use Rattle.mr_query.proofs.Words.{query_written, query_read}
 
 dark_word : (word : List ℕ) → list_all (leb 32) word ≡ true → IsDark word
 dark_word word e =
-    All-weaker (λ b. leb 32 b ≡ true) (λ b. 32 ≤ b) (λ b h. leb-true 32 b h) word (AllPass-from_list_all (leb 32) word e)
+    All-weaker (λ b. leb 32 b ≡ true) (λ b. 32 ≤ b) (λ b h. leb-true 32 b h) word
+    (AllPass-from_list_all (leb 32) word e)
 
 dark_part : (front rest : List ℕ) → IsInk front → IsDark rest → IsDark (front ++ 44 ∷ rest)
 dark_part front rest ink dark =

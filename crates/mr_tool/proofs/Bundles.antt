@@ -105,7 +105,8 @@ lines_more query [] v = append-nil (verdict_text query v) ∙ ap (λ n. verdict_
 lines_more query (w ∷ vs) v =
     ap (λ t. verdict_text query w ++ t) (lines_more (query + 1) vs v
     ∙ ap (λ n. verdict_lines (query + 1) vs ++ verdict_text n v) (one_on query (length vs)))
-    ∙ sym (append_assoc (verdict_text query w) (verdict_lines (query + 1) vs) (verdict_text (query + suc (length vs)) v))
+    ∙ sym (append_assoc (verdict_text query w) (verdict_lines (query + 1) vs)
+    (verdict_text (query + suc (length vs)) v))
 
 -- the step of the loop
 pub more_lines : (vs : List Verdict) (i : ℕ) (v : Verdict) (old so_far new : List ℕ) → i < length vs
@@ -211,7 +212,8 @@ fault_says hash name map fault = refl
 
 pub fault_given : (hash : List ℕ → List ℕ) (name : List ℕ) (map : Opened) (r : Result (List Query) TextFault)
     (fault : TextFault) (at : Shelved) (result : Result Ending Halt) → r ≡ Err fault
-    → GivesOrStops (ends BadText (bad_text_line fault)) result → Comes (comes (say_serve_of hash name map r)) at at result
+    → GivesOrStops (ends BadText (bad_text_line fault)) result
+    → Comes (comes (say_serve_of hash name map r)) at at result
 fault_given hash name map r fault at result is says =
     subst (λ said. Comes (comes said) at at result)
     (fault_says hash name map fault ∙ ap (say_serve_of hash name map) (sym is))
@@ -231,7 +233,8 @@ module _ (hash : List ℕ → List ℕ) (root bundle : List ℕ) where
   no_memory at (Ok queries) =
       comes_halted bundle (λ bytes. comes (say_parts_of hash root queries bytes)) at at halts.NoMemory
       (record { faults = omega arith; reads = omega arith })
-      (text_taken at.files bundle (say_parts_of hash root queries) at.reads at.reads (once_none at.files bundle at.reads)) refl
+      (text_taken at.files bundle (say_parts_of hash root queries) at.reads at.reads
+      (once_none at.files bundle at.reads)) refl
       (judged_needs bundle (say_parts_of hash root queries) at.files) tt
   no_memory at (Err fault) = comes_given (ends BadText (bad_text_line fault)) at (Err halts.NoMemory) refl refl
 
@@ -265,7 +268,8 @@ module _ (hash : List ℕ → List ℕ) (root bundle : List ℕ) where
       subst (λ r. Reads script before between (Ok r)) was got in
       comes_on script (λ text. on_queries (queries_of_text text)) text.items before between after
       (record { counts = was_read.counts; files = was_read.files; faults = was_read.read.2 })
-      (taken script before.files before.reads between.reads was_read.once) was_read.read.0 was_read.read.1 (judged_script script before.files) result on
+      (taken script before.files before.reads between.reads was_read.once) was_read.read.0 was_read.read.1
+      (judged_script script before.files) result on
 
   pub script_missed : (script : List ℕ) (before after : Shelved) (read : Option (Vec ℕ)) (result : Result Ending Halt)
       → read ≡ None → Reads script before after (Ok read) → Misses script result
@@ -273,7 +277,8 @@ module _ (hash : List ℕ → List ℕ) (root bundle : List ℕ) where
   script_missed script before after read (Ok ending) was got misses =
       let missed : Reads script before after (Ok None) = subst (λ r. Reads script before after (Ok r)) was got in
       comes_missing script (λ text. on_queries (queries_of_text text)) before after ending missed.counts
-      (taken script before.files before.reads after.reads missed.once) missed.files (judged_script script before.files) missed.read misses.0 misses.1
+      (taken script before.files before.reads after.reads missed.once) missed.files
+      (judged_script script before.files) missed.read misses.0 misses.1
   script_missed script before after read (Err halt) was got is =
       comes_halted script (λ text. on_queries (queries_of_text text)) before after halt got.counts
       (taken script before.files before.reads after.reads got.once) got.files

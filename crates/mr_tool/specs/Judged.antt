@@ -1,4 +1,5 @@
--- What is printed of a bundle: the verdict on each part, how many there are, and where it is broken.
+-- What is printed of a bundle: the verdict on each part, how many there are of each kind, and where
+-- it is broken.
 use Rattle.std.specs.Prelude.{ℕ, zero, suc, ◌+◌, ◌-◌, ◌==◌, ◌&&◌, if◌then◌else◌, Bool, true, false, is_none, List, [], ◌∷◌, ◌++◌, length, count_by, Option, Some, None, codes, decimal}
 use Rattle.mr_record.specs.RecordText.{text_of}
 use Rattle.mr_bundle.specs.declared.verdict.Verdict.{Verdict}
@@ -7,8 +8,8 @@ use Rattle.mr_tool.specs.Refusal.{refused_line}
 use Rattle.mr_tool.specs.declared.status.Status.{Status}
 use Rattle.mr_tool.specs.declared.status.Status.TheVariants.{Done, Refused}
 
--- `query QUERY ok NUMBER`, and a line for each of so many records; or `query QUERY ` and the line on
--- a proof that is refused
+-- `query QUERY ok NUMBER`, and a line for each of so many records; or `query QUERY ` and the line
+-- on a proof that is refused
 unfoldable pub verdict_text : (query : ℕ) → Verdict → List ℕ
 verdict_text query (verdicts.Accepted answer) = codes "query " ++ decimal query ++ codes " ok "
     ++ decimal (length answer) ++ 10 ∷ text_of answer

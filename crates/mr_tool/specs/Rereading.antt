@@ -66,6 +66,7 @@ MaySay (proving hash map query proof) said = IsRefused hash map said
     ⊎ ((bytes : List ℕ) × (said ≡ say_written proof bytes))
 MaySay (auditing hash map query proof) said = IsRefused hash map said ⊎ (said ≡ says_missing proof)
     ⊎ ((finding : Finding) × IsFinding hash query finding × (said ≡ say_finding finding))
-MaySay (serving hash map script bundle) said = IsRefused hash map said ⊎ (said ≡ says_missing script)
+MaySay (serving hash map script bundle) said = IsRefused hash map said
+    ⊎ (said ≡ says_missing script)
     ⊎ ((held : Opened) × ∥ WellFormed held.tree ∥₁ × (text : List ℕ) × AreBytes text
     × (said ≡ say_serve_of hash bundle held (queries_of_text text)))
