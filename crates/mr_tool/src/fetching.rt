@@ -1,6 +1,6 @@
 //! Findings of a map whose nodes are fetched one by one.
 
-ghost use Rattle.std.specs.Prelude.{◌≡◌, IfOk, IfErr, IfSome, OnOk};
+ghost use Rattle.std.specs.Prelude.{◌≡◌, ◌≤◌, ◌+◌, IfOk, IfErr, IfSome, OnOk};
 ghost use Rattle.mr_tree.specs.Digest.{by};
 ghost use Rattle.mr_tree.specs.Nodes.{HasSomeCause};
 ghost use Rattle.mr_query.specs.Word.{IsAskable};
