@@ -24,7 +24,7 @@ use Rattle.mr_tool.specs.declared.ending.Ending.{Ending}
 use Rattle.mr_tool.specs.declared.ending.Halt.{Halt}
 use Rattle.mr_tool.specs.declared.ending.Halt.TheVariants as halts
 use Rattle.mr_tool.specs.declared.status.Status.TheVariants.{BadMap, Outside}
-use Rattle.mr_tool.proofs.Counting.{AllowsFrom, few_none, few_stopped, once_none}
+use Rattle.mr_tool.proofs.Counting.{AllowsFrom, few_none, few_stopped, taken_none}
 
 -- ---- another count of reads
 
@@ -76,7 +76,8 @@ needs_but name next before after result on = record {
   came = came_with (needs name next) after.reads before after result on.came;
   outside = blames_with (needs name next) after.reads before after result on.outside;
   quiet = calm_with (needs name next) after.reads before after result on.quiet;
-  few = few_stopped before.files name next after.reads after.reads (once_none before.files name after.reads);
+  few = few_stopped before.files name next after.reads after.reads
+      (taken_none before.files name next after.reads);
 }
 
 -- ---- over files that are told
