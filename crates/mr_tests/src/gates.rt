@@ -206,6 +206,8 @@ fn with_map<R: Threads + Sync>(rt: &R, alloc: Global) -> Result<MemShelf, AllocE
     Ok(left)
 }
 
+const SERVED: &[u8] = b"served 2 130\n";
+
 // Whether those queries are proved through a gate that holds one of them, each with the length of
 // its proof.
 fn is_served_holding<R: Threads + Sync>(
@@ -217,7 +219,7 @@ fn is_served_holding<R: Threads + Sync>(
     let gate = gate_that_holds(alloc, held, awaited)?;
     let shelf = with_map(rt, alloc)?;
     let (status, said, _) = ran::<Sha, _, _, R>(rt, alloc, "serve m s u", shelf, &[], &gate)?;
-    Ok(status == Status::Done && said.as_slice() == b"served 2 130\n" && is_held(&gate, &[50, 72]))
+    Ok(status == Status::Done && said.as_slice() == SERVED && is_held(&gate, &[50, 72]))
 }
 
 #[test]
