@@ -18,8 +18,8 @@ const PRUNED: Part<'static> = Pruned {
     digest: 0x4a,
 };
 
-// The proof that opens the leaf, and the one that prunes it, each behind its length.
-const BUNDLE: &[Part<'static>] = &[
+/// The proof that opens the leaf, and the one that prunes it, each behind its length.
+pub const BUNDLE: &[Part<'static>] = &[
     Raw(&[0, 0, 0, 50]),
     HEAD,
     Leaf(SEVEN),
@@ -110,7 +110,12 @@ fn bundles_of_a_map_of_one_record(rt: HostRuntime) {
     rows_hold::<XorHash, _>(&rt, rt.alloc(), SERVES);
 }
 
-const CHECKED: &[File<'static>] = &[("s", &[Text(BOTH)]), ("u", BUNDLE)];
+/// Those queries, and that bundle.
+pub const CHECKED: &[File<'static>] = &[("s", &[Text(BOTH)]), ("u", BUNDLE)];
+
+/// What is printed of them.
+pub const VERDICTS: &str =
+    "query 1 ok 1\n7 0 0 0 0 -\nquery 2 ok 0\naccepted 2 refused 0 missing 0\n";
 
 const CHECKS: &[Row<'static>] = &[
     Row {
@@ -119,7 +124,7 @@ const CHECKS: &[Row<'static>] = &[
         files: CHECKED,
         fails: &[],
         status: Done,
-        text: "query 1 ok 1\n7 0 0 0 0 -\nquery 2 ok 0\naccepted 2 refused 0 missing 0\n",
+        text: VERDICTS,
         made: &[],
     },
     Row {
@@ -236,4 +241,202 @@ const CHECKS: &[Row<'static>] = &[
 #[test]
 fn verdicts_on_the_parts_of_a_bundle(rt: HostRuntime) {
     rows_hold::<XorHash, _>(&rt, rt.alloc(), CHECKS);
+}
+
+// The first of those parts, twice.
+const TWICE: &[Part<'static>] = &[
+    Raw(&[0, 0, 0, 50]),
+    HEAD,
+    Leaf(SEVEN),
+    Raw(&[0, 0, 0, 50]),
+    HEAD,
+    Leaf(SEVEN),
+];
+
+const SAME: &str = "window:0,0,0,0\nwindow:0,0,0,0\n";
+
+const SCRIPTS: &[Row<'static>] = &[
+    Row {
+        name: "one line",
+        words: "serve m s u",
+        files: &[("m", ONE), ("s", &[Text("window:0,0,0,0\n")])],
+        fails: &[],
+        status: Done,
+        text: "served 1 54\n",
+        made: &[("u", &[Raw(&[0, 0, 0, 50]), HEAD, Leaf(SEVEN)])],
+    },
+    Row {
+        name: "equal lines",
+        words: "serve m s u",
+        files: &[("m", ONE), ("s", &[Text(SAME)])],
+        fails: &[],
+        status: Done,
+        text: "served 2 108\n",
+        made: &[("u", TWICE)],
+    },
+    Row {
+        name: "verdicts for equal lines",
+        words: "check-all ..18 s u",
+        files: &[("s", &[Text(SAME)]), ("u", TWICE)],
+        fails: &[],
+        status: Done,
+        text: "query 1 ok 1\n7 0 0 0 0 -\nquery 2 ok 1\n7 0 0 0 0 -\n\
+            accepted 2 refused 0 missing 0\n",
+        made: &[],
+    },
+    Row {
+        name: "more queries than parts",
+        words: "check-all ..18 s u",
+        files: &[
+            (
+                "s",
+                &[Text("window:0,0,0,0\nwindow:1,1,2,2\nwindow:0,0,0,0\n")],
+            ),
+            ("u", BUNDLE),
+        ],
+        fails: &[],
+        status: Refused,
+        text: "query 1 ok 1\n7 0 0 0 0 -\nquery 2 ok 0\nquery 3 missing\n\
+            accepted 2 refused 0 missing 1\nbundle broken at 130\n",
+        made: &[],
+    },
+    Row {
+        name: "more parts than queries",
+        words: "check-all ..18 s u",
+        files: &[("s", &[Text("window:0,0,0,0\n")]), ("u", BUNDLE)],
+        fails: &[],
+        status: Refused,
+        text: "query 1 ok 1\n7 0 0 0 0 -\naccepted 1 refused 0 missing 0\n\
+            bundle broken at 54\n",
+        made: &[],
+    },
+];
+
+#[test]
+fn scripts_of_other_lengths_than_bundles(rt: HostRuntime) {
+    rows_hold::<XorHash, _>(&rt, rt.alloc(), SCRIPTS);
+}
+
+// Those two parts with other lengths before the first and the second, or in another order.
+const LIES: &[Row<'static>] = &[
+    Row {
+        name: "a length that is one too great",
+        words: "check-all ..18 s u",
+        files: &[
+            ("s", &[Text(BOTH)]),
+            (
+                "u",
+                &[
+                    Raw(&[0, 0, 0, 51]),
+                    HEAD,
+                    Leaf(SEVEN),
+                    Raw(&[0, 0, 0, 72]),
+                    HEAD,
+                    PRUNED,
+                ],
+            ),
+        ],
+        fails: &[],
+        status: Refused,
+        text: "query 1 refused Trailing at 50\nquery 2 missing\n\
+            accepted 0 refused 1 missing 1\nbundle broken at 55\n",
+        made: &[],
+    },
+    Row {
+        name: "a length that is one too small",
+        words: "check-all ..18 s u",
+        files: &[
+            ("s", &[Text(BOTH)]),
+            (
+                "u",
+                &[
+                    Raw(&[0, 0, 0, 49]),
+                    HEAD,
+                    Leaf(SEVEN),
+                    Raw(&[0, 0, 0, 72]),
+                    HEAD,
+                    PRUNED,
+                ],
+            ),
+        ],
+        fails: &[],
+        status: Refused,
+        text: "query 1 refused Short at 49\nquery 2 refused Short at 0\n\
+            accepted 0 refused 2 missing 0\nbundle broken at 57\n",
+        made: &[],
+    },
+    Row {
+        name: "the greatest length before the second part",
+        words: "check-all ..18 s u",
+        files: &[
+            ("s", &[Text(BOTH)]),
+            (
+                "u",
+                &[
+                    Raw(&[0, 0, 0, 50]),
+                    HEAD,
+                    Leaf(SEVEN),
+                    Raw(&[255, 255, 255, 255]),
+                    HEAD,
+                    PRUNED,
+                ],
+            ),
+        ],
+        fails: &[],
+        status: Refused,
+        text: "query 1 ok 1\n7 0 0 0 0 -\nquery 2 missing\n\
+            accepted 1 refused 0 missing 1\nbundle broken at 54\n",
+        made: &[],
+    },
+    Row {
+        name: "a length of zero before the second part",
+        words: "check-all ..18 s u",
+        files: &[
+            ("s", &[Text(BOTH)]),
+            (
+                "u",
+                &[
+                    Raw(&[0, 0, 0, 50]),
+                    HEAD,
+                    Leaf(SEVEN),
+                    Zeros(4),
+                    HEAD,
+                    PRUNED,
+                ],
+            ),
+        ],
+        fails: &[],
+        status: Refused,
+        text: "query 1 ok 1\n7 0 0 0 0 -\nquery 2 refused Short at 0\n\
+            accepted 1 refused 1 missing 0\nbundle broken at 58\n",
+        made: &[],
+    },
+    Row {
+        name: "the second part before the first",
+        words: "check-all ..18 s u",
+        files: &[
+            ("s", &[Text(BOTH)]),
+            (
+                "u",
+                &[
+                    Raw(&[0, 0, 0, 72]),
+                    HEAD,
+                    PRUNED,
+                    Raw(&[0, 0, 0, 50]),
+                    HEAD,
+                    Leaf(SEVEN),
+                ],
+            ),
+        ],
+        fails: &[],
+        status: Refused,
+        text: "query 1 refused Hidden at 24\nquery 2 refused Needless at 49\n\
+            accepted 0 refused 2 missing 0\n",
+        made: &[],
+    },
+];
+
+#[test]
+fn lengths_that_lie_and_parts_in_another_order(rt: HostRuntime) {
+    rows_hold::<XorHash, _>(&rt, rt.alloc(), LIES);
 }

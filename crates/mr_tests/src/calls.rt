@@ -24,7 +24,14 @@ struct Made<'a> {
     pieces: usize,
 }
 
-const SMALL: &[File<'static>] = &[("r", &[Text(SEVENTEEN)]), ("b", &[Text("batch 1\n- 7\n")])];
+const SMALL: &[File<'static>] = &[
+    ("r", &[Text(SEVENTEEN)]),
+    ("b", &[Text("batch 1\n- 7\n")]),
+    (
+        "s",
+        &[Text("window:2,0,3,0\nnearest:0,0,1\nwindow:2,0,3,0\n")],
+    ),
+];
 
 // The pages of a map are synced before its first page is written over the zeros that stand for it,
 // and again after.
@@ -65,6 +72,17 @@ const CALLS: &[Made<'static>] = &[
         calls: "size m\nread_at m\nread_at m\nread_at m\nread_at m\nsize b\nread_at b\ncreate n\n\
             append n\nsync n\nwrite_at n\nsync n\n",
         pieces: 0,
+    },
+    Made {
+        words: "serve m s u",
+        calls: "size m\nread_at m\nread_at m\nread_at m\nread_at m\nsize s\nread_at s\n\
+            create u\nappend u\nsync u\n",
+        pieces: 3,
+    },
+    Made {
+        words: "check-all ..0f s u",
+        calls: "size s\nread_at s\nsize u\nread_at u\n",
+        pieces: 3,
     },
     Made {
         words: "make 33 1 s",

@@ -10,6 +10,8 @@ mod audits;
 #[cfg(test)]
 mod bench;
 #[cfg(test)]
+mod bent;
+#[cfg(test)]
 mod bundles;
 #[cfg(test)]
 mod calls;
@@ -30,6 +32,8 @@ mod listed;
 #[cfg(test)]
 mod made;
 #[cfg(test)]
+mod many;
+#[cfg(test)]
 mod maps;
 #[cfg(test)]
 mod nearest;
@@ -47,3 +51,5 @@ mod pieces;
 mod proofs;
 #[cfg(test)]
 mod rows;
+#[cfg(test)]
+mod stopped;

@@ -250,8 +250,8 @@ fn mapped<R: Threads + Sync>(rt: &R, alloc: Global) -> Result<(String, MemShelf)
     Ok((String::from_str(alloc, root.trim_end())?, shelf))
 }
 
-// The word of a query, or as much of it as there was memory for.
-fn word(alloc: Global, query: &Query) -> Result<String, AllocError>
+/// The word of a query, or as much of it as there was memory for.
+pub fn word(alloc: Global, query: &Query) -> Result<String, AllocError>
     requires { IsAskable query.now }
 {
     let mut out = MemSink::new(alloc, Vec::new(alloc));

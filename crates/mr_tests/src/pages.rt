@@ -46,6 +46,8 @@ const FEW: &[&str] = &["make 2500 3 r", "build m r"];
 
 const MANY: &[&str] = &["make 5000 3 r", "build m r"];
 
+const MANY_AND_NO_QUERY: &[&str] = &["make 5000 3 r", "build m r", "make 0 1 s"];
+
 const NEAREST: &str = "prove m nearest:0,0,10 p";
 
 const WHOLE: &str = "prove m window:-1000000,-1000000,1000063,1000063 p";
@@ -63,6 +65,9 @@ fn a_large_map_is_read_once_and_then_by_nodes(rt: HostRuntime) {
     // its 320 pages, and most of the 319 nodes that the proof opens
     let again = takes(&rt, rt.alloc(), MANY, WHOLE, 577, 639);
     holds(&rt, "320 pages", again);
+    // its 320 pages, and each of its 319 nodes once, but for the 256 at most that are kept
+    let taken = takes(&rt, rt.alloc(), MANY_AND_NO_QUERY, "serve m s u", 383, 639);
+    holds(&rt, "320 pages and 319 nodes", taken);
 }
 
 // Tells nothing, and gives the bytes of a map and of a proof. After so many reads one byte of the
