@@ -1,5 +1,5 @@
 -- The copy of a whole map is a snapshot of it.
-use Rattle.std.proofs.Common.{◌≡◌, ◌≢◌, ℕ, true, List, [], ◌++◌, length, refl, sym, ap, subst, ◌∙◌, arith}
+use Rattle.std.proofs.Common.{◌≡◌, ◌≢◌, ℕ, ◌+◌, ◌≤◌, true, List, [], ◌++◌, length, refl, sym, ap, subst, ◌∙◌, arith}
 use Rattle.std.specs.Prelude.{All, AllPairs, Option, Some, None, IfSome, IsSome, IsNone}
 use Rattle.std.proofs.Math.Logic.{∥∥₁_elim}
 use Rattle.std.proofs.lemmas.List.{length-map}
@@ -30,7 +30,7 @@ use Rattle.mr_pages.specs.Walking.{Saw}
 use Rattle.mr_pages.specs.declared.seen.Seen.{Seen}
 use Rattle.mr_pages.proofs.AsRead.{records_apart, numbers_apart}
 use Rattle.mr_pages.proofs.Lists.{Fresh, fresh_apart, apart_fresh}
-use Rattle.mr_store.specs.Copying.{CanCopy, IsCopied, Stops, StopsAll}
+use Rattle.mr_store.specs.Copying.{CanCopy, IsCopied, Stops, StopsAll, nodes_at}
 use Rattle.mr_store.specs.Stored.{IsSaid, StandsFor}
 use Rattle.mr_store.specs.declared.stop.Stop.{Stop}
 use Rattle.mr_store.specs.declared.stop.Stop.TheVariants as stops
@@ -193,3 +193,21 @@ module _ (hash : List ℕ → List ℕ) (s : Standing) (top : Top) (r : Child) (
           absurd (∥∥₁_elim wells (λ x y. absurd x)
           (λ well. h.2 (subst (IsSome {T = Tree}) (sym e) refl) (can_start u e well)))
   stops_all a b stops.NoMemory wells h = tt
+
+-- ---- how many nodes are fetched
+
+pub none_fetched : (o : Option Tree) (f : ℕ) → IfSome o (λ t. f ≤ f + length (subtrees t))
+none_fetched None f = tt
+none_fetched (Some t) f = omega arith
+
+pub root_fetched : (hash : List ℕ → List ℕ) (s : Standing) (top : Top) (r : Child) (f f' : ℕ) → IsTop hash s top →
+    top.root ≡ Some r → (IsSome s.tree → f' ≤ f + nodes_at (s.node r.id)) →
+    IfSome s.tree (λ t. f' ≤ f + length (subtrees t))
+unfolding nodes_at
+root_fetched hash s top r f f' is root few = at s.tree refl
+  where
+    at : (o : Option Tree) → s.tree ≡ o → IfSome o (λ t. f' ≤ f + length (subtrees t))
+    at None e = tt
+    at (Some t) e =
+        subst (λ u. f' ≤ f + nodes_at u) (told_root hash s top (Some r) t is root e)
+        (few (subst (IsSome {T = Tree}) (sym e) refl))

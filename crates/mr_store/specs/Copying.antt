@@ -1,7 +1,7 @@
 -- What a copy of a map into memory knows on its way. Nothing of this has to be believed: no public
 -- contract cites it.
-use Rattle.std.specs.Prelude.{◌≡◌, ◌≢◌, ◌⊎◌, ⊤, ℕ, ◌+◌, ◌≤◌, Bool, true, false, List, [], ◌∷◌, ◌++◌, map, length, All, Option, Some, IsSome, IsNone}
-use Rattle.std.specs.List.{flat_map, AllByRecursion}
+use Rattle.std.specs.Prelude.{◌≡◌, ◌≢◌, ◌⊎◌, ⊤, ℕ, ◌+◌, ◌≤◌, Bool, true, false, List, [], ◌∷◌, ◌++◌, map, length, All, Option, Some, None, IsSome, IsNone}
+use Rattle.std.specs.List.{flat_map, sum_by, AllByRecursion}
 use Rattle.mr_record.specs.Record.{IsRecord}
 use Rattle.mr_record.specs.declared.record.Record.{Record}
 use Rattle.mr_record.specs.declared.version.Version.TheVariants.{One}
@@ -73,6 +73,17 @@ pub record CanCopy (s : Standing) (root : Bool) (seen : Seen) (c : Child) : Type
   pub saw : Saw pages seen [] ns
   pub full : IsFull s root c
   pub fresh : (t : Tree) → s.node c.id ≡ Some t → Fresh ns (numbers_of (records t))
+
+-- ---- how many nodes
+
+-- how many nodes a tree has, where it is told
+unfoldable pub nodes_at : Option Tree → ℕ
+nodes_at None = 0
+nodes_at (Some t) = length (subtrees t)
+
+-- how many there are below some children
+abbrev pub nodes_in : Standing → List Child → ℕ
+nodes_in s children = sum_by (λ (d : Child). nodes_at (s.node d.id)) children
 
 -- ---- nodes in a list
 

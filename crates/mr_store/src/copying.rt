@@ -1,13 +1,14 @@
 //! A map that is copied into memory, node by node, as its nodes are fetched.
 
-ghost use Rattle.std.specs.Prelude.{◌≡◌, IfOk, IfErr, OnOk, Some};
+ghost use Rattle.std.specs.Prelude.{◌≡◌, ◌≤◌, ◌+◌, length, IfOk, IfErr, IfSome, IsSome, OnOk, Some};
+ghost use Rattle.mr_outside.specs.Faults.{next_count};
 ghost use Rattle.mr_record.specs.declared.version.Version.TheVariants.{One};
 ghost use Rattle.mr_tree.specs.Digest.{by};
-ghost use Rattle.mr_tree.specs.Nodes.{IsTop, MayFetch, Shows};
+ghost use Rattle.mr_tree.specs.Nodes.{IsTop, MayFetch, Shows, subtrees};
 ghost use Rattle.mr_tree.specs.Snapshot.{AreLinked, standing};
 ghost use Rattle.mr_tree.specs.declared.stored.Stored.TheVariants as stored;
 ghost use Rattle.mr_pages.specs.Walking.{owned};
-ghost use Rattle.mr_store.specs.Copying.{IsJudged, IsUnfit, Suits, IsFull, CanCopy, Adds, IsPut, IsCopied, Stops, StopsAll, IsHandedOn, IsTwice};
+ghost use Rattle.mr_store.specs.Copying.{IsJudged, IsUnfit, Suits, IsFull, CanCopy, Adds, IsPut, IsCopied, nodes_at, Stops, StopsAll, IsHandedOn, IsTwice};
 ghost use Rattle.mr_store.specs.Stored.{IsSaid, StandsFor};
 
 use crate::stop::Stop;
@@ -42,6 +43,7 @@ fn look<N: Nodes>(
 ) -> Result<Node, Stop>
     requires { MayFetch N.Hash.of (N.stands nodes.old) child.now }
     ensures kept { N.kept nodes.old nodes.new }
+    ensures counted { N.fetches nodes.new ≡ next_count (N.fetches nodes.old) }
     ensures shows { IfOk result (λ n. Shows N.Hash.of (N.stands nodes.old) child.now (owned n)) }
     ensures suits { IfOk result (λ n. Suits N.Hash.of root child.now (owned n)) }
     ensures quiet { OnOk result (N.faults nodes.new ≡ N.faults nodes.old) }
@@ -105,6 +107,8 @@ fn copy<N: Nodes>(
     ensures kept { N.kept nodes.old nodes.new }
     ensures copied { IfOk result (λ c. IsCopied N.Hash.of (N.stands nodes.old) root child.now c
         list.old.items list.new.items seen.old seen.new) }
+    ensures fetched { IsSome (N.stands nodes.old).tree → N.fetches nodes.new ≤
+        N.fetches nodes.old + nodes_at ((N.stands nodes.old).node child.now.id) }
     ensures quiet { OnOk result (N.faults nodes.new ≡ N.faults nodes.old) }
     ensures handed { IfErr result (IsHandedOn (N.refusal nodes.new)) }
     ensures cause { IfErr result (Stops (N.stands nodes.old)
@@ -137,6 +141,8 @@ fn copied_from<N: Nodes>(
     ensures kept { N.kept nodes.old nodes.new }
     ensures stands { IfOk result (λ p. StandsFor (N.stands nodes.old) p.nodes.items p.top) }
     ensures says { IfOk result (λ p. IsSaid N.Hash.of top.now (standing p.nodes.items p.top)) }
+    ensures fetched { IfSome (N.stands nodes.old).tree (λ t. N.fetches nodes.new ≤
+        N.fetches nodes.old + length (subtrees t)) }
     ensures quiet { OnOk result (N.faults nodes.new ≡ N.faults nodes.old) }
     ensures handed { IfErr result (IsHandedOn (N.refusal nodes.new)) }
     ensures cause { IfErr result (StopsAll (N.stands nodes.old)
@@ -178,6 +184,8 @@ pub(crate) fn copied<N: Nodes>(
     ensures kept { N.kept nodes.old nodes.new }
     ensures stands { IfOk result (λ p. StandsFor (N.stands nodes.old) p.nodes.items p.top) }
     ensures says { IfOk result (λ p. IsSaid N.Hash.of top.now (standing p.nodes.items p.top)) }
+    ensures fetched { IfSome (N.stands nodes.old).tree (λ t. N.fetches nodes.new ≤
+        N.fetches nodes.old + length (subtrees t)) }
     ensures quiet { OnOk result (N.faults nodes.new ≡ N.faults nodes.old) }
     ensures handed { IfErr result (IsHandedOn (N.refusal nodes.new)) }
     ensures cause { IfErr result (StopsAll (N.stands nodes.old)

@@ -1,8 +1,8 @@
 //! Maps that are taken into memory whole.
 
-ghost use Rattle.std.specs.Prelude.{◌≡◌, IfOk, IfErr, OnOk};
+ghost use Rattle.std.specs.Prelude.{◌≡◌, ◌≤◌, ◌+◌, length, IfOk, IfErr, IfSome, OnOk};
 ghost use Rattle.std.specs.String.{string_bytes};
-ghost use Rattle.mr_tree.specs.Nodes.{HasSomeCause};
+ghost use Rattle.mr_tree.specs.Nodes.{HasSomeCause, subtrees};
 ghost use Rattle.mr_tree.specs.Snapshot.{standing};
 ghost use Rattle.mr_store.specs.Stored.{told_bytes, stands_for, top_in, IsSaid, Keeps, StandsFor};
 
@@ -40,6 +40,10 @@ impl<S: Shelf, H: Hash32> Paged<S, H> {
         // Told or not, it is of the map that page 0 told of.
         ensures says { IfOk result (λ p.
             IsSaid H.of (top_in self.old.head) (standing p.nodes.items p.top)) }
+        // Each node is fetched once at most.
+        ensures fetched { IfSome (stands_for self.old.head
+            (told_bytes (S.state self.old.shelf).files (string_bytes self.old.name))).tree
+            (λ t. self.new.fetches ≤ self.old.fetches + length (subtrees t)) }
         ensures cause { IfErr result (HasSomeCause (stands_for self.old.head
             (told_bytes (S.state self.old.shelf).files (string_bytes self.old.name)))
             (S.state self.old.shelf).faults (S.state self.new.shelf).faults) }

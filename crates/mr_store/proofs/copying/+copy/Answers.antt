@@ -1,6 +1,7 @@
-use Rattle.std.proofs.Common.{rules, [], false, arith, refl, sym, subst, ◌∙◌}
+use Rattle.std.proofs.Common.{◌+◌, rules, [], false, arith, refl, sym, subst, ◌∙◌}
 use Rattle.std.proofs.lemmas.List.{take_all}
 use Rattle.std.proofs.lemmas.Result.{err_from_is_err_and}
+use Rattle.mr_outside.specs.Faults.{next_count}
 use Rattle.mr_tree.specs.Nodes.{Standing, Shows}
 use Rattle.mr_tree.specs.declared.stored.Stored.TheVariants.{Children}
 use Rattle.mr_tree.specs.declared.tree.Tree.TheOpen.{Inner}
@@ -8,6 +9,7 @@ use Rattle.mr_pages.specs.Walking.{owned}
 use Rattle.mr_store.specs.Copying.{Suits, IsFull, CanCopy, IsPut, IsCopied, AreCopied}
 use Rattle.mr_store.proofs.Copies.{leaf_copied, inner_copied, none_copied, next_copied}
 use Rattle.mr_store.proofs.Blames.{twice_stops, twice_handed, stops_along, may_next, next_can, if_ok, if_err}
+use Rattle.mr_store.proofs.Counted.{one_fetch, some_fetches, fetched_more}
 use Rattle.mr_store.proofs.copying.+copy.Goals as goal
 
 pub returns-in_err-records-clause-cause : goal.returns-in_err-records-clause-cause
@@ -57,6 +59,7 @@ loop-one-init g t c = record {
       c.args.list.now.items c.args.seen.now c.args.seen.now) (sym c.new-below.ensures.items)
       (none_copied g.N.Hash.Hashes.of (g.N.Nodes.stands c.args.nodes.now) c.args.list.now.items c.args.seen.now
       c.requires.linked);
+  fetched = λ told. omega (arith, c.look.ensures.counted);
 }
 
 pub loop-one-preserved : goal.loop-one-preserved
@@ -76,6 +79,10 @@ loop-one-preserved g t c =
           c.one-item.result c.in_ok-copied-in-Inner.copied c.loop-one.one-index c.args.list.now.items
           c.loop-one.list.items c.copy.new.list.items c.args.seen.now c.loop-one.seen c.copy.new.seen
           c.loop-one-test.true c.one-item.is c.loop-one.invariant.all one c.in_ok-push-in-Inner.ensures.items;
+      fetched = λ told. fetched_more s (g.N.Nodes.stands c.loop-one.nodes) c.deref-one-items.result.now
+          c.loop-one.one-index c.one-item.result (next_count (g.N.Nodes.fetches c.args.nodes.now))
+          (g.N.Nodes.fetches c.loop-one.nodes) (g.N.Nodes.fetches c.copy.new.nodes) same c.one-item.is
+          c.loop-one-test.true (c.loop-one.invariant.fetched told) c.copy.ensures.fetched told;
     }
 
 pub returns-in_err-copied-in-Inner-clause-cause : goal.returns-in_err-copied-in-Inner-clause-cause
@@ -130,3 +137,59 @@ copy-requires g t c κs within =
     (subst (λ xs. Shows hash s c.args.child.now (Inner xs)) (sym c.deref-one-items.ensures.value) shows)
     c.loop-one-test.true c.one-item.is in
     (search rules, (search rules, (search rules, (may, search rules))))
+
+pub returns-in_err-records-clause-fetched : goal.returns-in_err-records-clause-fetched
+returns-in_err-records-clause-fetched g t c =
+    λ told. one_fetch g.N.Hash.Hashes.of (g.N.Nodes.stands c.args.nodes.now) c.args.child.now c.requires.may told
+    (g.N.Nodes.fetches c.args.nodes.now) (g.N.Nodes.fetches c.look.new.nodes) c.look.ensures.counted
+
+pub returns-in-Leaf-clause-fetched : goal.returns-in-Leaf-clause-fetched
+returns-in-Leaf-clause-fetched g t c =
+    λ told. one_fetch g.N.Hash.Hashes.of (g.N.Nodes.stands c.args.nodes.now) c.args.child.now c.requires.may told
+    (g.N.Nodes.fetches c.args.nodes.now) (g.N.Nodes.fetches c.look.new.nodes) c.look.ensures.counted
+
+pub returns-in_err-copied-in-Inner-clause-fetched : goal.returns-in_err-copied-in-Inner-clause-fetched
+returns-in_err-copied-in-Inner-clause-fetched g t c =
+    let s = g.N.Nodes.stands c.args.nodes.now in
+    let hash = g.N.Hash.Hashes.of in
+    let same = g.met.N.Nodes.kept_stands c.args.nodes.now c.loop-one.nodes c.loop-one.invariant.kept in
+    let shows = subst (λ n. Shows hash s c.args.child.now (owned n)) c.in-Inner.is c.in_ok-records.ensures.shows in
+    λ told. some_fetches hash s c.args.child.now c.requires.may told c.in-Inner.children.items
+    c.deref-one-items.result.now c.deref-one-items.ensures.value shows (c.loop-one.one-index + 1)
+    (g.N.Nodes.fetches c.args.nodes.now) (g.N.Nodes.fetches c.copy.new.nodes)
+    (fetched_more s (g.N.Nodes.stands c.loop-one.nodes) c.deref-one-items.result.now c.loop-one.one-index
+    c.one-item.result (next_count (g.N.Nodes.fetches c.args.nodes.now)) (g.N.Nodes.fetches c.loop-one.nodes)
+    (g.N.Nodes.fetches c.copy.new.nodes) same c.one-item.is c.loop-one-test.true
+    (c.loop-one.invariant.fetched told) c.copy.ensures.fetched told)
+
+pub returns-in_err-push-in-Inner-clause-fetched : goal.returns-in_err-push-in-Inner-clause-fetched
+returns-in_err-push-in-Inner-clause-fetched g t c =
+    let s = g.N.Nodes.stands c.args.nodes.now in
+    let hash = g.N.Hash.Hashes.of in
+    let same = g.met.N.Nodes.kept_stands c.args.nodes.now c.loop-one.nodes c.loop-one.invariant.kept in
+    let shows = subst (λ n. Shows hash s c.args.child.now (owned n)) c.in-Inner.is c.in_ok-records.ensures.shows in
+    λ told. some_fetches hash s c.args.child.now c.requires.may told c.in-Inner.children.items
+    c.deref-one-items.result.now c.deref-one-items.ensures.value shows (c.loop-one.one-index + 1)
+    (g.N.Nodes.fetches c.args.nodes.now) (g.N.Nodes.fetches c.copy.new.nodes)
+    (fetched_more s (g.N.Nodes.stands c.loop-one.nodes) c.deref-one-items.result.now c.loop-one.one-index
+    c.one-item.result (next_count (g.N.Nodes.fetches c.args.nodes.now)) (g.N.Nodes.fetches c.loop-one.nodes)
+    (g.N.Nodes.fetches c.copy.new.nodes) same c.one-item.is c.loop-one-test.true
+    (c.loop-one.invariant.fetched told) c.copy.ensures.fetched told)
+
+pub returns-in_err-put-in-Inner-clause-fetched : goal.returns-in_err-put-in-Inner-clause-fetched
+returns-in_err-put-in-Inner-clause-fetched g t c =
+    let s = g.N.Nodes.stands c.args.nodes.now in
+    let hash = g.N.Hash.Hashes.of in
+    let shows = subst (λ n. Shows hash s c.args.child.now (owned n)) c.in-Inner.is c.in_ok-records.ensures.shows in
+    λ told. some_fetches hash s c.args.child.now c.requires.may told c.in-Inner.children.items
+    c.deref-one-items.result.now c.deref-one-items.ensures.value shows c.loop-one.one-index
+    (g.N.Nodes.fetches c.args.nodes.now) (g.N.Nodes.fetches c.loop-one.nodes) (c.loop-one.invariant.fetched told)
+
+pub returns-in_ok-put-in-Inner-clause-fetched : goal.returns-in_ok-put-in-Inner-clause-fetched
+returns-in_ok-put-in-Inner-clause-fetched g t c =
+    let s = g.N.Nodes.stands c.args.nodes.now in
+    let hash = g.N.Hash.Hashes.of in
+    let shows = subst (λ n. Shows hash s c.args.child.now (owned n)) c.in-Inner.is c.in_ok-records.ensures.shows in
+    λ told. some_fetches hash s c.args.child.now c.requires.may told c.in-Inner.children.items
+    c.deref-one-items.result.now c.deref-one-items.ensures.value shows c.loop-one.one-index
+    (g.N.Nodes.fetches c.args.nodes.now) (g.N.Nodes.fetches c.loop-one.nodes) (c.loop-one.invariant.fetched told)

@@ -1,5 +1,7 @@
-use Rattle.std.proofs.Common.{◌≡◌, take}
-use Rattle.mr_store.specs.Copying.{AreCopied}
+use Rattle.std.proofs.Common.{◌≡◌, ◌+◌, ◌≤◌, take}
+use Rattle.std.specs.Prelude.{IsSome}
+use Rattle.mr_outside.specs.Faults.{next_count}
+use Rattle.mr_store.specs.Copying.{AreCopied, nodes_in}
 use Rattle.mr_store.proofs.copying.+copy.Given as goal
 
 abbrev pub decreases-copy : goal.decreases-copy
@@ -12,4 +14,7 @@ invariant-loop-one g l = record {
   quiet : g.N.Nodes.faults l.nodes ≡ g.N.Nodes.faults l.fn.nodes;
   all : AreCopied g.N.Hash.Hashes.of (g.N.Nodes.stands l.fn.nodes) (take l.one-index l.one-items) l.below.items
       l.fn.list.items l.list.items l.fn.seen l.seen;
+  fetched : IsSome (g.N.Nodes.stands l.fn.nodes).tree → g.N.Nodes.fetches l.nodes ≤
+      next_count (g.N.Nodes.fetches l.fn.nodes)
+      + nodes_in (g.N.Nodes.stands l.fn.nodes) (take l.one-index l.one-items);
 }

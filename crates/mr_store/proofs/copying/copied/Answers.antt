@@ -1,6 +1,6 @@
 use Rattle.std.proofs.Common.{sym, subst, ◌∙◌}
 use Rattle.mr_store.specs.Stored.{IsSaid}
-use Rattle.mr_store.proofs.Wholes.{empty_well, empty_whole, empty_said, empty_stands}
+use Rattle.mr_store.proofs.Wholes.{empty_well, empty_whole, empty_said, empty_stands, none_fetched}
 use Rattle.mr_store.proofs.copying.copied.Goals as goal
 
 pub over-requires-clause-whole : goal.over-requires-clause-whole
@@ -21,3 +21,7 @@ returns-in-None-clause-says g c =
     subst (IsSaid g.N.Hash.Hashes.of c.args.top.now) (sym c.over.ensures)
     (empty_said g.N.Hash.Hashes.of (g.N.Nodes.stands c.args.nodes.now) c.args.top.now c.new.result.items c.requires
     c.in-None.is c.new.ensures.items)
+
+pub returns-in-None-clause-fetched : goal.returns-in-None-clause-fetched
+returns-in-None-clause-fetched g c =
+    none_fetched (g.N.Nodes.stands c.args.nodes.now).tree (g.N.Nodes.fetches c.args.nodes.now)

@@ -3,7 +3,7 @@ use Rattle.std.specs.Prelude.{IfSome}
 use Rattle.std.proofs.lemmas.Result.{err_from_is_err_and}
 use Rattle.mr_tree.specs.Nodes.{MayFetch}
 use Rattle.mr_store.specs.Stored.{IsSaid}
-use Rattle.mr_store.proofs.Wholes.{none_linked, whole_well, whole_said, whole_snapshot, whole_stands, miscounted, stops_all}
+use Rattle.mr_store.proofs.Wholes.{none_linked, whole_well, whole_said, whole_snapshot, whole_stands, miscounted, stops_all, none_fetched, root_fetched}
 use Rattle.mr_store.proofs.copying.copied_from.Goals as goal
 
 pub copy-requires-clause-may : goal.copy-requires-clause-may
@@ -63,3 +63,25 @@ returns-clause-says g c =
     c.in_ok-copied.copied c.new-list.result.items c.copy.new.list.items c.in_ok-seen.seen c.copy.new.seen c.args.pages
     c.requires.top c.requires.root c.new-list.ensures.items c.in_ok-seen.ensures.told c.in_ok-copied.ensures.copied
     (sym c.if-count-top.false ∙ c.count.ensures))
+
+pub returns-in_err-copied-clause-fetched : goal.returns-in_err-copied-clause-fetched
+returns-in_err-copied-clause-fetched g c =
+    root_fetched g.N.Hash.Hashes.of (g.N.Nodes.stands c.args.nodes.now) c.args.top.now c.args.root.now
+    (g.N.Nodes.fetches c.args.nodes.now) (g.N.Nodes.fetches c.copy.new.nodes) c.requires.top c.requires.root
+    c.copy.ensures.fetched
+
+pub returns-then-count-top-clause-fetched : goal.returns-then-count-top-clause-fetched
+returns-then-count-top-clause-fetched g c =
+    root_fetched g.N.Hash.Hashes.of (g.N.Nodes.stands c.args.nodes.now) c.args.top.now c.args.root.now
+    (g.N.Nodes.fetches c.args.nodes.now) (g.N.Nodes.fetches c.copy.new.nodes) c.requires.top c.requires.root
+    c.copy.ensures.fetched
+
+pub returns-clause-fetched : goal.returns-clause-fetched
+returns-clause-fetched g c =
+    root_fetched g.N.Hash.Hashes.of (g.N.Nodes.stands c.args.nodes.now) c.args.top.now c.args.root.now
+    (g.N.Nodes.fetches c.args.nodes.now) (g.N.Nodes.fetches c.copy.new.nodes) c.requires.top c.requires.root
+    c.copy.ensures.fetched
+
+pub returns-in_err-seen-clause-fetched : goal.returns-in_err-seen-clause-fetched
+returns-in_err-seen-clause-fetched g c =
+    none_fetched (g.N.Nodes.stands c.args.nodes.now).tree (g.N.Nodes.fetches c.args.nodes.now)
