@@ -1,14 +1,14 @@
 -- `serve` on a map that is opened page by page and taken into memory.
 use Rattle.std.proofs.Common.{◌≡◌, ℕ, ◌+◌, ◌<◌, ◌≤◌, ltb, List, length, refl, sym, ap, subst, ◌∙◌, inl, inr, arith}
-use Rattle.std.specs.Prelude.{Option, Some, None, IfErr, IfSome, IsSome, Result, Ok, Err}
+use Rattle.std.specs.Prelude.{max, Option, Some, None, IfErr, IfSome, IsSome, Result, Ok, Err}
 use Rattle.std.proofs.lemmas.Bool.{cases_Bool, ltb-true, ltb-false}
 use Rattle.mr_outside.specs.Files.{Files, file}
-use Rattle.mr_outside.specs.Faults.{Rose}
+use Rattle.mr_outside.specs.Faults.{Rose, last_count}
 use Rattle.mr_outside.specs.State.{Shelved}
 use Rattle.mr_outside.specs.Told.{OfFile, OfFiles}
 use Rattle.mr_record.specs.Bytes.{AreBytes}
 use Rattle.mr_record.specs.declared.version.Version.TheVariants.{One}
-use Rattle.mr_tree.specs.Nodes.{Standing, HasSomeCause}
+use Rattle.mr_tree.specs.Nodes.{Standing, HasSomeCause, subtrees}
 use Rattle.mr_tree.specs.Snapshot.{standing, standing_of, tree_of}
 use Rattle.mr_tree.specs.WellFormed.{WellFormed}
 use Rattle.mr_tree.specs.declared.nodes.NodesErr.{NodesErr}
@@ -22,7 +22,7 @@ use Rattle.mr_pages.specs.declared.head.MapHead.{MapHead}
 use Rattle.mr_pages.specs.declared.opening.Opened.{Opened}
 use Rattle.mr_query.specs.Script.{queries_of_text}
 use Rattle.mr_store.specs.Opening.{TellsMap, RefusesMap, pages_in}
-use Rattle.mr_store.specs.Stored.{Keeps, StandsFor, room}
+use Rattle.mr_store.specs.Stored.{ReadsFew as FewFetches, Keeps, StandsFor, room}
 use Rattle.mr_tool.specs.Counting.{pieces_of, IsFewServed, ReadsFew}
 use Rattle.mr_tool.specs.Ending.{Comes, Ends, GivesUp, GoesOn, NoneFalls, SaysRefusal, SaysUntold, printed_of}
 use Rattle.mr_tool.specs.Found.{as_map_error}
@@ -109,28 +109,36 @@ serving_refused hash map script bundle next before after e r = by_told before.fi
         few_refused (Some files) map before.reads after.reads (λ bytes n. IsFewServed hash bytes (file files script) n)
         (λ bytes. inl (omega arith)) few
 
--- the pages of the map, and the pieces of the script
+-- what is read for a walk that fetches so many nodes
+few_walked : (r r' f f' n : ℕ) → f ≡ 0 → FewFetches r f r' f' → r' ≤ max r last_count → f' ≤ f + n → r' ≤ r + n
+few_walked r r' f f' n none few most bound = elim few [
+  | inl each ↦ omega (arith, each, bound, none)
+  | inr last ↦ omega (arith, last, most, bound, none)
+]
+
+-- the pages of the map, and the pieces of the script; and the nodes of a large one
 few_script : (hash : List ℕ → List ℕ) (h : MapHead) (bytes : List ℕ) (script : Input) (r m e : ℕ) (t : Tree)
     (batch : ℕ) → IsMap first_form hash bytes t batch → h.pages ≡ pages_in bytes → m ≤ r + pages_in bytes
-    → (h.pages ≤ room + 1 → e ≤ m + pieces_of script)
+    → (h.pages ≤ room + 1 → e ≤ m + pieces_of script) → e ≤ m + length (subtrees t) + pieces_of script
     → (n : ℕ) × (e ≤ r + n) × IsFewServed hash bytes script n
-few_script hash h bytes script r m e t batch stands pages few still = elim (cases_Bool (ltb (room + 1) h.pages)) [
-  | inl large ↦ (
-    e,
-    omega arith,
-    inr (
-      t,
-      batch,
-      stands,
-      inr (subst (λ n. room + 1 < n) pages (ltb-true (room + 1) h.pages large)),
-    ),
-  )
-  | inr small ↦ (
-    pages_in bytes + pieces_of script,
-    omega (arith, few, still (ltb-false (room + 1) h.pages small)),
-    inr (t, batch, stands, inl (omega arith)),
-  )
-]
+few_script hash h bytes script r m e t batch stands pages few still nodes =
+    elim (cases_Bool (ltb (room + 1) h.pages)) [
+      | inl large ↦ (
+        pages_in bytes + length (subtrees t) + pieces_of script,
+        omega (arith, few, nodes),
+        inr (
+          t,
+          batch,
+          stands,
+          inr (subst (λ n. room + 1 < n) pages (ltb-true (room + 1) h.pages large), omega arith),
+        ),
+      )
+      | inr small ↦ (
+        pages_in bytes + pieces_of script,
+        omega (arith, few, still (ltb-false (room + 1) h.pages small)),
+        inr (t, batch, stands, inl (omega arith)),
+      )
+    ]
 
 -- ---- a map that is opened, and taken into memory
 
@@ -140,7 +148,8 @@ module _ (hash : List ℕ → List ℕ) (sized : (xs : List ℕ) → length (has
     (more : before.reads ≤ mid.reads) (answers : OfFile before.files map ⊥ (TellsMap hash s))
     (pages : OfFile before.files map ⊥ (λ bytes. h.pages ≡ pages_in bytes))
     (few : OfFile before.files map ⊥ (λ bytes. mid.reads ≤ before.reads + pages_in bytes))
-    (kept : Keeps n n' h h' mid end f0 f) where
+    (kept : Keeps n n' h h' mid end f0 f) (none : f0 ≡ 0)
+    (fetched : IfSome s.tree (λ t. f ≤ f0 + length (subtrees t))) where
   abbrev on_map : Opened → Plan
   on_map = say_script hash script bundle
 
@@ -162,11 +171,14 @@ module _ (hash : List ℕ → List ℕ) (sized : (xs : List ℕ) → length (has
       pages in
       let few_are = at_input before.files files map has.bytes ⊥ (λ bytes. mid.reads ≤ before.reads + pages_in bytes)
       told has.input few in
+      let bound = subst (λ o. IfSome o (λ t. f ≤ f0 + length (subtrees t))) has.told fetched in
+      let walked = few_walked mid.reads end.reads f0 f (length (subtrees has.tree)) none kept.few kept.most bound in
       few_there before.files files map has.bytes before.reads after.reads
       (λ files bytes n. IsFewServed hash bytes (file files script) n) told has.input
       (few_script hash h has.bytes (file files script) before.reads mid.reads after.reads has.tree s.batch has.stands
       pages_are few_are
-      (λ small. omega (arith, pieces, kept.still (subst IsSome (sym (same ∙ told)) refl) small)))
+      (λ small. omega (arith, pieces, kept.still (subst IsSome (sym (same ∙ told)) refl) small))
+      (omega (arith, pieces, walked)))
 
   -- the script was read
   pub served : (nodes : List Stored) (top : Top) (after : Shelved) (result : Result Ending Halt)

@@ -5,6 +5,7 @@ use Rattle.mr_outside.specs.Files.{Files, file}
 use Rattle.mr_outside.specs.Reading.{piece_count}
 use Rattle.mr_outside.specs.State.{Shelved}
 use Rattle.mr_outside.specs.Told.{OfFiles}
+use Rattle.mr_tree.specs.Nodes.{subtrees}
 use Rattle.mr_tree.specs.declared.tree.Tree.{Tree}
 use Rattle.mr_pages.specs.Law.{IsMap}
 use Rattle.mr_pages.specs.PageBytes.{first_form}
@@ -54,12 +55,13 @@ IsFewBeside hash q bytes proof n = (n ≤ pages_in bytes)
     × ((n ≤ pages_in bytes + pieces_of proof) ⊎ (IsLarge bytes
     × (n ≤ pages_in bytes + pieces_of proof + opened_beside hash t batch q proof))))
 
--- the pages of a file of these bytes, and the pieces of a script where it stands for a map; of a
--- large map nothing more is said
+-- the pages of a file of these bytes; where it stands for a map the pieces of a script besides, and
+-- where that is large each of its nodes once, of which there are fewer than pages
 abbrev pub IsFewServed : (List ℕ → List ℕ) → List ℕ → Input → ℕ → Type 0
 IsFewServed hash bytes script n = (n ≤ pages_in bytes)
     ⊎ ((t : Tree) × (batch : ℕ) × IsMap first_form hash bytes t batch
-    × ((n ≤ pages_in bytes + pieces_of script) ⊎ IsLarge bytes))
+    × ((n ≤ pages_in bytes + pieces_of script) ⊎ (IsLarge bytes
+    × (n ≤ pages_in bytes + length (subtrees t) + pieces_of script))))
 
 -- so many reads of the map, and of the proof for an audit or the script for a bundle
 abbrev pub AllowsPages : Rereading → Files → ℕ → Type 0
