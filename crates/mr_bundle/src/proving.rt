@@ -59,7 +59,8 @@ fn proof_on<H: Hashes>(
     ensures { IfOk result (λ p. p ≡ proof_in H.of nodes.now.nodes.items nodes.now.top query.now) }
 {
     match proof_of_nodes(alloc, &mut nodes.reader(), query) {
-        Ok(text) => Ok(Items::of(text.into_bytes())),
+        // in no more room than it has bytes, since all proofs are held at once
+        Ok(text) => Ok(Items::of(text.bytes().to_vec(alloc)?)),
         Err(_) => Err(AllocError),
     }
 }

@@ -1,6 +1,6 @@
 -- What `check-all` says of a bundle, and what it comes to behind each step.
 use Rattle.std.proofs.Common.{◌≡◌, ℕ, suc, ◌+◌, ◌<◌, ◌≤◌, Bool, true, false, cond, ◌&&◌, eqb, List, [], ◌∷◌, ◌++◌, length, get_or, map, take, refl, sym, ap, subst, ◌∙◌, arith, append_assoc, append-nil}
-use Rattle.std.specs.Prelude.{Option, Some, None, Result, Ok, Err, All, is_none, OnOk, flat_map, codes, decimal}
+use Rattle.std.specs.Prelude.{Option, Some, None, Result, Ok, Err, All, is_none, OnOk, codes, decimal}
 use Rattle.std.specs.Global.{Vec}
 use Rattle.std.specs.List.{AllByRecursion}
 use Rattle.std.proofs.lemmas.Bool.{eq-eqb}
@@ -28,8 +28,8 @@ use Rattle.mr_tool.specs.Ending.{AreJudged, Comes, Gives, GivesOrStops, Misses, 
 use Rattle.mr_tool.specs.First.{first}
 use Rattle.mr_tool.specs.Judged.{is_accepted, verdict_text, verdict_lines, accepted_count, bundle_text, bundle_status}
 use Rattle.mr_tool.specs.Lines.{bad_text_line}
-use Rattle.mr_tool.specs.Outcome.{Outcome, Nothing}
-use Rattle.mr_tool.specs.Plan.{Plan, Input, IsInput, comes}
+use Rattle.mr_tool.specs.Outcome.{Nothing}
+use Rattle.mr_tool.specs.Plan.{Plan, Input, comes}
 use Rattle.mr_tool.specs.Promises.{IsAccepted}
 use Rattle.mr_tool.specs.Refusal.{refused_line}
 use Rattle.mr_tool.specs.Counting.{pieces_of, reads_taken}
@@ -38,7 +38,6 @@ use Rattle.mr_tool.specs.Saying.{ends, say_bundle, say_parts_of, say_serve_of, s
 use Rattle.mr_tool.specs.declared.ending.Ending.{Ending}
 use Rattle.mr_tool.specs.declared.ending.Halt.{Halt}
 use Rattle.mr_tool.specs.declared.ending.Halt.TheVariants as halts
-use Rattle.mr_tool.specs.declared.status.Status.{Status}
 use Rattle.mr_tool.specs.declared.status.Status.TheVariants.{Done, Refused, BadText}
 use Rattle.mr_tool.proofs.Counting.{OnceFrom, TakenFrom, text_taken, once_none}
 use Rattle.mr_tool.proofs.Going.{comes_given, comes_halted, comes_missing, comes_on, judged_needs}
@@ -51,13 +50,9 @@ unfolding bundle_of
 bundle_none = refl
 
 -- one proof more
-pub bundle_more : (list : List (List ℕ)) (i : ℕ) (p : List ℕ) → i < length list → p ≡ get_or list i p
-    → bundle_of (take (i + 1) list) ≡ bundle_of (take i list) ++ part_bytes p
+pub bundle_push : (list : List (List ℕ)) (p : List ℕ) → bundle_of (list ++ p ∷ []) ≡ bundle_of list ++ part_bytes p
 unfolding bundle_of
-bundle_more list i p here at =
-    ap (flat_map part_bytes) (take_more list i p here)
-    ∙ sym (flat_map_more part_bytes [] (take i list) (get_or list i p))
-    ∙ ap (λ x. flat_map part_bytes (take i list) ++ part_bytes x) (sym at)
+bundle_push list p = sym (flat_map_more part_bytes [] list p)
 
 -- ---- the lines
 

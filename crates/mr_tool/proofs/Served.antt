@@ -1,13 +1,12 @@
 -- `serve` on a map that is opened page by page and taken into memory.
 use Rattle.std.proofs.Common.{◌≡◌, ℕ, ◌+◌, ◌<◌, ◌≤◌, ltb, List, length, refl, sym, ap, subst, ◌∙◌, inl, inr, arith}
-use Rattle.std.specs.Prelude.{max, Option, Some, None, IfErr, IfSome, IsSome, Result, Ok, Err}
+use Rattle.std.specs.Prelude.{max, Option, Some, None, IfSome, IsSome, Result, Ok, Err}
 use Rattle.std.proofs.lemmas.Bool.{cases_Bool, ltb-true, ltb-false}
 use Rattle.mr_outside.specs.Files.{Files, file}
 use Rattle.mr_outside.specs.Faults.{Rose, last_count}
 use Rattle.mr_outside.specs.State.{Shelved}
-use Rattle.mr_outside.specs.Told.{OfFile, OfFiles}
+use Rattle.mr_outside.specs.Told.{OfFile}
 use Rattle.mr_record.specs.Bytes.{AreBytes}
-use Rattle.mr_record.specs.declared.version.Version.TheVariants.{One}
 use Rattle.mr_tree.specs.Nodes.{Standing, HasSomeCause, subtrees}
 use Rattle.mr_tree.specs.Snapshot.{standing, standing_of, tree_of}
 use Rattle.mr_tree.specs.WellFormed.{WellFormed}

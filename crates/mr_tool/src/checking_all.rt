@@ -17,21 +17,30 @@ use mr_tree::Hash32;
 use std::alloc::Global;
 use std::thread::Threads;
 
-// The verdicts on the parts of a bundle.
+// The verdicts on the parts of a bundle, whose bytes are given up before their text is made.
 fn check_bytes<H: Hash32, G: Gate, R: Threads + Sync>(
     rt: &R,
     alloc: Global,
     root: &[u8; 32],
     queries: &[Query],
-    bytes: &[u8],
+    bytes: Vec<u8>,
     gate: &G,
 ) -> Result<Ending, Halt>
     requires askable { All IsAskable queries.now }
     requires few { length queries.now ≤ script_limit }
-    ensures { GivesOrStops (say_parts_of H.of root.now queries.now bytes.now) result }
+    ensures { GivesOrStops (say_parts_of H.of root.now queries.now bytes.items) result }
 {
-    let parts = read_bundle(alloc, bytes, queries.len())?;
-    let list = check_all::<H, G, R>(rt, alloc, root, queries, bytes, parts.list.as_slice(), gate)?;
+    let parts = read_bundle(alloc, &bytes, queries.len())?;
+    let list = check_all::<H, G, R>(
+        rt,
+        alloc,
+        root,
+        queries,
+        &bytes,
+        parts.list.as_slice(),
+        gate,
+    )?;
+    drop(bytes);
     let accepted = count_accepted(&list);
     let text = judged_text(alloc, queries.len(), &list, accepted, parts.broken)?;
     let status = judged_status(&list, accepted, parts.broken);
@@ -54,7 +63,7 @@ fn check_file<H: Hash32, S: Shelf, G: Gate, R: Threads + Sync>(
         (S.state shelf.new) result }
 {
     match read(alloc, bundle, shelf) {
-        Ok(Some(bytes)) => check_bytes::<H, G, R>(rt, alloc, root, queries, &bytes, gate),
+        Ok(Some(bytes)) => check_bytes::<H, G, R>(rt, alloc, root, queries, bytes, gate),
         Ok(None) => missing(alloc, bundle),
         Err(halt) => Err(halt),
     }

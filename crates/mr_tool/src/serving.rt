@@ -23,10 +23,10 @@ use mr_tree::{Hash32, Snapshot};
 use std::alloc::{AllocError, Global};
 use std::thread::Threads;
 
-// The bundle of some proofs.
-fn bundled(alloc: Global, list: &[Proof]) -> Result<Text, AllocError>
-    requires { All IsShort list.now }
-    ensures { IfOk result (λ t. t.bytes.items ≡ bundle_of list.now) }
+// The bundle of some proofs, each of which is given up once its bytes are in it.
+fn bundled(alloc: Global, list: Vec<Proof>) -> Result<Text, AllocError>
+    requires { All IsShort list.items }
+    ensures { IfOk result (λ t. t.bytes.items ≡ bundle_of list.items) }
 {
     let mut out = Text::new(alloc);
     for proof in list {
@@ -51,7 +51,7 @@ fn serve_queries<H: Hash32, S: Shelf, G: Gate, R: Threads + Sync>(
         (S.state shelf.new) result }
 {
     let list = prove_all::<H, G, R>(rt, alloc, nodes, queries, gate)?;
-    let text = bundled(alloc, &list)?;
+    let text = bundled(alloc, list)?;
     let line = served_line(alloc, queries.len(), text.bytes().len())?;
     save_text(alloc, line, bundle, text.bytes(), shelf)
 }

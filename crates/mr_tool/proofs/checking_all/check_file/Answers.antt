@@ -1,5 +1,3 @@
-use Rattle.std.proofs.Common.{subst}
-use Rattle.mr_tool.specs.Ending.{GivesOrStops}
 use Rattle.mr_tool.specs.Say.{say_parts_of}
 use Rattle.mr_tool.proofs.Bundles.{parts_given}
 use Rattle.mr_tool.proofs.Going.{comes_read, comes_missed, comes_unread}
@@ -15,8 +13,7 @@ returns-in-Ok-Some g c =
     let bytes = c.in-Ok-Some.bytes.items in
     comes_read c.args.bundle.now said (g.S.Shelf.state c.args.shelf.now) between between c.in-Ok-Some.bytes
     c.in-Ok-Some.field-0 c.check_bytes.result c.in-Ok-Some.field-0-is c.in-Ok-Some.ensures
-    (parts_given hash root queries bytes between c.check_bytes.result
-    (subst (λ b. GivesOrStops (said b) c.check_bytes.result) c.deref.ensures.value c.check_bytes.ensures))
+    (parts_given hash root queries bytes between c.check_bytes.result c.check_bytes.ensures)
 
 pub returns-in-Ok-None : goal.returns-in-Ok-None
 returns-in-Ok-None g c =

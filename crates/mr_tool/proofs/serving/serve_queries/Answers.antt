@@ -1,6 +1,4 @@
-use Rattle.std.proofs.Common.{length, sym, ap, subst, ◌∙◌}
-use Rattle.std.specs.String.{string_bytes}
-use Rattle.mr_bundle.specs.Bundle.{bundle_of}
+use Rattle.std.proofs.Common.{length, ap, subst, ◌∙◌}
 use Rattle.mr_tool.specs.Ending.{Comes}
 use Rattle.mr_tool.specs.Lines.{served_line}
 use Rattle.mr_tool.specs.Plan.{comes}
@@ -19,5 +17,5 @@ returns g c =
     (c.bytes-2.ensures i))
     ∙ says_served g.H.Hashes.of name (held_in c.args.nodes.now.nodes.items c.args.nodes.now.top) queries
     c.in_ok-list.list.items bytes c.in_ok-list.ensures.exact
-    (c.in_ok-text.ensures ∙ ap bundle_of c.deref.ensures.value))
+    c.in_ok-text.ensures)
     c.save_text.ensures
