@@ -1,0 +1,246 @@
+"""Files that nobody means well with, refusals and stops: the built program beside docs/FORMATS.md.
+
+tests/hostile calls it: hostile.py short|long SEED PROGRAM.
+"""
+import os
+import random
+import subprocess
+import sys
+import tempfile
+import time
+from typing import Callable, Dict, List, Optional, Tuple
+
+from bench import Bench, Ended, read, write
+import bends
+import calls
+import memory
+import proofs
+import said
+import stops
+from proofs import plain
+
+PATIENCE = 60  # seconds of a run on a small file, after which it hangs
+
+
+def ran(bench: Bench, words: List[str]) -> Ended:
+    """What the program says, or that it hangs."""
+    try:
+        call, pipe = [bench.program_path, *words], subprocess.PIPE
+        run = subprocess.run(call, stdout=pipe, stderr=subprocess.STDOUT, timeout=PATIENCE)
+    except subprocess.TimeoutExpired:
+        return -1, b"it hangs"
+    return run.returncode, run.stdout
+
+
+# ---- one command line over some files
+
+
+class Case:
+    """A command line, its files, and the name of the one that it makes, if it makes any."""
+
+    def __init__(self, words: List[str], files: Dict[str, bytes], made: str = "") -> None:
+        self.words, self.files, self.made = words, files, made
+
+
+def is_made(case: Case, meant: Optional[bytes], before: Optional[bytes]) -> bool:
+    """Whether the file that a command makes is what it is to be; a map after a batch may be of another layout."""
+    if not case.made:
+        return True
+    if meant is None:
+        return (read(case.made) if os.path.exists(case.made) else None) == before
+    made = read(case.made)
+    if case.words[0] != "apply" or made == meant:
+        return made == meant
+    try:
+        tree, batch = said.read_map(made)
+    except said.Told:
+        return False
+    return said.map_bytes(tree, batch) == meant
+
+
+def judge(bench: Bench, case: Case, what: str) -> int:
+    """The program says, twice, what is to be said, makes what is to be made and leaves all else. Answers the status."""
+    for name in os.listdir("."):
+        os.remove(name)
+    for name, bytes_ in case.files.items():
+        write(name, bytes_)
+    before = case.files.get(case.made)
+    meant = said.say(case.words, case.files)
+    for turn in ("first", "second"):
+        one = ran(bench, case.words)
+        if meant.ended[0] == 6:
+            bench.holds(False, "%s: two strings of one SHA-256, or a fault: %s" % (what, one))
+        where = "%s: %s, the %s time" % (what, " ".join(case.words), turn)
+        told = (where, one[0], one[1][:200], meant.ended[0], meant.ended[1][:200])
+        bench.holds(one == meant.ended, "%s: status %d and %s, and meant are %d and %s" % told)
+        is_right = is_made(case, meant.made, before)
+        bench.holds(is_right, "%s: the file %s is another than is meant" % (where, case.made))
+        if one != meant.ended or not is_right:
+            keep(bench, case)
+            break
+    for name, bytes_ in case.files.items():
+        bench.holds(name == case.made or read(name) == bytes_, "%s: the file %s is another" % (what, name))
+    others = set(os.listdir(".")) - set(case.files) - {case.made}
+    bench.holds(not others, "%s: the files %s are made besides" % (what, sorted(others)))
+    return meant.ended[0]
+
+
+def keep(bench: Bench, case: Case) -> None:
+    """Keeps the files of a case that failed where somebody can look at them."""
+    if bench.failed > 5:
+        return
+    folder = tempfile.mkdtemp(prefix="mrtree-hostile-")
+    for name, bytes_ in case.files.items():
+        write(os.path.join(folder, name), bytes_)
+    print("  its files are in " + folder)
+
+
+# ---- what is tried, by kind of file
+
+
+def maybe(chance: random.Random, files: Dict[str, bytes], name: str) -> Dict[str, bytes]:
+    """The files, one time in thirty without this one."""
+    if chance.random() < 1 / 30:
+        files = {other: bytes_ for other, bytes_ in files.items() if other != name}
+    return files
+
+
+def texts(chance: random.Random) -> Case:
+    """Record texts, for `root` and for `build`, over an older map or none."""
+    text = bends.record_text(chance, bends.records(chance, 300))
+    way = chance.random()
+    text = bends.bent_text(text, chance) if way < 0.8 else bends.some_bytes(chance, 2000) if way < 0.85 else text
+    files = maybe(chance, {"r": text}, "r")
+    if chance.random() < 0.5:
+        return Case(["root", "r"], files)
+    old = {"m": bends.some_bytes(chance, 9000)} if chance.random() < 0.5 else {}
+    return Case(["build", "m", "r"], {**files, **old}, "m")
+
+
+def honest_map(chance: random.Random, given: List[Tuple]) -> bytes:
+    """A map file without a fault."""
+    return bends.Layout(chance).file(plain.pack(given), 0, chance.choice((0, 2)))
+
+
+def batches(chance: random.Random) -> Case:
+    """Batches, most of them bent, on maps without a fault."""
+    given = bends.records(chance, 200)
+    text = bends.batch_text(chance, given, 0)
+    way = chance.random()
+    text = bends.bent_text(text, chance) if way < 0.5 else bends.some_bytes(chance, 500) if way < 0.55 else text
+    files = maybe(chance, {"m": honest_map(chance, given), "b": text}, chance.choice("mb"))
+    old = {"n": bends.some_bytes(chance, 9000)} if chance.random() < 0.3 else {}
+    return Case(["apply", "m", "b", "n"], {**files, **old}, "n")
+
+
+def maps(chance: random.Random) -> Case:
+    """Map files, honest in any layout and bent, for each command that reads one."""
+    given = bends.records(chance, chance.choice((40, 400, 1500)))
+    bytes_, held = bends.map_file(chance, given)
+    if chance.random() < 0.05:
+        bytes_ = bends.some_bytes(chance, 3 * bends.PAGE)
+    query = proofs.word_of(bends.query(chance))
+    way = chance.randrange(6)
+    if way < 2:
+        return Case(["list", "m"], {"m": bytes_})
+    if way == 2:
+        return Case(["prove", "m", query, "p"], {"m": bytes_}, "p")
+    if way == 3:
+        return Case(["apply", "m", "b", "n"], {"m": bytes_, "b": bends.batch_text(chance, given, held)}, "n")
+    if way == 4:
+        return Case(["audit", "m", query, "p"], {"m": bytes_, "p": proof_of(chance, given, held)[2]})
+    return Case(["serve", "m", "s", "u"], {"m": bytes_, "s": bends.script_text(chance)}, "u")
+
+
+def proof_of(chance: random.Random, given: List[Tuple], batch: int) -> Tuple[str, Tuple, bytes]:
+    """A root digest, a query, and a string that is offered as its proof, honest or not."""
+    tree, query = plain.pack(given), bends.query(chance)
+    proof = proofs.honest(tree, batch, query)
+    way = chance.random()
+    if way < 0.5:
+        string = proofs.bent(proof, proofs.honest(tree, batch, bends.query(chance)), chance)
+    elif way < 0.6:
+        string = bends.some_bytes(chance, 400)
+    elif way < 0.7:
+        string = bends.bent_bytes(proof, chance)
+    else:
+        string = proof
+    return plain.root(tree, batch), bends.query(chance) if chance.random() < 0.1 else query, string
+
+
+def proofs_(chance: random.Random) -> Case:
+    """Proofs, for `check`, and for `audit` beside their map."""
+    given = bends.records(chance, chance.choice((40, 400)))
+    root, query, string = proof_of(chance, given, 0)
+    if chance.random() < 0.6:
+        return Case(["check", root, proofs.word_of(query), "p"], maybe(chance, {"p": string}, "p"))
+    files = {"m": honest_map(chance, given), "p": string}
+    return Case(["audit", "m", proofs.word_of(query), "p"], maybe(chance, files, "p"))
+
+
+def scripts(chance: random.Random) -> Case:
+    """Scripts, for `serve` and for `check-all`."""
+    given, text = bends.records(chance, 200), bends.script_text(chance)
+    text = bends.bent_text(text, chance) if chance.random() < 0.7 else text
+    if chance.random() < 0.7:
+        return Case(["serve", "m", "s", "u"], maybe(chance, {"m": honest_map(chance, given), "s": text}, "s"), "u")
+    root, bytes_ = plain.root(plain.pack(given), 0), bends.some_bytes(chance, 300)
+    return Case(["check-all", root, "s", "u"], {"s": text, "u": bytes_})
+
+
+def bundles(chance: random.Random) -> Case:
+    """Bundles for `check-all`."""
+    given = bends.records(chance, 200)
+    tree, queries = plain.pack(given), [bends.query(chance) for _ in range(chance.choice((0, 1, 2, 6)))]
+    bytes_ = bends.bundle(chance, [proofs.honest(tree, 0, query) for query in queries])
+    text = "".join(proofs.word_of(query) + "\n" for query in queries).encode()
+    return Case(["check-all", plain.root(tree, 0), "s", "u"], maybe(chance, {"s": text, "u": bytes_}, "u"))
+
+
+KINDS: List[Tuple[str, Callable[[random.Random], Case], int]] = [
+    ("record texts", texts, 5),
+    ("batches", batches, 4),
+    ("maps", maps, 8),
+    ("proofs", proofs_, 5),
+    ("scripts", scripts, 3),
+    ("bundles", bundles, 3),
+]
+
+
+def bent_files(bench: Bench, seed: int) -> None:
+    """Files of each kind; a case is made again by its number and the seed alone."""
+    ended: Dict[int, int] = {}
+    for kind, make, share in KINDS:
+        for number in range(share * (1000 if bench.is_long else 30)):
+            case = make(random.Random("%d %s %d" % (seed, kind, number)))
+            status = judge(bench, case, "%s %d of the seed %d" % (kind, number, seed))
+            ended[status] = ended.get(status, 0) + 1
+    told = ", ".join("%d with %d" % (ended[status], status) for status in sorted(ended))
+    print("tests/hostile: runs by status: " + told)
+    bench.holds(set(range(8)) - {1, 6} <= set(ended), "some status did not come: " + told)
+
+
+def main(how: str, seed: int, program: str) -> int:
+    """Runs the parts in a folder of its own; answers the exit status."""
+    bench = Bench(program, how == "long")
+    print("tests/hostile: the seed is %d" % seed)
+    parts: List[Tuple[str, Callable[[Bench, int], None]]] = [
+        ("random bytes and bent files", bent_files),
+        ("runs that are stopped", stops.stopped),
+        ("allocations that are refused", memory.refused),
+        ("calls on files that fail", calls.failing),
+    ]
+    room: Optional[str] = "/dev/shm" if os.access("/dev/shm", os.W_OK) else None
+    for name, part in parts:
+        rows, began = bench.rows, time.monotonic()
+        with tempfile.TemporaryDirectory(dir=room) as folder:
+            os.chdir(folder)
+            part(bench, seed)
+            os.chdir("/")
+        print("tests/hostile: %s: %d rows, %.1f s" % (name, bench.rows - rows, time.monotonic() - began), flush=True)
+    print("tests/hostile: %d rows, %d failed" % (bench.rows, bench.failed))
+    return 1 if bench.failed else 0
+
+
+if __name__ == "__main__":
+    sys.exit(main(sys.argv[1], int(sys.argv[2]), sys.argv[3]))

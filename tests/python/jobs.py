@@ -1,0 +1,137 @@
+"""Commands whose runs are cut short, and what may be left of them: all inputs, and of the output what may stand."""
+import os
+import random
+from typing import Dict, Iterable, List, NamedTuple, Optional, Tuple
+
+from bench import Bench, read, write
+from proofs import plain, word_of
+
+WINDOW = "window:-1000000,-1000000,200000,200000"
+
+
+class Job(NamedTuple):
+    """A command line, its input files, the file that it makes (or ""), and what a whole run prints and makes."""
+
+    words: List[str]
+    inputs: Dict[str, bytes]
+    made: str
+    text: bytes
+    whole: bytes
+
+
+def clear() -> None:
+    """Takes all files out of the folder."""
+    for name in os.listdir("."):
+        os.remove(name)
+
+
+def job(bench: Bench, words: str, inputs: Dict[str, bytes], made: str) -> Job:
+    """The job of a command line, done once as a whole."""
+    clear()
+    for name, bytes_ in inputs.items():
+        write(name, bytes_)
+    status, text = bench.program(words.split(" "))
+    bench.holds(status == 0, "%s: a whole run ends with %d: %s" % (words, status, text[:200]))
+    return Job(words.split(" "), inputs, made, text, read(made) if made else b"")
+
+
+def text_of(records: Iterable[Tuple]) -> bytes:
+    """The text of records."""
+    return "".join(plain.line_of(record) + "\n" for record in records).encode()
+
+
+def jobs(bench: Bench, seed: int, count: int, changes: int, queries: int) -> List[Job]:
+    """A job of each command on a generated map of so many records; the first four make what others rely on."""
+    chance = random.Random(seed)
+    text = text_of(plain.generated(count, seed))
+    gone = [b"- %d\n" % number for number in chance.sample(range(1, count + 1), changes)]
+    come = [b"+ %d %d 0 %d 0 -\n" % (count + 1 + i, 1000 * i, 1000 * i) for i in range(changes)]
+    batch = b"batch 1\n" + b"".join(gone + come)
+    script = "".join(word_of(query) + "\n" for query in plain.generated_queries(queries, seed)).encode()
+    build = job(bench, "build m r", {"r": text}, "m")
+    map_, root = build.whole, build.text.decode().strip()
+    prove = job(bench, "prove m %s p" % WINDOW, {"m": map_}, "p")
+    serve = job(bench, "serve m s u", {"m": map_, "s": script}, "u")
+    return [
+        build,
+        job(bench, "apply m b n", {"m": map_, "b": batch}, "n"),
+        prove,
+        serve,
+        job(bench, "make %d %d r" % (count, seed), {}, "r"),
+        job(bench, "root r", {"r": text}, ""),
+        job(bench, "list m", {"m": map_}, ""),
+        job(bench, "check %s %s p" % (root, WINDOW), {"p": prove.whole}, ""),
+        job(bench, "audit m %s p" % WINDOW, {"m": map_, "p": prove.whole}, ""),
+        job(bench, "check-all %s s u" % root, {"s": script, "u": serve.whole}, ""),
+        job(bench, "demo %d %d" % (max(1, count // 10), seed), {}, ""),
+    ]
+
+
+def few(bench: Bench) -> List[Job]:
+    """The same of very few records: two leaves are built, a leaf is split, two queries are answered on one record."""
+    row = [(number, (number, 0, number, 0), b"") for number in range(1, 18)]
+    sixteen = job(bench, "build m r", {"r": text_of(row[:16])}, "m").whole
+    one = job(bench, "build m r", {"r": b"7 0 0 0 0 -\n"}, "m")
+    script = b"window:0,0,0,0\nwindow:1,1,2,2\n"
+    serve = job(bench, "serve m s u", {"m": one.whole, "s": script}, "u")
+    return [
+        job(bench, "build m r", {"r": text_of(row)}, "m"),
+        job(bench, "apply m b n", {"m": sixteen, "b": b"batch 1\n+ 17 100 100 100 100 -\n"}, "n"),
+        job(bench, "prove m window:0,0,0,0 p", {"m": one.whole}, "p"),
+        serve,
+        job(bench, "check-all %s s u" % one.text.decode().strip(), {"s": script, "u": serve.whole}, ""),
+    ]
+
+
+def begin(one: Job, old: Optional[bytes]) -> None:
+    """Lays out the inputs, and the file that an older run made, if any."""
+    clear()
+    for name, bytes_ in one.inputs.items():
+        write(name, bytes_)
+    if one.made and old is not None:
+        write(one.made, old)
+
+
+def left_of(bench: Bench, one: Job, old: Optional[bytes]) -> str:
+    """What is left of the output: absent, as before, whole, a front, or unfinished; or what must not be left."""
+    names = {name for name in os.listdir(".")}
+    if names - {one.made} != set(one.inputs):
+        return "WRONG: other files: %s" % sorted(names)
+    if any(read(name) != bytes_ for name, bytes_ in one.inputs.items()):
+        return "WRONG: an input is another"
+    if not one.made:
+        return "no output"
+    if one.made not in names:
+        return "absent" if old is None else "WRONG: the output is gone"
+    left = read(one.made)
+    if left == one.whole:
+        return "whole"
+    if left == old:
+        return "as before"
+    if one.words[0] not in ("build", "apply"):
+        return "a front" if one.whole.startswith(left) else "WRONG: no front of the whole"
+    said = bench.program(["list", one.made])
+    is_told = said in ((4, b"bad map page 0 Size\n"), (4, b"bad map page 0 Unsealed\n"))
+    return "unfinished" if is_told else "WRONG: `list` says of it %s" % (said,)
+
+
+def is_done_again(bench: Bench, one: Job) -> bool:
+    """Whether the same command line, called again, does all."""
+    return bench.program(one.words) == (0, one.text) and (not one.made or read(one.made) == one.whole)
+
+
+class Tally:
+    """Counts what was left, by command."""
+
+    def __init__(self) -> None:
+        self.counts: Dict[Tuple[str, str], int] = {}
+
+    def add(self, one: Job, left: str) -> None:
+        """One more."""
+        self.counts[one.words[0], left] = self.counts.get((one.words[0], left), 0) + 1
+
+    def show(self) -> None:
+        """Prints a line for each command."""
+        for name in dict.fromkeys(name for name, _ in self.counts):
+            parts = ["%d %s" % (count, left) for (other, left), count in sorted(self.counts.items()) if other == name]
+            print("tests/hostile:   %s: %s" % (name, ", ".join(parts)))

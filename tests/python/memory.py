@@ -1,0 +1,74 @@
+"""Runs of which one allocation is refused, each in its turn."""
+import os
+import shutil
+import subprocess
+import tempfile
+from typing import List, Optional, Tuple
+
+from bench import HERE, Bench, Ended
+from jobs import Job, Tally, begin, few, is_done_again, jobs, left_of
+
+SOURCE = os.path.join(HERE, "..", "refuse.c")
+MOST = 20000  # allocations of a run that are refused in turn
+
+
+def library(folder: str) -> Optional[str]:
+    """The library that refuses, compiled; None where there is no compiler, or another C library."""
+    compiler = shutil.which("cc") or shutil.which("gcc")
+    path = os.path.join(folder, "refuse.so")
+    words = [compiler or "", "-shared", "-fPIC", "-O1", "-o", path, SOURCE]
+    if compiler is None or subprocess.run(words, stderr=subprocess.DEVNULL).returncode != 0:
+        return None
+    return path
+
+
+def run(bench: Bench, words: List[str], path: str, number: int, has_rest: bool) -> Tuple[Ended, bool]:
+    """What a run says of which this allocation is refused (and all behind it), and whether it came to that one."""
+    seen, tell = os.pipe()
+    environment = {**os.environ, "LD_PRELOAD": path, "REFUSE": str(number), "REFUSE_TELL": str(tell)}
+    if has_rest:
+        environment["REFUSE_REST"] = "1"
+    call, pipe = [bench.program_path, *words], subprocess.PIPE
+    ran = subprocess.run(call, stdout=pipe, stderr=subprocess.STDOUT, env=environment, pass_fds=[tell])
+    os.close(tell)
+    with os.fdopen(seen, "rb") as told:
+        came = told.read() != b""
+    return (ran.returncode, ran.stdout), came
+
+
+def each_refused(bench: Bench, one: Job, path: str, has_rest: bool, tally: Tally) -> int:
+    """Refuses each allocation of a job in turn; answers how many there are."""
+    for number in range(1, MOST):
+        old = b"F" * 5000 if number % 2 else None
+        begin(one, old)
+        (status, said), came = run(bench, one.words, path, number, has_rest)
+        what = "%s, allocation %d%s refused" % (one.words[0], number, " and all behind it" if has_rest else "")
+        if not came:
+            bench.holds((status, said) == (0, one.text), "%s: past the last one it ends with %d" % (what, status))
+            return number - 1
+        left = left_of(bench, one, old)
+        tally.add(one, "with status %d, %s" % (status, left))
+        bench.holds(status in (0, 8), "%s: status %d and %s" % (what, status, said[:200]))
+        is_so = said == one.text and left in ("whole", "no output") if status == 0 else one.text.startswith(said)
+        bench.holds(is_so, "%s: status %d, and it says %s" % (what, status, said[:200]))
+        bench.holds(not left.startswith("WRONG"), "%s: %s" % (what, left))
+        if number % 20 == 1:
+            bench.holds(is_done_again(bench, one), "%s does not do all after a refusal" % one.words[0])
+    return MOST
+
+
+def refused(bench: Bench, seed: int) -> None:
+    """Each allocation of each command refused, on small inputs; in the long run also with all behind it."""
+    with tempfile.TemporaryDirectory() as folder:
+        path = library(folder)
+        if path is None:
+            print("tests/hostile: SKIPPED: allocations that are refused, which take a C compiler and the GNU C library")
+            return
+        counts, tally = [], Tally()
+        for one in [*few(bench), *jobs(bench, seed % 2**64, 200 if bench.is_long else 40, 15, 2)]:
+            for has_rest in (False, True) if bench.is_long else (False,):
+                count = each_refused(bench, one, path, has_rest, tally)
+            bench.holds(count > 0, "no allocation of %s is seen" % one.words[0])
+            counts.append("%s %d" % (one.words[0], count))
+        print("tests/hostile: allocations that were refused in turn: " + ", ".join(counts))
+        tally.show()

@@ -1,0 +1,413 @@
+"""What the program says of its files: status, printed text and the file that it makes, by docs/FORMATS.md alone.
+
+A text or a map that breaks a rule is told by the line that is printed of it. Proofs and bundles are judged by the
+client in clients/python. Slow: for maps of a few thousand records.
+"""
+import hashlib
+import re
+import struct
+from typing import Any, Dict, List, NamedTuple, Optional, Set, Tuple
+
+from bench import Ended, mrtree_check
+from proofs import honest, plain
+
+PAGE = 4096
+MOST_RECORDS = 2**20
+MOST_QUERIES = 65536
+Files = Dict[str, bytes]
+
+
+class Told(Exception):
+    """A run ends with this status and text, and makes no file."""
+
+    def __init__(self, status: int, text: str) -> None:
+        super().__init__(text)
+        self.ended = status, text.encode() + b"\n"
+
+
+# ---- texts
+
+
+def lines_of(text: bytes, most: int) -> List[bytes]:
+    """The lines of a text up to the first that is past the limit or has no end; that one is told when it is reached."""
+    lines = text.split(b"\n")
+    return lines if lines[-1] else lines[:-1]
+
+
+def told_of_line(text: bytes, line: int, rules: List[str]) -> None:
+    """Tells of a line the first rule that it breaks, if it breaks any."""
+    if rules:
+        raise Told(3, "bad text line %d %s" % (line, rules[0]))
+
+
+def number_of(field: bytes, least: int, most: int) -> Optional[int]:
+    """The value of a canonical decimal in these bounds."""
+    if not re.fullmatch(rb"0|-?[1-9][0-9]{0,30}", field) or (least >= 0 and field[:1] == b"-"):
+        return None
+    value = int(field)
+    return value if least <= value <= most else None
+
+
+def read_fields(fields: List[bytes]) -> Tuple[Any, List[str]]:
+    """The record of six fields, and the rules that they break, in their order."""
+    number = number_of(fields[0], 0, 2**64 - 1)
+    corners = [number_of(field, -(2**31), 2**31 - 1) for field in fields[1:5]]
+    rules = ["Number"] if number is None else []
+    if None in corners:
+        rules.append("Coordinate")
+    elif corners[0] > corners[2] or corners[1] > corners[3]:
+        rules.append("Order")
+    if fields[5] != b"-" and not re.fullmatch(rb"([0-9a-f]{2}){1,200}", fields[5]):
+        rules.append("Payload")
+    if rules:
+        return None, rules
+    return (number, tuple(corners), b"" if fields[5] == b"-" else bytes.fromhex(fields[5].decode())), []
+
+
+def ends_in_time(text: bytes, place: int, lines: List[bytes], most: int) -> List[str]:
+    """TooMany and NoEnd of the line at this place, from 0 on."""
+    rules = ["TooMany"] if place >= most else []
+    return rules + (["NoEnd"] if place == len(lines) - 1 and text[-1:] != b"\n" else [])
+
+
+def read_records(text: bytes) -> List[Tuple]:
+    """The records of a record text."""
+    records, seen, lines = [], set(), lines_of(text, MOST_RECORDS)
+    for place, line in enumerate(lines):
+        rules, fields = ends_in_time(text, place, lines, MOST_RECORDS), line.split(b" ")
+        record, broken = (None, ["Form"]) if len(fields) != 6 else read_fields(fields)
+        rules += broken
+        if record and record[0] in seen:
+            rules.append("Repeat")
+        told_of_line(text, place + 1, rules)
+        seen.add(record[0])
+        records.append(record)
+    return records
+
+
+def read_change(line: bytes) -> Tuple[Any, List[str]]:
+    """A record that comes or the number of one that goes, and the rules that the line breaks."""
+    fields = line.split(b" ")
+    if fields[0] == b"+" and len(fields) == 7:
+        return read_fields(fields[1:])
+    if fields[0] == b"-" and len(fields) == 2:
+        number = number_of(fields[1], 0, 2**64 - 1)
+        return number, (["Number"] if number is None else [])
+    return None, ["Form"]
+
+
+def read_batch(text: bytes) -> Tuple[int, List[Any]]:
+    """The number of a batch text, and its changes."""
+    lines, changes, batch = lines_of(text, MOST_RECORDS + 1), [], 0
+    told_of_line(text, 1, [] if lines else ["Head"])
+    for place, line in enumerate(lines):
+        rules = ends_in_time(text, place, lines, MOST_RECORDS + 1)
+        if place == 0:
+            batch = number_of(line[6:], 0, 2**64 - 1) if line[:6] == b"batch " else None
+            rules += ["Head"] if batch is None else []
+        else:
+            change, broken = read_change(line)
+            rules += broken
+            changes.append(change)
+        told_of_line(text, place + 1, rules)
+    return batch, changes
+
+
+def read_query(word: bytes) -> Optional[Tuple]:
+    """The query of a word: a window, or a centre and how many of the nearest records are asked for."""
+    name, _, rest = word.partition(b":")
+    fields = rest.split(b",")
+    low, high = -(2**31), 2**31 - 1
+    if name == b"window" and len(fields) == 4:
+        corners = tuple(number_of(field, low, high) for field in fields)
+        is_so = None not in corners and corners[0] <= corners[2] and corners[1] <= corners[3]
+        return corners if is_so else None
+    if name == b"nearest" and len(fields) == 3:
+        x, y, k = number_of(fields[0], low, high), number_of(fields[1], low, high), number_of(fields[2], 1, 1024)
+        return None if None in (x, y, k) else ((x, y), k)
+    return None
+
+
+def read_script(text: bytes) -> List[Tuple]:
+    """The queries of a script."""
+    queries, lines = [], lines_of(text, MOST_QUERIES)
+    for place, line in enumerate(lines):
+        query = read_query(line)
+        told_of_line(text, place + 1, ends_in_time(text, place, lines, MOST_QUERIES) + ([] if query else ["Query"]))
+        queries.append(query)
+    return queries
+
+
+# ---- map files
+
+
+class Named(NamedTuple):
+    """How a node is named by its parent or by page 0."""
+
+    page: int
+    level: int
+    rect: Tuple[int, ...]
+    digest: bytes
+
+
+def told_of_map(page: int, rule: str, what: str = "") -> Told:
+    """The fault of a map file."""
+    return Told(4, "bad map page %d %s%s" % (page, rule, what))
+
+
+def is_in_order(rect: Tuple[int, ...]) -> bool:
+    """Whether no side is past the opposite one."""
+    return rect[0] <= rect[2] and rect[1] <= rect[3]
+
+
+class Walk:
+    """Reads a map file: its tree (None of a map without records) and its batch, or tells its fault."""
+
+    def __init__(self, bytes_: bytes) -> None:
+        self.bytes_, self.pages = bytes_, len(bytes_) // PAGE
+        self.reached: Set[int] = {0}
+        self.numbers: Set[int] = set()
+
+    def page(self, page: int) -> bytes:
+        """The bytes of a page."""
+        return self.bytes_[page * PAGE : (page + 1) * PAGE]
+
+    def read(self) -> Tuple[Any, int]:
+        """The tree and the batch."""
+        if not self.bytes_ or len(self.bytes_) % PAGE or self.pages > 2**20:
+            raise told_of_map(0, "Size")
+        head = self.page(0)
+        if head[-4:] != b"SEAL":
+            raise told_of_map(0, "Unsealed")
+        level, (batch, count, pages, root) = head[5], struct.unpack(">QQII", head[6:30])
+        rect, digest, free = struct.unpack(">4i", head[30:46]), head[46:78], int.from_bytes(head[78:82], "big")
+        is_empty_right = count > 0 or not (level or root or any(rect) or any(digest))
+        is_right = head[:5] == b"MRMP\x01" and level <= 7 and count <= MOST_RECORDS and pages == self.pages
+        if not (is_right and is_empty_right and (root or not count) and is_in_order(rect)) or any(head[82:-4]):
+            raise told_of_map(0, "Header")
+        tree = self.node(Named(root, level, rect, digest), True) if count else None
+        if count != len(self.numbers):
+            raise told_of_map(0, "Count", " held %d found %d" % (count, len(self.numbers)))
+        self.chain(free)
+        return tree, batch
+
+    def node(self, named: Named, is_root: bool) -> Any:
+        """The node that is named so."""
+        page = named.page
+        if not 0 < page < self.pages:
+            raise told_of_map(page, "Outside")
+        if page in self.reached:
+            raise told_of_map(page, "Twice")
+        self.reached.add(page)
+        parts, preimage = self.parts(named)
+        found = hashlib.sha256(preimage).digest()
+        if found != named.digest:
+            raise told_of_map(page, "Digest", " held %s found %s" % (named.digest.hex(), found.hex()))
+        if plain.union([part[1] if named.level == 0 else part.rect for part in parts]) != named.rect:
+            raise told_of_map(page, "Rect")
+        if len(parts) < ((1 if named.level == 0 else 2) if is_root else (6 if named.level == 0 else 24)):
+            raise told_of_map(page, "Fill")
+        if named.level:
+            return plain.Node(False, [self.node(part, False) for part in parts])
+        for record in parts:
+            if record[0] in self.numbers:
+                raise told_of_map(page, "Number")
+            self.numbers.add(record[0])
+        return plain.Node(True, parts)
+
+    def parts(self, named: Named) -> Tuple[List[Any], bytes]:
+        """The records or the named children of a node's page, and the preimage."""
+        try:
+            return self.leaf(named.page) if named.level == 0 else self.inner(named.page, named.level)
+        except (ValueError, struct.error, IndexError):
+            raise told_of_map(named.page, "Page") from None
+
+    def leaf(self, page: int) -> Tuple[List[Any], bytes]:
+        """The records of a leaf page."""
+        bytes_, at, records = self.page(page), 2, []
+        for _ in range(self.count(bytes_[:1] == b"L", bytes_[1], 16)):
+            number, *rect, length = struct.unpack_from(">Q4iB", bytes_, at)
+            if not is_in_order(tuple(rect)) or length > 200:
+                raise ValueError
+            records.append((number, tuple(rect), bytes_[at + 25 : at + 25 + length]))
+            at += 25 + length
+        return self.ended(bytes_, at, records), bytes_[:at]
+
+    def inner(self, page: int, level: int) -> Tuple[List[Any], bytes]:
+        """The named children of an inner page."""
+        bytes_, at, named, preimage = self.page(page), 3, [], self.page(page)[:3]
+        for _ in range(self.count(bytes_[:1] == b"N" and bytes_[1] == level, bytes_[2], 64)):
+            child, *rect = struct.unpack_from(">I4i", bytes_, at)
+            if not is_in_order(tuple(rect)):
+                raise ValueError
+            named.append(Named(child, level - 1, tuple(rect), bytes_[at + 20 : at + 52]))
+            preimage += bytes_[at + 4 : at + 52]
+            at += 52
+        return self.ended(bytes_, at, named), preimage
+
+    def count(self, is_kind: bool, count: int, most: int) -> int:
+        """The number of parts, if the page is of its kind."""
+        if not (is_kind and 1 <= count <= most):
+            raise ValueError
+        return count
+
+    def ended(self, bytes_: bytes, at: int, parts: List[Any]) -> List[Any]:
+        """The parts, if zeros stand behind them."""
+        if any(bytes_[at:]):
+            raise ValueError
+        return parts
+
+    def chain(self, page: int) -> None:
+        """The chain of free pages, and that no page is left."""
+        while page:
+            bytes_ = self.page(page) if page < self.pages else b""
+            if page in self.reached or bytes_[:1] != b"F" or any(bytes_[5:]):
+                raise told_of_map(page, "Free")
+            self.reached.add(page)
+            page = int.from_bytes(bytes_[1:5], "big")
+        for page in range(self.pages):
+            if page not in self.reached:
+                raise told_of_map(page, "Free")
+
+
+def read_map(bytes_: bytes) -> Tuple[Any, int]:
+    """The tree and the batch that a file stands for."""
+    return Walk(bytes_).read()
+
+
+def map_bytes(tree: Any, batch: int) -> bytes:
+    """The map file with the nodes from page 1 on, a node before its children, and no free page."""
+    pages: List[bytes] = []
+
+    def put(node: Any) -> int:
+        at = len(pages)
+        pages.append(b"")
+        if node.is_leaf:
+            parts = b"".join(map(plain.record_bytes, node.entries))
+            front = b"L" + bytes([len(node.entries)])
+        else:
+            front = b"N" + bytes([node.level(), len(node.entries)])
+            named = [(put(child), child) for child in node.entries]
+            parts = b"".join(struct.pack(">I4i", page, *child.rect) + child.digest() for page, child in named)
+        pages[at] = (front + parts).ljust(PAGE, b"\0")
+        return at + 1
+
+    root = put(tree) if tree else 0
+    named = struct.pack(">4i", *tree.rect) + tree.digest() if tree else bytes(48)
+    count, level = (len(tree.records()), tree.level()) if tree else (0, 0)
+    head = b"MRMP\x01" + bytes([level]) + struct.pack(">QQII", batch, count, len(pages) + 1, root) + named
+    return head.ljust(PAGE - 4, b"\0") + b"SEAL" + b"".join(pages)
+
+
+# ---- commands
+
+
+class Meant(NamedTuple):
+    """How a run is to end, and of a run that makes a file what that is to hold."""
+
+    ended: Ended
+    made: Optional[bytes] = None
+
+
+def file_of(files: Files, name: str) -> bytes:
+    """The bytes of an input file."""
+    if name not in files:
+        raise Told(7, "missing " + name)
+    return files[name]
+
+
+def record_lines(records: List[Tuple]) -> bytes:
+    """The lines of records."""
+    return "".join(plain.line_of(record) + "\n" for record in records).encode()
+
+
+def line(text: str) -> bytes:
+    """A printed line."""
+    return text.encode() + b"\n"
+
+
+def say_root(words: List[str], files: Files) -> Meant:
+    """`root`, and `build`, which makes a map."""
+    tree = plain.pack(read_records(file_of(files, words[-1])))
+    made = map_bytes(tree, 0) if words[0] == "build" else None
+    return Meant((0, line(plain.root(tree, 0))), made)
+
+
+def say_list(words: List[str], files: Files) -> Meant:
+    """`list`."""
+    tree, _ = read_map(file_of(files, words[1]))
+    return Meant((0, record_lines(sorted(tree.records()) if tree else [])))
+
+
+def say_apply(words: List[str], files: Files) -> Meant:
+    """`apply`; the bytes of the map that is made are one layout of several."""
+    tree, held = read_map(file_of(files, words[1]))
+    batch = read_batch(file_of(files, words[2]))
+    fault = plain.fault(tree, held, batch)
+    if fault:
+        raise Told(5, fault)
+    for change in batch[1]:
+        tree = plain.inserted(tree, change) if isinstance(change, tuple) else plain.deleted(tree, change)
+    return Meant((0, line(plain.root(tree, batch[0]))), map_bytes(tree, batch[0]))
+
+
+def query_of(word: str) -> Tuple:
+    """The query of a word that is one."""
+    query = read_query(word.encode())
+    if query is None:
+        raise Told(1, "bad words")
+    return query
+
+
+def say_prove(words: List[str], files: Files) -> Meant:
+    """`prove`."""
+    query = query_of(words[2])
+    made = honest(*read_map(file_of(files, words[1])), query)
+    return Meant((0, line("proof %d" % len(made))), made)
+
+
+def say_audit(words: List[str], files: Files) -> Meant:
+    """`audit`; that two strings have one SHA-256 is not reckoned with."""
+    query = query_of(words[2])
+    tree, batch = read_map(file_of(files, words[1]))
+    file_of(files, words[3])
+    status, text = mrtree_check.run(["check", plain.root(tree, batch), *words[2:]])
+    if status == 0 and file_of(files, words[3]) != honest(tree, batch, query):
+        return Meant((6, b"collision\n"))
+    return Meant((status, (b"sound\n" if status == 0 else b"") + text.encode()))
+
+
+def say_serve(words: List[str], files: Files) -> Meant:
+    """`serve`."""
+    tree, batch = read_map(file_of(files, words[1]))
+    queries = read_script(file_of(files, words[2]))
+    proofs = [honest(tree, batch, query) for query in queries]
+    made = b"".join(len(proof).to_bytes(4, "big") + proof for proof in proofs)
+    return Meant((0, line("served %d %d" % (len(queries), len(made)))), made)
+
+
+def say_client(words: List[str], files: Files) -> Meant:
+    """`check` and `check-all`, by the client, which reads the files itself."""
+    status, text = mrtree_check.run(words)
+    return Meant((status, text.encode()))
+
+
+COMMANDS = {
+    "root": say_root,
+    "build": say_root,
+    "list": say_list,
+    "apply": say_apply,
+    "prove": say_prove,
+    "audit": say_audit,
+    "serve": say_serve,
+    "check": say_client,
+    "check-all": say_client,
+}
+
+
+def say(words: List[str], files: Files) -> Meant:
+    """What comes of a command line over these files, which stand in the folder too."""
+    try:
+        return COMMANDS[words[0]](words, files)
+    except Told as told:
+        return Meant(told.ended)

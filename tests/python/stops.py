@@ -1,0 +1,50 @@
+"""Runs that are stopped at random moments, and what they leave."""
+import random
+import signal
+import subprocess
+import time
+from typing import Optional
+
+from bench import Bench
+from jobs import Job, Tally, begin, is_done_again, jobs, left_of
+
+
+def seconds_of(bench: Bench, one: Job) -> float:
+    """How long a whole run takes, the shortest of three."""
+    took = []
+    for _ in range(3):
+        begin(one, None)
+        began = time.monotonic()
+        bench.program(one.words)
+        took.append(time.monotonic() - began)
+    return min(took)
+
+
+def stop(bench: Bench, one: Job, after: float) -> Optional[int]:
+    """Begins a run and stops it after so many seconds; answers its status, negative where it was stopped."""
+    child = subprocess.Popen([bench.program_path, *one.words], stdout=subprocess.DEVNULL, stderr=subprocess.STDOUT)
+    time.sleep(after)
+    child.send_signal(signal.SIGKILL)
+    return child.wait()
+
+
+def stopped(bench: Bench, seed: int) -> None:
+    """`build`, `apply`, `prove` and `serve`, each stopped as often: two hundred times in the long run."""
+    chance, tally = random.Random(seed), Tally()
+    size, often = (30000, 50) if bench.is_long else (4000, 4)
+    ended = 0
+    for one in jobs(bench, seed % 2**64, size, 100, 50)[:4]:
+        seconds = seconds_of(bench, one)
+        other = one.whole[: len(one.whole) // 4096 // 2 * 4096] + b"x"
+        for turn in range(often):
+            old = other if turn % 2 else None
+            begin(one, old)
+            # half of them late, when the output is written
+            after = seconds * (chance.uniform(0, 1.1) if turn % 4 < 2 else chance.uniform(0.6, 1.1))
+            ended += stop(bench, one, after) == 0
+            left = left_of(bench, one, old)
+            tally.add(one, left)
+            bench.holds(not left.startswith("WRONG"), "%s, stopped after %.4f s: %s" % (one.words[0], after, left))
+            bench.holds(is_done_again(bench, one), "%s does not do all after a stop" % one.words[0])
+    print("tests/hostile: %d runs, of which %d ended before they were stopped; what they left:" % (4 * often, ended))
+    tally.show()
