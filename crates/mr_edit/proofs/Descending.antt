@@ -6,17 +6,18 @@ use Rattle.std.proofs.lemmas.List.Concat.{flat_map-append}
 use Rattle.mr_record.specs.declared.record.Record.{Record}
 use Rattle.mr_tree.specs.Digest.{Scheme}
 use Rattle.mr_tree.specs.declared.child.Child.{Child}
+use Rattle.mr_tree.specs.declared.tree.Tree.{Tree}
 use Rattle.mr_tree.specs.declared.tree.Tree.TheVariants as tree
 use Rattle.mr_tree.specs.declared.tree.Tree.TheOpen as node
 use Rattle.mr_split.specs.Choice.{choose}
 use Rattle.mr_grow.specs.Grow.{outline, grown, in_place, leaves_over, nodes_over}
 use Rattle.mr_grow.proofs.Grown.{beside, grown-Leaf, grown-Inner, in_place_is}
-use Rattle.mr_pages.specs.Stands.{Placed, Leaf, tree_of, pages_of}
+use Rattle.mr_pages.specs.Stands.{Placed, Leaf, Inner, tree_of, pages_of}
 use Rattle.mr_pages.specs.Walking.{child_link}
 use Rattle.mr_edit.specs.Book.{Book, HasNode, Owned, times}
 use Rattle.mr_edit.specs.Held.{Names, Name, trees, pages}
 use Rattle.mr_edit.specs.Outcome.{Uses, Outcome, Grows, PutsLeaf, PutsInner}
-use Rattle.mr_edit.proofs.Rows.{row_trees, row_pages}
+use Rattle.mr_edit.proofs.Rows.{row_of, row_trees, row_pages}
 use Rattle.mr_edit.proofs.Zips.{same_length, zip_at, zip_take, zip_drop, zip_both}
 use Rattle.mr_edit.proofs.Frame.{times-append, frame_all}
 use Rattle.mr_edit.proofs.Places.{same_owned, times_cons}
@@ -107,21 +108,79 @@ pub joined_pages : (ls ns rs : List Placed) → pages (ls ++ (ns ++ rs)) ≡ pag
 joined_pages ls ns rs = flat_map-append pages_of ls (ns ++ rs)
     ∙ ap (λ us. pages ls ++ us) (flat_map-append pages_of ns rs)
 
+pub tree_at : (Ps : List Placed) (at : ℕ) (x : Placed) → at < length Ps → x ≡ get_or Ps at x →
+    tree_of x ≡ get_or (trees Ps) at (tree_of x)
+tree_at Ps at x within is = ap tree_of is ∙ sym (get_or-map tree_of Ps at x (tree_of x) within)
+
+-- the pages of the node and of a child's siblings go to the others, and come back
+pub owned_up : (size x at : ℕ) (Ps ns : List Placed) (chain others : List ℕ) →
+    Owned size (pages ns ++ (chain ++ (x ∷ ((pages (take at Ps) ++ pages (drop (suc at) Ps)) ++ others)))) →
+    Owned size (x ∷ (pages (take at Ps ++ (ns ++ drop (suc at) Ps)) ++ (chain ++ others)))
+owned_up size x at Ps ns chain others =
+    same_owned size
+    (pages ns ++ (chain ++ (x ∷ ((pages (take at Ps) ++ pages (drop (suc at) Ps)) ++ others)))) _
+    (λ q. ap (λ us. times q (x ∷ (us ++ (chain ++ others)))) (joined_pages (take at Ps) ns (drop (suc at) Ps))
+    ∙ up_counts q x (pages (take at Ps)) (pages ns) (pages (drop (suc at) Ps)) chain others)
+
+-- a child of a node that was read: its siblings' pages and the node's own are others' pages
+pub record Step (scheme : Scheme) (a : Book) (chain others : List ℕ) (P : Placed) (c : Child) (cs : List Child) (at : ℕ)
+    (d : Child) : Type 0 where
+  pub parts : List Placed
+  pub is : P ≡ Inner c.id (row_of parts)
+  pub named : Name scheme a cs parts
+  pub inside : at < length parts
+  pub child : Placed
+  pub child_is : child ≡ get_or parts at child
+  pub held : Names scheme a d child
+  pub owned : Owned a.size
+      (pages_of child ++ (chain ++ (c.id ∷ ((pages (take at parts) ++ pages (drop (suc at) parts)) ++ others))))
+
+pub step_down : (scheme : Scheme) (a : Book) (chain others : List ℕ) (P : Placed) (c : Child) (cs : List Child) (at : ℕ)
+    (d : Child) → Names scheme a c P → HasNode a c.id (node.Inner (map child_link cs)) → at < length cs →
+    d ≡ get_or cs at d → Owned a.size (pages_of P ++ (chain ++ others)) → Step scheme a chain others P c cs at d
+step_down scheme a chain others P c cs at d names has within is_d owned =
+    let op = opens_inner scheme a c cs P names has in
+    let Ps = op.parts in
+    let none : Placed = Leaf 0 [] in
+    let inside : at < length Ps = omega (arith, within, same_length (Names scheme a) cs Ps op.named) in
+    let x : Placed = get_or Ps at none in
+    let l = pages (take at Ps) in
+    let r = pages (drop (suc at) Ps) in
+    let whole : pages Ps ≡ l ++ (pages_of x ++ r) = ap pages (around Ps at none inside)
+    ∙ flat_map-append pages_of (take at Ps) (x ∷ drop (suc at) Ps) in
+    let mine : pages_of P ≡ c.id ∷ pages Ps = ap pages_of op.is ∙ ap (λ ps. c.id ∷ ps) (row_pages Ps) in
+    record {
+      parts = Ps;
+      is = op.is;
+      named = op.named;
+      inside = inside;
+      child = x;
+      child_is = get_or_default Ps at none x inside;
+      held = subst (λ e. Names scheme a e x) (sym is_d) (zip_at (Names scheme a) cs Ps at d none op.named within);
+      owned = same_owned a.size (pages_of P ++ (chain ++ others)) _ (λ q. down_counts q c.id l (pages_of x) r chain
+          others (pages Ps) (pages_of P) whole mine) owned;
+    }
+
+-- an insertion below one of some trees
+pub grown_at : (one : Record) (ts : List Tree) (at : ℕ) (t : Tree) → at < length ts → t ≡ get_or ts at t →
+    at ≡ choose (map outline ts) one.rect →
+    nodes_over (take at ts ++ (grown one t ++ drop (suc at) ts)) ≡ grown one (tree.Inner ts)
+grown_at one ts at t within there chosen =
+    ap nodes_over (sym (in_place_is (grown one) at ts t within there)
+    ∙ ap (λ k. in_place k (beside (grown one) ts)) chosen)
+    ∙ sym (grown-Inner one ts)
+
 -- the trees of the parts are those that an insertion leaves
-joined_trees : (one : Record) (Ps ns : List Placed) (at : ℕ) (x : Placed) → at < length Ps → x ≡ get_or Ps at x →
+pub joined_trees : (one : Record) (Ps ns : List Placed) (at : ℕ) (x : Placed) → at < length Ps → x ≡ get_or Ps at x →
     trees ns ≡ grown one (tree_of x) → at ≡ choose (map outline (trees Ps)) one.rect →
     nodes_over (trees (take at Ps ++ (ns ++ drop (suc at) Ps))) ≡ grown one (tree.Inner (trees Ps))
 joined_trees one Ps ns at x within is stands chosen =
     let ts = trees Ps in
-    let there : tree_of x ≡ get_or ts at (tree_of x) = ap tree_of is
-    ∙ sym (get_or-map tree_of Ps at x (tree_of x) within) in
     ap nodes_over
     (map-append tree_of (take at Ps) (ns ++ drop (suc at) Ps)
     ∙ (λ i. sym (take-map tree_of at Ps) i ++ (map-append tree_of ns (drop (suc at) Ps) i))
-    ∙ (λ i. take at ts ++ (stands i ++ sym (drop-map tree_of (suc at) Ps) i))
-    ∙ sym (in_place_is (grown one) at ts (tree_of x) (omega (arith, within, length-map Ps tree_of)) there)
-    ∙ ap (λ k. in_place k (beside (grown one) ts)) chosen)
-    ∙ sym (grown-Inner one ts)
+    ∙ (λ i. take at ts ++ (stands i ++ sym (drop-map tree_of (suc at) Ps) i)))
+    ∙ grown_at one ts at (tree_of x) (omega (arith, within, length-map Ps tree_of)) (tree_at Ps at x within is) chosen
 
 pub grows_below : (scheme : Scheme) (told told1 told2 told' : Option Book) (free free2 free' : ℕ) (c : Child)
     (one : Record) (at : ℕ) (cs new out : List Child) (d : Child) →
@@ -134,22 +193,12 @@ grows_below scheme told told1 told2 told' free free2 free' c one at cs new out d
     is_d grows puts a chain P others is names linked owned =
     let has : HasNode a c.id (node.Inner (map child_link cs)) =
     subst (λ o. IfSome o (λ b. HasNode b c.id (node.Inner (map child_link cs)))) is reads in
-    let op = opens_inner scheme a c cs P names has in
+    let op = step_down scheme a chain others P c cs at d names has within is_d owned in
     let Ps = op.parts in
-    let none : Placed = Leaf 0 [] in
-    let inside : at < length Ps = omega (arith, within, same_length (Names scheme a) cs Ps op.named) in
-    let x : Placed = get_or Ps at none in
+    let x = op.child in
     let l = pages (take at Ps) in
     let r = pages (drop (suc at) Ps) in
-    let whole : pages Ps ≡ l ++ (pages_of x ++ r) = ap pages (around Ps at none inside)
-    ∙ flat_map-append pages_of (take at Ps) (x ∷ drop (suc at) Ps) in
-    let mine : pages_of P ≡ c.id ∷ pages Ps = ap pages_of op.is ∙ ap (λ ps. c.id ∷ ps) (row_pages Ps) in
-    let down : Owned a.size (pages_of x ++ (chain ++ (c.id ∷ ((l ++ r) ++ others)))) =
-    same_owned a.size (pages_of P ++ (chain ++ others)) _ (λ q. down_counts q c.id l (pages_of x) r chain
-    others (pages Ps) (pages_of P) whole mine) owned in
-    let held : Names scheme a d x = subst (λ e. Names scheme a e x) (sym is_d)
-    (zip_at (Names scheme a) cs Ps at d none op.named within) in
-    let o = grows a chain x (c.id ∷ ((l ++ r) ++ others)) (same ∙ is) held linked down in
+    let o = grows a chain x (c.id ∷ ((l ++ r) ++ others)) (same ∙ is) op.held linked op.owned in
     let stays : (Qs : List Placed) → ((q : ℕ) → 0 < times q (pages Qs) → 0 < times q (c.id ∷ ((l ++ r) ++ others))) →
     (us : List Child) → Name scheme a us Qs → Name scheme o.book us Qs =
     λ Qs among us all. frame_all scheme a o.book us Qs (λ q some. o.kept q (among q some)) all in
@@ -161,10 +210,7 @@ grows_below scheme told told1 told2 told' free free2 free' c one at cs new out d
     (zip_both (Names scheme o.book) new (drop (suc at) cs) o.parts (drop (suc at) Ps) o.named
     (stays (drop (suc at) Ps) (λ q some. among_right q c.id l r others some) (drop (suc at) cs)
     (zip_drop (Names scheme a) (suc at) cs Ps op.named))) in
-    let up : Owned o.book.size (c.id ∷ (pages (take at Ps ++ (o.parts ++ drop (suc at) Ps)) ++ (o.chain ++ others))) =
-    same_owned o.book.size (pages o.parts ++ (o.chain ++ (c.id ∷ ((l ++ r) ++ others)))) _
-    (λ q. ap (λ us. times q (c.id ∷ (us ++ (o.chain ++ others)))) (joined_pages (take at Ps) o.parts (drop (suc at) Ps))
-    ∙ up_counts q c.id l (pages o.parts) r o.chain others) o.owned in
+    let up = owned_up o.book.size c.id at Ps o.parts o.chain others o.owned in
     let w = puts o.book o.chain (take at Ps ++ (o.parts ++ drop (suc at) Ps)) others o.is now o.linked up in
     record {
       book = w.book;
@@ -173,7 +219,7 @@ grows_below scheme told told1 told2 told' free free2 free' c one at cs new out d
       named = w.named;
       stand =
           w.stand
-          ∙ joined_trees one Ps o.parts at x inside (get_or_default Ps at none x inside) o.stand (chosen
+          ∙ joined_trees one Ps o.parts at x op.inside op.child_is o.stand (chosen
           ∙ ap (λ rects. choose rects one.rect) (outlines_are scheme a cs Ps op.named))
           ∙ ap (λ ts. grown one (tree.Inner ts)) (sym (row_trees Ps)) ∙ ap (λ Q. grown one (tree_of Q)) (sym op.is);
       chain = w.chain;

@@ -20,7 +20,7 @@ use Rattle.mr_edit.specs.Book.{Book, HasNode, Owned}
 use Rattle.mr_edit.specs.Held.{Name, trees, pages}
 use Rattle.mr_edit.specs.Outcome.{Outcome}
 use Rattle.mr_edit.specs.Drafted.{Drafted, Inserts}
-use Rattle.mr_edit.specs.Removal.{HaveRect, Removes, topped}
+use Rattle.mr_edit.specs.Removal.{HaveRect, IsOnce, Removes, topped}
 use Rattle.mr_edit.specs.Deleted.{Reaches, InsertsAll, Deletes}
 use Rattle.mr_edit.proofs.Places.{same_owned}
 use Rattle.mr_edit.proofs.Roots.{rooted, start_counts, last_counts}
@@ -73,8 +73,8 @@ pub taken_out : (scheme : Scheme) (told told' : Option Book) (free free' : ℕ) 
     (entry : Option Child) (aside : List Record) →
     Removes scheme true told free told' free' c n r (option_to_list entry) aside →
     (t : Tree) (d : Drafted scheme told free (Some c) t) → HaveRect n r (records t) →
-    TakenOut scheme told' free' entry n aside d.book.size t
-taken_out scheme told told' free free' c n r entry aside removes t d all =
+    IsOnce n (records t) → TakenOut scheme told' free' entry n aside d.book.size t
+taken_out scheme told told' free free' c n r entry aside removes t d all once =
     at d.placed d.tree d.root_is d.written d.owned
   where
     at : (o : Option Placed) → whole_tree o ≡ t → ◌≡◌ {A = Option Link} (Some (child_link c))
@@ -85,7 +85,7 @@ taken_out scheme told told' free free' c n r entry aside removes t d all =
         let said : child_link c ≡ link_of scheme P = cc in
         let g = removes d.book d.chain P (0 ∷ []) d.is (record { said = said; written = written }) d.linked
         (same_owned d.book.size (0 ∷ (pages_of P ++ d.chain)) _ (λ q. start_counts q (pages_of P) d.chain) owned)
-        (subst (λ u. HaveRect n r (records u)) (sym is) all) in
+        (subst (λ u. HaveRect n r (records u)) (sym is) all) (subst (λ u. IsOnce n (records u)) (sym is) once) in
         let e = topped_rooted scheme d.book told' free' (shortened (shrunk n (tree_of P)).tree) entry g.1.outcome in
         subst (λ u. TakenOut scheme told' free' entry n aside d.book.size u) is
         (record { draft = e.0; same = e.1; aside_is = g.1.aside_is })
@@ -147,9 +147,9 @@ pub deleted : (scheme : Scheme) (told told1 told' : Option Book) (free free1 fre
     InsertsAll scheme told1 free1 entry told' free' root' sorted →
     Deletes scheme told free (Some c) told' free' root' n r
 deleted scheme told told1 told' free free1 free' c n r entry root' aside sorted removes sorts inserts t least size
-    so_far reach all =
+    so_far reach all once =
     let d = reach.draft in
-    let x = taken_out scheme told told1 free free1 c n r entry aside removes t d all in
+    let x = taken_out scheme told told1 free free1 c n r entry aside removes t d all once in
     let what : sorted ≡ sorted_by_key (λ (y : Record). y.number) (shrunk n t).aside = sorts
     ∙ ap (sorted_by_key (λ (y : Record). y.number)) x.aside_is in
     let s = shortened (shrunk n t).tree in
@@ -160,3 +160,11 @@ deleted scheme told told1 told' free free1 free' c n r entry root' aside sorted 
       no_more =
           omega (arith, x.same, reach.no_more);
     }))
+
+-- the same, where nothing was changed before
+pub deletes_then : (scheme : Scheme) (told told1 told' : Option Book) (free free1 free' : ℕ) (root root' : Option Child)
+    (n : ℕ) (r : Rectangle) → told1 ≡ told → free1 ≡ free → Deletes scheme told1 free1 root told' free' root' n r →
+    Deletes scheme told free root told' free' root' n r
+deletes_then scheme told told1 told' free free1 free' root root' n r same same_free deletes =
+    subst (λ o. Deletes scheme o free root told' free' root' n r) same
+    (subst (λ f. Deletes scheme told1 f root told' free' root' n r) same_free deletes)

@@ -84,7 +84,7 @@ pub record Opened (scheme : Scheme) (b : Book) (c : Child) (cs : List Child) (P 
   pub is : P ≡ Inner c.id (row_of parts)
   pub named : Name scheme b cs parts
 
-same_node : (o : Option Node) (m n : Node) → o ≡ Some m → o ≡ Some n → m ≡ n
+pub same_node : (o : Option Node) (m n : Node) → o ≡ Some m → o ≡ Some n → m ≡ n
 same_node o m n here there = let both : ◌≡◌ {A = Option Node} (Some m) (Some n) = sym here ∙ there in cc
 
 pub opens_inner : (scheme : Scheme) (b : Book) (c : Child) (cs : List Child) (P : Placed) → Names scheme b c P →

@@ -230,7 +230,7 @@ top_inner_stayed scheme told told' free free' page cs before c some w a chain Ps
     }
 
 -- a tree that has a page is not empty
-placed_there : (P : Placed) → tree_of P ≢ tree.Empty
+pub placed_there : (P : Placed) → tree_of P ≢ tree.Empty
 placed_there (Leaf p rs) e = let opened : ◌≡◌ {A = node.Tree-F Tree} (node.Leaf rs) node.Empty = sym (tree.outs-Leaf rs)
     ∙ ap out-Tree e ∙ tree.outs-Empty in cc
 placed_there (Inner p R) e = let opened : ◌≡◌ {A = node.Tree-F Tree} (node.Inner (trees_of R)) node.Empty =

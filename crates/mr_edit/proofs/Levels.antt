@@ -1,12 +1,17 @@
 -- The levels of entries, and how many there are.
 use Rattle.std.proofs.Common.{◌≡◌, Bool, true, false, ℕ, zero, suc, ◌+◌, ◌*◌, ◌<◌, ◌≤◌, List, [], ◌∷◌, ◌++◌, length, take, drop, get_or, sym, ap, subst, ◌∙◌, arith}
+use Rattle.std.specs.Prelude.{Option, Some, None}
 use Rattle.std.specs.List.{AllByRecursion}
+use Rattle.std.specs.Option.{option_to_list}
+use Rattle.std.proofs.lemmas.List.{length-append}
 use Rattle.mr_geom.specs.Rectangle.{Rectangle}
 use Rattle.mr_tree.specs.declared.child.Child.{Child}
 use Rattle.mr_split.specs.Split.{sides}
 use Rattle.mr_grow.specs.Parts.{first_part, second_part}
 use Rattle.mr_grow.proofs.Cutting.{splits}
+use Rattle.mr_edit.specs.Held.{entries}
 use Rattle.mr_edit.specs.Outcome.{Halves}
+use Rattle.mr_edit.specs.declared.stand.Stand.{Stand}
 
 pub all_append : {X : Type 0} (P : X → Type 0) (xs ys : List X) → AllByRecursion P xs → AllByRecursion P ys →
     AllByRecursion P (xs ++ ys)
@@ -23,7 +28,7 @@ all_drop P zero xs all = all
 all_drop P (suc n) [] all = tt
 all_drop P (suc n) (x ∷ xs) all = all_drop P n xs all.1
 
-all_at : {X : Type 0} (P : X → Type 0) (n : ℕ) (xs : List X) (d : X) → n < length xs → AllByRecursion P xs →
+pub all_at : {X : Type 0} (P : X → Type 0) (n : ℕ) (xs : List X) (d : X) → n < length xs → AllByRecursion P xs →
     P (get_or xs n d)
 all_at P n [] d within all = absurd (omega (arith, within))
 all_at P zero (x ∷ xs) d within all = all.0
@@ -50,6 +55,20 @@ replaced_below level at cs new d all within is levels =
     (all_take (λ (c : Child). c.level + 1 ≡ level) at cs all)
     (all_append (λ (c : Child). c.level + 1 ≡ level) new (drop (suc at) cs) (one_up level d.level new up levels)
     (all_drop (λ (c : Child). c.level + 1 ≡ level) (suc at) cs all))
+
+-- and there is one entry more at most
+pub replaced_length : {X : Type 0} (at : ℕ) (xs new : List X) → at < length xs →
+    length (take at xs ++ (new ++ drop (suc at) xs)) + 1 ≡ length xs + length new
+replaced_length at [] new within = absurd (omega (arith, within))
+replaced_length zero (x ∷ xs) new within = omega (arith, length-append new xs)
+replaced_length (suc at) (x ∷ xs) new within = omega (arith, replaced_length at xs new (omega (arith, within)))
+
+pub few_entries : (s : Stand) → length (entries s) ≤ 2
+few_entries s = at s.second
+  where
+    at : (o : Option Child) → length (s.first ∷ option_to_list o) ≤ 2
+    at None = omega arith
+    at (Some c) = omega arith
 
 parts_length : {X : Type 0} (bs : List Bool) (xs : List X) → length (first_part bs xs) + length (second_part bs xs) ≤
     length xs

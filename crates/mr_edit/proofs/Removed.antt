@@ -1,10 +1,9 @@
 -- A record is taken out of the subtree below an entry.
 use Rattle.std.proofs.Common.{◌≡◌, Bool, true, false, ◌||◌, ℕ, zero, suc, ◌<◌, ◌≤◌, List, [], ◌∷◌, ◌++◌, length, map, take, drop, get_or, refl, sym, ap, subst, ◌∙◌, arith}
-use Rattle.std.specs.Prelude.{Option, IfSome}
+use Rattle.std.specs.Prelude.{Option, Some, IfSome}
 use Rattle.std.specs.List.{flat_map, list_any, remove}
 use Rattle.std.proofs.lemmas.Bool.{lt-ltb, le-ltb}
 use Rattle.std.proofs.lemmas.List.{length-map, map-append, take-map, drop-map}
-use Rattle.std.proofs.lemmas.List.Concat.{flat_map-append}
 use Rattle.mr_geom.specs.Rectangle.{Rectangle}
 use Rattle.mr_record.specs.declared.record.Record.{Record}
 use Rattle.mr_tree.specs.Digest.{Scheme}
@@ -19,18 +18,18 @@ use Rattle.mr_grow.specs.Shrink.{Rest, stays, set_aside, shrunk}
 use Rattle.mr_grow.proofs.Found.{place_any}
 use Rattle.mr_grow.proofs.Kept.{records_below}
 use Rattle.mr_grow.proofs.Shrunk.{holder, shrunk-Leaf, shrunk-Inner, has_below}
-use Rattle.mr_pages.specs.Stands.{Placed, Leaf, tree_of, pages_of, IsChain}
+use Rattle.mr_pages.specs.Stands.{Placed, Leaf, Inner, tree_of, pages_of, IsChain}
 use Rattle.mr_pages.specs.Walking.{child_link}
 use Rattle.mr_edit.specs.Book.{Book, HasNode, HasFree, Owned, times}
 use Rattle.mr_edit.specs.Held.{Names, Name, trees, pages}
-use Rattle.mr_edit.specs.Removal.{HaveRect, Lacks, IsLeft, LeavesLeaf, LeavesInner, Removes}
-use Rattle.mr_edit.proofs.Rows.{row_trees, row_pages}
+use Rattle.mr_edit.specs.Removal.{HaveRect, IsOnce, Lacks, IsLeft, LeavesLeaf, LeavesInner, Removes}
+use Rattle.mr_edit.proofs.Rows.{row_of, row_trees}
 use Rattle.mr_edit.proofs.Zips.{zip_take, zip_drop, zip_both}
 use Rattle.mr_edit.proofs.Frame.{frame_all}
-use Rattle.mr_edit.proofs.Places.{same_owned}
-use Rattle.mr_edit.proofs.Entries.{opens_inner, opens_leaf}
-use Rattle.mr_edit.proofs.Descending.{around, down_counts, up_counts, among_left, among_right, among_others, joined_pages}
-use Rattle.mr_edit.proofs.Searching.{holds, NoneYet, among, all_below, place_found}
+use Rattle.mr_edit.proofs.Entries.{opens_leaf}
+use Rattle.mr_edit.proofs.Descending.{tree_at, owned_up, step_down, among_left, among_right, among_others}
+use Rattle.mr_edit.proofs.Searching.{holds, all_below, place_found}
+use Rattle.mr_edit.proofs.Once.{once_below, alone_before}
 
 or_true : (a b : Bool) → b ≡ true → (a || b) ≡ true
 or_true true b e = refl
@@ -50,7 +49,7 @@ pub removes_leaf : (scheme : Scheme) (root : Bool) (told told1 told' : Option Bo
     at < length rs → new ≡ remove rs at → LeavesLeaf scheme root told1 free told' free' c.id new out aside →
     Removes scheme root told free told' free' c n r out aside
 removes_leaf scheme root told told1 told' free free' c n r rs new at out aside same reads place within
-    removed leaves a chain P others is names linked owned all =
+    removed leaves a chain P others is names linked owned all once =
     let has_node : HasNode a c.id (node.Leaf rs) = subst (λ o. IfSome o (λ b. HasNode b c.id (node.Leaf rs))) is reads
     in
     let here : P ≡ Leaf c.id rs = opens_leaf scheme a c rs P names has_node in
@@ -101,71 +100,113 @@ left_trees n Ps ns at x within place is stand =
     })
     ∙ sym (shrunk-Inner n ts x (subst (λ k. k < length ts) place size) (subst (λ k. x ≡ get_or ts k x) place is))
 
-pub removes_below : (scheme : Scheme) (root : Bool) (told told1 told2 told' : Option Book) (free free1 free2 free' : ℕ)
-    (c : Child) (n : ℕ) (r : Rectangle) (at : ℕ) (cs new out : List Child) (before aside : List Record) (d : Child) →
-    told1 ≡ told → free1 ≡ free → IfSome told (λ b. HasNode b c.id (node.Inner (map child_link cs))) → at < length cs →
-    d ≡ get_or cs at d → NoneYet scheme told cs n r at →
-    Removes scheme false told1 free1 told2 free2 d n r new before →
-    LeavesInner scheme root told2 free2 told' free' c.id (take at cs ++ (new ++ drop (suc at) cs)) before out aside
-    →
-    Removes scheme root told free told' free' c n r out aside
-removes_below scheme root told told1 told2 told' free free1 free2 free' c n r at cs new out before aside d same
-    same_free reads within is_d none removes leaves a chain P others is names linked owned all =
+-- A record was taken out below one of the entries. The others, and what stands in the place of that one, are named
+-- side by side, and their pages are apart from the node's.
+pub record Rejoined (scheme : Scheme) (a : Book) (told : Option Book) (free : ℕ) (c : Child) (n at : ℕ)
+    (cs new : List Child) (before : List Record) (P : Placed) (others : List ℕ) : Type 0 where
+  pub parts : List Placed
+  pub opened : P ≡ Inner c.id (row_of parts)
+  pub had : Name scheme a cs parts
+  pub child : Placed
+  pub within : at < length parts
+  pub tree_is : tree_of child ≡ get_or (trees parts) at (tree_of child)
+  pub there : has n (records (tree_of child)) ≡ true
+  pub left : IsLeft scheme false a told free (c.id ∷ ((pages (take at parts) ++ pages (drop (suc at) parts)) ++ others))
+      (shrunk n (tree_of child)) new before
+  pub named : Name scheme left.outcome.book (take at cs ++ (new ++ drop (suc at) cs))
+      (take at parts ++ (left.outcome.parts ++ drop (suc at) parts))
+  pub owned : Owned left.outcome.book.size
+      (c.id ∷ (pages (take at parts ++ (left.outcome.parts ++ drop (suc at) parts)) ++ (left.outcome.chain ++ others)))
+
+pub records_opened : (P : Placed) (page : ℕ) (Ps : List Placed) → P ≡ Inner page (row_of Ps) →
+    records (tree_of P) ≡ flat_map records (trees Ps)
+records_opened P page Ps is = ap (λ Q. records (tree_of Q)) is ∙ ap (λ ts. records (tree.Inner ts)) (row_trees Ps)
+    ∙ records_below (trees Ps)
+
+pub rejoined : (scheme : Scheme) (told told1 told2 : Option Book) (free free1 free2 : ℕ) (c : Child) (n : ℕ)
+    (r : Rectangle) (at : ℕ) (cs new : List Child) (before : List Record) (d : Child) → told1 ≡ told → free1 ≡ free →
+    IfSome told (λ b. HasNode b c.id (node.Inner (map child_link cs))) → at < length cs → d ≡ get_or cs at d →
+    Removes scheme false told1 free1 told2 free2 d n r new before → (a : Book) (chain : List ℕ) (P : Placed)
+    (others : List ℕ) → told ≡ Some a → Names scheme a c P → IsChain (HasFree a) free chain →
+    Owned a.size (pages_of P ++ (chain ++ others)) → HaveRect n r (records (tree_of P)) →
+    IsOnce n (records (tree_of P)) → Rejoined scheme a told2 free2 c n at cs new before P others
+rejoined scheme told told1 told2 free free1 free2 c n r at cs new before d same same_free reads within is_d removes a
+    chain P others is names linked owned all once =
     let has_node : HasNode a c.id (node.Inner (map child_link cs)) =
     subst (λ o. IfSome o (λ b. HasNode b c.id (node.Inner (map child_link cs)))) is reads in
-    let op = opens_inner scheme a c cs P names has_node in
-    let Ps = op.parts in
-    let m = among scheme a cs Ps at d op.named within is_d in
-    let x : Placed = m.part in
+    let st = step_down scheme a chain others P c cs at d names has_node within is_d owned in
+    let Ps = st.parts in
+    let x : Placed = st.child in
     let lp = pages (take at Ps) in
     let rp = pages (drop (suc at) Ps) in
-    let whole : pages Ps ≡ lp ++ (pages_of x ++ rp) =
-    ap pages (around Ps at x m.within ∙ ap (λ y. take at Ps ++ (y ∷ drop (suc at) Ps)) (sym m.is))
-    ∙ flat_map-append pages_of (take at Ps) (x ∷ drop (suc at) Ps) in
-    let mine : pages_of P ≡ c.id ∷ pages Ps = ap pages_of op.is ∙ ap (λ ps. c.id ∷ ps) (row_pages Ps) in
-    let what : records (tree_of P) ≡ flat_map records (trees Ps) = ap (λ Q. records (tree_of Q)) op.is
-    ∙ ap (λ ts. records (tree.Inner ts)) (row_trees Ps) ∙ records_below (trees Ps) in
-    let each : HaveRect n r (flat_map records (trees Ps)) = subst (HaveRect n r) what all in
-    let size : at < length (trees Ps) = omega (arith, m.within, length-map Ps tree_of) in
-    let here : HaveRect n r (records (tree_of x)) = subst (λ u. HaveRect n r (records u)) (sym m.tree)
-    (all_below (λ (y : Record). y.number ≡ n → y.rect ≡ r) (trees Ps) at (tree_of x) size each) in
-    let down : Owned a.size (pages_of x ++ (chain ++ (c.id ∷ ((lp ++ rp) ++ others)))) =
-    same_owned a.size (pages_of P ++ (chain ++ others)) _ (λ q. down_counts q c.id lp (pages_of x) rp chain
-    others (pages Ps) (pages_of P) whole mine) owned in
-    let g = removes a chain x (c.id ∷ ((lp ++ rp) ++ others)) (same ∙ is) m.names
-    (subst (λ f. IsChain (HasFree a) f chain) (sym same_free) linked) down here in
+    let t_is = tree_at Ps at x st.inside st.child_is in
+    let each : HaveRect n r (flat_map records (trees Ps)) = subst (HaveRect n r) (records_opened P c.id Ps st.is) all in
+    let here : HaveRect n r (records (tree_of x)) = subst (λ u. HaveRect n r (records u)) (sym t_is)
+    (all_below (λ (y : Record). y.number ≡ n → y.rect ≡ r) (trees Ps) at (tree_of x)
+    (omega (arith, st.inside, length-map Ps tree_of)) each) in
+    let alone : IsOnce n (records (tree_of x)) = subst (λ u. IsOnce n (records u)) (sym t_is)
+    (once_below n (trees Ps) at (tree_of x) (omega (arith, st.inside, length-map Ps tree_of))
+    (subst (IsOnce n) (records_opened P c.id Ps st.is) once)) in
+    let g = removes a chain x (c.id ∷ ((lp ++ rp) ++ others)) (same ∙ is) st.held
+    (subst (λ f. IsChain (HasFree a) f chain) (sym same_free) linked) st.owned here alone in
     let o = g.1.outcome in
     let stay : (Qs : List Placed) → ((q : ℕ) → 0 < times q (pages Qs) → 0 < times q (c.id ∷ ((lp ++ rp) ++ others))) →
     (us : List Child) → Name scheme a us Qs → Name scheme o.book us Qs =
     λ Qs some_of us named. frame_all scheme a o.book us Qs (λ q some. o.kept q (some_of q some)) named in
-    let now : Name scheme o.book (take at cs ++ (new ++ drop (suc at) cs)) (take at Ps ++ (o.parts ++ drop (suc at) Ps))
-    =
-    zip_both (Names scheme o.book) (take at cs) (new ++ drop (suc at) cs) (take at Ps) (o.parts ++ drop (suc at) Ps)
-    (stay (take at Ps) (λ q some. among_left q c.id lp rp others some) (take at cs)
-    (zip_take (Names scheme a) at cs Ps op.named))
-    (zip_both (Names scheme o.book) new (drop (suc at) cs) o.parts (drop (suc at) Ps) o.named
-    (stay (drop (suc at) Ps) (λ q some. among_right q c.id lp rp others some) (drop (suc at) cs)
-    (zip_drop (Names scheme a) (suc at) cs Ps op.named))) in
-    let up : Owned o.book.size (c.id ∷ (pages (take at Ps ++ (o.parts ++ drop (suc at) Ps)) ++ (o.chain ++ others))) =
-    same_owned o.book.size (pages o.parts ++ (o.chain ++ (c.id ∷ ((lp ++ rp) ++ others)))) _
-    (λ q. ap (λ us. times q (c.id ∷ (us ++ (o.chain ++ others)))) (joined_pages (take at Ps) o.parts (drop (suc at) Ps))
-    ∙ up_counts q c.id lp (pages o.parts) rp o.chain others) o.owned in
-    let w = leaves o.book o.chain (take at Ps ++ (o.parts ++ drop (suc at) Ps)) others o.is now o.linked up in
-    let has_it : holds n (get_or (trees Ps) at (tree_of x)) ≡ true = subst (λ u. holds n u ≡ true) m.tree g.0 in
-    let place : at ≡ holder n (trees Ps) = sym (place_found (holds n) (trees Ps) at (tree_of x) size
-    (none a Ps is op.named each) has_it) in
+    record {
+      parts = Ps;
+      opened = st.is;
+      had = st.named;
+      child = x;
+      within = st.inside;
+      tree_is = t_is;
+      there = g.0;
+      left = g.1;
+      named = zip_both (Names scheme o.book) (take at cs) (new ++ drop (suc at) cs) (take at Ps)
+          (o.parts ++ drop (suc at) Ps)
+          (stay (take at Ps) (λ q some. among_left q c.id lp rp others some) (take at cs)
+          (zip_take (Names scheme a) at cs Ps st.named))
+          (zip_both (Names scheme o.book) new (drop (suc at) cs) o.parts (drop (suc at) Ps) o.named
+          (stay (drop (suc at) Ps) (λ q some. among_right q c.id lp rp others some) (drop (suc at) cs)
+          (zip_drop (Names scheme a) (suc at) cs Ps st.named)));
+      owned = owned_up o.book.size c.id at Ps o.parts o.chain others o.owned;
+    }
+
+pub removes_below : (scheme : Scheme) (root : Bool) (told told1 told2 told' : Option Book) (free free1 free2 free' : ℕ)
+    (c : Child) (n : ℕ) (r : Rectangle) (at : ℕ) (cs new out : List Child) (before aside : List Record) (d : Child) →
+    told1 ≡ told → free1 ≡ free → IfSome told (λ b. HasNode b c.id (node.Inner (map child_link cs))) → at < length cs →
+    d ≡ get_or cs at d → Removes scheme false told1 free1 told2 free2 d n r new before →
+    LeavesInner scheme root told2 free2 told' free' c.id (take at cs ++ (new ++ drop (suc at) cs)) before out aside
+    →
+    Removes scheme root told free told' free' c n r out aside
+removes_below scheme root told told1 told2 told' free free1 free2 free' c n r at cs new out before aside d same
+    same_free reads within is_d removes leaves a chain P others is names linked owned all once =
+    let j = rejoined scheme told told1 told2 free free1 free2 c n r at cs new before d same same_free reads within is_d
+    removes a chain P others is names linked owned all once in
+    let Ps = j.parts in
+    let t = tree_of j.child in
+    let o = j.left.outcome in
+    let alone : IsOnce n (flat_map records (trees Ps)) = subst (IsOnce n) (records_opened P c.id Ps j.opened) once in
+    let size : at < length (trees Ps) = omega (arith, j.within, length-map Ps tree_of) in
+    let w = leaves o.book o.chain (take at Ps ++ (o.parts ++ drop (suc at) Ps)) others o.is j.named o.linked j.owned in
+    let has_it : holds n (get_or (trees Ps) at t) ≡ true = subst (λ u. holds n u ≡ true) j.tree_is j.there in
+    let place : at ≡ holder n (trees Ps) = sym (place_found (holds n) (trees Ps) at t size
+    (alone_before n (trees Ps) at t size alone has_it) has_it) in
     let rest : ◌≡◌ {A = Rest} (record {
       tree = tree.Inner (trees (take at Ps ++ (o.parts ++ drop (suc at) Ps)));
       aside =
           before;
     }) (shrunk n (tree_of P)) =
-    (λ i. record { tree = tree.Inner (trees (take at Ps ++ (o.parts ++ drop (suc at) Ps))); aside = g.1.aside_is i })
-    ∙ left_trees n Ps o.parts at (tree_of x) m.within place m.tree o.stand
-    ∙ ap (λ ts. shrunk n (tree.Inner ts)) (sym (row_trees Ps)) ∙ ap (λ Q. shrunk n (tree_of Q)) (sym op.is) in
+    (λ i. record {
+      tree = tree.Inner (trees (take at Ps ++ (o.parts ++ drop (suc at) Ps)));
+      aside = j.left.aside_is i;
+    })
+    ∙ left_trees n Ps o.parts at t j.within place j.tree_is o.stand
+    ∙ ap (λ ts. shrunk n (tree.Inner ts)) (sym (row_trees Ps)) ∙ ap (λ Q. shrunk n (tree_of Q)) (sym j.opened) in
     let v = w.outcome in (
-      ap (λ Q. has n (records (tree_of Q))) op.is ∙ ap (λ ts. has n (records (tree.Inner ts))) (row_trees Ps)
+      ap (λ Q. has n (records (tree_of Q))) j.opened ∙ ap (λ ts. has n (records (tree.Inner ts))) (row_trees Ps)
           ∙ has_below n (trees Ps)
-          ∙ any_at (holds n) (trees Ps) at (tree_of x) size has_it,
+          ∙ any_at (holds n) (trees Ps) at t size has_it,
       subst (λ y. IsLeft scheme root a told' free' others y out aside) rest (record {
         outcome = record {
           book = v.book;
@@ -176,7 +217,8 @@ removes_below scheme root told told1 told2 told' free free1 free2 free' c n r at
           chain = v.chain;
           linked = v.linked;
           owned = v.owned;
-          kept = λ q some. v.kept q some ∙ o.kept q (among_others q c.id lp rp others some);
+          kept = λ q some. v.kept q some
+              ∙ o.kept q (among_others q c.id (pages (take at Ps)) (pages (drop (suc at) Ps)) others some);
           use_ = v.use_ ∙ o.use_;
         };
         aside_is = w.aside_is;

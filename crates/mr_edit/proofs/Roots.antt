@@ -62,7 +62,7 @@ rooted scheme a U told free t c o = at o.parts o.named o.stand o.owned
 
 -- ---- the first record
 
-none_placed : (scheme : Scheme) (o : Option Placed) → ◌≡◌ {A = Option Link} None (option_map (link_of scheme) o) →
+pub none_placed : (scheme : Scheme) (o : Option Placed) → ◌≡◌ {A = Option Link} None (option_map (link_of scheme) o) →
     o ≡ None
 none_placed scheme None e = refl
 none_placed scheme (Some P) e = cc
@@ -155,7 +155,7 @@ root_kept scheme told told' free free' c one s none grows t d =
         one_of (u ∷ v ∷ us) is (P ∷ []) named stand = cc
         one_of ts is (P ∷ Q ∷ Ps) named stand = absurd named.1
 
-raise_counts : (q x : ℕ) (p f o : List ℕ) → times q (x ∷ (p ++ (f ++ o))) ≡ times q (x ∷ (f ++ (p ++ o)))
+pub raise_counts : (q x : ℕ) (p f o : List ℕ) → times q (x ∷ (p ++ (f ++ o))) ≡ times q (x ∷ (f ++ (p ++ o)))
 raise_counts q x p f o = omega (
   arith,
   times_cons q x (p ++ (f ++ o)),
@@ -166,7 +166,7 @@ raise_counts q x p f o = omega (
   times-append q p o,
 )
 
-move_counts : (q : ℕ) (p f o : List ℕ) → times q (f ++ (p ++ o)) ≡ times q (p ++ (f ++ o))
+pub move_counts : (q : ℕ) (p f o : List ℕ) → times q (f ++ (p ++ o)) ≡ times q (p ++ (f ++ o))
 move_counts q p f o = omega (
   arith,
   times-append q f (p ++ o),
@@ -176,7 +176,7 @@ move_counts q p f o = omega (
 )
 
 -- two trees get a root above
-over_two : (scheme : Scheme) (b : Book) (x y : Child) (Ps : List Placed) (ts : List Tree) →
+pub over_two : (scheme : Scheme) (b : Book) (x y : Child) (Ps : List Placed) (ts : List Tree) →
     Name scheme b (x ∷ y ∷ []) Ps → trees Ps ≡ ts → tree.Inner (trees Ps) ≡ root_over ts
 over_two scheme b x y [] ts named stand = absurd named
 over_two scheme b x y (P ∷ []) ts named stand = absurd named.1

@@ -1,8 +1,9 @@
 -- The search for a record below an entry: only where its rectangle lies in the entry's.
-use Rattle.std.proofs.Common.{◌≡◌, ◌≢◌, Bool, true, false, ◌||◌, ℕ, zero, suc, ◌+◌, ◌<◌, ◌≤◌, List, [], ◌∷◌, ◌++◌, length, map, take, get_or, refl, sym, ap, subst, ◌∙◌, arith}
+use Rattle.std.proofs.Common.{◌≡◌, ◌≢◌, Bool, true, false, ◌||◌, ℕ, zero, suc, ◌+◌, ◌-◌, ◌<◌, ◌≤◌, List, [], ◌∷◌, ◌++◌, length, map, take, drop, get_or, refl, sym, ap, subst, ◌∙◌, arith}
 use Rattle.std.specs.Prelude.{◌==◌, if◌then◌else◌, Option, Some, None, IfSome}
 use Rattle.std.specs.List.{flat_map, list_any, AllByRecursion}
-use Rattle.std.proofs.lemmas.Bool.{eqb-true}
+use Rattle.std.specs.Option.{option_to_list}
+use Rattle.std.proofs.lemmas.Bool.{eqb-true, eqb-false}
 use Rattle.std.proofs.lemmas.List.{length-map, get_or-map, get_or_default}
 use Rattle.mr_geom.specs.Rectangle.{Rectangle, union, join, union_of}
 use Rattle.mr_geom.proofs.Rectangles.{union_comm, union_same, join_assoc, fold_join}
@@ -160,6 +161,34 @@ none_more scheme told cs n r i c within is lacks none a Ps told_is named all =
     let up : suc i ≡ i + 1 = omega arith in
     subst (λ k. list_any (holds n) (take k (trees Ps)) ≡ false) up
     (one_more (holds n) (trees Ps) i t size (none a Ps told_is named all) here)
+
+-- after the nth try: that of the child to which a way turns, or of the next one
+pub none_tried : (scheme : Scheme) (told : Option Book) (cs : List Child) (n : ℕ) (r : Rectangle)
+    (i turn at : ℕ) (c : Child) → at ≡ (if i == 0 then turn else i - 1) → at < length cs → c ≡ get_or cs at c →
+    Lacks scheme told c n r → NoneYet scheme told cs n r (i - 1) → NoneYet scheme told cs n r (i + 1 - 1)
+none_tried scheme told cs n r i turn at c tried within is lacks none = by_case (i == 0) refl tried
+  where
+    by_case : (b : Bool) → (i == 0) ≡ b → at ≡ (if b then turn else i - 1) → NoneYet scheme told cs n r (i + 1 - 1)
+    by_case true e here =
+        let first : i ≡ 0 = eqb-true i 0 e in
+        let same : i - 1 ≡ i + 1 - 1 = omega (arith, first) in
+        subst (NoneYet scheme told cs n r) same none
+    by_case false e here =
+        let later : i ≢ 0 = eqb-false i 0 e in
+        let next : at + 1 ≡ i + 1 - 1 = omega (arith, here, later) in
+        subst (NoneYet scheme told cs n r) next (none_more scheme told cs n r at c within is lacks
+        (subst (NoneYet scheme told cs n r) (sym here) none))
+
+-- no more entries stand where one or none stands in the place of one
+pub replaced_few : {X : Type 0} (at : ℕ) (cs : List X) (o : Option X) → at < length cs →
+    length (take at cs ++ (option_to_list o ++ drop (suc at) cs)) ≤ length cs
+replaced_few at [] o within = absurd (omega (arith, within))
+replaced_few zero (c ∷ cs) None within = omega arith
+replaced_few zero (c ∷ cs) (Some x) within = omega arith
+replaced_few (suc at) (c ∷ cs) o within =
+    let rest : length (take at cs ++ (option_to_list o ++ drop (suc at) cs)) ≤ length cs =
+    replaced_few at cs o (omega (arith, within)) in
+    omega (arith, rest)
 
 take_whole : {X : Type 0} (i : ℕ) (xs : List X) → length xs ≤ i → take i xs ≡ xs
 take_whole {X} i [] past = gone i

@@ -21,9 +21,6 @@ never errors.Missing P Q f denies = tt
 never errors.Fault P Q f denies = tt
 never errors.NoMemory P Q f denies = tt
 
-pub never_memory : (e : EditErr) (P : Type 0) → e ≡ errors.NoMemory → NeverMap e P
-never_memory e P is = subst (λ x. NeverMap x P) (sym is) tt
-
 pub can_read : (told : Option Book) (free : ℕ) → free ≢ 0 → CanTake told free →
     IsSomeAnd told (λ b. (next : ℕ) × HasFree b free next)
 can_read told free some k = subst (λ o. IsSomeAnd o (λ b. (next : ℕ) × HasFree b free next)) (sym k.is) (at k.chain

@@ -36,6 +36,7 @@ use Rattle.mr_edit.specs.Deleted.{Deletes}
 use Rattle.mr_edit.specs.Replayed.{OnPages, ChangesOne, Replays}
 use Rattle.mr_edit.proofs.Directed.{directed}
 use Rattle.mr_edit.proofs.Dropped.{reaches_one}
+use Rattle.mr_edit.proofs.Once.{once_apart}
 
 -- ---- the directory
 
@@ -43,7 +44,7 @@ new_part : (b c : Bool) → (not b && c) ≡ true → b ≡ false
 new_part true c e = cc
 new_part false c e = refl
 
-room_part : (b c : Bool) → (not b && c) ≡ true → c ≡ true
+pub room_part : (b c : Bool) → (not b && c) ≡ true → c ≡ true
 room_part true c e = cc
 room_part false c e = e
 
@@ -117,7 +118,8 @@ change_removed scheme told told' free free' root root' dir dir' n rect o known s
     so_far p may =
     record {
       reaches = deletes t least size so_far p.reaches
-          (directed dir n rect (records t) p.well.distinct p.directory known);
+          (directed dir n rect (records t) p.well.distinct p.directory known)
+          (once_apart n (records t) p.well.distinct);
       well = del_well_formed n t p.well may;
       directory = directory_without dir dir' (records t) (records (del n t)) n o p.well.distinct
           (del_mixes n t (well_rooted t p.well) may) (ap is_some (same ∙ known)) taken counted p.directory;

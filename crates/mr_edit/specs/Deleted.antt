@@ -11,7 +11,7 @@ use Rattle.mr_grow.specs.Shrink.{shrunk, shortened, all_in, del}
 use Rattle.mr_batch.specs.Peak.{peak_in}
 use Rattle.mr_edit.specs.Book.{Book}
 use Rattle.mr_edit.specs.Drafted.{Drafted}
-use Rattle.mr_edit.specs.Removal.{HaveRect}
+use Rattle.mr_edit.specs.Removal.{HaveRect, IsOnce}
 
 -- The draft stands for this tree. Its file has no fewer pages than so many, and no more than
 -- `size`,
@@ -29,12 +29,12 @@ InsertsAll scheme told free root told' free' root' rs =
     (t : Tree) (least size so_far : ℕ) → Reaches scheme told free root t least size so_far →
     Reaches scheme told' free' root' (all_in rs t) least size (peak_in so_far t rs)
 
--- a record is deleted whose number has this rectangle
+-- a record is deleted whose number stands once and has this rectangle
 abbrev pub Deletes : Scheme → (told : Option Book) → (free : ℕ) → Option Child →
     (told' : Option Book) → (free' : ℕ) → Option Child → ℕ → Rectangle → Type 0
 Deletes scheme told free root told' free' root' n rect =
     (t : Tree) (least size so_far : ℕ) → Reaches scheme told free root t least size so_far →
-    HaveRect n rect (records t) →
+    HaveRect n rect (records t) → IsOnce n (records t) →
     Reaches scheme told' free' root' (del n t) least size
     (peak_in so_far (shortened (shrunk n t).tree)
     (sorted_by_key (λ (r : Record). r.number) (shrunk n t).aside))

@@ -2,11 +2,14 @@
 use Rattle.std.specs.Prelude.{◌≡◌, ℕ, List, ◌∷◌, map}
 use Rattle.std.specs.List.{flat_map, AllZip}
 use Rattle.std.specs.Option.{option_to_list}
-use Rattle.mr_tree.specs.Digest.{Scheme}
+use Rattle.mr_record.specs.declared.version.Version.TheVariants.{One}
+use Rattle.mr_tree.specs.Digest.{Scheme, by}
+use Rattle.mr_tree.specs.View as view
 use Rattle.mr_tree.specs.declared.child.Child.{Child}
 use Rattle.mr_tree.specs.declared.tree.Tree.{Tree}
 use Rattle.mr_pages.specs.Stands.{Placed, tree_of, pages_of, link_of, IsWritten}
-use Rattle.mr_pages.specs.Walking.{child_link}
+use Rattle.mr_pages.specs.Page.{entry_of}
+use Rattle.mr_pages.specs.Walking.{child_link, page_node}
 use Rattle.mr_edit.specs.Book.{Book, HasNode}
 use Rattle.mr_edit.specs.declared.stand.Stand.{Stand}
 
@@ -14,6 +17,11 @@ use Rattle.mr_edit.specs.declared.stand.Stand.{Stand}
 pub record Names (scheme : Scheme) (b : Book) (c : Child) (P : Placed) : Type 0 where
   pub said : child_link c ≡ link_of scheme P
   pub written : IsWritten scheme (HasNode b) P
+
+-- the entry is that of the node that a view shows
+abbrev pub IsEntryOf : (List ℕ → List ℕ) → Child → view.Node → Type 0
+IsEntryOf hash c n =
+    child_link c ≡ record { page = c.id; entry = entry_of (by One hash) (page_node n) }
 
 -- each entry is that of its tree
 abbrev pub Name : Scheme → Book → List Child → List Placed → Type 0

@@ -1,5 +1,5 @@
 -- What a deletion leaves.
-use Rattle.std.specs.Prelude.{◌≡◌, ℕ, Bool, true, false, List, [], ◌∷◌, ◌++◌, Option, Some, None}
+use Rattle.std.specs.Prelude.{◌≡◌, ℕ, ◌≤◌, Bool, true, false, List, [], ◌∷◌, ◌++◌, map, Option, Some, None}
 use Rattle.std.specs.List.{flat_map, AllByRecursion}
 use Rattle.std.specs.Option.{option_to_list}
 use Rattle.mr_geom.specs.Rectangle.{Rectangle}
@@ -14,7 +14,7 @@ use Rattle.mr_tree.specs.declared.tree.Tree.TheViews.{out-Tree}
 use Rattle.mr_pages.specs.Stands.{Placed, tree_of, pages_of, IsChain}
 use Rattle.mr_grow.specs.Found.{has}
 use Rattle.mr_grow.specs.Shrink.{Rest, stays, set_aside, shrunk, shortened}
-use Rattle.mr_edit.specs.Book.{Book, HasFree, Owned, Agree}
+use Rattle.mr_edit.specs.Book.{Book, HasFree, Owned, Agree, times}
 use Rattle.mr_edit.specs.Held.{Names, Name, trees, pages}
 use Rattle.mr_edit.specs.Outcome.{Outcome}
 use Rattle.mr_edit.specs.declared.left.Left.{Left}
@@ -97,9 +97,15 @@ LeavesInner scheme root told free told' free' page cs before out aside =
 abbrev pub HaveRect : ℕ → Rectangle → List Record → Type 0
 HaveRect n rect rs = AllByRecursion (λ (r : Record). r.number ≡ n → r.rect ≡ rect) rs
 
--- whatever tree an entry stands for in which the number has this rectangle, the record is there,
--- and
--- this is left of the tree
+abbrev pub numbers_in : List Record → List ℕ
+numbers_in rs = map (λ (r : Record). r.number) rs
+
+-- the number stands at most once
+abbrev pub IsOnce : ℕ → List Record → Type 0
+IsOnce n rs = times n (numbers_in rs) ≤ 1
+
+-- whatever tree an entry stands for in which the number stands once at most and has this rectangle,
+-- the record is there, and this is left of the tree
 abbrev pub Removes : Scheme → (root : Bool) → (told : Option Book) → (free : ℕ) →
     (told' : Option Book) → (free' : ℕ) → Child → ℕ → Rectangle → List Child →
     (aside : List Record) → Type 0
@@ -107,7 +113,7 @@ Removes scheme root told free told' free' c n rect out aside =
     (a : Book) (chain : List ℕ) (P : Placed) (others : List ℕ) →
     told ≡ Some a → Names scheme a c P → IsChain (HasFree a) free chain →
     Owned a.size (pages_of P ++ (chain ++ others)) → HaveRect n rect (records (tree_of P)) →
-    (has n (records (tree_of P)) ≡ true)
+    IsOnce n (records (tree_of P)) → (has n (records (tree_of P)) ≡ true)
     × IsLeft scheme root a told' free' others (shrunk n (tree_of P)) out aside
 
 -- the record is not there

@@ -1,47 +1,66 @@
 //! Deletion from a map.
 
-ghost use Rattle.std.specs.Prelude.{IfOk};
+ghost use Rattle.std.specs.Prelude.{◌≡◌, length, IfOk, IfErr, OnOk};
 ghost use Rattle.mr_record.specs.declared.version.Version.TheVariants.{One};
 ghost use Rattle.mr_tree.specs.Digest.{by};
+ghost use Rattle.mr_edit.specs.Causes.{HasEditCause};
+ghost use Rattle.mr_edit.specs.Outcome.{NeverMap};
+ghost use Rattle.mr_edit.specs.Growing.{CanInsert};
 ghost use Rattle.mr_edit.specs.Deleted.{InsertsAll, Deletes};
+ghost use Rattle.mr_edit.specs.Removable.{CanDelete};
 
+use crate::hints::Way;
 use crate::removing::take_out;
 use crate::{Desk, EditErr, Left, PageFile, insert};
 use mr_geom::Rect;
 use mr_grow::sort_by_number;
 use mr_pages::{MapFault, MapRule};
 use mr_record::Record;
-use mr_tree::{Child, Hashes};
+use mr_tree::Child;
 use std::alloc::Global;
 
 // Inserts records one after the other.
-fn put_all<H: Hashes, F: PageFile>(
+fn put_all<F: PageFile>(
     alloc: Global,
     desk: &mut Desk<F>,
     mut root: Option<Child>,
     records: &[Record],
 ) -> Result<Option<Child>, EditErr>
-    ensures { IfOk result (λ r. InsertsAll (by One H.of) (F.told desk.old.file) desk.old.free root
-        (F.told desk.new.file) desk.new.free r records.now) }
+    ensures inserts { IfOk result (λ r. InsertsAll (by One F.Hash.of) (F.told desk.old.file)
+        desk.old.free root (F.told desk.new.file) desk.new.free r records.now) }
+    ensures sound { IfErr result (λ e. NeverMap e
+        (CanInsert F.Hash.of (F.told desk.old.file) desk.old.free root (length records.now))) }
+    ensures kept { F.kept desk.old.file desk.new.file }
+    ensures quiet { OnOk result (F.faults desk.new.file ≡ F.faults desk.old.file) }
+    ensures cause { IfErr result (HasEditCause (F.faults desk.old.file) (F.faults desk.new.file)) }
 {
     for one in records {
-        let child = insert::<H, F>(alloc, desk, root, one)?;
+        let child = insert::<F>(alloc, desk, root, one)?;
         root = Some(child);
     }
     Ok(root)
 }
 
-/// Deletes the record with a number, which has this rectangle, from a map with this root, and
-/// answers its root then.
-pub fn delete<H: Hashes, F: PageFile>(
+// Deletes the record with a number, which has this rectangle and is looked for on this way first,
+// from a map with this root, and answers its root then.
+//
+// Where the pages are not told, `Page` blames besides what an insertion blames there; and the
+// root, or page 0 where there is none, where the record is not found.
+pub(crate) fn delete<F: PageFile>(
     alloc: Global,
     desk: &mut Desk<F>,
     root: Option<Child>,
     number: u64,
     rect: &Rect,
+    way: &Way,
 ) -> Result<Option<Child>, EditErr>
-    ensures { IfOk result (λ r. Deletes (by One H.of) (F.told desk.old.file) desk.old.free root
-        (F.told desk.new.file) desk.new.free r number rect.now) }
+    ensures deletes { IfOk result (λ r. Deletes (by One F.Hash.of) (F.told desk.old.file)
+        desk.old.free root (F.told desk.new.file) desk.new.free r number rect.now) }
+    ensures sound { IfErr result (λ e. NeverMap e
+        (CanDelete F.Hash.of (F.told desk.old.file) desk.old.free root number rect.now)) }
+    ensures kept { F.kept desk.old.file desk.new.file }
+    ensures quiet { OnOk result (F.faults desk.new.file ≡ F.faults desk.old.file) }
+    ensures cause { IfErr result (HasEditCause (F.faults desk.old.file) (F.faults desk.new.file)) }
 {
     let Some(child) = root else {
         return Err(EditErr::Map(MapFault {
@@ -49,7 +68,7 @@ pub fn delete<H: Hashes, F: PageFile>(
             rule: MapRule::Page,
         }));
     };
-    let found = take_out::<H, F>(alloc, desk, &child, number, rect, true)?;
+    let found = take_out::<F>(alloc, desk, &child, number, rect, way, true)?;
     let Some(left) = found else {
         return Err(EditErr::Map(MapFault {
             page: child.id,
@@ -58,5 +77,5 @@ pub fn delete<H: Hashes, F: PageFile>(
     };
     let Left { entry, mut aside } = left;
     sort_by_number(&mut aside)?;
-    put_all::<H, F>(alloc, desk, entry, &aside)
+    put_all::<F>(alloc, desk, entry, &aside)
 }

@@ -1,22 +1,81 @@
 //! A file under edit and its free pages.
 
-ghost use Rattle.std.specs.Prelude.{◌≡◌, ◌≤◌, ◌+◌, length, map, All, IfOk, IfErr};
+ghost use Rattle.std.specs.Prelude.{◌≡◌, ◌≤◌, ◌+◌, true, length, map, All, IfSome, IfOk, IfErr, OnOk};
 ghost use Rattle.mr_record.specs.declared.version.Version.TheVariants.{One};
 ghost use Rattle.mr_tree.specs.Digest.{by};
 ghost use Rattle.mr_tree.specs.declared.child.Child as child_types;
 ghost use Rattle.mr_tree.specs.declared.tree.Tree.TheOpen.{Leaf, Inner};
-ghost use Rattle.mr_pages.specs.Walking.{child_link};
+ghost use Rattle.mr_tree.specs.View.{size, level_of};
+ghost use Rattle.mr_pages.specs.Judging.{Fills};
+ghost use Rattle.mr_pages.specs.Walking.{child_link, page_node};
+ghost use Rattle.mr_store.specs.Copying.{is_round};
+ghost use Rattle.mr_edit.specs.Book.{HasNode};
+ghost use Rattle.mr_edit.specs.Causes.{HasEditCause, CanLook};
 ghost use Rattle.mr_edit.specs.Outcome.{TakesPage, Writes, NeverMap, CanTake, CanWrite};
 
+use crate::hints::Hints;
 use crate::{EditErr, PageFile};
-use mr_pages::{FIRST, child_on};
+use mr_pages::{FIRST, MapFault, MapRule, child_on, is_full, is_said};
 use mr_record::Record;
-use mr_tree::{Child, Hashes, NodeView};
+use mr_tree::{Child, NodeView};
+use std::alloc::Global;
 
 /// A file and its first free page, 0 for none.
 pub struct Desk<F> {
     pub file: F,
     pub free: u32,
+    pub(crate) hints: Hints,
+}
+
+impl<F> Desk<F> {
+    /// A file with this first free page, of which nothing was seen.
+    pub fn new(alloc: Global, file: F, free: u32) -> Desk<F>
+        ensures file { result.file ≡ file }
+        ensures free { result.free ≡ free }
+    {
+        Desk {
+            file,
+            free,
+            hints: Hints::new(alloc),
+        }
+    }
+}
+
+// Reads the node of which the child is the entry, and judges it by itself, as a root or below it.
+pub(crate) fn look<F: PageFile>(
+    file: &mut F,
+    child: &Child,
+    root: bool,
+    into: &mut NodeView,
+) -> Result<(), EditErr>
+    ensures same { F.told file.new ≡ F.told file.old }
+    ensures page { OnOk result (1 ≤ child.now.id) }
+    ensures level { OnOk result (level_of into.new ≡ child.now.level) }
+    ensures some { OnOk result (1 ≤ size into.new) }
+    ensures node { OnOk result (IfSome (F.told file.old)
+        (λ b. HasNode b child.now.id (page_node into.new))) }
+    ensures round { OnOk result (is_round child.now into.new ≡ true) }
+    ensures full { OnOk result (Fills root into.new ≡ true) }
+    ensures kept { F.kept file.old file.new }
+    ensures quiet { OnOk result (F.faults file.new ≡ F.faults file.old) }
+    ensures cause { IfErr result (HasEditCause (F.faults file.old) (F.faults file.new)) }
+    ensures sound { IfErr result (λ e. NeverMap e
+        (CanLook F.Hash.of root (F.told file.old) child.now)) }
+{
+    file.read(child, into)?;
+    if !is_said(into.rect(), child.rect) {
+        return Err(EditErr::Map(MapFault {
+            page: child.id,
+            rule: MapRule::Page,
+        }));
+    }
+    if !is_full(into, root) {
+        return Err(EditErr::Map(MapFault {
+            page: child.id,
+            rule: MapRule::Page,
+        }));
+    }
+    Ok(())
 }
 
 // Takes a page: the first free one, or the file grows.
@@ -25,6 +84,9 @@ pub(crate) fn take_page<F: PageFile>(desk: &mut Desk<F>) -> Result<u32, EditErr>
     ensures takes { IfOk result (λ page. TakesPage (F.told desk.old.file) desk.old.free
         (F.told desk.new.file) desk.new.free page) }
     ensures sound { IfErr result (λ e. NeverMap e (CanTake (F.told desk.old.file) desk.old.free)) }
+    ensures kept { F.kept desk.old.file desk.new.file }
+    ensures quiet { OnOk result (F.faults desk.new.file ≡ F.faults desk.old.file) }
+    ensures cause { IfErr result (HasEditCause (F.faults desk.old.file) (F.faults desk.new.file)) }
 {
     if desk.free == 0 {
         desk.file.grow()
@@ -36,7 +98,7 @@ pub(crate) fn take_page<F: PageFile>(desk: &mut Desk<F>) -> Result<u32, EditErr>
 }
 
 // Writes a leaf on a page.
-pub(crate) fn write_leaf<H: Hashes, F: PageFile>(
+pub(crate) fn write_leaf<F: PageFile>(
     desk: &mut Desk<F>,
     page: u32,
     records: &[Record],
@@ -44,19 +106,24 @@ pub(crate) fn write_leaf<H: Hashes, F: PageFile>(
     requires page { 1 ≤ page }
     requires some { 1 ≤ length records.now }
     requires few { length records.now ≤ 16 }
-    ensures writes { IfOk result (λ c. Writes (by One H.of) (F.told desk.old.file) desk.old.free
-        (F.told desk.new.file) desk.new.free page (Leaf records.now) c) }
+    ensures writes { IfOk result (λ c. Writes (by One F.Hash.of) (F.told desk.old.file)
+        desk.old.free (F.told desk.new.file) desk.new.free page (Leaf records.now) c) }
     ensures level { IfOk result (λ c. c.level ≡ 0) }
     ensures sound { IfErr result (λ e. NeverMap e (CanWrite (F.told desk.old.file) page)) }
+    ensures kept { F.kept desk.old.file desk.new.file }
+    ensures quiet { OnOk result (F.faults desk.new.file ≡ F.faults desk.old.file) }
+    ensures cause { IfErr result (HasEditCause (F.faults desk.old.file) (F.faults desk.new.file)) }
 {
     let mut view = NodeView::new();
     view.set_leaf(records);
-    desk.file.write(page, &view)?;
-    Ok(child_on::<H>(FIRST, &view, page))
+    let child = child_on::<F::Hash>(FIRST, &view, page);
+    desk.hints.saw_leaf(page, records)?;
+    desk.file.write(&child, &view)?;
+    Ok(child)
 }
 
 // Writes an inner node of this level on a page.
-pub(crate) fn write_inner<H: Hashes, F: PageFile>(
+pub(crate) fn write_inner<F: PageFile>(
     desk: &mut Desk<F>,
     page: u32,
     level: u8,
@@ -67,13 +134,19 @@ pub(crate) fn write_inner<H: Hashes, F: PageFile>(
     requires some { 1 ≤ length children.now }
     requires few { length children.now ≤ 64 }
     requires below { All (λ (c : child_types.Child). c.level + 1 ≡ level) children.now }
-    ensures writes { IfOk result (λ c. Writes (by One H.of) (F.told desk.old.file) desk.old.free
-        (F.told desk.new.file) desk.new.free page (Inner (map child_link children.now)) c) }
+    ensures writes { IfOk result (λ c. Writes (by One F.Hash.of) (F.told desk.old.file)
+        desk.old.free (F.told desk.new.file) desk.new.free page
+        (Inner (map child_link children.now)) c) }
     ensures level { IfOk result (λ c. c.level ≡ level) }
     ensures sound { IfErr result (λ e. NeverMap e (CanWrite (F.told desk.old.file) page)) }
+    ensures kept { F.kept desk.old.file desk.new.file }
+    ensures quiet { OnOk result (F.faults desk.new.file ≡ F.faults desk.old.file) }
+    ensures cause { IfErr result (HasEditCause (F.faults desk.old.file) (F.faults desk.new.file)) }
 {
     let mut view = NodeView::new();
     view.set_inner(level, children);
-    desk.file.write(page, &view)?;
-    Ok(child_on::<H>(FIRST, &view, page))
+    let child = child_on::<F::Hash>(FIRST, &view, page);
+    desk.hints.saw_children(page, children)?;
+    desk.file.write(&child, &view)?;
+    Ok(child)
 }

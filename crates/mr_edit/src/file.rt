@@ -5,15 +5,25 @@ ghost use Rattle.mr_tree.specs.View.{size, level_of};
 ghost use Rattle.mr_pages.specs.Page.{page_limit};
 ghost use Rattle.mr_pages.specs.Walking.{page_node};
 ghost use Rattle.mr_edit.specs.Book.{Book, HasNode, HasFree, with_sheet, node_sheet, free_sheet, longer};
+ghost use Rattle.mr_edit.specs.Held.{IsEntryOf};
+ghost use Rattle.mr_edit.specs.Causes.{HasEditCause, CanRead};
 ghost use Rattle.mr_edit.specs.Outcome.{NeverMap, CanWrite};
 
 use crate::EditErr;
-use mr_tree::{Child, NodeView};
+use mr_tree::{Child, Hashes, NodeView};
 
 /// A file whose page 0 is left alone, page by page, behind a cache.
 pub trait PageFile {
+    type Hash: Hashes;
+
     // its pages, where they are told
     ghost told: { Self → Option Book };
+
+    // how many faults there were
+    ghost faults: { Self → ℕ };
+
+    // what a call leaves of the object, from what it was before it
+    ghost kept: { Self → Self → Type 0 };
 
     /// Reads the node of which the child is the entry, and checks it against that.
     fn read(&mut self, child: &Child, into: &mut NodeView) -> Result<(), EditErr>
@@ -22,7 +32,12 @@ pub trait PageFile {
         ensures level { OnOk result (level_of into.new ≡ child.now.level) }
         ensures some { OnOk result (1 ≤ size into.new) }
         ensures node { OnOk result (IfSome (told self.old)
-            (λ b. HasNode b child.now.id (page_node into.new))) };
+            (λ b. HasNode b child.now.id (page_node into.new))) }
+        ensures kept { kept self.old self.new }
+        ensures quiet { OnOk result (faults self.new ≡ faults self.old) }
+        ensures cause { IfErr result (HasEditCause (faults self.old) (faults self.new)) }
+        ensures sound { IfErr result (λ e. NeverMap e
+            (CanRead Self.Hash.of (told self.old) child.now)) };
 
     /// The page that a free page names.
     fn read_free(&mut self, page: u32) -> Result<u32, EditErr>
@@ -30,22 +45,33 @@ pub trait PageFile {
         ensures same { told self.new ≡ told self.old }
         ensures free { IfOk result (λ next. IfSome (told self.old) (λ b. HasFree b page next)) }
         ensures sound { IfErr result (λ e. NeverMap e
-            (IsSomeAnd (told self.old) (λ b. (next : ℕ) × HasFree b page next))) };
+            (IsSomeAnd (told self.old) (λ b. (next : ℕ) × HasFree b page next))) }
+        ensures kept { kept self.old self.new }
+        ensures quiet { OnOk result (faults self.new ≡ faults self.old) }
+        ensures cause { IfErr result (HasEditCause (faults self.old) (faults self.new)) };
 
-    /// Writes a node on a page.
-    fn write(&mut self, page: u32, view: &NodeView) -> Result<(), EditErr>
-        requires page { 1 ≤ page }
+    /// Writes a node on the page of its entry.
+    fn write(&mut self, child: &Child, view: &NodeView) -> Result<(), EditErr>
+        requires page { 1 ≤ child.now.id }
         requires some { 1 ≤ size view.now }
-        ensures sound { IfErr result (λ e. NeverMap e (CanWrite (told self.old) page)) }
+        requires said { IsEntryOf Self.Hash.of child.now view.now }
+        ensures sound { IfErr result (λ e. NeverMap e (CanWrite (told self.old) child.now.id)) }
         ensures put { OnOk result (told self.new
-            ≡ option_map (with_sheet page (node_sheet (page_node view.now))) (told self.old)) };
+            ≡ option_map (with_sheet child.now.id (node_sheet (page_node view.now)))
+            (told self.old)) }
+        ensures kept { kept self.old self.new }
+        ensures quiet { OnOk result (faults self.new ≡ faults self.old) }
+        ensures cause { IfErr result (HasEditCause (faults self.old) (faults self.new)) };
 
     /// Makes a page a free one.
     fn write_free(&mut self, page: u32, next: u32) -> Result<(), EditErr>
         requires { 1 ≤ page }
         ensures put { OnOk result (told self.new
             ≡ option_map (with_sheet page (free_sheet next)) (told self.old)) }
-        ensures sound { IfErr result (λ e. NeverMap e (CanWrite (told self.old) page)) };
+        ensures sound { IfErr result (λ e. NeverMap e (CanWrite (told self.old) page)) }
+        ensures kept { kept self.old self.new }
+        ensures quiet { OnOk result (faults self.new ≡ faults self.old) }
+        ensures cause { IfErr result (HasEditCause (faults self.old) (faults self.new)) };
 
     /// Adds a page at the end, and answers its number.
     fn grow(&mut self) -> Result<u32, EditErr>
@@ -53,5 +79,14 @@ pub trait PageFile {
         ensures positive { IfOk result (λ page. 1 ≤ page) }
         ensures last { IfOk result (λ page. IfSome (told self.old) (λ b. page ≡ b.size)) }
         ensures sound { IfErr result (λ e. NeverMap e
-            (IsSomeAnd (told self.old) (λ b. b.size < page_limit))) };
+            (IsSomeAnd (told self.old) (λ b. b.size < page_limit))) }
+        ensures kept { kept self.old self.new }
+        ensures quiet { OnOk result (faults self.new ≡ faults self.old) }
+        ensures cause { IfErr result (HasEditCause (faults self.old) (faults self.new)) };
+
+    ghost kept_self: { (s : Self) → kept s s };
+
+    ghost kept_on: { (s t u : Self) → kept s t → kept t u → kept s u };
+
+    ghost kept_faults: { (s t : Self) → kept s t → faults s ≤ faults t };
 }

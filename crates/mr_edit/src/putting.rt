@@ -1,6 +1,6 @@
 //! Insertion below an entry.
 
-ghost use Rattle.std.specs.Prelude.{◌≡◌, ◌≤◌, ◌<◌, ◌+◌, ◌++◌, ◌∷◌, [], suc, length, map, take, drop, All, IfOk, IfErr};
+ghost use Rattle.std.specs.Prelude.{◌≡◌, ◌≤◌, ◌<◌, ◌+◌, ◌++◌, ◌∷◌, [], suc, length, map, take, drop, All, IfOk, IfErr, OnOk};
 ghost use Rattle.std.specs.List.{AllByRecursion};
 ghost use Rattle.mr_record.specs.declared.record.Record as record_types;
 ghost use Rattle.mr_record.specs.declared.version.Version.TheVariants.{One};
@@ -8,15 +8,17 @@ ghost use Rattle.mr_tree.specs.Digest.{by};
 ghost use Rattle.mr_tree.specs.declared.child.Child as child_types;
 ghost use Rattle.mr_split.specs.Choice.{choose as chosen};
 ghost use Rattle.mr_edit.specs.Held.{entries};
+ghost use Rattle.mr_edit.specs.Causes.{HasEditCause};
+ghost use Rattle.mr_edit.specs.Growing.{CanGrow};
 ghost use Rattle.mr_edit.specs.Outcome.{Grows, PutsLeaf, PutsInner, Halves, NeverMap, CanPut};
 
-use crate::desk::{take_page, write_inner, write_leaf};
+use crate::desk::{look, take_page, write_inner, write_leaf};
 use crate::{Desk, EditErr, PageFile, Stand};
 use mr_geom::Rect;
 use mr_grow::{part, rects_of};
 use mr_record::Record;
 use mr_split::{choose, sides};
-use mr_tree::{Child, Hashes, INNER_FILL, INNER_LIMIT, LEAF_FILL, LEAF_LIMIT, NodeView};
+use mr_tree::{Child, INNER_FILL, INNER_LIMIT, LEAF_FILL, LEAF_LIMIT, NodeView};
 use std::alloc::{AllocError, Global};
 
 // A list of records with one more.
@@ -90,7 +92,7 @@ fn halve_children(
 }
 
 // Writes the records of a leaf, and splits it where they are too many.
-fn put_leaf<H: Hashes, F: PageFile>(
+fn put_leaf<F: PageFile>(
     alloc: Global,
     desk: &mut Desk<F>,
     page: u32,
@@ -99,24 +101,27 @@ fn put_leaf<H: Hashes, F: PageFile>(
     requires page { 1 ≤ page }
     requires some { 1 ≤ length records.items }
     requires few { length records.items ≤ 17 }
-    ensures puts { IfOk result (λ s. PutsLeaf (by One H.of) (F.told desk.old.file) desk.old.free
-        (F.told desk.new.file) desk.new.free page records.items (entries s)) }
+    ensures puts { IfOk result (λ s. PutsLeaf (by One F.Hash.of) (F.told desk.old.file)
+        desk.old.free (F.told desk.new.file) desk.new.free page records.items (entries s)) }
     ensures level { IfOk result
         (λ s. AllByRecursion (λ (c : child_types.Child). c.level ≡ 0) (entries s)) }
     ensures sound { IfErr result (λ e. NeverMap e
         (CanPut (F.told desk.old.file) desk.old.free page)) }
+    ensures kept { F.kept desk.old.file desk.new.file }
+    ensures quiet { OnOk result (F.faults desk.new.file ≡ F.faults desk.old.file) }
+    ensures cause { IfErr result (HasEditCause (F.faults desk.old.file) (F.faults desk.new.file)) }
 {
     if records.len() > LEAF_LIMIT as usize {
         let (front, back) = halve_records(alloc, records)?;
         let other = take_page(desk)?;
-        let first = write_leaf::<H, F>(desk, page, &front)?;
-        let second = write_leaf::<H, F>(desk, other, &back)?;
+        let first = write_leaf::<F>(desk, page, &front)?;
+        let second = write_leaf::<F>(desk, other, &back)?;
         Ok(Stand {
             first,
             second: Some(second),
         })
     } else {
-        let first = write_leaf::<H, F>(desk, page, &records)?;
+        let first = write_leaf::<F>(desk, page, &records)?;
         Ok(Stand {
             first,
             second: None,
@@ -125,7 +130,7 @@ fn put_leaf<H: Hashes, F: PageFile>(
 }
 
 // Writes the entries of an inner node, and splits it where they are too many.
-fn put_inner<H: Hashes, F: PageFile>(
+fn put_inner<F: PageFile>(
     alloc: Global,
     desk: &mut Desk<F>,
     page: u32,
@@ -138,24 +143,27 @@ fn put_inner<H: Hashes, F: PageFile>(
     requires few { length children.items ≤ 65 }
     requires below { AllByRecursion (λ (c : child_types.Child). c.level + 1 ≡ level)
         children.items }
-    ensures puts { IfOk result (λ s. PutsInner (by One H.of) (F.told desk.old.file) desk.old.free
-        (F.told desk.new.file) desk.new.free page children.items (entries s)) }
+    ensures puts { IfOk result (λ s. PutsInner (by One F.Hash.of) (F.told desk.old.file)
+        desk.old.free (F.told desk.new.file) desk.new.free page children.items (entries s)) }
     ensures level { IfOk result
         (λ s. AllByRecursion (λ (c : child_types.Child). c.level ≡ level) (entries s)) }
     ensures sound { IfErr result (λ e. NeverMap e
         (CanPut (F.told desk.old.file) desk.old.free page)) }
+    ensures kept { F.kept desk.old.file desk.new.file }
+    ensures quiet { OnOk result (F.faults desk.new.file ≡ F.faults desk.old.file) }
+    ensures cause { IfErr result (HasEditCause (F.faults desk.old.file) (F.faults desk.new.file)) }
 {
     if children.len() > INNER_LIMIT as usize {
         let (front, back) = halve_children(alloc, children)?;
         let other = take_page(desk)?;
-        let first = write_inner::<H, F>(desk, page, level, &front)?;
-        let second = write_inner::<H, F>(desk, other, level, &back)?;
+        let first = write_inner::<F>(desk, page, level, &front)?;
+        let second = write_inner::<F>(desk, other, level, &back)?;
         Ok(Stand {
             first,
             second: Some(second),
         })
     } else {
-        let first = write_inner::<H, F>(desk, page, level, &children)?;
+        let first = write_inner::<F>(desk, page, level, &children)?;
         Ok(Stand {
             first,
             second: None,
@@ -163,29 +171,35 @@ fn put_inner<H: Hashes, F: PageFile>(
     }
 }
 
-// Puts a record into the subtree below an entry.
-pub(crate) fn put_into<H: Hashes, F: PageFile>(
+// Puts a record into the subtree below an entry, which is the root's or that of a node below it.
+pub(crate) fn put_into<F: PageFile>(
     alloc: Global,
     desk: &mut Desk<F>,
     child: &Child,
+    root: bool,
     one: &Record,
 ) -> Result<Stand, EditErr>
-    ensures grows { IfOk result (λ s. Grows (by One H.of) (F.told desk.old.file) desk.old.free
+    ensures grows { IfOk result (λ s. Grows (by One F.Hash.of) (F.told desk.old.file) desk.old.free
         (F.told desk.new.file) desk.new.free child.now one.now (entries s)) }
     ensures level { IfOk result
         (λ s. AllByRecursion (λ (c : child_types.Child). c.level ≡ child.now.level) (entries s)) }
+    ensures sound { IfErr result (λ e. NeverMap e
+        (CanGrow F.Hash.of root (F.told desk.old.file) desk.old.free child.now one.now)) }
+    ensures kept { F.kept desk.old.file desk.new.file }
+    ensures quiet { OnOk result (F.faults desk.new.file ≡ F.faults desk.old.file) }
+    ensures cause { IfErr result (HasEditCause (F.faults desk.old.file) (F.faults desk.new.file)) }
 {
     let mut view = NodeView::new();
-    desk.file.read(child, &mut view)?;
+    look(&mut desk.file, child, root, &mut view)?;
     let level = view.level();
     if level == 0 {
         let records = with_record(alloc, view.records(), one)?;
-        put_leaf::<H, F>(alloc, desk, child.id, records)
+        put_leaf::<F>(alloc, desk, child.id, records)
     } else {
         let children = Vec::from_slice(alloc, view.children())?;
         let at = place_for(alloc, &children, one)?;
-        let stand = put_into::<H, F>(alloc, desk, &children[at], one)?;
+        let stand = put_into::<F>(alloc, desk, &children[at], false, one)?;
         let children = replace(children, at, stand)?;
-        put_inner::<H, F>(alloc, desk, child.id, level, children)
+        put_inner::<F>(alloc, desk, child.id, level, children)
     }
 }

@@ -1,22 +1,26 @@
 //! Deletion below an entry.
 
-ghost use Rattle.std.specs.Prelude.{◌≡◌, ◌≢◌, ◌≤◌, ◌<◌, ◌+◌, ◌++◌, ◌∷◌, [], suc, length, map, take, drop, true, false, IfOk, IfSome};
+ghost use Rattle.std.specs.Prelude.{◌≡◌, ◌≢◌, ◌≤◌, ◌<◌, ◌+◌, ◌-◌, ◌==◌, if◌then◌else◌, ◌++◌, ◌∷◌, [], suc, length, map, take, drop, true, false, IfOk, IfSome, IfErr, OnOk};
 ghost use Rattle.std.specs.List.{AllByRecursion};
 ghost use Rattle.std.specs.Option.{option_to_list};
 ghost use Rattle.mr_geom.specs.Rectangle.{union};
 ghost use Rattle.mr_record.specs.declared.version.Version.TheVariants.{One};
 ghost use Rattle.mr_tree.specs.Digest.{by};
 ghost use Rattle.mr_tree.specs.declared.child.Child as child_types;
+ghost use Rattle.mr_edit.specs.Causes.{HasEditCause, KnowsBelow};
+ghost use Rattle.mr_edit.specs.Outcome.{NeverMap, CanWrite};
 ghost use Rattle.mr_edit.specs.Removal.{LeavesLeaf, LeavesInner, Shortens, Searches};
+ghost use Rattle.mr_edit.specs.Removable.{CanLeave, CanTakeOut};
 
-use crate::desk::{write_inner, write_leaf};
+use crate::desk::{look, write_inner, write_leaf};
 use crate::freeing::{free_page, free_subtrees};
+use crate::hints::Way;
 use crate::{Desk, EditErr, Left, PageFile};
 use mr_geom::Rect;
 use mr_grow::position_of;
 use mr_pages::{MapFault, MapRule};
 use mr_record::Record;
-use mr_tree::{Child, Hashes, INNER_FILL, LEAF_FILL, NodeView};
+use mr_tree::{Child, INNER_FILL, LEAF_FILL, NodeView};
 use std::alloc::{AllocError, Global};
 
 // Whether a rectangle lies in that of an entry.
@@ -27,7 +31,7 @@ fn may_hold(child: &Child, rect: &Rect) -> bool
 }
 
 // Writes what is left of a leaf below the root, or sets it aside.
-fn leave_leaf<H: Hashes, F: PageFile>(
+fn leave_leaf<F: PageFile>(
     alloc: Global,
     desk: &mut Desk<F>,
     page: u32,
@@ -35,11 +39,15 @@ fn leave_leaf<H: Hashes, F: PageFile>(
 ) -> Result<Left, EditErr>
     requires page { 1 ≤ page }
     requires few { length records.items ≤ 16 }
-    ensures leaves { IfOk result (λ l. LeavesLeaf (by One H.of) false (F.told desk.old.file)
+    ensures leaves { IfOk result (λ l. LeavesLeaf (by One F.Hash.of) false (F.told desk.old.file)
         desk.old.free (F.told desk.new.file) desk.new.free page records.items
         (option_to_list l.entry) l.aside.items) }
     ensures level { IfOk result
         (λ l. AllByRecursion (λ (c : child_types.Child). c.level ≡ 0) (option_to_list l.entry)) }
+    ensures kept { F.kept desk.old.file desk.new.file }
+    ensures quiet { OnOk result (F.faults desk.new.file ≡ F.faults desk.old.file) }
+    ensures cause { IfErr result (HasEditCause (F.faults desk.old.file) (F.faults desk.new.file)) }
+    ensures sound { IfErr result (λ e. NeverMap e (CanWrite (F.told desk.old.file) page)) }
 {
     if records.len() < LEAF_FILL as usize {
         free_page(desk, page)?;
@@ -48,7 +56,7 @@ fn leave_leaf<H: Hashes, F: PageFile>(
             aside: records,
         })
     } else {
-        let entry = write_leaf::<H, F>(desk, page, &records)?;
+        let entry = write_leaf::<F>(desk, page, &records)?;
         Ok(Left {
             entry: Some(entry),
             aside: Vec::new(alloc),
@@ -57,7 +65,7 @@ fn leave_leaf<H: Hashes, F: PageFile>(
 }
 
 // Writes what is left of a leaf that is the root.
-fn leave_top_leaf<H: Hashes, F: PageFile>(
+fn leave_top_leaf<F: PageFile>(
     alloc: Global,
     desk: &mut Desk<F>,
     page: u32,
@@ -65,9 +73,13 @@ fn leave_top_leaf<H: Hashes, F: PageFile>(
 ) -> Result<Left, EditErr>
     requires page { 1 ≤ page }
     requires few { length records.items ≤ 16 }
-    ensures { IfOk result (λ l. LeavesLeaf (by One H.of) true (F.told desk.old.file) desk.old.free
-        (F.told desk.new.file) desk.new.free page records.items (option_to_list l.entry)
-        l.aside.items) }
+    ensures leaves { IfOk result (λ l. LeavesLeaf (by One F.Hash.of) true (F.told desk.old.file)
+        desk.old.free (F.told desk.new.file) desk.new.free page records.items
+        (option_to_list l.entry) l.aside.items) }
+    ensures kept { F.kept desk.old.file desk.new.file }
+    ensures quiet { OnOk result (F.faults desk.new.file ≡ F.faults desk.old.file) }
+    ensures cause { IfErr result (HasEditCause (F.faults desk.old.file) (F.faults desk.new.file)) }
+    ensures sound { IfErr result (λ e. NeverMap e (CanWrite (F.told desk.old.file) page)) }
 {
     if records.len() == 0 {
         free_page(desk, page)?;
@@ -76,7 +88,7 @@ fn leave_top_leaf<H: Hashes, F: PageFile>(
             aside: Vec::new(alloc),
         })
     } else {
-        let entry = write_leaf::<H, F>(desk, page, &records)?;
+        let entry = write_leaf::<F>(desk, page, &records)?;
         Ok(Left {
             entry: Some(entry),
             aside: Vec::new(alloc),
@@ -85,7 +97,7 @@ fn leave_top_leaf<H: Hashes, F: PageFile>(
 }
 
 // Writes what is left of an inner node below the root, or sets all records below it aside.
-fn leave_inner<H: Hashes, F: PageFile>(
+fn leave_inner<F: PageFile>(
     alloc: Global,
     desk: &mut Desk<F>,
     page: u32,
@@ -98,23 +110,28 @@ fn leave_inner<H: Hashes, F: PageFile>(
     requires few { length children.now ≤ 64 }
     requires below { AllByRecursion (λ (c : child_types.Child). c.level + 1 ≡ level)
         children.now }
-    ensures leaves { IfOk result (λ l. LeavesInner (by One H.of) false (F.told desk.old.file)
+    ensures leaves { IfOk result (λ l. LeavesInner (by One F.Hash.of) false (F.told desk.old.file)
         desk.old.free (F.told desk.new.file) desk.new.free page children.now aside.items
         (option_to_list l.entry) l.aside.items) }
     ensures level { IfOk result (λ l. AllByRecursion (λ (c : child_types.Child). c.level ≡ level)
         (option_to_list l.entry)) }
+    ensures kept { F.kept desk.old.file desk.new.file }
+    ensures quiet { OnOk result (F.faults desk.new.file ≡ F.faults desk.old.file) }
+    ensures cause { IfErr result (HasEditCause (F.faults desk.old.file) (F.faults desk.new.file)) }
+    ensures sound { IfErr result (λ e. NeverMap e
+        (CanLeave F.Hash.of (F.told desk.old.file) desk.old.free page children.now)) }
 {
     if children.len() < INNER_FILL as usize {
         let mut records = Vec::new(alloc);
         free_page(desk, page)?;
-        free_subtrees::<H, F>(desk, children, &mut records)?;
+        free_subtrees::<F>(desk, children, &mut records)?;
         records.append(&mut aside)?;
         Ok(Left {
             entry: None,
             aside: records,
         })
     } else {
-        let entry = write_inner::<H, F>(desk, page, level, children)?;
+        let entry = write_inner::<F>(desk, page, level, children)?;
         Ok(Left {
             entry: Some(entry),
             aside,
@@ -123,12 +140,17 @@ fn leave_inner<H: Hashes, F: PageFile>(
 }
 
 // The root that a node gives way to: itself, unless it has one child.
-fn shorten<H: Hashes, F: PageFile>(desk: &mut Desk<F>, child: &Child) -> Result<Child, EditErr>
-    ensures { IfOk result (λ c. Shortens (by One H.of) (F.told desk.old.file) desk.old.free
-        (F.told desk.new.file) desk.new.free child.now c) }
+fn shorten<F: PageFile>(desk: &mut Desk<F>, child: &Child) -> Result<Child, EditErr>
+    ensures shortens { IfOk result (λ c. Shortens (by One F.Hash.of) (F.told desk.old.file)
+        desk.old.free (F.told desk.new.file) desk.new.free child.now c) }
+    ensures kept { F.kept desk.old.file desk.new.file }
+    ensures quiet { OnOk result (F.faults desk.new.file ≡ F.faults desk.old.file) }
+    ensures cause { IfErr result (HasEditCause (F.faults desk.old.file) (F.faults desk.new.file)) }
+    ensures sound { IfErr result (λ e. NeverMap e
+        (KnowsBelow F.Hash.of false (F.told desk.old.file) desk.old.free child.now)) }
 {
     let mut view = NodeView::new();
-    desk.file.read(child, &mut view)?;
+    look::<F>(&mut desk.file, child, false, &mut view)?;
     if view.level() == 0 {
         let _records = view.records();
         return Ok(*child);
@@ -138,11 +160,11 @@ fn shorten<H: Hashes, F: PageFile>(desk: &mut Desk<F>, child: &Child) -> Result<
         return Ok(*child);
     }
     free_page(desk, child.id)?;
-    shorten::<H, F>(desk, &children[0])
+    shorten::<F>(desk, &children[0])
 }
 
 // Writes what is left of an inner node that is the root, or frees it where one child is left.
-fn leave_top_inner<H: Hashes, F: PageFile>(
+fn leave_top_inner<F: PageFile>(
     desk: &mut Desk<F>,
     page: u32,
     level: u8,
@@ -154,9 +176,14 @@ fn leave_top_inner<H: Hashes, F: PageFile>(
     requires few { length children.now ≤ 64 }
     requires below { AllByRecursion (λ (c : child_types.Child). c.level + 1 ≡ level)
         children.now }
-    ensures { IfOk result (λ l. LeavesInner (by One H.of) true (F.told desk.old.file) desk.old.free
-        (F.told desk.new.file) desk.new.free page children.now aside.items
+    ensures leaves { IfOk result (λ l. LeavesInner (by One F.Hash.of) true (F.told desk.old.file)
+        desk.old.free (F.told desk.new.file) desk.new.free page children.now aside.items
         (option_to_list l.entry) l.aside.items) }
+    ensures kept { F.kept desk.old.file desk.new.file }
+    ensures quiet { OnOk result (F.faults desk.new.file ≡ F.faults desk.old.file) }
+    ensures cause { IfErr result (HasEditCause (F.faults desk.old.file) (F.faults desk.new.file)) }
+    ensures sound { IfErr result (λ e. NeverMap e
+        (CanLeave F.Hash.of (F.told desk.old.file) desk.old.free page children.now)) }
 {
     if children.is_empty() {
         return Err(EditErr::Map(MapFault {
@@ -166,13 +193,13 @@ fn leave_top_inner<H: Hashes, F: PageFile>(
     }
     if children.len() == 1 {
         free_page(desk, page)?;
-        let entry = shorten::<H, F>(desk, &children[0])?;
+        let entry = shorten::<F>(desk, &children[0])?;
         Ok(Left {
             entry: Some(entry),
             aside,
         })
     } else {
-        let entry = write_inner::<H, F>(desk, page, level, children)?;
+        let entry = write_inner::<F>(desk, page, level, children)?;
         Ok(Left {
             entry: Some(entry),
             aside,
@@ -181,7 +208,7 @@ fn leave_top_inner<H: Hashes, F: PageFile>(
 }
 
 // The same by whether it is the root.
-fn leave<H: Hashes, F: PageFile>(
+fn leave<F: PageFile>(
     alloc: Global,
     desk: &mut Desk<F>,
     page: u32,
@@ -195,21 +222,26 @@ fn leave<H: Hashes, F: PageFile>(
     requires few { length children.now ≤ 64 }
     requires below { AllByRecursion (λ (c : child_types.Child). c.level + 1 ≡ level)
         children.now }
-    ensures leaves { IfOk result (λ l. LeavesInner (by One H.of) root (F.told desk.old.file)
+    ensures leaves { IfOk result (λ l. LeavesInner (by One F.Hash.of) root (F.told desk.old.file)
         desk.old.free (F.told desk.new.file) desk.new.free page children.now aside.items
         (option_to_list l.entry) l.aside.items) }
     ensures level { IfOk result (λ l. root ≡ false → AllByRecursion
         (λ (c : child_types.Child). c.level ≡ level) (option_to_list l.entry)) }
+    ensures kept { F.kept desk.old.file desk.new.file }
+    ensures quiet { OnOk result (F.faults desk.new.file ≡ F.faults desk.old.file) }
+    ensures cause { IfErr result (HasEditCause (F.faults desk.old.file) (F.faults desk.new.file)) }
+    ensures sound { IfErr result (λ e. NeverMap e
+        (CanLeave F.Hash.of (F.told desk.old.file) desk.old.free page children.now)) }
 {
     if root {
-        leave_top_inner::<H, F>(desk, page, level, children, aside)
+        leave_top_inner::<F>(desk, page, level, children, aside)
     } else {
-        leave_inner::<H, F>(alloc, desk, page, level, children, aside)
+        leave_inner::<F>(alloc, desk, page, level, children, aside)
     }
 }
 
 // The same of a leaf.
-fn leave_records<H: Hashes, F: PageFile>(
+fn leave_records<F: PageFile>(
     alloc: Global,
     desk: &mut Desk<F>,
     page: u32,
@@ -218,16 +250,20 @@ fn leave_records<H: Hashes, F: PageFile>(
 ) -> Result<Left, EditErr>
     requires page { 1 ≤ page }
     requires few { length records.items ≤ 16 }
-    ensures leaves { IfOk result (λ l. LeavesLeaf (by One H.of) root (F.told desk.old.file)
+    ensures leaves { IfOk result (λ l. LeavesLeaf (by One F.Hash.of) root (F.told desk.old.file)
         desk.old.free (F.told desk.new.file) desk.new.free page records.items
         (option_to_list l.entry) l.aside.items) }
     ensures level { IfOk result (λ l. root ≡ false → AllByRecursion
         (λ (c : child_types.Child). c.level ≡ 0) (option_to_list l.entry)) }
+    ensures kept { F.kept desk.old.file desk.new.file }
+    ensures quiet { OnOk result (F.faults desk.new.file ≡ F.faults desk.old.file) }
+    ensures cause { IfErr result (HasEditCause (F.faults desk.old.file) (F.faults desk.new.file)) }
+    ensures sound { IfErr result (λ e. NeverMap e (CanWrite (F.told desk.old.file) page)) }
 {
     if root {
-        leave_top_leaf::<H, F>(alloc, desk, page, records)
+        leave_top_leaf::<F>(alloc, desk, page, records)
     } else {
-        leave_leaf::<H, F>(alloc, desk, page, records)
+        leave_leaf::<F>(alloc, desk, page, records)
     }
 }
 
@@ -250,24 +286,38 @@ fn replaced(
     Ok(list)
 }
 
+// Which child is tried as the nth: that to which the way turns, and then each in its order.
+fn tried(turn: usize, n: usize) -> usize
+    ensures { result ≡ (if n == 0 then turn else n - 1) }
+{
+    if n == 0 { turn } else { n - 1 }
+}
+
 // Takes a record out of the subtree below an entry, if it is there. Only nodes whose rectangle
-// holds the record's are read.
-pub(crate) fn take_out<H: Hashes, F: PageFile>(
+// holds the record's are read, first that to which the way leads.
+pub(crate) fn take_out<F: PageFile>(
     alloc: Global,
     desk: &mut Desk<F>,
     child: &Child,
     number: u64,
     rect: &Rect,
+    way: &Way,
     root: bool,
 ) -> Result<Option<Left>, EditErr>
-    ensures searches { IfOk result (λ found. Searches (by One H.of) root (F.told desk.old.file)
+    ensures searches { IfOk result (λ found. Searches (by One F.Hash.of) root (F.told desk.old.file)
         desk.old.free (F.told desk.new.file) desk.new.free child.now number rect.now found) }
     ensures level { IfOk result (λ found. root ≡ false → IfSome found
         (λ l. AllByRecursion (λ (c : child_types.Child). c.level ≡ child.now.level)
         (option_to_list l.entry))) }
+    ensures kept { F.kept desk.old.file desk.new.file }
+    ensures quiet { OnOk result (F.faults desk.new.file ≡ F.faults desk.old.file) }
+    ensures cause { IfErr result (HasEditCause (F.faults desk.old.file) (F.faults desk.new.file)) }
+    ensures sound { IfErr result (λ e. NeverMap e (CanTakeOut F.Hash.of root
+        (F.told desk.old.file) desk.old.free child.now number rect.now)) }
 {
     let mut view = NodeView::new();
-    desk.file.read(child, &mut view)?;
+    desk.hints.count();
+    look::<F>(&mut desk.file, child, root, &mut view)?;
     let level = view.level();
     if level == 0 {
         let mut records = Vec::from_slice(alloc, view.records())?;
@@ -276,20 +326,25 @@ pub(crate) fn take_out<H: Hashes, F: PageFile>(
             return Ok(None);
         }
         records.remove(at);
-        Ok(Some(leave_records::<H, F>(alloc, desk, child.id, records, root)?))
+        Ok(Some(leave_records::<F>(alloc, desk, child.id, records, root)?))
     } else {
         let children = view.children();
-        for at in 0..children.len() {
+        let turn = way.turn(children);
+        for n in 0..children.len() + 1 {
+            let at = tried(turn, n);
+            if at >= children.len() {
+                continue;
+            }
             if !may_hold(&children[at], rect) {
                 continue;
             }
-            let found = take_out::<H, F>(alloc, desk, &children[at], number, rect, false)?;
+            let found = take_out::<F>(alloc, desk, &children[at], number, rect, way, false)?;
             let Some(left) = found else {
                 continue;
             };
             let Left { entry, aside } = left;
             let rest = replaced(alloc, children, at, entry)?;
-            let left = leave::<H, F>(alloc, desk, child.id, level, &rest, aside, root)?;
+            let left = leave::<F>(alloc, desk, child.id, level, &rest, aside, root)?;
             return Ok(Some(left));
         }
         Ok(None)

@@ -1,37 +1,44 @@
 //! Insertion into a map.
 
-ghost use Rattle.std.specs.Prelude.{◌≡◌, IfOk, None};
+ghost use Rattle.std.specs.Prelude.{◌≡◌, IfOk, IfErr, OnOk, None};
 ghost use Rattle.mr_record.specs.declared.version.Version.TheVariants.{One};
 ghost use Rattle.mr_tree.specs.Digest.{by};
-ghost use Rattle.mr_edit.specs.Outcome.{Raises};
+ghost use Rattle.mr_edit.specs.Causes.{HasEditCause};
+ghost use Rattle.mr_edit.specs.Outcome.{Raises, NeverMap};
 ghost use Rattle.mr_edit.specs.Drafted.{Inserts};
+ghost use Rattle.mr_edit.specs.Growing.{CanAdd, CanRaise, CanInsert};
 
 use crate::desk::{take_page, write_inner, write_leaf};
 use crate::putting::put_into;
 use crate::{Desk, EditErr, PageFile, Stand};
 use mr_pages::{MapFault, MapRule};
 use mr_record::Record;
-use mr_tree::{Child, Hashes, LEVEL_LIMIT};
+use mr_tree::{Child, LEVEL_LIMIT};
 use std::alloc::Global;
 
 // The root of a map of one record.
-fn first_root<H: Hashes, F: PageFile>(desk: &mut Desk<F>, one: &Record) -> Result<Child, EditErr>
-    ensures { IfOk result (λ c. Inserts (by One H.of) (F.told desk.old.file) desk.old.free None
-        (F.told desk.new.file) desk.new.free c one.now) }
+fn first_root<F: PageFile>(desk: &mut Desk<F>, one: &Record) -> Result<Child, EditErr>
+    ensures inserts { IfOk result (λ c. Inserts (by One F.Hash.of) (F.told desk.old.file)
+        desk.old.free None (F.told desk.new.file) desk.new.free c one.now) }
+    ensures sound { IfErr result (λ e. NeverMap e (CanAdd (F.told desk.old.file) desk.old.free)) }
+    ensures kept { F.kept desk.old.file desk.new.file }
+    ensures quiet { OnOk result (F.faults desk.new.file ≡ F.faults desk.old.file) }
+    ensures cause { IfErr result (HasEditCause (F.faults desk.old.file) (F.faults desk.new.file)) }
 {
     let page = take_page(desk)?;
-    write_leaf::<H, F>(desk, page, &[*one])
+    write_leaf::<F>(desk, page, &[*one])
 }
 
 // A root above two nodes.
-fn raise<H: Hashes, F: PageFile>(
-    desk: &mut Desk<F>,
-    first: Child,
-    second: Child,
-) -> Result<Child, EditErr>
+fn raise<F: PageFile>(desk: &mut Desk<F>, first: Child, second: Child) -> Result<Child, EditErr>
     requires { second.level ≡ first.level }
-    ensures { IfOk result (λ c. Raises (by One H.of) (F.told desk.old.file) desk.old.free
-        (F.told desk.new.file) desk.new.free first second c) }
+    ensures raises { IfOk result (λ c. Raises (by One F.Hash.of) (F.told desk.old.file)
+        desk.old.free (F.told desk.new.file) desk.new.free first second c) }
+    ensures sound { IfErr result (λ e. NeverMap e
+        (CanRaise (F.told desk.old.file) desk.old.free first.level)) }
+    ensures kept { F.kept desk.old.file desk.new.file }
+    ensures quiet { OnOk result (F.faults desk.new.file ≡ F.faults desk.old.file) }
+    ensures cause { IfErr result (HasEditCause (F.faults desk.old.file) (F.faults desk.new.file)) }
 {
     if first.level >= LEVEL_LIMIT {
         return Err(EditErr::Map(MapFault {
@@ -40,26 +47,34 @@ fn raise<H: Hashes, F: PageFile>(
         }));
     }
     let page = take_page(desk)?;
-    write_inner::<H, F>(desk, page, first.level + 1, &[first, second])
+    write_inner::<F>(desk, page, first.level + 1, &[first, second])
 }
 
 /// Puts a record into a map with this root, and answers its root then.
-pub fn insert<H: Hashes, F: PageFile>(
+///
+/// Where the pages are not told, `Page` blames besides a node whose rectangle is not the one that
+/// its entry tells of, or one with too few entries; and the root, where it would rise too high.
+pub fn insert<F: PageFile>(
     alloc: Global,
     desk: &mut Desk<F>,
     root: Option<Child>,
     one: &Record,
 ) -> Result<Child, EditErr>
-    ensures { IfOk result (λ c. Inserts (by One H.of) (F.told desk.old.file) desk.old.free root
-        (F.told desk.new.file) desk.new.free c one.now) }
+    ensures inserts { IfOk result (λ c. Inserts (by One F.Hash.of) (F.told desk.old.file)
+        desk.old.free root (F.told desk.new.file) desk.new.free c one.now) }
+    ensures sound { IfErr result (λ e. NeverMap e
+        (CanInsert F.Hash.of (F.told desk.old.file) desk.old.free root 1)) }
+    ensures kept { F.kept desk.old.file desk.new.file }
+    ensures quiet { OnOk result (F.faults desk.new.file ≡ F.faults desk.old.file) }
+    ensures cause { IfErr result (HasEditCause (F.faults desk.old.file) (F.faults desk.new.file)) }
 {
     match root {
-        None => first_root::<H, F>(desk, one),
+        None => first_root::<F>(desk, one),
         Some(child) => {
-            let Stand { first, second } = put_into::<H, F>(alloc, desk, &child, one)?;
+            let Stand { first, second } = put_into::<F>(alloc, desk, &child, true, one)?;
             match second {
                 None => Ok(first),
-                Some(second) => raise::<H, F>(desk, first, second),
+                Some(second) => raise::<F>(desk, first, second),
             }
         }
     }

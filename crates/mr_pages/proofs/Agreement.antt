@@ -107,19 +107,19 @@ module _ (form : Form) (is : IsForm form) (bytes : List ℕ) where
 -- ---- from what is read to what is spelled, and back
 
 mutual
-  written_as : (hash : Scheme) (on as' : ℕ → Node → Type 0) → ((p : ℕ) (n : Node) → on p n → as' p n) →
+  pub written_as : (hash : Scheme) (on as' : ℕ → Node → Type 0) → ((p : ℕ) (n : Node) → on p n → as' p n) →
       (P : Placed) →
       IsWritten hash on P → IsWritten hash as' P
   written_as hash on as' f (Leaf p rs) w = f p _ w
   written_as hash on as' f (Inner p Ps) w = (f p _ w.0, row_as hash on as' f Ps w.1)
 
-  row_as : (hash : Scheme) (on as' : ℕ → Node → Type 0) → ((p : ℕ) (n : Node) → on p n → as' p n) →
+  pub row_as : (hash : Scheme) (on as' : ℕ → Node → Type 0) → ((p : ℕ) (n : Node) → on p n → as' p n) →
       (Ps : Row) →
       AreWritten hash on Ps → AreWritten hash as' Ps
   row_as hash on as' f no_more w = tt
   row_as hash on as' f (first P Ps) w = (written_as hash on as' f P w.0, row_as hash on as' f Ps w.1)
 
-chain_as : (names as' : ℕ → ℕ → Type 0) → ((p g : ℕ) → names p g → as' p g) →
+pub chain_as : (names as' : ℕ → ℕ → Type 0) → ((p g : ℕ) → names p g → as' p g) →
     (f : ℕ) (ps : List ℕ) → IsChain names f ps → IsChain as' f ps
 chain_as names as' k f [] c = c
 chain_as names as' k f (p ∷ ps) c = (c.0, c.1, k p c.0 c.2, chain_as names as' k c.0 ps c.3)

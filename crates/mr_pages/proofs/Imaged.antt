@@ -126,7 +126,7 @@ pub at_least : (n size : ℕ) → 0 < n → size ≤ n * size
 at_least zero size some = absurd (omega (arith, some))
 at_least (suc n) size some = let sum : suc n * size ≡ size + n * size = grind arith in omega (arith, sum)
 
-no_seal : (xs : List ℕ) → xs ≡ replicate 4 0 → bytes_eq xs seal ≡ false
+pub no_seal : (xs : List ℕ) → xs ≡ replicate 4 0 → bytes_eq xs seal ≡ false
 no_seal xs e = ap (λ ys. bytes_eq ys seal) e
 
 module _ (layout : Layout) (fit : IsLayout layout) (hash : List ℕ → List ℕ) where
@@ -136,11 +136,11 @@ module _ (layout : Layout) (fit : IsLayout layout) (hash : List ℕ → List ℕ
   abbrev size : ℕ
   size = layout.size
 
-  first_at : (bytes : List ℕ) → page_at form bytes 0 ≡ take size bytes
+  pub first_at : (bytes : List ℕ) → page_at form bytes 0 ≡ take size bytes
   first_at bytes = ap (λ n. take size (drop n bytes)) (let none : 0 * size ≡ 0 = omega arith in none)
 
   -- page 0 has no seal: what is read then
-  unsealed_page : (bytes page : List ℕ) → is_odd_size size (length bytes) ≡ false →
+  pub unsealed_page : (bytes page : List ℕ) → is_odd_size size (length bytes) ≡ false →
       page_at form bytes 0 ≡ page → bytes_eq (drop (seal_place size) page) seal ≡ false → IsUnsealed form hash bytes
   unsealed_page bytes page even here open' =
       let n = length bytes / size in
@@ -150,7 +150,7 @@ module _ (layout : Layout) (fit : IsLayout layout) (hash : List ℕ → List ℕ
       ∙ ap (λ o. first_of (file_faults hash (file_of form bytes) o))
       (ap (head_in layout n) here ∙ unsealed_if (bytes_eq (drop (seal_place size) page) seal) _ open'))
 
-  by_size : (bytes : List ℕ) →
+  pub by_size : (bytes : List ℕ) →
       (is_odd_size size (length bytes) ≡ false → IsUnsealed form hash bytes) → IsUnsealed form hash bytes
   by_size bytes f = at (is_odd_size size (length bytes)) refl
     where
@@ -159,7 +159,7 @@ module _ (layout : Layout) (fit : IsLayout layout) (hash : List ℕ → List ℕ
       at false even = f even
 
   -- the front of the pages, while page 0 is zeros
-  front_unsealed : (bytes rest nodes : List ℕ) → replicate size 0 ++ nodes ≡ bytes ++ rest →
+  pub front_unsealed : (bytes rest nodes : List ℕ) → replicate size 0 ++ nodes ≡ bytes ++ rest →
       IsUnsealed form hash bytes
   front_unsealed bytes rest nodes whole = by_size bytes (λ even.
       let w = whole_pages_are size (length bytes) (omega (arith, fit.room)) even in
@@ -211,7 +211,7 @@ module _ (layout : Layout) (fit : IsLayout layout) (hash : List ℕ → List ℕ
       (λ i. head ++ behind i) ∙ ap (λ h. h ++ saved_nodes form hash t) is
 
   -- page 0 begins like the head, and goes on with zeros
-  part_unsealed : (bytes front pages nodes : List ℕ) → pages ≡ replicate size 0 ++ nodes →
+  pub part_unsealed : (bytes front pages nodes : List ℕ) → pages ≡ replicate size 0 ++ nodes →
       length front < size →
       bytes ≡ replaced 0 front pages → IsUnsealed form hash bytes
   part_unsealed bytes front pages nodes image short is = by_size bytes (λ even.

@@ -29,4 +29,4 @@ pub mod PageReads
 mod Put
 pub mod Answered
 mod Written
-mod Imaged
+pub mod Imaged

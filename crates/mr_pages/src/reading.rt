@@ -35,9 +35,9 @@ fn is_page(_bytes: &[u8])
     ensures { IsPage first_form _bytes.now }
 {}
 
-// Reads from a place of the file on, and answers how many bytes came. What a read gives short
-// counts as zeros.
-fn read_filled<S: Shelf>(
+/// Reads from a place of the file on, and answers how many bytes came. What a read gives short
+/// counts as zeros.
+pub fn read_filled<S: Shelf>(
     shelf: &mut S,
     name: &str,
     at: u64,

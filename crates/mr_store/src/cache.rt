@@ -33,7 +33,7 @@ fn find(cache: &LruCache<u32, Kept>, child: &Child, into: &mut NodeView) -> bool
 
 /// Shows the node of the child, if its page is kept with its level and its digest. It then becomes
 /// the last one that would be dropped.
-pub(crate) fn recall(cache: &mut LruCache<u32, Kept>, child: &Child, into: &mut NodeView) -> bool
+pub fn recall(cache: &mut LruCache<u32, Kept>, child: &Child, into: &mut NodeView) -> bool
     requires { (e : ℕ × Kept) → Contains cache.old.entries e → IsShown e.1 }
     ensures finds { Finds cache.old.entries child.now result into.new }
     ensures stays { Stays cache.old.entries cache.new.entries }
@@ -70,7 +70,7 @@ pub(crate) fn put(
 }
 
 /// Keeps what a view shows.
-pub(crate) fn remember(
+pub fn remember(
     alloc: Global,
     cache: &mut LruCache<u32, Kept>,
     child: &Child,

@@ -12,6 +12,9 @@ mod paging;
 mod reading;
 mod stop;
 
+pub use cache::{recall, remember};
 pub use kept::Kept;
+pub use opening::empty_cache;
 pub use paged::Paged;
 pub use paging::Paging;
+pub use reading::judge;

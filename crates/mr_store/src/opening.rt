@@ -31,7 +31,8 @@ struct Ready {
     cache: LruCache<u32, Kept>,
 }
 
-fn empty_cache(alloc: Global) -> Result<LruCache<u32, Kept>, AllocError>
+/// A cache of node pages in which none is kept yet.
+pub fn empty_cache(alloc: Global) -> Result<LruCache<u32, Kept>, AllocError>
     ensures entries { IfOk result (λ c. c.entries ≡ []) }
     ensures cap { IfOk result (λ c. c.cap ≡ 256) }
 {

@@ -154,6 +154,27 @@ impl<S: Shelf, H: Hash32> Paged<S, H> {
         read_all(self.alloc, &mut self.shelf, name)
     }
 
+    /// The shelf, the name of the map's file on it, and what its page 0 says.
+    pub fn into_parts(self) -> (S, String, MapHead)
+        ensures shelf { result.0 ≡ self.shelf }
+        ensures name { result.1 ≡ self.name }
+        ensures head { result.2 ≡ self.head }
+        ensures store { IsStore H.of (S.state self.shelf).files (string_bytes self.name) self.head
+            self.cache.entries self.cache.cap }
+    {
+        let Paged {
+            alloc: _,
+            shelf,
+            name,
+            head,
+            cache: _,
+            fetches: _,
+            refusal: _,
+            hash: _,
+        } = self;
+        (shelf, name, head)
+    }
+
     /// The shelf, as it stands.
     pub fn close(self) -> S
         ensures { result ≡ self.shelf }

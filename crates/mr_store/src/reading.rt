@@ -4,6 +4,7 @@ ghost use Rattle.std.specs.Prelude.{◌≡◌, OnOk, IfErr, MatchOption, Some, b
 ghost use Rattle.mr_outside.specs.Told.{OfFile};
 ghost use Rattle.mr_pages.specs.Page as pages_spec;
 ghost use Rattle.mr_pages.specs.PageBytes.{first_form};
+ghost use Rattle.mr_pages.specs.Walking.{page_node};
 ghost use Rattle.mr_tree.specs.View.{preimage_of};
 ghost use Rattle.mr_store.specs.Kept.{AreInside};
 ghost use Rattle.mr_store.specs.Again.{Outside, IsRead, IsSaid, TellsNode, TellsAgain, IsBlamed, IsRefused, ReadsOne, Refuses};
@@ -39,8 +40,8 @@ fn digest_of<H: Hashes>(view: &NodeView) -> [u8; 32]
     view.entry::<H>().digest
 }
 
-// The node that a page spells, if it is what is said of the child.
-fn judge<H: Hashes>(
+/// The node that a page of a file of so many pages spells, if it is what is said of the child.
+pub fn judge<H: Hashes>(
     page: &[u8; 4096],
     pages: u32,
     child: &Child,
@@ -49,6 +50,7 @@ fn judge<H: Hashes>(
     ensures read { OnOk result (IsRead H.of pages child.now into.new) }
     ensures told { (m : pages_spec.Node) → first_form.node_in page.now ≡ Some m →
         IsSaid H.of pages child.now m → TellsNode m result into.new }
+    ensures spelled { OnOk result (first_form.node_in page.now ≡ Some (page_node into.new)) }
     ensures blamed { IfErr result (IsBlamed pages child.now) }
 {
     if !read_page(page, child.level, into) {

@@ -125,16 +125,17 @@ fn stops<R: Threads + Sync>(rt: &R, alloc: Global, call: u64) -> Result<bool, Al
 
 #[test]
 fn each_call_of_an_application_fails_in_turn(rt: HostRuntime) {
-    // Two sizes, a read of each of two pages and one of the batch, and then the file is made,
-    // written, synced, sealed and synced.
-    for call in 1..11u64 {
+    // Two sizes, a read of each of two pages and one of the batch; then the file is made, a page of
+    // zeros and a copy of the other page are appended, the leaf is read and written, and the file is
+    // synced, sealed and synced.
+    for call in 1..15u64 {
         holds_at(&rt, "call", call, stops(&rt, rt.alloc(), call));
     }
 }
 
 fn is_done<R: Threads + Sync>(rt: &R, alloc: Global) -> Result<bool, AllocError> {
-    let done = applied(rt, alloc, (11, 0), "n")?;
-    Ok(done.status == Done && leaves(rt, alloc, (11, 0), &done.left)?)
+    let done = applied(rt, alloc, (15, 0), "n")?;
+    Ok(done.status == Done && leaves(rt, alloc, (15, 0), &done.left)?)
 }
 
 fn is_unsaid<R: Threads + Sync>(rt: &R, alloc: Global) -> Result<bool, AllocError> {

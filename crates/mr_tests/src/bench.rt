@@ -6,6 +6,7 @@ use crate::cuts::agrees;
 use crate::listed::Listed;
 use crate::parts::{File, Part, bytes_of, edited, expanded};
 use mr_outside::{Gate, MemShelf, MemSink, NoGate, Shelf};
+use mr_pages::{open_plain, save_plain};
 use mr_tool::{Status, run};
 use mr_tree::Hash32;
 use sha2::{Digest, Sha256};
@@ -60,6 +61,10 @@ pub enum Step<'a> {
     Holds(&'a str, &'a [Part<'a>]),
     /// The file has so many bytes, and this SHA-256 digest.
     Hashes(&'a str, usize, &'a str),
+    /// The map file has so many pages, so many of them free ones.
+    Pages(&'a str, usize, usize),
+    /// The map of the first file is written to the second one anew, its nodes in preorder.
+    LayOut(&'a str, &'a str),
 }
 
 /// The words of a command line.
@@ -327,23 +332,60 @@ fn hashes(
     Ok(bytes.len() == length && digest(alloc, &bytes)?.as_str() == digits)
 }
 
+// Whether a file has so many pages, of which so many begin as free ones do.
+fn has_pages(
+    alloc: Global,
+    shelf: &MemShelf,
+    name: &str,
+    pages: usize,
+    free: usize,
+) -> Result<bool, AllocError> {
+    let bytes = file_of(alloc, shelf, name)?;
+    let mut met = 0usize;
+    for page in bytes.chunks(4096) {
+        if page.first() == Some(&b'F') {
+            met = met.wrapping_add(1);
+        }
+    }
+    Ok(bytes.len() == pages.wrapping_mul(4096) && met == free)
+}
+
+// Writes the map in a file to another one, by the plain way.
+fn lay_out<H: Hash32>(
+    alloc: Global,
+    from: &str,
+    to: &str,
+    shelf: &mut MemShelf,
+) -> Result<bool, AllocError> {
+    match open_plain::<H, MemShelf>(alloc, shelf, from) {
+        Ok((tree, batch)) => Ok(save_plain::<H, MemShelf>(alloc, shelf, to, &tree, batch).is_ok()),
+        Err(_) => Ok(false),
+    }
+}
+
 // Takes a step that runs no command line: whether all is as it says.
-fn is_looked_at(alloc: Global, step: &Step<'_>, shelf: &mut MemShelf) -> Result<bool, AllocError> {
+fn is_looked_at<H: Hash32>(
+    alloc: Global,
+    step: &Step<'_>,
+    shelf: &mut MemShelf,
+) -> Result<bool, AllocError> {
     match step {
         Step::Change(name, edits) => change(alloc, name, edits, shelf),
         Step::Holds(name, parts) => holds(alloc, shelf, name, parts),
         Step::Hashes(name, length, digits) => hashes(alloc, shelf, name, *length, digits),
+        Step::Pages(name, pages, free) => has_pages(alloc, shelf, name, *pages, *free),
+        Step::LayOut(from, to) => lay_out::<H>(alloc, from, to, shelf),
         _ => Ok(false),
     }
 }
 
-fn looked_at(
+fn looked_at<H: Hash32>(
     alloc: Global,
     step: &Step<'_>,
     shelf: MemShelf,
 ) -> Result<(MemShelf, bool), AllocError> {
     let mut shelf = shelf;
-    let held = is_looked_at(alloc, step, &mut shelf)?;
+    let held = is_looked_at::<H>(alloc, step, &mut shelf)?;
     Ok((shelf, held))
 }
 
@@ -362,7 +404,7 @@ fn taken<H: Hash32, R: Threads + Sync>(
         } => is_run::<H, R>(rt, alloc, words, *status, text, shelf),
         Step::Do(words) => is_done::<H, R>(rt, alloc, words, shelf),
         Step::Print(words, parts) => is_put_together::<H, R>(rt, alloc, words, parts, shelf),
-        _ => looked_at(alloc, step, shelf),
+        _ => looked_at::<H>(alloc, step, shelf),
     }
 }
 

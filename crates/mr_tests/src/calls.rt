@@ -34,7 +34,7 @@ const SMALL: &[File<'static>] = &[
 ];
 
 // The pages of a map are synced before its first page is written over the zeros that stand for it,
-// and again after.
+// and again after. A batch is applied to a copy of them, which is made sixteen pages at a time.
 const CALLS: &[Made<'static>] = &[
     Made {
         words: "root r",
@@ -70,7 +70,8 @@ const CALLS: &[Made<'static>] = &[
     Made {
         words: "apply m b n",
         calls: "size m\nread_at m\nread_at m\nread_at m\nread_at m\nsize b\nread_at b\ncreate n\n\
-            append n\nsync n\nwrite_at n\nsync n\n",
+            append n\nread_at m\nappend n\nread_at n\nread_at n\nwrite_at n\nwrite_at n\nsync n\n\
+            write_at n\nsync n\n",
         pieces: 0,
     },
     Made {
@@ -118,8 +119,14 @@ const LARGE_CALLS: &[Made<'static>] = &[
     },
     Made {
         words: "apply m b n",
-        calls: "size m\nread_at m\nsize b\nread_at b\ncreate n\nappend n\nsync n\nwrite_at n\n\
-            sync n\n",
+        calls: "size m\nread_at m\nsize b\nread_at b\nread_at m\ncreate n\nappend n\nread_at m\n\
+            append n\nread_at m\nappend n\nread_at m\nappend n\nread_at m\nappend n\n\
+            read_at m\nappend n\nread_at m\nappend n\nread_at m\nappend n\nread_at m\n\
+            append n\nread_at m\nappend n\nread_at m\nappend n\nread_at m\nappend n\n\
+            read_at m\nappend n\nread_at m\nappend n\nread_at m\nappend n\nread_at m\n\
+            append n\nread_at m\nappend n\nread_at m\nappend n\nread_at m\nappend n\n\
+            read_at m\nappend n\nread_at m\nappend n\nread_at n\nwrite_at n\nsync n\n\
+            write_at n\nsync n\n",
         pieces: 0,
     },
     Made {

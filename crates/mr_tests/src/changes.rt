@@ -1,7 +1,7 @@
 //! Batches applied to maps that were built. Roots come from a program of another language, which
 //! follows the definitions of insertion and deletion.
 
-use crate::bench::Step::{Change, Do, Run};
+use crate::bench::Step::{Change, Do, LayOut, Pages, Run};
 use crate::bench::{Story, stories_go};
 use crate::parts::Part::{Added, Mixed, Places, Removed, Renewed, Row, Text};
 use crate::rows::{SEVEN, lines_are_bad};
@@ -24,23 +24,47 @@ const SMALL: &[Story<'static>] = &[
             ),
             ("b", &[Text("batch 1\n+ 17 100 100 100 100 -\n")]),
             ("c", &[Text("batch 2\n- 17\n")]),
+            ("d", &[Text("batch 3\n+ 17 100 100 100 100 -\n")]),
+            ("e", &[Text("batch 4\n- 17\n")]),
         ],
+        // Pages that become free are used again, and a file of other pages gives the same root.
         steps: &[
             Run {
                 words: "build m r",
                 status: Done,
                 text: "..1e\n",
             },
+            Pages("m", 2, 0),
             Run {
                 words: "apply m b n",
                 status: Done,
                 text: "..04\n",
             },
+            Pages("n", 4, 0),
             Run {
                 words: "apply n c o",
                 status: Done,
                 text: "..1c\n",
             },
+            Pages("o", 4, 2),
+            Run {
+                words: "apply o d p",
+                status: Done,
+                text: "..06\n",
+            },
+            Pages("p", 4, 0),
+            LayOut("p", "q"),
+            Run {
+                words: "apply p e s",
+                status: Done,
+                text: "..1a\n",
+            },
+            Run {
+                words: "apply q e t",
+                status: Done,
+                text: "..1a\n",
+            },
+            Pages("m", 2, 0),
         ],
     },
     Story {

@@ -7,7 +7,7 @@ use crate::cuts::agrees;
 use crate::parts::Part::Row;
 use mr_outside::NoGate;
 use mr_tool::Status::Refused;
-use mr_tree::Sha;
+use mr_tree::{Hash32, Sha, XorHash};
 use std::alloc::{AllocError, Global};
 use std::test::Fail;
 use std::thread::Threads;
@@ -25,22 +25,22 @@ fn path<R: Threads + Sync>(rt: &R, alloc: Global) -> Result<Vec<u8>, AllocError>
 const CHECK: &str = "check 0a1f58ba200fb9fbf1ec601962e66d4f61fca5ce3dd5b1fbc2a96141ab87d843 \
     window:700,0,702,0 p";
 
-// Whether these bytes are refused for the path, whole and, if that is looked at too, alike in small
-// pieces, and what is said.
-fn refused<R: Threads + Sync>(
+/// Whether these bytes are refused as the proof p of a command line, whole and alike in small
+/// pieces, and what is said.
+pub fn refused<H: Hash32, R: Threads + Sync>(
     rt: &R,
     alloc: Global,
+    check: &str,
     proof: &[u8],
-    in_pieces: bool,
 ) -> Result<(bool, Vec<u8>), AllocError> {
     let shelf = shelf_with(alloc, "p", proof)?;
-    let (status, said, left) = ran::<Sha, _, _, R>(rt, alloc, CHECK, shelf, &[], &NoGate)?;
-    let same = !in_pieces || agrees::<Sha>(alloc, CHECK, &left, status, &said)?;
+    let (status, said, left) = ran::<H, _, _, R>(rt, alloc, check, shelf, &[], &NoGate)?;
+    let same = agrees::<H>(alloc, check, &left, status, &said)?;
     Ok((status == Refused && same, said))
 }
 
-// The bytes with the lowest bit of this one changed.
-fn flipped(alloc: Global, bytes: &[u8], place: usize) -> Result<Vec<u8>, AllocError> {
+/// The bytes with the lowest bit of this one changed.
+pub fn flipped(alloc: Global, bytes: &[u8], place: usize) -> Result<Vec<u8>, AllocError> {
     let mut flipped = bytes.to_vec(alloc)?;
     if place < flipped.len() {
         flipped[place] ^= 1;
@@ -48,8 +48,8 @@ fn flipped(alloc: Global, bytes: &[u8], place: usize) -> Result<Vec<u8>, AllocEr
     Ok(flipped)
 }
 
-// Whether the proof with the lowest bit of this byte changed is refused; what is said of it is put
-// behind what was said before.
+// Whether the proof with the lowest bit of this byte changed is refused, under either hash
+// function; what is said of it is put behind what was said before.
 fn is_refused<R: Threads + Sync>(
     rt: &R,
     alloc: Global,
@@ -57,9 +57,11 @@ fn is_refused<R: Threads + Sync>(
     place: usize,
     said: &mut Vec<u8>,
 ) -> Result<bool, AllocError> {
-    let (refused, line) = refused(rt, alloc, &flipped(alloc, proof, place)?, place % 32 == 0)?;
+    let flipped = flipped(alloc, proof, place)?;
+    let (by_sha, line) = refused::<Sha, R>(rt, alloc, CHECK, &flipped)?;
+    let (by_xor, _) = refused::<XorHash, R>(rt, alloc, CHECK, &flipped)?;
     said.extend_from_slice(&line)?;
-    Ok(refused)
+    Ok(by_sha && by_xor)
 }
 
 // Of all that is said.
@@ -235,7 +237,8 @@ fn is_said<R: Threads + Sync>(
     proof: &[u8],
     flip: &Flip<'_>,
 ) -> Result<bool, AllocError> {
-    let (refused, said) = refused(rt, alloc, &flipped(alloc, proof, flip.place)?, true)?;
+    let flipped = flipped(alloc, proof, flip.place)?;
+    let (refused, said) = refused::<Sha, R>(rt, alloc, CHECK, &flipped)?;
     Ok(refused && said.as_slice() == flip.says.as_bytes())
 }
 
@@ -292,10 +295,10 @@ fn add_fields(places: &mut Vec<usize>, widths: &[usize]) -> Result<(), AllocErro
     Ok(())
 }
 
-// For each byte of the proof the place of its field.
-fn places(alloc: Global) -> Result<Vec<usize>, AllocError> {
+/// For each byte of a proof the place of its field.
+pub fn places(alloc: Global, fields: &[(usize, &[usize])]) -> Result<Vec<usize>, AllocError> {
     let mut places = Vec::new(alloc);
-    for (times, widths) in FIELDS {
+    for (times, widths) in fields {
         for _ in 0..*times {
             add_fields(&mut places, widths)?;
         }
@@ -303,31 +306,45 @@ fn places(alloc: Global) -> Result<Vec<usize>, AllocError> {
     Ok(places)
 }
 
-// Whether the proof with this many bytes is cut off in the field at this place.
-fn is_short<R: Threads + Sync>(
+// Whether bytes are refused as cut off in the field at this place, under one hash function.
+fn is_cut<H: Hash32, R: Threads + Sync>(
     rt: &R,
     alloc: Global,
+    check: &str,
+    cut: &[u8],
+    place: usize,
+) -> Result<bool, AllocError> {
+    let (refused, said) = refused::<H, R>(rt, alloc, check, cut)?;
+    let line = format!(in alloc; "refused Short at {place}\n")?;
+    Ok(refused && said.as_slice() == line.as_bytes())
+}
+
+/// Whether the proof of a command line with this many bytes is cut off in the field at this place,
+/// under either hash function.
+pub fn is_short<R: Threads + Sync>(
+    rt: &R,
+    alloc: Global,
+    check: &str,
     proof: &[u8],
     length: usize,
     place: usize,
 ) -> Result<bool, AllocError> {
     let (cut, _) = proof.split_at(length.min(proof.len()));
-    let (refused, said) = refused(rt, alloc, cut, length % 32 == 0)?;
-    let line = format!(in alloc; "refused Short at {place}\n")?;
-    Ok(refused && said.as_slice() == line.as_bytes())
+    let by_sha = is_cut::<Sha, R>(rt, alloc, check, cut, place)?;
+    Ok(by_sha && is_cut::<XorHash, R>(rt, alloc, check, cut, place)?)
 }
 
 #[test]
 fn each_cut_of_a_path_is_short(rt: HostRuntime) -> Result<(), Fail> {
     let alloc = rt.alloc();
-    let (proof, places) = (path(&rt, alloc)?, places(alloc)?);
+    let (proof, places) = (path(&rt, alloc)?, places(alloc, FIELDS)?);
     holds(
         &rt,
         "a place for each byte",
         Ok(places.len() == proof.len()),
     );
     for (length, place) in places.iter().enumerate() {
-        let short = is_short(&rt, alloc, &proof, length, *place);
+        let short = is_short(&rt, alloc, CHECK, &proof, length, *place);
         holds_at(&rt, "length", length as u64, short);
     }
     Ok(())

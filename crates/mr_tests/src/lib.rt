@@ -20,6 +20,8 @@ mod changes;
 #[cfg(test)]
 mod cuts;
 #[cfg(test)]
+mod faults;
+#[cfg(test)]
 mod gates;
 #[cfg(test)]
 mod joined;
@@ -50,6 +52,10 @@ mod pieces;
 #[cfg(test)]
 mod proofs;
 #[cfg(test)]
+mod rereads;
+#[cfg(test)]
 mod rows;
 #[cfg(test)]
 mod stopped;
+#[cfg(test)]
+mod two_leaves;

@@ -556,9 +556,9 @@ fn words_that_name_no_map(rt: HostRuntime) {
 
 const MAP_AND_TEXT: &[File<'static>] = &[("m", ONE), ("t", &[Text("a text")])];
 
-// The proof of `window:2,0,3,0` on the map of two leaves: the root and its first leaf are opened,
-// the second one is pruned.
-const PROOF_OF_TWO: &[Part<'static>] = &[
+/// The proof of `window:2,0,3,0` on the map of two leaves: the root and its first leaf are opened,
+/// the second one is pruned.
+pub const PROOF_OF_TWO: &[Part<'static>] = &[
     Window {
         count: 17,
         level: 1,

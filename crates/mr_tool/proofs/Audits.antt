@@ -120,7 +120,7 @@ module _ (hash : List ℕ → List ℕ) (map : List ℕ) (q : Query) (proof byte
 
 -- ---- behind the file of a proof
 
-reads_both : (n : ℕ) (name : List ℕ) (before after : Shelved) (read : Option (Vec ℕ))
+pub reads_both : (n : ℕ) (name : List ℕ) (before after : Shelved) (read : Option (Vec ℕ))
     → Reads name before after (Ok read) → Reads name (with_reads n before) (with_reads n after) (Ok read)
 reads_both n name before after read got = record {
   counts = record { faults = got.counts.faults; reads = omega arith };
@@ -134,7 +134,7 @@ reads_both n name before after read got = record {
     same None read = read
     same (Some bytes) read = read
 
-reads_but : (name : List ℕ) (before after : Shelved) (result : Result (Option (Vec ℕ)) Halt)
+pub reads_but : (name : List ℕ) (before after : Shelved) (result : Result (Option (Vec ℕ)) Halt)
     → Reads name before after result → Reads name (with_reads after.reads before) after result
 reads_but name before after result got = record {
   counts = record { faults = got.counts.faults; reads = omega arith };

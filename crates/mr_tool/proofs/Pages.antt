@@ -47,7 +47,7 @@ use Rattle.mr_tool.proofs.Texts.{says_proof}
 -- ---- the bytes of the map's file
 
 -- the file is told, and these are its bytes
-record HasBytes (told : Option Files) (name : List ℕ) (P : List ℕ → Type 0) : Type 0 where
+pub record HasBytes (told : Option Files) (name : List ℕ) (P : List ℕ → Type 0) : Type 0 where
   pub bytes : List ℕ
   pub input : IsInput told name (Some bytes)
   pub has : P bytes
@@ -57,7 +57,7 @@ in_file : (files : Files) (name : List ℕ) (P : List ℕ → Type 0) (found : O
 in_file files name P None is has = absurd has
 in_file files name P (Some bytes) is has = record { bytes = bytes; input = is; has = has }
 
-file_has : (told : Option Files) (files : Files) (name : List ℕ) (P : List ℕ → Type 0) → told ≡ Some files
+pub file_has : (told : Option Files) (files : Files) (name : List ℕ) (P : List ℕ → Type 0) → told ≡ Some files
     → OfFile told name ⊥ P → HasBytes told name P
 file_has told files name P is has =
     subst (λ o. HasBytes o name P) (sym is)
@@ -138,7 +138,7 @@ module _ (hash : List ℕ → List ℕ) (sized : (xs : List ℕ) → length (has
         (λ bytes tells. tells.are) r.answers
 
     -- over files that are told, what follows on a map is not reached
-    refused_told : (next : Opened → Plan) → GoesOn next before.files → (files : Files) → before.files ≡ Some files
+    pub refused_told : (next : Opened → Plan) → GoesOn next before.files → (files : Files) → before.files ≡ Some files
         → (result : Result Ending Halt) → SaysRefusal map e result
         → ComesBut (needs_map hash map next) before after result
     refused_told next goes files told (Ok ending) says =
@@ -149,7 +149,7 @@ module _ (hash : List ℕ → List ℕ) (sized : (xs : List ℕ) → length (has
         refused_answer says next goes
 
     -- over others each cause is outside
-    refused_blamed : before.files ≡ None → IsBlamed hash before after e
+    pub refused_blamed : before.files ≡ None → IsBlamed hash before after e
     refused_blamed none = record {
       missing = λ is. subst (λ o. MayMiss o map before.faults after.faults) none (r.why.missing is);
       fault = r.why.failed;

@@ -6,7 +6,7 @@ use Rattle.mr_outside.specs.Told.{OfFiles}
 use Rattle.mr_tool.specs.Ending.{AreJudged, Ends, GivesUp}
 use Rattle.mr_tool.specs.Outcome.{Outcome, Written, Nothing, File, IsLeft, MayLeave}
 use Rattle.mr_tool.specs.Plan.{Plan, comes, reads, opens, rereads, judges, Input, IsInput, Leads, IsOutcomeOver}
-use Rattle.mr_tool.specs.Rereading.{Rereading, proving, auditing, serving, MaySay}
+use Rattle.mr_tool.specs.Rereading.{Rereading, proving, auditing, serving, applying, MaySay}
 use Rattle.mr_tool.specs.Saying.{says_missing}
 use Rattle.mr_tool.specs.declared.status.Status.{Status}
 use Rattle.mr_tool.proofs.Showing.{found_in, one_found}
@@ -21,6 +21,7 @@ may_miss : (reading : Rereading) → (said : Outcome) × MaySay reading said
 may_miss (proving hash map query proof) = (says_missing map, inl (inl refl))
 may_miss (auditing hash map query proof) = (says_missing map, inl (inl refl))
 may_miss (serving hash map script bundle) = (says_missing map, inl (inl refl))
+may_miss (applying hash old batch new) = (says_missing old, inl (inl refl))
 
 -- each plan leads to an outcome
 pub leads_on : (plan : Plan) (told : Option Files) → AreJudged plan told → (said : Outcome) × Leads plan told said
@@ -113,7 +114,7 @@ pub record HasGivenUp (plan : Plan) (before after : Option Files) : Type 0 where
   pub leads : Leads plan before said
   pub files : MayLeave said.written before after
 
-stays : (written : Written) (before after : Option Files) → after ≡ before
+pub stays : (written : Written) (before after : Option Files) → after ≡ before
     → MayLeave written before after
 stays Nothing before after same = same
 stays (File name content) before after same = inl same

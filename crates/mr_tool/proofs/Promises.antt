@@ -1,10 +1,11 @@
 -- What a run promises of inputs that are in order, of honest proofs and of accepted ones: by what its command came
 -- to, and how that was printed.
-use Rattle.std.proofs.Common.{◌≡◌, ℕ, ◌<◌, ◌^◌, List, ◌++◌, refl, sym, ap, subst, ◌∙◌, inl, inr}
-use Rattle.std.specs.Prelude.{◌⊎◌, Option, Some, None, IfSome, Result, Ok, Err}
+use Rattle.std.proofs.Common.{◌≡◌, ℕ, ◌<◌, ◌^◌, List, [], ◌∷◌, ◌++◌, refl, sym, ap, subst, ◌∙◌, inl, inr}
+use Rattle.std.specs.Prelude.{◌⊎◌, Option, Some, None, option_map, IfSome, Result, Ok, Err}
 use Rattle.std.specs.List.{AllByRecursion}
 use Rattle.mr_outside.specs.Faults.{Rose}
-use Rattle.mr_outside.specs.Files.{Files}
+use Rattle.mr_outside.specs.Files.{Files, with_file}
+use Rattle.mr_outside.proofs.Changes.{file-with_file}
 use Rattle.mr_outside.specs.Told.{OfFiles, Takes}
 use Rattle.mr_record.specs.Bytes.{AreBytes}
 use Rattle.mr_record.specs.RecordText.{records_of_text, text_of}
@@ -38,28 +39,34 @@ use Rattle.mr_clash.specs.declared.finding.Finding.{Finding}
 use Rattle.mr_clash.specs.declared.finding.Finding.TheVariants as findings
 use Rattle.mr_pages.specs.PageBytes.{first_form}
 use Rattle.mr_pages.specs.Law.{IsMap}
+use Rattle.mr_pages.specs.Opening.{pages_in}
 use Rattle.mr_pages.proofs.PageLaws.{from_bytes}
+use Rattle.mr_batch.specs.Admissible.{batch_fault}
+use Rattle.mr_batch.specs.Applied.{IsAdmissible}
 use Rattle.mr_batch.specs.BatchText.{batch_of_text}
+use Rattle.mr_batch.specs.Changes.{Changes}
+use Rattle.mr_batch.specs.Replay.{replay}
+use Rattle.mr_batch.specs.declared.admission.BatchFault.{BatchFault}
 use Rattle.mr_tool.specs.Answer.{World, HasStopped, IsWhole}
 use Rattle.mr_tool.specs.Ending.{Comes, Ends, Finishes, FindsMap, IsWell, printed_of}
 use Rattle.mr_tool.specs.First.{first}
 use Rattle.mr_tool.specs.Found.{Found}
-use Rattle.mr_tool.specs.Outcome.{Outcome}
+use Rattle.mr_tool.specs.Outcome.{Outcome, IsHeld}
 use Rattle.mr_tool.specs.Plan.{Plan, comes, opens, rereads, Input, IsInput}
-use Rattle.mr_tool.specs.Rereading.{Rereading, proving, auditing, serving, MaySay}
-use Rattle.mr_tool.specs.Promises.{Holds, HoldsRecords, HoldsMap, HoldsProof, HoldsBatch, HoldsScript, HoldsBundle, IsInOrder, CompletesWords, AnswersHonest, PrintsScan, IsWorth, AcceptsHonestOrCollides, Delivers, SaysWorth, AuditsAccepted, CollidesRightly}
-use Rattle.mr_tool.specs.Say.{given, given_map, needs, needs_map, prints, say, say_root_of, say_build_of, say_list_of, say_apply, say_apply_of, say_prove_of, say_check, say_check_of, say_audit, say_audit_of, say_finding, say_script, say_serve, say_serve_of, given_queries, say_parts, say_parts_of, say_check_all, say_make_of}
-use Rattle.mr_tool.specs.Lines.{sound_line, collision_lines}
+use Rattle.mr_tool.specs.Rereading.{Rereading, proving, auditing, serving, applying, MaySay}
+use Rattle.mr_tool.specs.Promises.{Holds, HoldsRecords, HoldsMap, HoldsProof, HoldsBatch, HoldsScript, HoldsBundle, IsInOrder, CompletesWords, AnswersHonest, PrintsScan, IsWorth, AcceptsHonestOrCollides, Delivers, SaysWorth, AuditsAccepted, CollidesRightly, IsApplied, AppliesAlike}
+use Rattle.mr_tool.specs.Say.{given, given_map, needs, needs_map, needs_sized_map, prints, say, say_root_of, say_build_of, say_list_of, say_admitted, say_batch, say_change, say_apply, say_apply_of, say_prove_of, say_check, say_check_of, say_audit, say_audit_of, say_finding, say_script, say_serve, say_serve_of, given_queries, say_parts, say_parts_of, say_check_all, say_make_of}
+use Rattle.mr_tool.specs.Lines.{digest_line, sound_line, collision_lines}
 use Rattle.mr_tool.specs.Words.{IsWord, words_of, Spells}
 use Rattle.mr_tool.specs.declared.ending.Ending.{Ending}
 use Rattle.mr_tool.specs.declared.ending.Halt.{Halt}
 use Rattle.mr_tool.specs.declared.ending.Halt.TheVariants as halts
 use Rattle.mr_pages.specs.declared.opening.Opened.{Opened}
 use Rattle.mr_tool.specs.declared.status.Status.{Status}
-use Rattle.mr_tool.specs.declared.status.Status.TheVariants.{Done, Refused, BadMap, Collision, Outside, NoMemory}
+use Rattle.mr_tool.specs.declared.status.Status.TheVariants.{Done, Refused, BadMap, BadBatch, Collision, Outside, NoMemory}
 use Rattle.mr_tool.specs.declared.words.Command.{Command}
 use Rattle.mr_tool.specs.declared.words.Command.TheVariants as commands
-use Rattle.mr_tool.proofs.Batches.{says_applied}
+use Rattle.mr_tool.proofs.Batches.{fits_if_none, says_applied}
 use Rattle.mr_tool.proofs.Bundles.{parts_done, served_done}
 use Rattle.mr_tool.proofs.Verdicts.{says_verdict, says_finding}
 
@@ -132,15 +139,23 @@ module _ (name bytes : List ℕ) (before after : Option Files) (status : Status)
 abbrev map_at : Tree → ℕ → Opened
 map_at t batch = record { tree = t; batch = batch }
 
+-- what is opened is the map that the file stands for
+opened_on : (hash : List ℕ → List ℕ) (name held : List ℕ) (t : Tree) (batch : ℕ) (before after : Option Files)
+    (status : Status) (text : List ℕ) → Holds before name held → IsMap first_form hash held t batch
+    → (next : Opened → Plan) → Ends (opens hash held (given_map next)) before after status text
+    → Ends (next (map_at t batch)) before after status text
+opened_on hash name held t batch before after status text holds stands next on =
+    let finds = of_told before name held (FindsMap hash held on.0) holds on.1.1 in
+    subst (λ found. Ends (given_map next found) before after status text) (finds (map_at t batch) stands) on.3
+
 -- a command that opens this file came to its end by the map that it stands for
 map_on : (hash : List ℕ → List ℕ) (name held : List ℕ) (t : Tree) (batch : ℕ) (before after : Option Files)
     (status : Status) (text : List ℕ) → Holds before name held → IsMap first_form hash held t batch
     → (next : Opened → Plan) → Ends (needs_map hash name next) before after status text
     → Ends (next (map_at t batch)) before after status text
 map_on hash name held t batch before after status text holds stands next ends =
-    let on = ends_on name held before after status text holds (λ bytes. opens hash bytes (given_map next)) ends in
-    let finds = of_told before name held (FindsMap hash held on.0) holds on.1.1 in
-    subst (λ found. Ends (given_map next found) before after status text) (finds (map_at t batch) stands) on.3
+    opened_on hash name held t batch before after status text holds stands next
+    (ends_on name held before after status text holds (λ bytes. opens hash bytes (given_map next)) ends)
 
 -- ---- a proof beside the map
 
@@ -313,6 +328,9 @@ not_collided : {A : Type 0} (before after : World) (status : Status) → status 
 not_collided before after status is (inl none) = other_status status NoMemory is none (λ c. cc)
 not_collided before after status is (inr failed) = other_status status Outside is failed.0 (λ c. cc)
 
+not_bad : {A : Type 0} (status : Status) → status ≡ Done → status ≡ BadBatch → A
+not_bad status done bad = absurd (cc)
+
 -- ---- inputs that are in order
 
 prove_done : (hash : List ℕ → List ℕ) (q : Query) (name : List ℕ) (map : Opened)
@@ -342,16 +360,62 @@ module _ (hash : List ℕ → List ℕ) (before after : Option Files) (status : 
       holds.stands next ends in
       mapped.0 ∙ done (map_at holds.tree holds.batch)
 
+  -- what `apply` came to, by the map and the batch
+  applied_ends : (old name new : List ℕ) (t : Tree) (batch : ℕ) (bytes beside : List ℕ) (b : Changes)
+      → Holds before old bytes → IsMap first_form hash bytes t batch → Holds before name beside
+      → batch_of_text beside ≡ Ok b → Ends (say_apply hash old name new) before after status text
+      → Ends (comes (say_batch hash new (pages_in bytes) (map_at t batch) b)) before after status text
+  applied_ends old name new t batch bytes beside b held stands there right ends =
+      let next : List ℕ → Opened → Plan = λ bytes. say_change hash name new (pages_in bytes) in
+      let said : List ℕ → Plan =
+      λ text. comes (say_apply_of hash new (pages_in bytes) (map_at t batch) (batch_of_text text)) in
+      let on = told_ends before after old bytes (applying hash old name new)
+      (needs_sized_map hash old (say_change hash name new)) status text held ends in
+      let opened = ends_on old bytes before after status text held
+      (λ bytes. opens hash bytes (given_map (next bytes))) on in
+      let mapped = opened_on hash old bytes t batch before after status text held stands (next bytes) opened in
+      subst (λ r. Ends (comes (say_apply_of hash new (pages_in bytes) (map_at t batch) r)) before after status text)
+      right (ends_on name beside before after status text there said mapped)
+
   apply_done : (old name new : List ℕ) → HoldsBatch hash before old name
       → Ends (say_apply hash old name new) before after status text → status ≡ Done
   apply_done old name new holds ends =
       let map = map_at holds.tree holds.batch in
-      let said : Opened → List ℕ → Plan = λ m bytes. comes (say_apply_of hash new m (batch_of_text bytes)) in
-      let mapped = map_on hash old holds.bytes holds.tree holds.batch before after status text holds.held
-      holds.stands (λ m. needs name (said m)) ends in
-      let last = ends_on name holds.text before after status text holds.beside (said map) mapped in
-      last.0 ∙ ap (λ r. (say_apply_of hash new map r).status) holds.right
-      ∙ ap (λ (o : Outcome). o.status) (says_applied hash new map holds.changes holds.may)
+      let last = applied_ends old name new holds.tree holds.batch holds.bytes holds.text holds.changes holds.held
+      holds.stands holds.beside holds.right ends in
+      last.0
+      ∙ ap (λ (o : Outcome). o.status) (says_applied hash new (pages_in holds.bytes) map holds.changes holds.may)
+
+  -- an outcome of `apply` that is done has the map after the batch in the file
+  record HasApplied (t : Tree) (batch : ℕ) (b : Changes) (new : List ℕ) : Type 0 where
+    may : IsAdmissible (records t) batch b
+    text_is : text ≡ digest_line (digests.root (first hash) (replay t (b ∷ [])) b.number)
+    bytes : List ℕ
+    there : Holds after new bytes
+    is : IsMap first_form hash bytes (replay t (b ∷ [])) b.number
+
+  held_after : (files : Files) (name bytes : List ℕ) → before ≡ Some files → IsHeld name bytes before after
+      → Holds after name bytes
+  held_after files name bytes told is =
+      subst (λ o. Holds o name bytes) (sym (is ∙ ap (option_map (with_file name bytes)) told))
+      (file-with_file name bytes files)
+
+  has_applied : (t : Tree) (batch : ℕ) (b : Changes) (new : List ℕ) (pages : ℕ) (files : Files)
+      → before ≡ Some files → status ≡ Done
+      → Ends (comes (say_batch hash new pages (map_at t batch) b)) before after status text
+      → HasApplied t batch b new
+  has_applied t batch b new pages files told done ends = by_fault (batch_fault (records t) batch b) refl ends
+    where
+      by_fault : (o : Option BatchFault) → batch_fault (records t) batch b ≡ o
+          → Ends (comes (say_admitted hash new pages t b o)) before after status text → HasApplied t batch b new
+      by_fault None none ends = record {
+        may = fits_if_none (records t) batch b none;
+        text_is = ends.1;
+        bytes = ends.2.0;
+        there = held_after files new ends.2.0 told ends.2.2;
+        is = ends.2.1.stands;
+      }
+      by_fault (Some fault) some ends = not_bad status done ends.0
 
   check_done : (root : List ℕ) (q : Query) (name : List ℕ) → IsAskable q → HoldsProof hash before root q name
       → Ends (say_check hash root q name) before after status text → status ≡ Done
@@ -519,6 +583,30 @@ module _ (hash : List ℕ → List ℕ) (words : List (List ℕ)) (before after 
       (headline (first hash) sized.long q bytes (askable q spells.each.1.1.0) t batch answer stands.well
       stands.stands.batch_fits proves)
       (ran_as (commands.Audit map q name) spells)
+
+  pub applied_alike : AppliesAlike hash words before after status
+  applied_alike t held old name new bytes text b spells map_held stands beside right done =
+      elim (ran_as (commands.Apply old name new) spells) [
+        | inl run ↦ by_files before.shelf.files refl run
+        | inr stop ↦ not_stopped before after status done stop
+      ]
+    where
+      by_files : (o : Option Files) → before.shelf.files ≡ o
+          → HasRun (say hash (Some (commands.Apply old name new))) before after status
+          → IsApplied hash t held b new.now before after
+      by_files None none run = absurd (subst (λ o. Holds o old.now bytes) none map_held)
+      by_files (Some files) told run =
+          let on = has_applied hash before.shelf.files after.shelf.files status run.text t held b new.now
+          (pages_in bytes) files told done
+          (applied_ends hash before.shelf.files after.shelf.files status run.text old.now name.now new.now t held
+          bytes text b map_held stands beside right run.ends) in
+          record {
+            may = on.may;
+            printed = subst (Takes before.sink after.sink) on.text_is run.printed;
+            bytes = on.bytes;
+            there = on.there;
+            stands = on.is;
+          }
 
   pub collided_rightly : IsSized hash → CollidesRightly hash words before after status
   collided_rightly sized map q name spells is = elim (ran_as (commands.Audit map q name) spells) [

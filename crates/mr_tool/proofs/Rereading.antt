@@ -226,7 +226,7 @@ module _ (hash : List ℕ → List ℕ) (reading : Rereading) (map : List ℕ)
 fault_is : (f g : MapFault) → ◌≡◌ {A = MapErr} (errors.Map f) (errors.Map g) → f ≡ g
 fault_is f g is = cc
 
-page_blamed : (hash : List ℕ → List ℕ) (f : MapFault) (before after : Shelved) → IsSomeFault hash f
+pub page_blamed : (hash : List ℕ → List ℕ) (f : MapFault) (before after : Shelved) → IsSomeFault hash f
     → after.faults ≡ before.faults → IsBlamed hash before after (errors.Map f)
 page_blamed hash f before after some same = record {
   missing = λ is. absurd (cc);

@@ -18,7 +18,7 @@ use Rattle.mr_tool.specs.declared.status.Status.TheVariants.{BadWords}
 use Rattle.mr_tool.specs.declared.words.Command.{Command}
 use Rattle.mr_tool.specs.declared.words.Command.TheVariants as commands
 use Rattle.mr_tool.proofs.Counting.{few_none}
-use Rattle.mr_tool.proofs.Promises.{completes, honest_answered, accepted_worth, accepted_audited, collided_rightly}
+use Rattle.mr_tool.proofs.Promises.{completes, honest_answered, accepted_worth, accepted_audited, collided_rightly, applied_alike}
 use Rattle.mr_tool.proofs.Runs.{answer_of, from_sink, outside_of, quiet_of, words_answered}
 
 -- what is said of a command is said of the same one
@@ -54,6 +54,7 @@ module _ (hash : List ℕ → List ℕ) (words : List (List ℕ)) (before after 
         worth = accepted_worth hash words before after status plan came same comes ended sized;
         audited = accepted_audited hash words before after status plan came same comes ended sized;
         collides = collided_rightly hash words before after status plan came same comes ended sized;
+        alike = applied_alike hash words before after status plan came same comes ended;
       }
 
   quiet_words : after.shelf ≡ before.shelf → Prints BadWords bad_words_line before.sink after.sink status
@@ -88,4 +89,6 @@ module _ (hash : List ℕ → List ℕ) (words : List (List ℕ)) (before after 
     audited = λ t batch map q name held bytes answer spells map_held stands name_held proves.
         absurd (none (commands.Audit map q name) spells);
     collides = λ map q name spells is. absurd (none (commands.Audit map q name) spells);
+    alike = λ t held old batch new bytes text b spells there stands beside right done.
+        absurd (none (commands.Apply old batch new) spells);
   }

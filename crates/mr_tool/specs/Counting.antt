@@ -1,14 +1,18 @@
 -- How many reads a plan takes over files that are told: an input that is read whole takes its
 -- pieces once, a map its pages once, and the nodes that are fetched beside.
-use Rattle.std.specs.Prelude.{◌≡◌, ◌⊎◌, ⊤, ℕ, ◌+◌, ◌-◌, ◌*◌, ◌≤◌, ◌<◌, List, length, take, Some, None, MatchOption}
+use Rattle.std.specs.Prelude.{◌≡◌, ◌⊎◌, ⊤, ℕ, ◌+◌, ◌-◌, ◌*◌, ◌≤◌, ◌<◌, List, length, take, Some, None, MatchOption, Ok}
 use Rattle.mr_outside.specs.Files.{Files, file}
 use Rattle.mr_outside.specs.Reading.{piece_count}
 use Rattle.mr_outside.specs.State.{Shelved}
 use Rattle.mr_outside.specs.Told.{OfFiles}
 use Rattle.mr_tree.specs.Nodes.{subtrees}
+use Rattle.mr_tree.specs.Tree.{records}
 use Rattle.mr_tree.specs.declared.tree.Tree.{Tree}
 use Rattle.mr_pages.specs.Law.{IsMap}
 use Rattle.mr_pages.specs.PageBytes.{first_form}
+use Rattle.mr_batch.specs.Applied.{IsAdmissible}
+use Rattle.mr_batch.specs.BatchText.{batch_of_text}
+use Rattle.mr_batch.specs.Changes.{Changes}
 use Rattle.mr_query.specs.declared.query.Query.{Query}
 use Rattle.mr_proof.specs.Feeding.{IsUnsettled}
 use Rattle.mr_proof.specs.Honest.{opened}
@@ -19,7 +23,7 @@ use Rattle.mr_store.specs.Stored.{room}
 use Rattle.mr_tool.specs.First.{first}
 use Rattle.mr_tool.specs.Found.{Found, Shows}
 use Rattle.mr_tool.specs.Plan.{Input, Plan, comes, reads, opens, rereads, judges}
-use Rattle.mr_tool.specs.Rereading.{Rereading, proving, auditing, serving}
+use Rattle.mr_tool.specs.Rereading.{Rereading, proving, auditing, serving, applying}
 
 -- in how many pieces an input is read whole
 abbrev pub pieces_of : Input → ℕ
@@ -63,7 +67,21 @@ IsFewServed hash bytes script n = (n ≤ pages_in bytes)
     × ((n ≤ pages_in bytes + pieces_of script) ⊎ (IsLarge bytes
     × (n ≤ pages_in bytes + length (subtrees t) + pieces_of script))))
 
--- so many reads of the map, and of the proof for an audit or the script for a bundle
+-- the text of a batch has no fault, and the map has more pages than are all kept or the batch may be
+-- applied to it
+abbrev pub MayChange : (pages : ℕ) → Tree → (held : ℕ) → Input → Type 0
+MayChange pages t held None = ⊥
+MayChange pages t held (Some text) = (batch : Changes) × (batch_of_text text ≡ Ok batch)
+    × ((room + 1 < pages) ⊎ IsAdmissible (records t) held batch)
+
+-- the pages of a file of these bytes, and the pieces of a batch where it stands for a map; where the
+-- batch may be applied, or the map is large, nothing more is said
+abbrev pub IsFewApplied : (List ℕ → List ℕ) → List ℕ → Input → ℕ → Type 0
+IsFewApplied hash bytes batch n = (n ≤ pages_in bytes)
+    ⊎ ((t : Tree) × (held : ℕ) × IsMap first_form hash bytes t held
+    × ((n ≤ pages_in bytes + pieces_of batch) ⊎ MayChange (pages_in bytes) t held batch))
+
+-- so many reads of the map, and of the proof for an audit, the script for a bundle or the batch
 abbrev pub AllowsPages : Rereading → Files → ℕ → Type 0
 AllowsPages (proving hash map q proof) files n =
     MatchOption (file files map) (n ≡ 0) (λ bytes. IsFewOf hash q bytes n)
@@ -71,6 +89,8 @@ AllowsPages (auditing hash map q proof) files n =
     MatchOption (file files map) (n ≡ 0) (λ bytes. IsFewBeside hash q bytes (file files proof) n)
 AllowsPages (serving hash map script bundle) files n =
     MatchOption (file files map) (n ≡ 0) (λ bytes. IsFewServed hash bytes (file files script) n)
+AllowsPages (applying hash old batch new) files n =
+    MatchOption (file files old) (n ≡ 0) (λ bytes. IsFewApplied hash bytes (file files batch) n)
 
 -- So many pieces of a proof are read: none behind the one with which its verdict is a fault that is
 -- that of all longer strings.

@@ -14,8 +14,10 @@ pub mod Say
 pub mod Counting
 pub mod Spelling
 pub mod Answer
+pub mod Layouts
 pub mod Promises
 pub mod Run
 pub mod Ending
 pub mod Listing
 pub mod Taking
+pub mod Applying

@@ -1,7 +1,7 @@
 -- What a run promises of inputs that are in order, of honest proofs and of accepted ones: theorems
 -- over what it answers, in the form in which they are quoted. They speak of files that are told,
 -- but for the commands that read none.
-use Rattle.std.specs.Prelude.{◌≡◌, ◌⊎◌, ⊤, ℕ, ◌^◌, ◌<◌, true, List, ◌++◌, length, All, Option, Some, None, Ok}
+use Rattle.std.specs.Prelude.{◌≡◌, ◌⊎◌, ⊤, ℕ, ◌^◌, ◌<◌, true, List, [], ◌∷◌, ◌++◌, length, All, Option, Some, None, Ok}
 use Rattle.std.specs.Borrow.{Bor}
 use Rattle.mr_outside.specs.Files.{Files, file}
 use Rattle.mr_outside.specs.Told.{Takes}
@@ -18,6 +18,7 @@ use Rattle.mr_pages.specs.Law.{IsMap}
 use Rattle.mr_batch.specs.Applied.{IsAdmissible}
 use Rattle.mr_batch.specs.BatchText.{batch_of_text}
 use Rattle.mr_batch.specs.Changes.{Changes}
+use Rattle.mr_batch.specs.Replay.{replay}
 use Rattle.mr_query.specs.Scan.{scan}
 use Rattle.mr_query.specs.Script.{queries_of_text}
 use Rattle.mr_query.specs.declared.query.Query.{Query}
@@ -32,7 +33,7 @@ use Rattle.mr_tool.specs.Answer.{World, IsWhole, HasStopped}
 use Rattle.mr_tool.specs.First.{first}
 use Rattle.mr_tool.specs.Judged.{is_accepted}
 use Rattle.mr_tool.specs.Outcome.{Outcome}
-use Rattle.mr_tool.specs.Lines.{sound_line, collision_lines}
+use Rattle.mr_tool.specs.Lines.{digest_line, sound_line, collision_lines}
 use Rattle.mr_tool.specs.Say.{ends, prints}
 use Rattle.mr_tool.specs.Words.{Spells}
 use Rattle.mr_tool.specs.declared.status.Status.{Status}
@@ -219,3 +220,23 @@ CollidesRightly hash words before after status =
     → status ≡ Collision
     → (p : Pair) × IsCollision hash p
     × Takes before.sink after.sink (collision_lines p.owned p.shown)
+
+-- what `apply` prints and leaves of a batch on a map: the batch may be applied, the root digest of
+-- the map after it is printed, and the new file stands for that
+pub record IsApplied (hash : List ℕ → List ℕ) (t : Tree) (held : ℕ) (b : Changes) (new : List ℕ)
+    (before after : World) : Type 0 where
+  pub may : IsAdmissible (records t) held b
+  pub printed : Takes before.sink after.sink
+      (digest_line (digests.root (first hash) (replay t (b ∷ [])) b.number))
+  pub bytes : List ℕ
+  pub there : Holds after.shelf.files new bytes
+  pub stands : IsMap first_form hash bytes (replay t (b ∷ [])) b.number
+
+-- So it does by the map alone, whatever the layout of its file: two files that stand for one map
+-- give one root digest (`alike_after` of Layouts, for more batches than one).
+abbrev pub AppliesAlike : (List ℕ → List ℕ) → List (List ℕ) → World → World → Status → Type 0
+AppliesAlike hash words before after status =
+    (t : Tree) (held : ℕ) (old batch new : Bor (List ℕ)) (bytes text : List ℕ) (b : Changes)
+    → Spells words (commands.Apply old batch new) → Holds before.shelf.files old.now bytes
+    → IsMap first_form hash bytes t held → Holds before.shelf.files batch.now text
+    → batch_of_text text ≡ Ok b → status ≡ Done → IsApplied hash t held b new.now before after

@@ -1,5 +1,5 @@
 -- What each command says. The hash function is any one.
-use Rattle.std.specs.Prelude.{ℕ, List, [], ◌∷◌, length, Option, Some, None, Result, Ok, Err}
+use Rattle.std.specs.Prelude.{ℕ, List, [], ◌∷◌, Option, Some, None, Result, Ok, Err}
 use Rattle.mr_record.specs.declared.record.Record.{Record}
 use Rattle.mr_record.specs.declared.text_fault.TextFault.{TextFault}
 use Rattle.mr_record.specs.RecordText.{records_of_text, text_of}
@@ -10,6 +10,7 @@ use Rattle.mr_pack.specs.Pack.{pack}
 use Rattle.mr_batch.specs.Admissible.{batch_fault}
 use Rattle.mr_batch.specs.BatchText.{batch_of_text}
 use Rattle.mr_batch.specs.Changes.{Changes}
+use Rattle.mr_batch.specs.Peak.{peak}
 use Rattle.mr_batch.specs.Replay.{replay}
 use Rattle.mr_batch.specs.Workload.{generated}
 use Rattle.mr_batch.specs.declared.admission.BatchFault.{BatchFault}
@@ -24,11 +25,12 @@ use Rattle.mr_tool.specs.Demo.{demo_lines}
 use Rattle.mr_tool.specs.First.{first}
 use Rattle.mr_tool.specs.Found.{Found, bad_map_line}
 use Rattle.mr_tool.specs.Lines.{digest_line, bad_words_line, bad_text_line, bad_batch_line, made_line}
-use Rattle.mr_tool.specs.Outcome.{Outcome, File, map_of}
+use Rattle.mr_tool.specs.Outcome.{Outcome, File, map_of, changed}
 use Rattle.mr_tool.specs.Plan.{Input, Plan, comes, reads, opens, rereads, judges}
-use Rattle.mr_tool.specs.Rereading.{proving, auditing, serving}
+use Rattle.mr_tool.specs.Rereading.{proving, auditing, serving, applying}
 pub use Rattle.mr_tool.specs.Saying.{ends, prints, says_missing, say_text, say_written, say_finding, say_bundle, held_in, say_serve_of, say_verdicts, say_parts_of}
 use Rattle.mr_tool.specs.Refusal.{refused_line}
+use Rattle.mr_pages.specs.Opening.{pages_in}
 use Rattle.mr_pages.specs.declared.opening.Opened.{Opened}
 use Rattle.mr_tool.specs.declared.status.Status.TheVariants.{Done, BadWords, Refused, BadText, BadMap, BadBatch}
 use Rattle.mr_tool.specs.declared.words.Command.{Command}
@@ -51,6 +53,11 @@ given_map next (Err fault) = comes (ends BadMap (bad_map_line fault))
 -- a file that has to be there and to stand for a map is read
 abbrev pub needs_map : (List ℕ → List ℕ) → List ℕ → (Opened → Plan) → Plan
 needs_map hash name next = needs name (λ bytes. opens hash bytes (given_map next))
+
+-- the same, where what follows goes by the number of the file's pages besides
+abbrev pub needs_sized_map : (List ℕ → List ℕ) → List ℕ → ((pages : ℕ) → Opened → Plan) → Plan
+needs_sized_map hash name next =
+    needs name (λ bytes. opens hash bytes (given_map (next (pages_in bytes))))
 
 -- the root of the tree of the records of a text at batch 0, or the text's first fault
 abbrev pub say_root_of : (List ℕ → List ℕ) → Result (List Record) TextFault → Outcome
@@ -88,26 +95,43 @@ say_list_of tree = prints (text_of (by_number (records tree)))
 abbrev pub say_list : (List ℕ → List ℕ) → List ℕ → Plan
 say_list hash name = needs_map hash name (λ map. comes (say_list_of map.tree))
 
--- the map of the tree after a batch in a file, at the batch's number, and its root; or why the
--- batch may not be applied
-abbrev pub say_admitted : (List ℕ → List ℕ) → List ℕ → Tree → Changes → Option BatchFault → Outcome
-say_admitted hash new tree batch None = say_map hash new (replay tree (batch ∷ [])) batch.number
-say_admitted hash new tree batch (Some fault) = ends BadBatch (bad_batch_line fault)
+-- the map of the tree after a batch in a file, at the batch's number, and its root. The file is made
+-- by changes from one of so many pages.
+abbrev pub say_changed : (List ℕ → List ℕ) → List ℕ → (pages : ℕ) → Tree → Changes → Outcome
+say_changed hash new pages tree batch =
+    let after = replay tree (batch ∷ []) in
+    record {
+      status = Done;
+      printed = digest_line (root (first hash) after batch.number);
+      written = File new (changed hash pages (peak tree batch) after batch.number);
+    }
 
--- what is said of a batch for a map
-abbrev pub say_batch : (List ℕ → List ℕ) → List ℕ → Opened → Changes → Outcome
-say_batch hash new map batch =
-    say_admitted hash new map.tree batch (batch_fault (records map.tree) map.batch batch)
+-- the same, or why the batch may not be applied
+abbrev pub say_admitted : (List ℕ → List ℕ) → List ℕ → (pages : ℕ) → Tree → Changes
+    → Option BatchFault → Outcome
+say_admitted hash new pages tree batch None = say_changed hash new pages tree batch
+say_admitted hash new pages tree batch (Some fault) = ends BadBatch (bad_batch_line fault)
+
+-- what is said of a batch for a map in a file of so many pages
+abbrev pub say_batch : (List ℕ → List ℕ) → List ℕ → (pages : ℕ) → Opened → Changes → Outcome
+say_batch hash new pages map batch =
+    say_admitted hash new pages map.tree batch (batch_fault (records map.tree) map.batch batch)
 
 -- what is said of the batch of a text, or the text's first fault
-abbrev pub say_apply_of : (List ℕ → List ℕ) → List ℕ → Opened → Result Changes TextFault → Outcome
-say_apply_of hash new map (Err fault) = ends BadText (bad_text_line fault)
-say_apply_of hash new map (Ok batch) = say_batch hash new map batch
+abbrev pub say_apply_of : (List ℕ → List ℕ) → List ℕ → (pages : ℕ) → Opened
+    → Result Changes TextFault → Outcome
+say_apply_of hash new pages map (Err fault) = ends BadText (bad_text_line fault)
+say_apply_of hash new pages map (Ok batch) = say_batch hash new pages map batch
+
+-- what is said of the batch in a file
+abbrev pub say_change : (List ℕ → List ℕ) → (batch new : List ℕ) → (pages : ℕ) → Opened → Plan
+say_change hash batch new pages map =
+    needs batch (λ text. comes (say_apply_of hash new pages map (batch_of_text text)))
 
 -- `apply OLD BATCH NEW`: the map after the batch in a file, written to another one
 abbrev pub say_apply : (List ℕ → List ℕ) → (old batch new : List ℕ) → Plan
-say_apply hash old batch new = needs_map hash old
-    (λ map. needs batch (λ text. comes (say_apply_of hash new map (batch_of_text text))))
+say_apply hash old batch new = rereads (applying hash old batch new)
+    (needs_sized_map hash old (say_change hash batch new))
 
 -- the honest proof for a query on a map in a file, and its length
 unfoldable pub say_prove_of : (List ℕ → List ℕ) → Query → List ℕ → Opened → Outcome

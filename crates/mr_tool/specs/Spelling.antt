@@ -22,9 +22,10 @@ AsksAs a b = (hash : List ℕ → List ℕ) → say hash a ≡ say hash b
 
 -- ---- this serves private functions
 
--- the query of a command, if it has one, is a window or asks for 1 to 1,024 records, and the number
--- of records that it is to generate is in its range
+-- the query of a command, if it has one, is a window or asks for 1 to 1,024 records, the number of
+-- records that it is to generate is in its range, and a map is not changed in its own file
 abbrev pub MayBeAsked : Command → Type 0
+MayBeAsked (commands.Apply old batch new) = old.now ≢ new.now
 MayBeAsked (commands.Prove map q proof) = IsAskable q
 MayBeAsked (commands.Check root q proof) = IsAskable q
 MayBeAsked (commands.Audit map q proof) = IsAskable q

@@ -75,7 +75,7 @@ fn audit_bytes<H: Hash32, S: Shelf>(
 }
 
 // The bytes of a file beside the map's, or none where it is missing.
-fn read_beside<H: Hash32, S: Shelf>(
+pub(crate) fn read_beside<H: Hash32, S: Shelf>(
     name: &str,
     paged: &mut Paged<S, H>,
 ) -> Result<Option<Vec<u8>>, Halt>

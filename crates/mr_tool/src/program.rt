@@ -5,7 +5,7 @@ ghost use Rattle.std.specs.String.{string_bytes};
 ghost use Rattle.mr_record.specs.Bytes.{AreBytes};
 ghost use Rattle.mr_tool.specs.Answer.{Counts, IsQuiet, world};
 ghost use Rattle.mr_tool.specs.Ending.{Comes};
-ghost use Rattle.mr_tool.specs.Promises.{CompletesWords, AnswersHonest, AcceptsHonestOrCollides, AuditsAccepted, CollidesRightly};
+ghost use Rattle.mr_tool.specs.Promises.{CompletesWords, AnswersHonest, AcceptsHonestOrCollides, AuditsAccepted, CollidesRightly, AppliesAlike};
 ghost use Rattle.mr_tool.specs.Run.{AnswersWords, BlamesRightly, IsRun, ReadsFewWords};
 ghost use Rattle.mr_tool.specs.Say.{say};
 ghost use Rattle.mr_tool.specs.Spelling.{IsSpelled, MayBeAsked};
@@ -56,11 +56,7 @@ fn carry_out<H: Hash32, S: Shelf, G: Gate, R: Threads + Sync>(
             let came = list::<H, S>(alloc, *map, &mut shelf);
             (came, shelf)
         }
-        Command::Apply(old, batch, new) => {
-            let mut shelf = shelf;
-            let came = apply::<H, S>(alloc, *old, *batch, *new, &mut shelf);
-            (came, shelf)
-        }
+        Command::Apply(old, batch, new) => apply::<H, S>(alloc, *old, *batch, *new, shelf),
         Command::Prove(map, query, proof) => {
             prove_query::<H, S>(alloc, *map, query, *proof, shelf)
         }
@@ -180,6 +176,10 @@ pub fn run<H: Hash32, S: Shelf, W: Sink, G: Gate, R: Threads + Sync>(
     ensures collides { let before = world (S.state shelf) (W.state out.old) in
         let after = world (S.state result.1) (W.state out.new) in
         CollidesRightly H.of (map string_bytes words.now) before after result.0 }
+    // What is made of a map by a batch goes by the map, and not by the layout of its file.
+    ensures alike { let before = world (S.state shelf) (W.state out.old) in
+        let after = world (S.state result.1) (W.state out.new) in
+        AppliesAlike H.of (map string_bytes words.now) before after result.0 }
 {
     answered::<H, S, W, G, R>(rt, alloc, words, shelf, out, gate)
 }

@@ -4,22 +4,69 @@ use Rattle.mr_record.specs.declared.version.Version.TheVariants.{One}
 use Rattle.mr_tree.specs.Digest.{by}
 use Rattle.mr_edit.specs.Removal.{Searches}
 use Rattle.mr_edit.specs.Deleted.{Deletes}
+use Rattle.mr_edit.specs.Removable.{CanDelete}
+use Rattle.mr_edit.proofs.Deletable.{no_root, root_sought, none_lacks, left_inserts}
 use Rattle.mr_edit.proofs.Dropped.{deleted}
+use Rattle.mr_edit.proofs.Results.{if_err}
+use Rattle.mr_edit.proofs.Sound.{never, handed}
 use Rattle.mr_edit.proofs.deleting.delete.Goals as goal
 
-pub returns : goal.returns
-returns g c =
+pub returns-clause-deletes : goal.returns-clause-deletes
+returns-clause-deletes g c =
     let l = c.in-Some-found.left in
     IfOk-weaker c.put_all.result _ _
-    (λ r h. subst (λ x. Deletes (by One g.H.Hashes.of) (g.F.PageFile.told c.args.desk.now.file) c.args.desk.now.free x
+    (λ r h. subst (λ x. Deletes (by One g.F.Hash.Hashes.of) (g.F.PageFile.told c.args.desk.now.file)
+    c.args.desk.now.free x
     (g.F.PageFile.told c.put_all.new.desk.file) c.put_all.new.desk.free r c.args.number c.args.rect.now)
     (sym c.in-Some.is)
-    (deleted (by One g.H.Hashes.of) (g.F.PageFile.told c.args.desk.now.file)
+    (deleted (by One g.F.Hash.Hashes.of) (g.F.PageFile.told c.args.desk.now.file)
     (g.F.PageFile.told c.take_out.new.desk.file) (g.F.PageFile.told c.put_all.new.desk.file) c.args.desk.now.free
     c.take_out.new.desk.free c.put_all.new.desk.free
     c.in-Some.child c.args.number c.args.rect.now l.entry r l.aside.items c.deref.result.now
-    (subst (Searches (by One g.H.Hashes.of) true (g.F.PageFile.told c.args.desk.now.file) c.args.desk.now.free
+    (subst (Searches (by One g.F.Hash.Hashes.of) true (g.F.PageFile.told c.args.desk.now.file) c.args.desk.now.free
     (g.F.PageFile.told c.take_out.new.desk.file) c.take_out.new.desk.free c.in-Some.child c.args.number
     c.args.rect.now) c.in-Some-found.is c.in_ok-found.ensures.searches)
     (c.deref.ensures.value ∙ c.in_ok-sort_by_number.ensures) h))
-    c.put_all.ensures
+    c.put_all.ensures.inserts
+
+pub returns-in_default-clause-sound : goal.returns-in_default-clause-sound
+returns-in_default-clause-sound g c = λ k.
+    no_root g.F.Hash.Hashes.of (g.F.PageFile.told c.args.desk.now.file) c.args.desk.now.free c.args.number
+    c.args.rect.now (subst (λ x. CanDelete g.F.Hash.Hashes.of (g.F.PageFile.told c.args.desk.now.file)
+    c.args.desk.now.free x c.args.number c.args.rect.now) c.in_default.is k)
+
+pub returns-in_err-found-clause-sound : goal.returns-in_err-found-clause-sound
+returns-in_err-found-clause-sound g c =
+    handed c.from_residual.result c.in_err-found.field-0.0
+    (CanDelete g.F.Hash.Hashes.of (g.F.PageFile.told c.args.desk.now.file) c.args.desk.now.free c.args.root
+    c.args.number c.args.rect.now) c.from_residual.ensures.1
+    (never c.in_err-found.field-0.0 _ _
+    (λ k. root_sought g.F.Hash.Hashes.of (g.F.PageFile.told c.args.desk.now.file) c.args.desk.now.free
+    c.in-Some.child c.args.number c.args.rect.now
+    (subst (λ x. CanDelete g.F.Hash.Hashes.of (g.F.PageFile.told c.args.desk.now.file)
+    c.args.desk.now.free x c.args.number c.args.rect.now) c.in-Some.is k)) c.in_err-found.ensures.sound)
+
+pub returns-in_default-found-clause-sound : goal.returns-in_default-found-clause-sound
+returns-in_default-found-clause-sound g c = λ k.
+    let s = subst (Searches (by One g.F.Hash.Hashes.of) true (g.F.PageFile.told c.args.desk.now.file)
+    c.args.desk.now.free (g.F.PageFile.told c.take_out.new.desk.file) c.take_out.new.desk.free c.in-Some.child
+    c.args.number c.args.rect.now) c.in_default-found.is c.in_ok-found.ensures.searches in
+    none_lacks g.F.Hash.Hashes.of (g.F.PageFile.told c.args.desk.now.file) c.args.desk.now.free c.in-Some.child
+    c.args.number c.args.rect.now s.2 (subst (λ x. CanDelete g.F.Hash.Hashes.of
+    (g.F.PageFile.told c.args.desk.now.file) c.args.desk.now.free x c.args.number c.args.rect.now) c.in-Some.is k)
+
+pub returns-clause-sound : goal.returns-clause-sound
+returns-clause-sound g c =
+    let l = c.in-Some-found.left in
+    if_err c.put_all.result _ _
+    (λ e h. never e _ _
+    (λ k. left_inserts g.F.Hash.Hashes.of (g.F.PageFile.told c.args.desk.now.file)
+    (g.F.PageFile.told c.take_out.new.desk.file) c.args.desk.now.free c.take_out.new.desk.free c.in-Some.child
+    c.args.number c.args.rect.now l.entry l.aside.items c.deref.result.now
+    (subst (Searches (by One g.F.Hash.Hashes.of) true (g.F.PageFile.told c.args.desk.now.file) c.args.desk.now.free
+    (g.F.PageFile.told c.take_out.new.desk.file) c.take_out.new.desk.free c.in-Some.child c.args.number
+    c.args.rect.now) c.in-Some-found.is c.in_ok-found.ensures.searches)
+    (c.deref.ensures.value ∙ c.in_ok-sort_by_number.ensures)
+    (subst (λ x. CanDelete g.F.Hash.Hashes.of (g.F.PageFile.told c.args.desk.now.file)
+    c.args.desk.now.free x c.args.number c.args.rect.now) c.in-Some.is k)) h)
+    c.put_all.ensures.sound

@@ -1,25 +1,49 @@
-use Rattle.std.proofs.Common.{subst}
+use Rattle.std.proofs.Common.{length, refl, subst, ◌∙◌}
 use Rattle.std.proofs.lemmas.List.{take_all}
 use Rattle.mr_record.specs.declared.version.Version.TheVariants.{One}
 use Rattle.mr_tree.specs.Digest.{by}
 use Rattle.mr_edit.specs.Deleted.{InsertsAll}
+use Rattle.mr_edit.specs.Growing.{CanInsert}
 use Rattle.mr_edit.proofs.Dropped.{inserts_none, inserts_more}
+use Rattle.mr_edit.proofs.Growth.{next_insert}
+use Rattle.mr_edit.proofs.Sound.{never, handed}
 use Rattle.mr_edit.proofs.deleting.put_all.Goals as goal
 
 pub loop-one-init : goal.loop-one-init
-loop-one-init g c = inserts_none (by One g.H.Hashes.of) (g.F.PageFile.told c.args.desk.now.file) c.args.desk.now.free
-    c.args.root
+loop-one-init g c = record {
+  inserts = inserts_none (by One g.F.Hash.Hashes.of) (g.F.PageFile.told c.args.desk.now.file) c.args.desk.now.free
+      c.args.root;
+  kept = g.met.F.PageFile.kept_self c.args.desk.now.file;
+  quiet = refl;
+}
 
 pub loop-one-preserved : goal.loop-one-preserved
-loop-one-preserved g c =
-    inserts_more (by One g.H.Hashes.of) (g.F.PageFile.told c.args.desk.now.file)
-    (g.F.PageFile.told c.loop-one.desk.file) (g.F.PageFile.told c.insert.new.desk.file) c.args.desk.now.free
-    c.loop-one.desk.free c.insert.new.desk.free
-    c.args.root c.loop-one.root c.in_ok-child.child c.args.records.now c.loop-one.one-index c.one-item.result
-    c.loop-one-test.true c.one-item.is c.loop-one.invariant c.in_ok-child.ensures
+loop-one-preserved g c = record {
+  inserts = inserts_more (by One g.F.Hash.Hashes.of) (g.F.PageFile.told c.args.desk.now.file)
+      (g.F.PageFile.told c.loop-one.desk.file) (g.F.PageFile.told c.insert.new.desk.file) c.args.desk.now.free
+      c.loop-one.desk.free c.insert.new.desk.free
+      c.args.root c.loop-one.root c.in_ok-child.child c.args.records.now c.loop-one.one-index c.one-item.result
+      c.loop-one-test.true c.one-item.is c.loop-one.invariant.inserts c.in_ok-child.ensures.inserts;
+  kept = g.met.F.PageFile.kept_on c.args.desk.now.file c.loop-one.desk.file c.insert.new.desk.file
+      c.loop-one.invariant.kept c.insert.ensures.kept;
+  quiet = c.in_ok-child.ensures.quiet ∙ c.loop-one.invariant.quiet;
+}
 
-pub returns : goal.returns
-returns g c =
-    subst (InsertsAll (by One g.H.Hashes.of) (g.F.PageFile.told c.args.desk.now.file) c.args.desk.now.free c.args.root
+pub returns-clause-inserts : goal.returns-clause-inserts
+returns-clause-inserts g c =
+    subst (InsertsAll (by One g.F.Hash.Hashes.of) (g.F.PageFile.told c.args.desk.now.file) c.args.desk.now.free
+    c.args.root
     (g.F.PageFile.told c.loop-one.desk.file) c.loop-one.desk.free c.loop-one.root)
-    (take_all c.loop-one.one-index c.args.records.now c.loop-one-test.false) c.loop-one.invariant
+    (take_all c.loop-one.one-index c.args.records.now c.loop-one-test.false) c.loop-one.invariant.inserts
+
+pub returns-in_err-child-clause-sound : goal.returns-in_err-child-clause-sound
+returns-in_err-child-clause-sound g c =
+    let hash = g.F.Hash.Hashes.of in
+    let told = g.F.PageFile.told c.args.desk.now.file in
+    handed c.from_residual.result c.in_err-child.field-0.0
+    (CanInsert hash told c.args.desk.now.free c.args.root (length c.args.records.now)) c.from_residual.ensures.1
+    (never c.in_err-child.field-0.0 _ _
+    (next_insert hash told (g.F.PageFile.told c.loop-one.desk.file) c.args.desk.now.free c.loop-one.desk.free
+    c.args.root c.loop-one.root c.args.records.now c.loop-one.one-index c.loop-one-test.true
+    c.loop-one.invariant.inserts)
+    c.in_err-child.ensures.sound)

@@ -1,4 +1,4 @@
-use Rattle.std.proofs.Common.{take}
+use Rattle.std.proofs.Common.{◌≡◌, take}
 use Rattle.mr_record.specs.declared.version.Version.TheVariants.{One}
 use Rattle.mr_tree.specs.Digest.{by}
 use Rattle.mr_edit.specs.Deleted.{InsertsAll}
@@ -6,6 +6,9 @@ use Rattle.mr_edit.proofs.deleting.put_all.Given as goal
 
 -- the first ones went in
 abbrev pub invariant-loop-one : goal.invariant-loop-one
-invariant-loop-one g l =
-    InsertsAll (by One g.H.Hashes.of) (g.F.PageFile.told l.initial.desk.file) l.initial.desk.free l.initial.root
-    (g.F.PageFile.told l.desk.file) l.desk.free l.root (take l.one-index l.records)
+invariant-loop-one g l = record {
+  inserts : InsertsAll (by One g.F.Hash.Hashes.of) (g.F.PageFile.told l.initial.desk.file) l.initial.desk.free
+      l.initial.root (g.F.PageFile.told l.desk.file) l.desk.free l.root (take l.one-index l.records);
+  kept : g.F.PageFile.kept l.initial.desk.file l.desk.file;
+  quiet : g.F.PageFile.faults l.desk.file ≡ g.F.PageFile.faults l.initial.desk.file;
+}

@@ -1,4 +1,4 @@
-use Rattle.std.proofs.Common.{◌≡◌, ◌<◌, ◌++◌, take, sym, ap, subst, ◌∙◌, arith}
+use Rattle.std.proofs.Common.{◌≡◌, false, ◌<◌, [], ◌∷◌, ◌++◌, take, sym, ap, subst, ◌∙◌, arith}
 use Rattle.std.specs.Prelude.{IfSome}
 use Rattle.std.proofs.lemmas.List.{take_all}
 use Rattle.mr_record.specs.declared.version.Version.TheVariants.{One}
@@ -8,45 +8,116 @@ use Rattle.mr_tree.specs.declared.tree.Tree.TheOpen as node
 use Rattle.mr_pages.specs.Walking.{page_node}
 use Rattle.mr_edit.specs.Book.{HasNode}
 use Rattle.mr_edit.specs.Removal.{Frees}
+use Rattle.mr_edit.specs.Removable.{CanFree}
+use Rattle.mr_edit.proofs.Caused.{handed_cause}
 use Rattle.mr_edit.proofs.Freed.{frees_more, frees_leaf, frees_inner}
+use Rattle.mr_edit.proofs.Looking.{can_look}
+use Rattle.mr_edit.proofs.Owners.{one_below, known_writes, children_below, next_below}
+use Rattle.mr_edit.proofs.Sound.{never, handed}
 use Rattle.mr_edit.proofs.freeing.+free_subtree.Goals as goal
 
 pub loop-one-preserved : goal.loop-one-preserved
-loop-one-preserved g t c =
-    frees_more (by One g.H.Hashes.of) (g.F.PageFile.told c.free_page.new.desk.file)
-    (g.F.PageFile.told c.loop-one.desk.file) (g.F.PageFile.told c.free_subtree.new.desk.file)
-    c.free_page.new.desk.free c.loop-one.desk.free c.free_subtree.new.desk.free
-    c.children-one-items.result.now c.loop-one.one-index c.one-item.result c.args.list.now.items c.loop-one.list.items
-    c.free_subtree.new.list.items c.loop-one-test.true c.one-item.is c.loop-one.invariant
-    c.in_ok-free_subtree.ensures
+loop-one-preserved g t c = record {
+  frees = frees_more (by One g.F.Hash.Hashes.of) (g.F.PageFile.told c.free_page.new.desk.file)
+      (g.F.PageFile.told c.loop-one.desk.file) (g.F.PageFile.told c.free_subtree.new.desk.file)
+      c.free_page.new.desk.free c.loop-one.desk.free c.free_subtree.new.desk.free
+      c.children-one-items.result.now c.loop-one.one-index c.one-item.result c.args.list.now.items
+      c.loop-one.list.items c.free_subtree.new.list.items c.loop-one-test.true c.one-item.is
+      c.loop-one.invariant.frees c.in_ok-free_subtree.ensures.frees;
+  kept = g.met.F.PageFile.kept_on c.free_page.new.desk.file c.loop-one.desk.file c.free_subtree.new.desk.file
+      c.loop-one.invariant.kept c.free_subtree.ensures.kept;
+  quiet = c.in_ok-free_subtree.ensures.quiet ∙ c.loop-one.invariant.quiet;
+}
 
-pub returns-in_ok-extend_from_slice : goal.returns-in_ok-extend_from_slice
-returns-in_ok-extend_from_slice g t c =
-    let view = c.read.new.into in
+pub returns-in_ok-extend_from_slice-clause-frees : goal.returns-in_ok-extend_from_slice-clause-frees
+returns-in_ok-extend_from_slice-clause-frees g t c =
+    let view = c.look.new.into in
     let rs = records_in view in
     let is = c.records.ensures.leaf (sym c.level.ensures.value ∙ c.if-level-eq0.true) in
-    frees_leaf (by One g.H.Hashes.of) (g.F.PageFile.told c.args.desk.now.file) (g.F.PageFile.told c.read.new.self)
+    frees_leaf (by One g.F.Hash.Hashes.of) (g.F.PageFile.told c.args.desk.now.file) (g.F.PageFile.told c.look.new.file)
     (g.F.PageFile.told c.free_page.new.desk.file) c.args.desk.now.free c.free_page.new.desk.free
-    c.args.child.now rs c.args.list.now.items c.extend_from_slice.new.self.items c.in_ok-read.ensures.same
+    c.args.child.now rs c.args.list.now.items c.extend_from_slice.new.self.items c.in_ok-look.ensures.same
     (subst (λ n. IfSome (g.F.PageFile.told c.args.desk.now.file) (λ b. HasNode b c.args.child.now.id (page_node n))) is
-    c.in_ok-read.ensures.node)
+    c.in_ok-look.ensures.node)
     c.in_ok-free_page.ensures.frees
     (c.in_ok-extend_from_slice.ensures.items ∙ ap (λ us. c.args.list.now.items ++ us) c.records.ensures.value)
 
-pub returns-after-loop-one : goal.returns-after-loop-one
-returns-after-loop-one g t c =
-    let view = c.read.new.into in
+pub returns-after-loop-one-clause-frees : goal.returns-after-loop-one-clause-frees
+returns-after-loop-one-clause-frees g t c =
+    let view = c.look.new.into in
     let cs = c.children-one-items.result.now in
     let high : 0 < c.level.result = omega (arith, c.if-level-eq0.false) in
     let is = c.children-one-items.ensures.inner (subst (λ n. 0 < n) c.level.ensures.value high) in
     let all : take c.loop-one.one-index cs ≡ cs = take_all c.loop-one.one-index cs c.loop-one-test.false in
-    frees_inner (by One g.H.Hashes.of) (g.F.PageFile.told c.args.desk.now.file) (g.F.PageFile.told c.read.new.self)
+    frees_inner (by One g.F.Hash.Hashes.of) (g.F.PageFile.told c.args.desk.now.file) (g.F.PageFile.told c.look.new.file)
     (g.F.PageFile.told c.free_page.new.desk.file) (g.F.PageFile.told c.loop-one.desk.file) c.args.desk.now.free
     c.free_page.new.desk.free c.loop-one.desk.free
-    c.args.child.now cs c.args.list.now.items c.loop-one.list.items c.in_ok-read.ensures.same
+    c.args.child.now cs c.args.list.now.items c.loop-one.list.items c.in_ok-look.ensures.same
     (subst (λ n. IfSome (g.F.PageFile.told c.args.desk.now.file) (λ b. HasNode b c.args.child.now.id (page_node n))) (is
-    ∙ ap node.Inner (sym c.children-one-items.ensures.value)) c.in_ok-read.ensures.node)
+    ∙ ap node.Inner (sym c.children-one-items.ensures.value)) c.in_ok-look.ensures.node)
     c.in_ok-free_page.ensures.frees
-    (subst (λ us. Frees (by One g.H.Hashes.of) (g.F.PageFile.told c.free_page.new.desk.file) c.free_page.new.desk.free
+    (subst (λ us. Frees (by One g.F.Hash.Hashes.of) (g.F.PageFile.told c.free_page.new.desk.file)
+    c.free_page.new.desk.free
     (g.F.PageFile.told c.loop-one.desk.file) c.loop-one.desk.free us c.args.list.now.items c.loop-one.list.items)
-    all c.loop-one.invariant)
+    all c.loop-one.invariant.frees)
+
+pub returns-in_err-look-clause-sound : goal.returns-in_err-look-clause-sound
+returns-in_err-look-clause-sound g t c =
+    handed c.from_residual.result c.in_err-look.field-0.0
+    (CanFree g.F.Hash.Hashes.of (g.F.PageFile.told c.args.desk.now.file) c.args.desk.now.free
+    (c.args.child.now ∷ [])) c.from_residual.ensures.1
+    (never c.in_err-look.field-0.0 _ _
+    (λ k. can_look g.F.Hash.Hashes.of false (g.F.PageFile.told c.args.desk.now.file) c.args.desk.now.free
+    c.args.child.now (one_below g.F.Hash.Hashes.of (g.F.PageFile.told c.args.desk.now.file) c.args.desk.now.free
+    c.args.child.now k)) c.in_err-look.ensures.sound)
+
+pub returns-in_err-free_page-clause-sound : goal.returns-in_err-free_page-clause-sound
+returns-in_err-free_page-clause-sound g t c =
+    handed c.from_residual-in_err-free_page.result c.in_err-free_page.field-0.0
+    (CanFree g.F.Hash.Hashes.of (g.F.PageFile.told c.args.desk.now.file) c.args.desk.now.free
+    (c.args.child.now ∷ [])) c.from_residual-in_err-free_page.ensures.1
+    (never c.in_err-free_page.field-0.0 _ _
+    (λ k. known_writes g.F.Hash.Hashes.of false (g.F.PageFile.told c.args.desk.now.file)
+    (g.F.PageFile.told c.look.new.file) c.args.desk.now.free c.args.child.now c.in_ok-look.ensures.same
+    (one_below g.F.Hash.Hashes.of (g.F.PageFile.told c.args.desk.now.file) c.args.desk.now.free
+    c.args.child.now k)) c.in_err-free_page.ensures.sound)
+
+pub returns-in_err-free_subtree-clause-kept : goal.returns-in_err-free_subtree-clause-kept
+returns-in_err-free_subtree-clause-kept g t c =
+    g.met.F.PageFile.kept_on c.args.desk.now.file c.free_page.new.desk.file c.free_subtree.new.desk.file
+    (g.met.F.PageFile.kept_on c.args.desk.now.file c.look.new.file c.free_page.new.desk.file
+    c.look.ensures.kept c.free_page.ensures.kept)
+    (g.met.F.PageFile.kept_on c.free_page.new.desk.file c.loop-one.desk.file c.free_subtree.new.desk.file
+    c.loop-one.invariant.kept c.free_subtree.ensures.kept)
+
+pub returns-in_err-free_subtree-clause-cause : goal.returns-in_err-free_subtree-clause-cause
+returns-in_err-free_subtree-clause-cause g t c =
+    handed_cause c.from_residual-in_err-free_subtree.result c.in_err-free_subtree.field-0.0
+    (g.F.PageFile.faults c.args.desk.now.file) (g.F.PageFile.faults c.loop-one.desk.file)
+    (g.F.PageFile.faults c.free_subtree.new.desk.file) c.from_residual-in_err-free_subtree.ensures.1
+    (c.loop-one.invariant.quiet ∙ c.in_ok-free_page.ensures.quiet ∙ c.in_ok-look.ensures.quiet)
+    c.in_err-free_subtree.ensures.cause
+
+pub returns-in_err-free_subtree-clause-sound : goal.returns-in_err-free_subtree-clause-sound
+returns-in_err-free_subtree-clause-sound g t c =
+    let view = c.look.new.into in
+    let cs = c.children-one-items.result.now in
+    let high : 0 < c.level.result = omega (arith, c.if-level-eq0.false) in
+    let is = c.children-one-items.ensures.inner (subst (λ n. 0 < n) c.level.ensures.value high) in
+    handed c.from_residual-in_err-free_subtree.result c.in_err-free_subtree.field-0.0
+    (CanFree g.F.Hash.Hashes.of (g.F.PageFile.told c.args.desk.now.file) c.args.desk.now.free
+    (c.args.child.now ∷ [])) c.from_residual-in_err-free_subtree.ensures.1
+    (never c.in_err-free_subtree.field-0.0 _ _
+    (λ k. next_below g.F.Hash.Hashes.of (g.F.PageFile.told c.free_page.new.desk.file)
+    (g.F.PageFile.told c.loop-one.desk.file) c.free_page.new.desk.free c.loop-one.desk.free cs
+    c.loop-one.one-index c.one-item.result c.args.list.now.items c.loop-one.list.items
+    c.loop-one-test.true c.one-item.is c.loop-one.invariant.frees
+    (children_below g.F.Hash.Hashes.of (g.F.PageFile.told c.args.desk.now.file) (g.F.PageFile.told c.look.new.file)
+    (g.F.PageFile.told c.free_page.new.desk.file) c.args.desk.now.free c.free_page.new.desk.free c.args.child.now cs
+    c.in_ok-look.ensures.same
+    (subst (λ n. IfSome (g.F.PageFile.told c.args.desk.now.file) (λ b. HasNode b c.args.child.now.id (page_node n)))
+    (is ∙ ap node.Inner (sym c.children-one-items.ensures.value)) c.in_ok-look.ensures.node)
+    c.in_ok-free_page.ensures.frees
+    (one_below g.F.Hash.Hashes.of (g.F.PageFile.told c.args.desk.now.file) c.args.desk.now.free
+    c.args.child.now k)))
+    c.in_err-free_subtree.ensures.sound)

@@ -1,4 +1,4 @@
-use Rattle.std.proofs.Common.{take}
+use Rattle.std.proofs.Common.{◌≡◌, take}
 use Rattle.mr_record.specs.declared.version.Version.TheVariants.{One}
 use Rattle.mr_tree.specs.Digest.{by}
 use Rattle.mr_edit.specs.Removal.{Frees}
@@ -9,6 +9,9 @@ decreases-free_subtree g l = l.child.now.level
 
 -- the first ones are freed
 abbrev pub invariant-loop-one : goal.invariant-loop-one
-invariant-loop-one g l =
-    Frees (by One g.H.Hashes.of) (g.F.PageFile.told l.initial.desk.file) l.initial.desk.free
-    (g.F.PageFile.told l.desk.file) l.desk.free (take l.one-index l.one-items) l.initial.list.items l.list.items
+invariant-loop-one g l = record {
+  frees : Frees (by One g.F.Hash.Hashes.of) (g.F.PageFile.told l.initial.desk.file) l.initial.desk.free
+      (g.F.PageFile.told l.desk.file) l.desk.free (take l.one-index l.one-items) l.initial.list.items l.list.items;
+  kept : g.F.PageFile.kept l.initial.desk.file l.desk.file;
+  quiet : g.F.PageFile.faults l.desk.file ≡ g.F.PageFile.faults l.initial.desk.file;
+}

@@ -1,13 +1,55 @@
+use Rattle.std.proofs.Common.{◌∙◌, subst}
+use Rattle.std.proofs.lemmas.List.{take_all}
 use Rattle.mr_record.specs.declared.version.Version.TheVariants.{One}
 use Rattle.mr_tree.specs.Digest.{by}
+use Rattle.mr_edit.specs.Removal.{Frees}
+use Rattle.mr_edit.specs.Removable.{CanFree}
+use Rattle.mr_edit.proofs.Caused.{handed_cause}
 use Rattle.mr_edit.proofs.Freed.{frees_more}
+use Rattle.mr_edit.proofs.Owners.{next_below}
+use Rattle.mr_edit.proofs.Sound.{never, handed}
 use Rattle.mr_edit.proofs.freeing.free_subtrees.Goals as goal
 
 pub loop-child-preserved : goal.loop-child-preserved
-loop-child-preserved g c =
-    frees_more (by One g.H.Hashes.of) (g.F.PageFile.told c.args.desk.now.file)
-    (g.F.PageFile.told c.loop-child.desk.file) (g.F.PageFile.told c.free_subtree.new.desk.file) c.args.desk.now.free
-    c.loop-child.desk.free c.free_subtree.new.desk.free
-    c.args.children.now c.loop-child.child-index c.child-item.result c.args.list.now.items c.loop-child.list.items
-    c.free_subtree.new.list.items c.loop-child-test.true c.child-item.is c.loop-child.invariant
-    c.in_ok-free_subtree.ensures
+loop-child-preserved g c = record {
+  frees = frees_more (by One g.F.Hash.Hashes.of) (g.F.PageFile.told c.args.desk.now.file)
+      (g.F.PageFile.told c.loop-child.desk.file) (g.F.PageFile.told c.free_subtree.new.desk.file) c.args.desk.now.free
+      c.loop-child.desk.free c.free_subtree.new.desk.free
+      c.args.children.now c.loop-child.child-index c.child-item.result c.args.list.now.items c.loop-child.list.items
+      c.free_subtree.new.list.items c.loop-child-test.true c.child-item.is c.loop-child.invariant.frees
+      c.in_ok-free_subtree.ensures.frees;
+  kept = g.met.F.PageFile.kept_on c.args.desk.now.file c.loop-child.desk.file c.free_subtree.new.desk.file
+      c.loop-child.invariant.kept c.free_subtree.ensures.kept;
+  quiet = c.in_ok-free_subtree.ensures.quiet ∙ c.loop-child.invariant.quiet;
+}
+
+pub returns-in_err-free_subtree-clause-kept : goal.returns-in_err-free_subtree-clause-kept
+returns-in_err-free_subtree-clause-kept g c =
+    g.met.F.PageFile.kept_on c.args.desk.now.file c.loop-child.desk.file c.free_subtree.new.desk.file
+    c.loop-child.invariant.kept c.free_subtree.ensures.kept
+
+pub returns-in_err-free_subtree-clause-cause : goal.returns-in_err-free_subtree-clause-cause
+returns-in_err-free_subtree-clause-cause g c =
+    handed_cause c.from_residual.result c.in_err-free_subtree.field-0.0
+    (g.F.PageFile.faults c.args.desk.now.file) (g.F.PageFile.faults c.loop-child.desk.file)
+    (g.F.PageFile.faults c.free_subtree.new.desk.file) c.from_residual.ensures.1
+    c.loop-child.invariant.quiet c.in_err-free_subtree.ensures.cause
+
+pub returns-in_err-free_subtree-clause-sound : goal.returns-in_err-free_subtree-clause-sound
+returns-in_err-free_subtree-clause-sound g c =
+    handed c.from_residual.result c.in_err-free_subtree.field-0.0
+    (CanFree g.F.Hash.Hashes.of (g.F.PageFile.told c.args.desk.now.file) c.args.desk.now.free c.args.children.now)
+    c.from_residual.ensures.1
+    (never c.in_err-free_subtree.field-0.0 _ _
+    (λ k. next_below g.F.Hash.Hashes.of (g.F.PageFile.told c.args.desk.now.file)
+    (g.F.PageFile.told c.loop-child.desk.file) c.args.desk.now.free c.loop-child.desk.free c.args.children.now
+    c.loop-child.child-index c.child-item.result c.args.list.now.items c.loop-child.list.items
+    c.loop-child-test.true c.child-item.is c.loop-child.invariant.frees k)
+    c.in_err-free_subtree.ensures.sound)
+
+pub returns-clause-frees : goal.returns-clause-frees
+returns-clause-frees g c =
+    subst (λ us. Frees (by One g.F.Hash.Hashes.of) (g.F.PageFile.told c.args.desk.now.file) c.args.desk.now.free
+    (g.F.PageFile.told c.loop-child.desk.file) c.loop-child.desk.free us c.args.list.now.items
+    c.loop-child.list.items) (take_all c.loop-child.child-index c.args.children.now c.loop-child-test.false)
+    c.loop-child.invariant.frees

@@ -1,4 +1,4 @@
-use Rattle.std.proofs.Common.{take}
+use Rattle.std.proofs.Common.{◌≡◌, take}
 use Rattle.mr_record.specs.declared.version.Version.TheVariants.{One}
 use Rattle.mr_tree.specs.Digest.{by}
 use Rattle.mr_edit.specs.Removal.{Frees}
@@ -6,6 +6,9 @@ use Rattle.mr_edit.proofs.freeing.free_subtrees.Given as goal
 
 -- the first ones are freed
 abbrev pub invariant-loop-child : goal.invariant-loop-child
-invariant-loop-child g l =
-    Frees (by One g.H.Hashes.of) (g.F.PageFile.told l.initial.desk.file) l.initial.desk.free
-    (g.F.PageFile.told l.desk.file) l.desk.free (take l.child-index l.children) l.initial.list.items l.list.items
+invariant-loop-child g l = record {
+  frees : Frees (by One g.F.Hash.Hashes.of) (g.F.PageFile.told l.initial.desk.file) l.initial.desk.free
+      (g.F.PageFile.told l.desk.file) l.desk.free (take l.child-index l.children) l.initial.list.items l.list.items;
+  kept : g.F.PageFile.kept l.initial.desk.file l.desk.file;
+  quiet : g.F.PageFile.faults l.desk.file ≡ g.F.PageFile.faults l.initial.desk.file;
+}

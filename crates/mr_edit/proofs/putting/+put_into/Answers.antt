@@ -1,6 +1,6 @@
 use Rattle.std.proofs.Common.{◌≡◌, ◌<◌, ◌+◌, ◌++◌, ◌∷◌, [], length, map, sym, ap, subst, ◌∙◌, arith}
 use Rattle.std.specs.Prelude.{IfSome}
-use Rattle.std.proofs.lemmas.Result.{IfOk-weaker}
+use Rattle.std.proofs.lemmas.Result.{IfOk-weaker, IfErr-weaker}
 use Rattle.std.proofs.lemmas.List.Elements.{recursion_from_All}
 use Rattle.mr_record.specs.declared.version.Version.TheVariants.{One}
 use Rattle.mr_tree.specs.Digest.{by}
@@ -12,14 +12,18 @@ use Rattle.mr_pages.specs.Walking.{page_node}
 use Rattle.mr_edit.specs.Book.{HasNode}
 use Rattle.mr_edit.specs.Held.{entries}
 use Rattle.mr_edit.specs.Outcome.{PutsInner}
-use Rattle.mr_edit.proofs.Levels.{AreBelow, replaced_below}
+use Rattle.mr_edit.specs.Growing.{CanGrow}
+use Rattle.mr_edit.proofs.Levels.{AreBelow, replaced_below, replaced_length, few_entries}
 use Rattle.mr_edit.proofs.Descending.{grows_leaf, grows_below}
+use Rattle.mr_edit.proofs.Growth.{leaf_put, child_grow, inner_put}
+use Rattle.mr_edit.proofs.Looking.{can_look}
+use Rattle.mr_edit.proofs.Sound.{never, handed}
 use Rattle.mr_edit.proofs.putting.+put_into.Goals as goal
 
 pub put_inner-requires-clause-below : goal.put_inner-requires-clause-below
 put_inner-requires-clause-below g t c =
     let cs = c.in_ok-children.children.items in
-    let view = c.read.new.into in
+    let view = c.look.new.into in
     let same : cs ≡ children_in view = c.in_ok-children.ensures.items ∙ c.children.ensures.value in
     let shown : AreBelow (level_of view) (children_in view) = recursion_from_All
     (λ (x : Child). x.level + 1 ≡ level_of view) (children_in view) c.children.ensures.alike in
@@ -31,42 +35,129 @@ put_inner-requires-clause-below g t c =
     (replaced_below c.level-level.result c.in_ok-at.at cs (entries c.in_ok-stand.stand) c.index.result.now below within
     c.index.ensures c.in_ok-stand.ensures.level)
 
+pub put_inner-requires-clause-few : goal.put_inner-requires-clause-few
+put_inner-requires-clause-few g t c =
+    let cs = c.in_ok-children.children.items in
+    let same : cs ≡ children_in c.look.new.into = c.in_ok-children.ensures.items ∙ c.children.ensures.value in
+    let within : c.in_ok-at.at < length cs = omega (arith, c.in_ok-at.ensures.within, ap length c.deref.ensures.value)
+    in
+    omega (
+      arith,
+      ap length c.in_ok-children-2.ensures,
+      replaced_length c.in_ok-at.at cs (entries c.in_ok-stand.stand) within,
+      few_entries c.in_ok-stand.stand,
+      ap length same,
+      c.children.ensures.few,
+    )
+
 pub returns-in_ok-records-clause-grows : goal.returns-in_ok-records-clause-grows
 returns-in_ok-records-clause-grows g t c =
-    let view = c.read.new.into in
+    let view = c.look.new.into in
     let rs = records_in view in
     let is = c.records.ensures.leaf (sym c.level-level.ensures.value ∙ c.if-level-eq0.true) in
     IfOk-weaker c.put_leaf.result _ _
-    (λ s h. grows_leaf (by One g.H.Hashes.of) (g.F.PageFile.told c.args.desk.now.file)
-    (g.F.PageFile.told c.read.new.self) (g.F.PageFile.told c.put_leaf.new.desk.file)
+    (λ s h. grows_leaf (by One g.F.Hash.Hashes.of) (g.F.PageFile.told c.args.desk.now.file)
+    (g.F.PageFile.told c.look.new.file) (g.F.PageFile.told c.put_leaf.new.desk.file)
     c.args.desk.now.free c.put_leaf.new.desk.free c.args.child.now c.args.one.now rs c.in_ok-records.records.items
-    (entries s) c.in_ok-read.ensures.same
+    (entries s) c.in_ok-look.ensures.same
     (subst (λ n. IfSome (g.F.PageFile.told c.args.desk.now.file) (λ b. HasNode b c.args.child.now.id (page_node n))) is
-    c.in_ok-read.ensures.node)
+    c.in_ok-look.ensures.node)
     (c.in_ok-records.ensures ∙ ap (λ us. us ++ c.args.one.now ∷ []) c.records.ensures.value) h)
     c.put_leaf.ensures.puts
 
 pub returns-in_ok-children-2-clause-grows : goal.returns-in_ok-children-2-clause-grows
 returns-in_ok-children-2-clause-grows g t c =
     let cs = c.in_ok-children.children.items in
-    let view = c.read.new.into in
+    let view = c.look.new.into in
     let same : cs ≡ children_in view = c.in_ok-children.ensures.items ∙ c.children.ensures.value in
     let high : 0 < c.level-level.result = omega (arith, c.if-level-eq0.false) in
     let is = c.children.ensures.inner (subst (λ n. 0 < n) c.level-level.ensures.value high) in
     let within : c.in_ok-at.at < length cs = omega (arith, c.in_ok-at.ensures.within, ap length c.deref.ensures.value)
     in
     IfOk-weaker c.put_inner.result _ _
-    (λ s h. grows_below (by One g.H.Hashes.of) (g.F.PageFile.told c.args.desk.now.file)
-    (g.F.PageFile.told c.read.new.self) (g.F.PageFile.told c.put_into.new.desk.file)
+    (λ s h. grows_below (by One g.F.Hash.Hashes.of) (g.F.PageFile.told c.args.desk.now.file)
+    (g.F.PageFile.told c.look.new.file) (g.F.PageFile.told c.put_into.new.desk.file)
     (g.F.PageFile.told c.put_inner.new.desk.file)
     c.args.desk.now.free c.put_into.new.desk.free c.put_inner.new.desk.free c.args.child.now c.args.one.now
     c.in_ok-at.at cs (entries c.in_ok-stand.stand) (entries s) c.index.result.now
-    c.in_ok-read.ensures.same
+    c.in_ok-look.ensures.same
     (subst (λ n. IfSome (g.F.PageFile.told c.args.desk.now.file) (λ b. HasNode b c.args.child.now.id (page_node n))) (is
-    ∙ ap node.Inner (sym same)) c.in_ok-read.ensures.node)
+    ∙ ap node.Inner (sym same)) c.in_ok-look.ensures.node)
     (c.in_ok-at.ensures.value ∙ ap (λ us. choose (map (λ (x : Child). x.rect) us) c.args.one.now.rect)
     c.deref.ensures.value) within c.index.ensures c.in_ok-stand.ensures.grows
-    (subst (λ us. PutsInner (by One g.H.Hashes.of) (g.F.PageFile.told c.put_into.new.desk.file) c.put_into.new.desk.free
+    (subst (λ us. PutsInner (by One g.F.Hash.Hashes.of) (g.F.PageFile.told c.put_into.new.desk.file)
+    c.put_into.new.desk.free
     (g.F.PageFile.told c.put_inner.new.desk.file) c.put_inner.new.desk.free c.args.child.now.id us (entries s))
     c.in_ok-children-2.ensures h))
     c.put_inner.ensures.puts
+
+pub returns-in_err-look-clause-sound : goal.returns-in_err-look-clause-sound
+returns-in_err-look-clause-sound g t c =
+    let told = g.F.PageFile.told c.args.desk.now.file in
+    handed c.from_residual.result c.in_err-look.field-0.0
+    (CanGrow g.F.Hash.Hashes.of c.args.root told c.args.desk.now.free c.args.child.now c.args.one.now)
+    c.from_residual.ensures.1
+    (never c.in_err-look.field-0.0 _ _
+    (λ k. can_look g.F.Hash.Hashes.of c.args.root told c.args.desk.now.free c.args.child.now k.below)
+    c.in_err-look.ensures.sound)
+
+pub returns-in_ok-records-clause-sound : goal.returns-in_ok-records-clause-sound
+returns-in_ok-records-clause-sound g t c =
+    let view = c.look.new.into in
+    let told = g.F.PageFile.told c.args.desk.now.file in
+    let is = c.records.ensures.leaf (sym c.level-level.ensures.value ∙ c.if-level-eq0.true) in
+    IfErr-weaker c.put_leaf.result _ _
+    (λ e h. never e _ _ (leaf_put g.F.Hash.Hashes.of c.args.root told (g.F.PageFile.told c.look.new.file)
+    c.args.desk.now.free c.args.child.now c.args.one.now (records_in view) c.in_ok-look.ensures.same
+    (subst (λ n. IfSome told (λ b. HasNode b c.args.child.now.id (page_node n))) is c.in_ok-look.ensures.node)) h)
+    c.put_leaf.ensures.sound
+
+pub returns-in_err-stand-clause-sound : goal.returns-in_err-stand-clause-sound
+returns-in_err-stand-clause-sound g t c =
+    let cs = c.in_ok-children.children.items in
+    let view = c.look.new.into in
+    let told = g.F.PageFile.told c.args.desk.now.file in
+    let same : cs ≡ children_in view = c.in_ok-children.ensures.items ∙ c.children.ensures.value in
+    let high : 0 < c.level-level.result = omega (arith, c.if-level-eq0.false) in
+    let is = c.children.ensures.inner (subst (λ n. 0 < n) c.level-level.ensures.value high) in
+    let within : c.in_ok-at.at < length cs = omega (arith, c.in_ok-at.ensures.within, ap length c.deref.ensures.value)
+    in
+    handed c.from_residual-in_err-stand.result c.in_err-stand.field-0.0
+    (CanGrow g.F.Hash.Hashes.of c.args.root told c.args.desk.now.free c.args.child.now c.args.one.now)
+    c.from_residual-in_err-stand.ensures.1
+    (never c.in_err-stand.field-0.0 _ _
+    (child_grow g.F.Hash.Hashes.of c.args.root told (g.F.PageFile.told c.look.new.file) c.args.desk.now.free
+    c.args.child.now c.args.one.now c.in_ok-at.at cs c.index.result.now c.in_ok-look.ensures.same
+    (subst (λ n. IfSome told (λ b. HasNode b c.args.child.now.id (page_node n))) (is ∙ ap node.Inner (sym same))
+    c.in_ok-look.ensures.node)
+    (c.in_ok-at.ensures.value ∙ ap (λ us. choose (map (λ (x : Child). x.rect) us) c.args.one.now.rect)
+    c.deref.ensures.value) within c.index.ensures)
+    c.in_err-stand.ensures.sound)
+
+pub returns-in_ok-children-2-clause-sound : goal.returns-in_ok-children-2-clause-sound
+returns-in_ok-children-2-clause-sound g t c =
+    let cs = c.in_ok-children.children.items in
+    let view = c.look.new.into in
+    let told = g.F.PageFile.told c.args.desk.now.file in
+    let same : cs ≡ children_in view = c.in_ok-children.ensures.items ∙ c.children.ensures.value in
+    let high : 0 < c.level-level.result = omega (arith, c.if-level-eq0.false) in
+    let is = c.children.ensures.inner (subst (λ n. 0 < n) c.level-level.ensures.value high) in
+    let within : c.in_ok-at.at < length cs = omega (arith, c.in_ok-at.ensures.within, ap length c.deref.ensures.value)
+    in
+    IfErr-weaker c.put_inner.result _ _
+    (λ e h. never e _ _ (inner_put g.F.Hash.Hashes.of c.args.root told (g.F.PageFile.told c.look.new.file)
+    c.args.desk.now.free c.args.child.now c.args.one.now c.in_ok-at.at cs c.index.result.now
+    (g.F.PageFile.told c.put_into.new.desk.file) c.put_into.new.desk.free (entries c.in_ok-stand.stand)
+    c.in_ok-look.ensures.same
+    (subst (λ n. IfSome told (λ b. HasNode b c.args.child.now.id (page_node n))) (is ∙ ap node.Inner (sym same))
+    c.in_ok-look.ensures.node)
+    (c.in_ok-at.ensures.value ∙ ap (λ us. choose (map (λ (x : Child). x.rect) us) c.args.one.now.rect)
+    c.deref.ensures.value) within c.index.ensures c.in_ok-stand.ensures.grows) h)
+    c.put_inner.ensures.sound
+
+pub returns-in_ok-children-2-clause-kept : goal.returns-in_ok-children-2-clause-kept
+returns-in_ok-children-2-clause-kept g t c =
+    let law = g.met.F.PageFile.kept_on in
+    law c.args.desk.now.file c.look.new.file c.put_inner.new.desk.file c.look.ensures.kept
+    (law c.look.new.file c.put_into.new.desk.file c.put_inner.new.desk.file c.put_into.ensures.kept
+    c.put_inner.ensures.kept)

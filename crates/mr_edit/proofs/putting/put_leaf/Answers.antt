@@ -39,16 +39,17 @@ pub returns-in_ok-second-clause-puts : goal.returns-in_ok-second-clause-puts
 returns-in_ok-second-clause-puts g c =
     let xs = c.args.records.items in
     let many : 16 < length xs = omega (arith, c.len.ensures, c.args.records.ok, c.if-len.true) in
-    leaf_split (by One g.H.Hashes.of) (g.F.PageFile.told c.args.desk.now.file)
+    leaf_split (by One g.F.Hash.Hashes.of) (g.F.PageFile.told c.args.desk.now.file)
     (g.F.PageFile.told c.take_page.new.desk.file) (g.F.PageFile.told c.write_leaf.new.desk.file)
     (g.F.PageFile.told c.write_leaf-then-len.new.desk.file) c.args.desk.now.free c.take_page.new.desk.free
     c.write_leaf.new.desk.free c.write_leaf-then-len.new.desk.free c.args.page c.in_ok-other.other
     xs c.in_ok-front.front.items c.in_ok-front.back.items c.in_ok-first.first c.in_ok-second.second many
     c.in_ok-front.ensures c.in_ok-other.ensures.takes
-    (subst (λ us. Writes (by One g.H.Hashes.of) (g.F.PageFile.told c.take_page.new.desk.file) c.take_page.new.desk.free
+    (subst (λ us. Writes (by One g.F.Hash.Hashes.of) (g.F.PageFile.told c.take_page.new.desk.file)
+    c.take_page.new.desk.free
     (g.F.PageFile.told c.write_leaf.new.desk.file) c.write_leaf.new.desk.free c.args.page (node.Leaf us)
     c.in_ok-first.first) c.deref.ensures.value c.in_ok-first.ensures.writes)
-    (subst (λ us. Writes (by One g.H.Hashes.of) (g.F.PageFile.told c.write_leaf.new.desk.file)
+    (subst (λ us. Writes (by One g.F.Hash.Hashes.of) (g.F.PageFile.told c.write_leaf.new.desk.file)
     c.write_leaf.new.desk.free (g.F.PageFile.told c.write_leaf-then-len.new.desk.file)
     c.write_leaf-then-len.new.desk.free c.in_ok-other.other (node.Leaf us) c.in_ok-second.second)
     c.deref-then-len.ensures.value c.in_ok-second.ensures.writes)
@@ -57,10 +58,10 @@ pub returns-in_ok-first-2-clause-puts : goal.returns-in_ok-first-2-clause-puts
 returns-in_ok-first-2-clause-puts g c =
     let xs = c.args.records.items in
     let few : length xs ≤ 16 = omega (arith, c.len.ensures, c.args.records.ok, c.if-len.false) in
-    leaf_whole (by One g.H.Hashes.of) (g.F.PageFile.told c.args.desk.now.file)
+    leaf_whole (by One g.F.Hash.Hashes.of) (g.F.PageFile.told c.args.desk.now.file)
     (g.F.PageFile.told c.write_leaf-else-len.new.desk.file) c.args.desk.now.free c.write_leaf-else-len.new.desk.free
     c.args.page xs c.in_ok-first-2.first few
-    (subst (λ us. Writes (by One g.H.Hashes.of) (g.F.PageFile.told c.args.desk.now.file) c.args.desk.now.free
+    (subst (λ us. Writes (by One g.F.Hash.Hashes.of) (g.F.PageFile.told c.args.desk.now.file) c.args.desk.now.free
     (g.F.PageFile.told c.write_leaf-else-len.new.desk.file) c.write_leaf-else-len.new.desk.free c.args.page
     (node.Leaf us) c.in_ok-first-2.first) c.deref-else-len.ensures.value c.in_ok-first-2.ensures.writes)
 

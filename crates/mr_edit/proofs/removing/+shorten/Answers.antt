@@ -1,4 +1,4 @@
-use Rattle.std.proofs.Common.{◌≢◌, ◌≤◌, ◌<◌, length, sym, ap, subst, ◌∙◌, arith}
+use Rattle.std.proofs.Common.{false, ◌≢◌, ◌≤◌, ◌<◌, length, sym, ap, subst, ◌∙◌, arith}
 use Rattle.std.specs.Prelude.{IfSome}
 use Rattle.std.proofs.lemmas.Result.{IfOk-weaker}
 use Rattle.mr_record.specs.declared.version.Version.TheVariants.{One}
@@ -7,44 +7,88 @@ use Rattle.mr_tree.specs.View.{records_in, size}
 use Rattle.mr_tree.specs.declared.tree.Tree.TheOpen as node
 use Rattle.mr_pages.specs.Walking.{page_node}
 use Rattle.mr_edit.specs.Book.{HasNode}
+use Rattle.mr_edit.specs.Causes.{KnowsBelow}
 use Rattle.mr_edit.proofs.Leaving.{shortens_leaf, shortens_many, shortens_one}
+use Rattle.mr_edit.proofs.Looking.{can_look}
+use Rattle.mr_edit.proofs.Owners.{known_writes, children_below, only_below}
+use Rattle.mr_edit.proofs.Results.{if_err}
+use Rattle.mr_edit.proofs.Sound.{never, handed}
 use Rattle.mr_edit.proofs.removing.+shorten.Goals as goal
 
-pub returns-then-level-eq0 : goal.returns-then-level-eq0
-returns-then-level-eq0 g t c =
-    let view = c.read.new.into in
+pub returns-then-level-eq0-clause-shortens : goal.returns-then-level-eq0-clause-shortens
+returns-then-level-eq0-clause-shortens g t c =
+    let view = c.look.new.into in
     let is = c.records-records.ensures.leaf (sym c.level.ensures.value ∙ c.if-level-eq0.true) in
-    let long : 1 ≤ length (records_in view) = subst (λ n. 1 ≤ size n) is c.in_ok-read.ensures.some in
+    let long : 1 ≤ length (records_in view) = subst (λ n. 1 ≤ size n) is c.in_ok-look.ensures.some in
     let some : length (records_in view) ≢ 0 = λ none. omega (arith, long, none) in
-    shortens_leaf (by One g.H.Hashes.of) (g.F.PageFile.told c.args.desk.now.file) (g.F.PageFile.told c.read.new.self)
-    c.args.desk.now.free c.args.child.now (records_in view) c.in_ok-read.ensures.same
+    shortens_leaf (by One g.F.Hash.Hashes.of) (g.F.PageFile.told c.args.desk.now.file) (g.F.PageFile.told
+    c.look.new.file)
+    c.args.desk.now.free c.args.child.now (records_in view) c.in_ok-look.ensures.same
     (subst (λ n. IfSome (g.F.PageFile.told c.args.desk.now.file) (λ b. HasNode b c.args.child.now.id (page_node n))) is
-    c.in_ok-read.ensures.node) some
+    c.in_ok-look.ensures.node) some
 
-pub returns-then-children-ne1 : goal.returns-then-children-ne1
-returns-then-children-ne1 g t c =
+pub returns-then-children-ne1-clause-shortens : goal.returns-then-children-ne1-clause-shortens
+returns-then-children-ne1-clause-shortens g t c =
     let cs = c.children-children.result.now in
     let high : 0 < c.level.result = omega (arith, c.if-level-eq0.false) in
     let is = c.children-children.ensures.inner (subst (λ n. 0 < n) c.level.ensures.value high)
     ∙ ap node.Inner (sym c.children-children.ensures.value) in
-    shortens_many (by One g.H.Hashes.of) (g.F.PageFile.told c.args.desk.now.file) (g.F.PageFile.told c.read.new.self)
-    c.args.desk.now.free c.args.child.now cs c.in_ok-read.ensures.same
+    shortens_many (by One g.F.Hash.Hashes.of) (g.F.PageFile.told c.args.desk.now.file) (g.F.PageFile.told
+    c.look.new.file)
+    c.args.desk.now.free c.args.child.now cs c.in_ok-look.ensures.same
     (subst (λ n. IfSome (g.F.PageFile.told c.args.desk.now.file) (λ b. HasNode b c.args.child.now.id (page_node n))) is
-    c.in_ok-read.ensures.node) c.if-children-ne1.true
+    c.in_ok-look.ensures.node) c.if-children-ne1.true
 
-pub returns : goal.returns
-returns g t c =
+pub returns-clause-shortens : goal.returns-clause-shortens
+returns-clause-shortens g t c =
     let cs = c.children-children.result.now in
     let high : 0 < c.level.result = omega (arith, c.if-level-eq0.false) in
     let is = c.children-children.ensures.inner (subst (λ n. 0 < n) c.level.ensures.value high)
     ∙ ap node.Inner (sym c.children-children.ensures.value) in
     IfOk-weaker c.shorten.result _ _
-    (λ e h. shortens_one (by One g.H.Hashes.of) (g.F.PageFile.told c.args.desk.now.file)
-    (g.F.PageFile.told c.read.new.self) (g.F.PageFile.told c.free_page.new.desk.file)
+    (λ e h. shortens_one (by One g.F.Hash.Hashes.of) (g.F.PageFile.told c.args.desk.now.file)
+    (g.F.PageFile.told c.look.new.file) (g.F.PageFile.told c.free_page.new.desk.file)
     (g.F.PageFile.told c.shorten.new.desk.file)
     c.args.desk.now.free c.free_page.new.desk.free c.shorten.new.desk.free c.args.child.now cs c.index-children-0.result
-    e c.in_ok-read.ensures.same
+    e c.in_ok-look.ensures.same
     (subst (λ n. IfSome (g.F.PageFile.told c.args.desk.now.file) (λ b. HasNode b c.args.child.now.id (page_node n))) is
-    c.in_ok-read.ensures.node)
+    c.in_ok-look.ensures.node)
     c.if-children-ne1.false c.index-children-0.is c.in_ok-free_page.ensures.frees h)
-    c.shorten.ensures
+    c.shorten.ensures.shortens
+
+pub returns-in_err-look-clause-sound : goal.returns-in_err-look-clause-sound
+returns-in_err-look-clause-sound g t c =
+    handed c.from_residual.result c.in_err-look.field-0.0
+    (KnowsBelow g.F.Hash.Hashes.of false (g.F.PageFile.told c.args.desk.now.file) c.args.desk.now.free
+    c.args.child.now) c.from_residual.ensures.1
+    (never c.in_err-look.field-0.0 _ _
+    (λ k. can_look g.F.Hash.Hashes.of false (g.F.PageFile.told c.args.desk.now.file) c.args.desk.now.free
+    c.args.child.now k)
+    c.in_err-look.ensures.sound)
+
+pub returns-in_err-free_page-clause-sound : goal.returns-in_err-free_page-clause-sound
+returns-in_err-free_page-clause-sound g t c =
+    handed c.from_residual-in_err-free_page.result c.in_err-free_page.field-0.0
+    (KnowsBelow g.F.Hash.Hashes.of false (g.F.PageFile.told c.args.desk.now.file) c.args.desk.now.free
+    c.args.child.now) c.from_residual-in_err-free_page.ensures.1
+    (never c.in_err-free_page.field-0.0 _ _
+    (λ k. known_writes g.F.Hash.Hashes.of false (g.F.PageFile.told c.args.desk.now.file)
+    (g.F.PageFile.told c.look.new.file) c.args.desk.now.free c.args.child.now c.in_ok-look.ensures.same k)
+    c.in_err-free_page.ensures.sound)
+
+pub returns-clause-sound : goal.returns-clause-sound
+returns-clause-sound g t c =
+    let cs = c.children-children.result.now in
+    let high : 0 < c.level.result = omega (arith, c.if-level-eq0.false) in
+    let is = c.children-children.ensures.inner (subst (λ n. 0 < n) c.level.ensures.value high)
+    ∙ ap node.Inner (sym c.children-children.ensures.value) in
+    if_err c.shorten.result _ _
+    (λ e h. never e _ _
+    (λ k. only_below g.F.Hash.Hashes.of (g.F.PageFile.told c.free_page.new.desk.file) c.free_page.new.desk.free cs
+    c.index-children-0.result c.if-children-ne1.false c.index-children-0.is
+    (children_below g.F.Hash.Hashes.of (g.F.PageFile.told c.args.desk.now.file) (g.F.PageFile.told c.look.new.file)
+    (g.F.PageFile.told c.free_page.new.desk.file) c.args.desk.now.free c.free_page.new.desk.free c.args.child.now cs
+    c.in_ok-look.ensures.same
+    (subst (λ n. IfSome (g.F.PageFile.told c.args.desk.now.file) (λ b. HasNode b c.args.child.now.id (page_node n))) is
+    c.in_ok-look.ensures.node) c.in_ok-free_page.ensures.frees k)) h)
+    c.shorten.ensures.sound

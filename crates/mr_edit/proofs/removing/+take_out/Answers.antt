@@ -1,4 +1,4 @@
-use Rattle.std.proofs.Common.{◌≡◌, ◌<◌, ◌≤◌, ◌+◌, false, length, refl, sym, ap, subst, ◌∙◌, arith}
+use Rattle.std.proofs.Common.{◌≡◌, ◌<◌, ◌≤◌, ◌+◌, ◌-◌, false, length, refl, sym, ap, subst, ◌∙◌, arith, ◌++◌, suc, take, drop}
 use Rattle.std.specs.Prelude.{IfSome}
 use Rattle.std.specs.Option.{option_to_list}
 use Rattle.std.proofs.lemmas.List.Elements.{recursion_from_All}
@@ -12,19 +12,24 @@ use Rattle.mr_pages.specs.Walking.{page_node}
 use Rattle.mr_edit.specs.Book.{HasNode}
 use Rattle.mr_edit.specs.declared.left.Left.{Left}
 use Rattle.mr_edit.specs.Removal.{Lacks, LeavesInner, Searches}
+use Rattle.mr_edit.specs.Removable.{CanLeave, CanTakeOut}
 use Rattle.mr_edit.proofs.Levels.{AreBelow, AreOf, replaced_below}
-use Rattle.mr_edit.proofs.Searching.{NoneYet, outside, none_more, lacks_inner}
+use Rattle.mr_edit.proofs.Searching.{NoneYet, outside, none_tried, replaced_few, lacks_inner}
 use Rattle.mr_edit.proofs.Removed.{removes_leaf, lacks_leaf, removes_below}
+use Rattle.mr_edit.proofs.Looking.{can_look}
+use Rattle.mr_edit.proofs.Owners.{known_writes}
+use Rattle.mr_edit.proofs.Sought.{sought_below, leave_left}
+use Rattle.mr_edit.proofs.Sound.{never, handed}
 use Rattle.mr_edit.proofs.removing.+take_out.Goals as goal
 
 pub returns-then-at-len-clause-searches : goal.returns-then-at-len-clause-searches
 returns-then-at-len-clause-searches g t c =
-    let view = c.read.new.into in
+    let view = c.look.new.into in
     let rs = c.in_ok-records.records.items in
     let same : rs ≡ records_in view = c.in_ok-records.ensures.items ∙ c.records.ensures.value in
     let is = c.records.ensures.leaf (sym c.level-level.ensures.value ∙ c.if-level-eq0.true) ∙ ap node.Leaf (sym same) in
     let reads = subst (λ n. IfSome (g.F.PageFile.told c.args.desk.now.file)
-    (λ b. HasNode b c.args.child.now.id (page_node n))) is c.in_ok-read.ensures.node in
+    (λ b. HasNode b c.args.child.now.id (page_node n))) is c.in_ok-look.ensures.node in
     let place = c.position_of-at.ensures ∙ ap (place_of (is_numbered c.args.number)) c.deref.ensures.value in
     let past : length rs ≤ c.position_of-at.result = omega (
       arith,
@@ -32,20 +37,20 @@ returns-then-at-len-clause-searches g t c =
       c.len.ensures,
       c.in_ok-records.records.ok,
     ) in (
-      c.in_ok-read.ensures.same,
+      c.in_ok-look.ensures.same,
       refl,
-      lacks_leaf (by One g.H.Hashes.of) (g.F.PageFile.told c.args.desk.now.file)
+      lacks_leaf (by One g.F.Hash.Hashes.of) (g.F.PageFile.told c.args.desk.now.file)
           c.args.child.now c.args.number c.args.rect.now rs c.position_of-at.result reads place past,
     )
 
 pub returns-in_ok-leave_records-clause-searches : goal.returns-in_ok-leave_records-clause-searches
 returns-in_ok-leave_records-clause-searches g t c =
-    let view = c.read.new.into in
+    let view = c.look.new.into in
     let rs = c.in_ok-records.records.items in
     let same : rs ≡ records_in view = c.in_ok-records.ensures.items ∙ c.records.ensures.value in
     let is = c.records.ensures.leaf (sym c.level-level.ensures.value ∙ c.if-level-eq0.true) ∙ ap node.Leaf (sym same) in
     let reads = subst (λ n. IfSome (g.F.PageFile.told c.args.desk.now.file)
-    (λ b. HasNode b c.args.child.now.id (page_node n))) is c.in_ok-read.ensures.node in
+    (λ b. HasNode b c.args.child.now.id (page_node n))) is c.in_ok-look.ensures.node in
     let place = c.position_of-at.ensures ∙ ap (place_of (is_numbered c.args.number)) c.deref.ensures.value in
     let within : c.position_of-at.result < length rs = omega (
       arith,
@@ -53,43 +58,68 @@ returns-in_ok-leave_records-clause-searches g t c =
       c.len.ensures,
       c.in_ok-records.records.ok,
     ) in
-    removes_leaf (by One g.H.Hashes.of) c.args.root (g.F.PageFile.told c.args.desk.now.file)
-    (g.F.PageFile.told c.read.new.self) (g.F.PageFile.told c.leave_records.new.desk.file) c.args.desk.now.free
+    removes_leaf (by One g.F.Hash.Hashes.of) c.args.root (g.F.PageFile.told c.args.desk.now.file)
+    (g.F.PageFile.told c.look.new.file) (g.F.PageFile.told c.leave_records.new.desk.file) c.args.desk.now.free
     c.leave_records.new.desk.free c.args.child.now c.args.number c.args.rect.now
     rs c.remove.new.self.items c.position_of-at.result (option_to_list c.in_ok-leave_records.field-0.entry)
     c.in_ok-leave_records.field-0.aside.items
-    c.in_ok-read.ensures.same reads place within c.remove.ensures.items c.in_ok-leave_records.ensures.leaves
+    c.in_ok-look.ensures.same reads place within c.remove.ensures.items c.in_ok-leave_records.ensures.leaves
 
-pub loop-at-preserved-then-not-may_hold : goal.loop-at-preserved-then-not-may_hold
-loop-at-preserved-then-not-may_hold g t c = record {
-  same = c.loop-at.invariant.same;
-  free = c.loop-at.invariant.free;
-  none = none_more (by One g.H.Hashes.of) (g.F.PageFile.told c.read.new.self) c.children-children.result.now
-      c.args.number c.args.rect.now c.loop-at.at c.index-children-at.result c.loop-at-test.true c.index-children-at.is
-      (outside (by One g.H.Hashes.of) (g.F.PageFile.told c.read.new.self) c.index-children-at.result c.args.number
-      c.args.rect.now (c.may_hold.ensures c.if-not-may_hold.true)) c.loop-at.invariant.none;
+pub loop-n-preserved-then-not-may_hold : goal.loop-n-preserved-then-not-may_hold
+loop-n-preserved-then-not-may_hold g t c = record {
+  same = c.loop-n.invariant.same;
+  free = c.loop-n.invariant.free;
+  kept = c.loop-n.invariant.kept;
+  quiet = c.loop-n.invariant.quiet;
+  none = none_tried (by One g.F.Hash.Hashes.of) (g.F.PageFile.told c.look.new.file) c.children-children.result.now
+      c.args.number c.args.rect.now c.loop-n.n c.turn-turn.result c.tried-at.result c.index-children-at.result
+      c.tried-at.ensures (omega (arith, c.if-at-children.false)) c.index-children-at.is
+      (outside (by One g.F.Hash.Hashes.of) (g.F.PageFile.told c.look.new.file) c.index-children-at.result c.args.number
+      c.args.rect.now (c.may_hold.ensures c.if-not-may_hold.true)) c.loop-n.invariant.none;
 }
 
-pub loop-at-preserved : goal.loop-at-preserved
-loop-at-preserved g t c =
-    let d = c.index-children-at-in-loop-at.result in
-    let s = subst (Searches (by One g.H.Hashes.of) false (g.F.PageFile.told c.loop-at.desk.file) c.loop-at.desk.free
+pub loop-n-preserved : goal.loop-n-preserved
+loop-n-preserved g t c =
+    let d = c.index-children-at-in-loop-n.result in
+    let s = subst (Searches (by One g.F.Hash.Hashes.of) false (g.F.PageFile.told c.loop-n.desk.file) c.loop-n.desk.free
     (g.F.PageFile.told c.take_out.new.desk.file) c.take_out.new.desk.free d c.args.number c.args.rect.now)
     c.in_default.is c.in_ok-found.ensures.searches in
     record {
-      same = s.0 ∙ c.loop-at.invariant.same;
-      free = s.1 ∙ c.loop-at.invariant.free;
-      none = none_more (by One g.H.Hashes.of) (g.F.PageFile.told c.read.new.self) c.children-children.result.now
-          c.args.number c.args.rect.now c.loop-at.at d c.loop-at-test.true c.index-children-at-in-loop-at.is
-          (subst (λ o. Lacks (by One g.H.Hashes.of) o d c.args.number c.args.rect.now) c.loop-at.invariant.same s.2)
-          c.loop-at.invariant.none;
+      same = s.0 ∙ c.loop-n.invariant.same;
+      free = s.1 ∙ c.loop-n.invariant.free;
+      kept = g.met.F.PageFile.kept_on c.look.new.file c.loop-n.desk.file c.take_out.new.desk.file
+          c.loop-n.invariant.kept c.take_out.ensures.kept;
+      quiet = c.in_ok-found.ensures.quiet ∙ c.loop-n.invariant.quiet;
+      none = none_tried (by One g.F.Hash.Hashes.of) (g.F.PageFile.told c.look.new.file) c.children-children.result.now
+          c.args.number c.args.rect.now c.loop-n.n c.turn-turn.result c.tried-at.result d
+          c.tried-at.ensures (omega (arith, c.if-at-children.false)) c.index-children-at-in-loop-n.is
+          (subst (λ o. Lacks (by One g.F.Hash.Hashes.of) o d c.args.number c.args.rect.now) c.loop-n.invariant.same s.2)
+          c.loop-n.invariant.none;
     }
+
+pub leave-requires-clause-few : goal.leave-requires-clause-few
+leave-requires-clause-few g t c =
+    let cs = c.children-children.result.now in
+    let within : c.tried-at.result < length cs = omega (arith, c.if-at-children.false) in
+    let few : length cs ≤ 64 = subst (λ us. length us ≤ 64) (sym c.children-children.ensures.value)
+    c.children-children.ensures.few in
+    let fewer = replaced_few c.tried-at.result cs c.in-Some.left.entry within in
+    let all : length (take c.tried-at.result cs ++ (option_to_list c.in-Some.left.entry
+    ++ drop (suc c.tried-at.result) cs)) ≤ 64 = omega (arith, fewer, few) in
+    subst (λ us. length us ≤ 64) (sym (c.deref-in-loop-n.ensures.value ∙ c.in_ok-rest.ensures)) all
+
+pub returns-in-loop-n-clause-kept : goal.returns-in-loop-n-clause-kept
+returns-in-loop-n-clause-kept g t c =
+    g.met.F.PageFile.kept_on c.args.desk.now.file c.look.new.file c.leave.new.desk.file c.in_ok-look.ensures.kept
+    (g.met.F.PageFile.kept_on c.look.new.file c.loop-n.desk.file c.leave.new.desk.file c.loop-n.invariant.kept
+    (g.met.F.PageFile.kept_on c.loop-n.desk.file c.take_out.new.desk.file c.leave.new.desk.file
+    c.in_ok-found.ensures.kept c.in_ok-left.ensures.kept))
 
 pub leave-requires-clause-below : goal.leave-requires-clause-below
 leave-requires-clause-below g t c =
     let cs = c.children-children.result.now in
-    let view = c.read.new.into in
-    let d = c.index-children-at-in-loop-at.result in
+    let view = c.look.new.into in
+    let d = c.index-children-at-in-loop-n.result in
     let shown : AreBelow (level_of view) (children_in view) = recursion_from_All
     (λ (x : Child). x.level + 1 ≡ level_of view) (children_in view) c.children-children.ensures.alike in
     let below : AreBelow c.level-level.result cs =
@@ -98,53 +128,119 @@ leave-requires-clause-below g t c =
     let levels : AreOf d.level (option_to_list c.in-Some.left.entry) =
     subst (λ o. IfSome o (λ (l : Left). AreOf d.level (option_to_list l.entry))) c.in-Some.is
     (c.in_ok-found.ensures.level refl) in
-    subst (AreBelow c.level-level.result) (sym (c.deref-in-loop-at.ensures.value ∙ c.in_ok-rest.ensures))
-    (replaced_below c.level-level.result c.loop-at.at cs (option_to_list c.in-Some.left.entry) d below
-    c.loop-at-test.true c.index-children-at-in-loop-at.is levels)
+    subst (AreBelow c.level-level.result) (sym (c.deref-in-loop-n.ensures.value ∙ c.in_ok-rest.ensures))
+    (replaced_below c.level-level.result c.tried-at.result cs (option_to_list c.in-Some.left.entry) d below
+    (omega (arith, c.if-at-children.false)) c.index-children-at-in-loop-n.is levels)
 
-pub returns-in-loop-at-clause-searches : goal.returns-in-loop-at-clause-searches
-returns-in-loop-at-clause-searches g t c =
-    let view = c.read.new.into in
+pub returns-in-loop-n-clause-searches : goal.returns-in-loop-n-clause-searches
+returns-in-loop-n-clause-searches g t c =
+    let view = c.look.new.into in
     let cs = c.children-children.result.now in
     let high : 0 < c.level-level.result = omega (arith, c.if-level-eq0.false) in
     let is = c.children-children.ensures.inner (subst (λ n. 0 < n) c.level-level.ensures.value high)
     ∙ ap node.Inner (sym c.children-children.ensures.value) in
     let reads = subst (λ n. IfSome (g.F.PageFile.told c.args.desk.now.file)
-    (λ b. HasNode b c.args.child.now.id (page_node n))) is c.in_ok-read.ensures.node in
-    let d = c.index-children-at-in-loop-at.result in
+    (λ b. HasNode b c.args.child.now.id (page_node n))) is c.in_ok-look.ensures.node in
+    let d = c.index-children-at-in-loop-n.result in
     let l = c.in-Some.left in
     let out = c.in_ok-left.left in
-    let back = c.loop-at.invariant.same ∙ c.in_ok-read.ensures.same in
-    removes_below (by One g.H.Hashes.of) c.args.root (g.F.PageFile.told c.args.desk.now.file)
-    (g.F.PageFile.told c.loop-at.desk.file) (g.F.PageFile.told c.take_out.new.desk.file)
+    let back = c.loop-n.invariant.same ∙ c.in_ok-look.ensures.same in
+    removes_below (by One g.F.Hash.Hashes.of) c.args.root (g.F.PageFile.told c.args.desk.now.file)
+    (g.F.PageFile.told c.loop-n.desk.file) (g.F.PageFile.told c.take_out.new.desk.file)
     (g.F.PageFile.told c.leave.new.desk.file)
-    c.args.desk.now.free c.loop-at.desk.free c.take_out.new.desk.free c.leave.new.desk.free c.args.child.now
-    c.args.number c.args.rect.now c.loop-at.at cs
-    (option_to_list l.entry) (option_to_list out.entry) l.aside.items out.aside.items d back c.loop-at.invariant.free
-    reads c.loop-at-test.true c.index-children-at-in-loop-at.is
-    (subst (λ o. NoneYet (by One g.H.Hashes.of) o cs c.args.number c.args.rect.now c.loop-at.at)
-    c.in_ok-read.ensures.same c.loop-at.invariant.none)
-    (subst (Searches (by One g.H.Hashes.of) false (g.F.PageFile.told c.loop-at.desk.file) c.loop-at.desk.free
+    c.args.desk.now.free c.loop-n.desk.free c.take_out.new.desk.free c.leave.new.desk.free c.args.child.now
+    c.args.number c.args.rect.now c.tried-at.result cs
+    (option_to_list l.entry) (option_to_list out.entry) l.aside.items out.aside.items d back c.loop-n.invariant.free
+    reads (omega (arith, c.if-at-children.false)) c.index-children-at-in-loop-n.is
+    (subst (Searches (by One g.F.Hash.Hashes.of) false (g.F.PageFile.told c.loop-n.desk.file) c.loop-n.desk.free
     (g.F.PageFile.told c.take_out.new.desk.file) c.take_out.new.desk.free d c.args.number c.args.rect.now)
     c.in-Some.is c.in_ok-found.ensures.searches)
-    (subst (λ us. LeavesInner (by One g.H.Hashes.of) c.args.root (g.F.PageFile.told c.take_out.new.desk.file)
+    (subst (λ us. LeavesInner (by One g.F.Hash.Hashes.of) c.args.root (g.F.PageFile.told c.take_out.new.desk.file)
     c.take_out.new.desk.free (g.F.PageFile.told c.leave.new.desk.file) c.leave.new.desk.free c.args.child.now.id us
     l.aside.items (option_to_list out.entry) out.aside.items)
-    (c.deref-in-loop-at.ensures.value ∙ c.in_ok-rest.ensures) c.in_ok-left.ensures.leaves)
+    (c.deref-in-loop-n.ensures.value ∙ c.in_ok-rest.ensures) c.in_ok-left.ensures.leaves)
 
-pub returns-after-loop-at-clause-searches : goal.returns-after-loop-at-clause-searches
-returns-after-loop-at-clause-searches g t c =
-    let view = c.read.new.into in
+pub returns-after-loop-n-clause-searches : goal.returns-after-loop-n-clause-searches
+returns-after-loop-n-clause-searches g t c =
+    let view = c.look.new.into in
     let cs = c.children-children.result.now in
     let high : 0 < c.level-level.result = omega (arith, c.if-level-eq0.false) in
     let is = c.children-children.ensures.inner (subst (λ n. 0 < n) c.level-level.ensures.value high)
     ∙ ap node.Inner (sym c.children-children.ensures.value) in
     let reads = subst (λ n. IfSome (g.F.PageFile.told c.args.desk.now.file)
-    (λ b. HasNode b c.args.child.now.id (page_node n))) is c.in_ok-read.ensures.node in (
-      c.loop-at.invariant.same ∙ c.in_ok-read.ensures.same,
-      c.loop-at.invariant.free,
-      lacks_inner (by One g.H.Hashes.of) (g.F.PageFile.told c.args.desk.now.file) c.args.child.now cs c.args.number
-          c.args.rect.now c.loop-at.at reads (omega (arith, c.loop-at-test.false))
-          (subst (λ o. NoneYet (by One g.H.Hashes.of) o cs c.args.number c.args.rect.now c.loop-at.at)
-          c.in_ok-read.ensures.same c.loop-at.invariant.none),
+    (λ b. HasNode b c.args.child.now.id (page_node n))) is c.in_ok-look.ensures.node in (
+      c.loop-n.invariant.same ∙ c.in_ok-look.ensures.same,
+      c.loop-n.invariant.free,
+      lacks_inner (by One g.F.Hash.Hashes.of) (g.F.PageFile.told c.args.desk.now.file) c.args.child.now cs c.args.number
+          c.args.rect.now (c.loop-n.n - 1) reads (omega (arith, c.loop-n-test.false))
+          (subst (λ o. NoneYet (by One g.F.Hash.Hashes.of) o cs c.args.number c.args.rect.now (c.loop-n.n - 1))
+          c.in_ok-look.ensures.same c.loop-n.invariant.none),
     )
+
+pub returns-in_err-look-clause-sound : goal.returns-in_err-look-clause-sound
+returns-in_err-look-clause-sound g t c =
+    handed c.from_residual.result c.in_err-look.field-0.0
+    (CanTakeOut g.F.Hash.Hashes.of c.args.root (g.F.PageFile.told c.args.desk.now.file) c.args.desk.now.free
+    c.args.child.now c.args.number c.args.rect.now) c.from_residual.ensures.1
+    (never c.in_err-look.field-0.0 _ _
+    (λ k. can_look g.F.Hash.Hashes.of c.args.root (g.F.PageFile.told c.args.desk.now.file) c.args.desk.now.free
+    c.args.child.now k.below)
+    c.in_err-look.ensures.sound)
+
+pub returns-in_err-leave_records-clause-sound : goal.returns-in_err-leave_records-clause-sound
+returns-in_err-leave_records-clause-sound g t c =
+    handed c.from_residual-in_err-leave_records.result c.in_err-leave_records.field-0.0
+    (CanTakeOut g.F.Hash.Hashes.of c.args.root (g.F.PageFile.told c.args.desk.now.file) c.args.desk.now.free
+    c.args.child.now c.args.number c.args.rect.now) c.from_residual-in_err-leave_records.ensures.1
+    (never c.in_err-leave_records.field-0.0 _ _
+    (λ k. known_writes g.F.Hash.Hashes.of c.args.root (g.F.PageFile.told c.args.desk.now.file)
+    (g.F.PageFile.told c.look.new.file) c.args.desk.now.free c.args.child.now c.in_ok-look.ensures.same k.below)
+    c.in_err-leave_records.ensures.sound)
+
+pub returns-in_err-found-clause-sound : goal.returns-in_err-found-clause-sound
+returns-in_err-found-clause-sound g t c =
+    let view = c.look.new.into in
+    let cs = c.children-children.result.now in
+    let high : 0 < c.level-level.result = omega (arith, c.if-level-eq0.false) in
+    let is = c.children-children.ensures.inner (subst (λ n. 0 < n) c.level-level.ensures.value high)
+    ∙ ap node.Inner (sym c.children-children.ensures.value) in
+    let reads = subst (λ n. IfSome (g.F.PageFile.told c.args.desk.now.file)
+    (λ b. HasNode b c.args.child.now.id (page_node n))) is c.in_ok-look.ensures.node in
+    let d = c.index-children-at-in-loop-n.result in
+    let back = c.loop-n.invariant.same ∙ c.in_ok-look.ensures.same in
+    handed c.from_residual-in_err-found.result c.in_err-found.field-0.0
+    (CanTakeOut g.F.Hash.Hashes.of c.args.root (g.F.PageFile.told c.args.desk.now.file) c.args.desk.now.free
+    c.args.child.now c.args.number c.args.rect.now) c.from_residual-in_err-found.ensures.1
+    (never c.in_err-found.field-0.0 _ _
+    (λ k. sought_below g.F.Hash.Hashes.of c.args.root (g.F.PageFile.told c.args.desk.now.file)
+    (g.F.PageFile.told c.loop-n.desk.file) c.args.desk.now.free c.loop-n.desk.free c.args.child.now c.args.number
+    c.args.rect.now c.tried-at.result cs d back c.loop-n.invariant.free reads (omega (arith, c.if-at-children.false))
+    c.index-children-at-in-loop-n.is k)
+    c.in_err-found.ensures.sound)
+
+pub returns-in_err-left-clause-sound : goal.returns-in_err-left-clause-sound
+returns-in_err-left-clause-sound g t c =
+    let view = c.look.new.into in
+    let cs = c.children-children.result.now in
+    let high : 0 < c.level-level.result = omega (arith, c.if-level-eq0.false) in
+    let is = c.children-children.ensures.inner (subst (λ n. 0 < n) c.level-level.ensures.value high)
+    ∙ ap node.Inner (sym c.children-children.ensures.value) in
+    let reads = subst (λ n. IfSome (g.F.PageFile.told c.args.desk.now.file)
+    (λ b. HasNode b c.args.child.now.id (page_node n))) is c.in_ok-look.ensures.node in
+    let d = c.index-children-at-in-loop-n.result in
+    let back = c.loop-n.invariant.same ∙ c.in_ok-look.ensures.same in
+    handed c.from_residual-in_err-left.result c.in_err-left.field-0.0
+    (CanTakeOut g.F.Hash.Hashes.of c.args.root (g.F.PageFile.told c.args.desk.now.file) c.args.desk.now.free
+    c.args.child.now c.args.number c.args.rect.now) c.from_residual-in_err-left.ensures.1
+    (never c.in_err-left.field-0.0 _ _
+    (λ k. subst (CanLeave g.F.Hash.Hashes.of (g.F.PageFile.told c.take_out.new.desk.file) c.take_out.new.desk.free
+    c.args.child.now.id) (sym (c.deref-in-loop-n.ensures.value ∙ c.in_ok-rest.ensures))
+    (leave_left g.F.Hash.Hashes.of c.args.root (g.F.PageFile.told c.args.desk.now.file)
+    (g.F.PageFile.told c.loop-n.desk.file) (g.F.PageFile.told c.take_out.new.desk.file) c.args.desk.now.free
+    c.loop-n.desk.free c.take_out.new.desk.free c.args.child.now c.args.number c.args.rect.now c.tried-at.result cs
+    (option_to_list c.in-Some.left.entry) c.in-Some.left.aside.items d back c.loop-n.invariant.free reads
+    (omega (arith, c.if-at-children.false)) c.index-children-at-in-loop-n.is
+    (subst (Searches (by One g.F.Hash.Hashes.of) false (g.F.PageFile.told c.loop-n.desk.file) c.loop-n.desk.free
+    (g.F.PageFile.told c.take_out.new.desk.file) c.take_out.new.desk.free d c.args.number c.args.rect.now)
+    c.in-Some.is c.in_ok-found.ensures.searches) k))
+    c.in_err-left.ensures.sound)

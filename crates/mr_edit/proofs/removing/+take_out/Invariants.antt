@@ -1,4 +1,4 @@
-use Rattle.std.proofs.Common.{◌≡◌}
+use Rattle.std.proofs.Common.{◌≡◌, ◌-◌}
 use Rattle.mr_record.specs.declared.version.Version.TheVariants.{One}
 use Rattle.mr_tree.specs.Digest.{by}
 use Rattle.mr_edit.proofs.Searching.{NoneYet}
@@ -8,9 +8,12 @@ abbrev pub decreases-take_out : goal.decreases-take_out
 decreases-take_out g l = l.child.now.level
 
 -- the first ones do not have it, and nothing was done
-abbrev pub invariant-loop-at : goal.invariant-loop-at
-invariant-loop-at g l = record {
+abbrev pub invariant-loop-n : goal.invariant-loop-n
+invariant-loop-n g l = record {
   same : g.F.PageFile.told l.desk.file ≡ g.F.PageFile.told l.initial.desk.file;
   free : l.desk.free ≡ l.initial.desk.free;
-  none : NoneYet (by One g.H.Hashes.of) (g.F.PageFile.told l.initial.desk.file) l.children l.number l.rect l.at;
+  kept : g.F.PageFile.kept l.initial.desk.file l.desk.file;
+  quiet : g.F.PageFile.faults l.desk.file ≡ g.F.PageFile.faults l.initial.desk.file;
+  none : NoneYet (by One g.F.Hash.Hashes.of) (g.F.PageFile.told l.initial.desk.file) l.children l.number l.rect
+      (l.n - 1);
 }

@@ -9,7 +9,7 @@ use Rattle.mr_edit.proofs.removing.leave_leaf.Goals as goal
 pub returns-in_ok-free_page-clause-leaves : goal.returns-in_ok-free_page-clause-leaves
 returns-in_ok-free_page-clause-leaves g c =
     let few : length c.args.records.items < 6 = omega arith in
-    leaf_gone (by One g.H.Hashes.of) (g.F.PageFile.told c.args.desk.now.file)
+    leaf_gone (by One g.F.Hash.Hashes.of) (g.F.PageFile.told c.args.desk.now.file)
     (g.F.PageFile.told c.free_page.new.desk.file) c.args.desk.now.free c.free_page.new.desk.free c.args.page
     c.args.records.items
     few c.in_ok-free_page.ensures.frees
@@ -17,11 +17,11 @@ returns-in_ok-free_page-clause-leaves g c =
 pub returns-in_ok-entry-clause-leaves : goal.returns-in_ok-entry-clause-leaves
 returns-in_ok-entry-clause-leaves g c =
     let many : 6 ≤ length c.args.records.items = omega arith in
-    leaf_stayed (by One g.H.Hashes.of) (g.F.PageFile.told c.args.desk.now.file)
+    leaf_stayed (by One g.F.Hash.Hashes.of) (g.F.PageFile.told c.args.desk.now.file)
     (g.F.PageFile.told c.write_leaf.new.desk.file) c.args.desk.now.free c.write_leaf.new.desk.free c.args.page
     c.args.records.items c.new.result.items c.in_ok-entry.entry
     many c.new.ensures.items
-    (subst (λ us. Writes (by One g.H.Hashes.of) (g.F.PageFile.told c.args.desk.now.file) c.args.desk.now.free
+    (subst (λ us. Writes (by One g.F.Hash.Hashes.of) (g.F.PageFile.told c.args.desk.now.file) c.args.desk.now.free
     (g.F.PageFile.told c.write_leaf.new.desk.file) c.write_leaf.new.desk.free c.args.page (node.Leaf us)
     c.in_ok-entry.entry)
     c.deref.ensures.value c.in_ok-entry.ensures.writes)

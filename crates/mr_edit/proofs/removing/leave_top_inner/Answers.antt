@@ -1,19 +1,56 @@
 use Rattle.mr_record.specs.declared.version.Version.TheVariants.{One}
 use Rattle.mr_tree.specs.Digest.{by}
+use Rattle.mr_edit.specs.Removable.{CanLeave}
 use Rattle.mr_edit.proofs.Leaving.{top_inner_short, top_inner_stayed}
+use Rattle.mr_edit.proofs.Owners.{leave_writes, left_below, only_below}
+use Rattle.mr_edit.proofs.Sound.{never, handed}
 use Rattle.mr_edit.proofs.removing.leave_top_inner.Goals as goal
 
-pub returns-in_ok-entry : goal.returns-in_ok-entry
-returns-in_ok-entry g c =
-    top_inner_short (by One g.H.Hashes.of) (g.F.PageFile.told c.args.desk.now.file)
+pub returns-in_ok-entry-clause-leaves : goal.returns-in_ok-entry-clause-leaves
+returns-in_ok-entry-clause-leaves g c =
+    top_inner_short (by One g.F.Hash.Hashes.of) (g.F.PageFile.told c.args.desk.now.file)
     (g.F.PageFile.told c.free_page.new.desk.file) (g.F.PageFile.told c.shorten.new.desk.file) c.args.desk.now.free
     c.free_page.new.desk.free c.shorten.new.desk.free
     c.args.page c.args.children.now c.args.aside.items c.index-children-0.result c.in_ok-entry.entry
-    c.if-children-eq1.true c.index-children-0.is c.in_ok-free_page.ensures.frees c.in_ok-entry.ensures
+    c.if-children-eq1.true c.index-children-0.is c.in_ok-free_page.ensures.frees c.in_ok-entry.ensures.shortens
 
-pub returns-in_ok-entry-2 : goal.returns-in_ok-entry-2
-returns-in_ok-entry-2 g c =
-    top_inner_stayed (by One g.H.Hashes.of) (g.F.PageFile.told c.args.desk.now.file)
+pub returns-in_ok-entry-2-clause-leaves : goal.returns-in_ok-entry-2-clause-leaves
+returns-in_ok-entry-2-clause-leaves g c =
+    top_inner_stayed (by One g.F.Hash.Hashes.of) (g.F.PageFile.told c.args.desk.now.file)
     (g.F.PageFile.told c.write_inner.new.desk.file) c.args.desk.now.free c.write_inner.new.desk.free
     c.args.page c.args.children.now c.args.aside.items c.in_ok-entry-2.entry c.if-children-eq1.false
     c.in_ok-entry-2.ensures.writes
+
+pub returns-in_err-free_page-clause-sound : goal.returns-in_err-free_page-clause-sound
+returns-in_err-free_page-clause-sound g c =
+    handed c.from_residual.result c.in_err-free_page.field-0.0
+    (CanLeave g.F.Hash.Hashes.of (g.F.PageFile.told c.args.desk.now.file) c.args.desk.now.free
+    c.args.page c.args.children.now) c.from_residual.ensures.1
+    (never c.in_err-free_page.field-0.0 _ _
+    (λ k. leave_writes g.F.Hash.Hashes.of (g.F.PageFile.told c.args.desk.now.file) c.args.desk.now.free
+    c.args.page c.args.children.now k)
+    c.in_err-free_page.ensures.sound)
+
+pub returns-in_err-entry-clause-sound : goal.returns-in_err-entry-clause-sound
+returns-in_err-entry-clause-sound g c =
+    handed c.from_residual-in_err-entry.result c.in_err-entry.field-0.0
+    (CanLeave g.F.Hash.Hashes.of (g.F.PageFile.told c.args.desk.now.file) c.args.desk.now.free
+    c.args.page c.args.children.now) c.from_residual-in_err-entry.ensures.1
+    (never c.in_err-entry.field-0.0 _ _
+    (λ k. only_below g.F.Hash.Hashes.of
+    (g.F.PageFile.told c.free_page.new.desk.file) c.free_page.new.desk.free c.args.children.now
+    c.index-children-0.result c.if-children-eq1.true c.index-children-0.is
+    (left_below g.F.Hash.Hashes.of (g.F.PageFile.told c.args.desk.now.file)
+    (g.F.PageFile.told c.free_page.new.desk.file) c.args.desk.now.free c.free_page.new.desk.free c.args.page
+    c.args.children.now c.in_ok-free_page.ensures.frees k))
+    c.in_err-entry.ensures.sound)
+
+pub returns-in_err-entry-2-clause-sound : goal.returns-in_err-entry-2-clause-sound
+returns-in_err-entry-2-clause-sound g c =
+    handed c.from_residual-in_err-entry-2.result c.in_err-entry-2.field-0.0
+    (CanLeave g.F.Hash.Hashes.of (g.F.PageFile.told c.args.desk.now.file) c.args.desk.now.free
+    c.args.page c.args.children.now) c.from_residual-in_err-entry-2.ensures.1
+    (never c.in_err-entry-2.field-0.0 _ _
+    (λ k. leave_writes g.F.Hash.Hashes.of (g.F.PageFile.told c.args.desk.now.file) c.args.desk.now.free
+    c.args.page c.args.children.now k)
+    c.in_err-entry-2.ensures.sound)

@@ -1,12 +1,54 @@
-use Rattle.std.proofs.Common.{sym, ◌∙◌}
+use Rattle.std.proofs.Common.{sym, subst, ◌∙◌}
 use Rattle.mr_record.specs.declared.version.Version.TheVariants.{One}
 use Rattle.mr_tree.specs.Digest.{by}
+use Rattle.mr_batch.specs.declared.change.Change.TheVariants.{Remove}
+use Rattle.mr_edit.specs.Changing.{CanChange}
+use Rattle.mr_edit.specs.Removable.{CanDelete}
+use Rattle.mr_edit.proofs.Admitted.{lists_number, remove_delete, remove_known}
+use Rattle.mr_edit.proofs.Dropped.{deletes_then}
+use Rattle.mr_edit.proofs.Sound.{never, handed}
 use Rattle.mr_edit.proofs.Turns.{change_removed}
 use Rattle.mr_edit.proofs.replaying.remove.Goals as goal
 
-pub returns : goal.returns
-returns g c =
-    change_removed (by One g.H.Hashes.of) (g.F.PageFile.told c.args.desk.now.file)
+pub returns-clause-changes : goal.returns-clause-changes
+returns-clause-changes g c =
+    let told = g.F.PageFile.told c.args.desk.now.file in
+    let then = g.F.PageFile.told c.learn_once.new.desk.file in
+    change_removed (by One g.F.Hash.Hashes.of) told
     (g.F.PageFile.told c.delete.new.desk.file) c.args.desk.now.free c.delete.new.desk.free c.args.root c.in_ok-root.root
     c.args.dir.now c.take.new.self c.args.number c.in-Some.rect c.take.result (sym c.rect.ensures ∙ c.in-Some.is)
-    c.take.ensures.value c.in_ok-root.ensures c.take.ensures.taken c.take.ensures.counted
+    c.take.ensures.value
+    (deletes_then (by One g.F.Hash.Hashes.of) told then (g.F.PageFile.told c.delete.new.desk.file)
+    c.args.desk.now.free c.learn_once.new.desk.free c.delete.new.desk.free c.args.root c.in_ok-root.root c.args.number
+    c.in-Some.rect c.learn_once.ensures.same c.learn_once.ensures.free c.in_ok-root.ensures.deletes)
+    c.take.ensures.taken c.take.ensures.counted
+
+pub returns-in_default-clause-sound : goal.returns-in_default-clause-sound
+returns-in_default-clause-sound g c =
+    lists_number g.F.Hash.Hashes.of (g.F.PageFile.told c.args.desk.now.file) c.args.desk.now.free c.args.root
+    c.args.dir.now c.args.number (sym c.rect.ensures ∙ c.in_default.is)
+
+pub returns-in_err-learn_once-clause-sound : goal.returns-in_err-learn_once-clause-sound
+returns-in_err-learn_once-clause-sound g c =
+    let hash = g.F.Hash.Hashes.of in
+    let told = g.F.PageFile.told c.args.desk.now.file in
+    handed c.from_residual.result c.in_err-learn_once.field-0.0
+    (CanChange hash told c.args.desk.now.free c.args.root c.args.dir.now (Remove c.args.number))
+    c.from_residual.ensures.1
+    (never c.in_err-learn_once.field-0.0 _ _
+    (remove_known hash told c.args.desk.now.free c.args.root c.args.dir.now c.args.number c.in-Some.rect
+    (sym c.rect.ensures ∙ c.in-Some.is)) c.in_err-learn_once.ensures.sound)
+
+pub returns-in_err-root-clause-sound : goal.returns-in_err-root-clause-sound
+returns-in_err-root-clause-sound g c =
+    let hash = g.F.Hash.Hashes.of in
+    let told = g.F.PageFile.told c.args.desk.now.file in
+    handed c.from_residual-in_err-root.result c.in_err-root.field-0.0
+    (CanChange hash told c.args.desk.now.free c.args.root c.args.dir.now (Remove c.args.number))
+    c.from_residual-in_err-root.ensures.1
+    (never c.in_err-root.field-0.0 _ _
+    (λ k. subst (λ o. CanDelete hash o c.learn_once.new.desk.free c.args.root c.args.number c.in-Some.rect)
+    (sym c.learn_once.ensures.same)
+    (subst (λ f. CanDelete hash told f c.args.root c.args.number c.in-Some.rect) (sym c.learn_once.ensures.free)
+    (remove_delete hash told c.args.desk.now.free c.args.root c.args.dir.now c.args.number c.in-Some.rect
+    (sym c.rect.ensures ∙ c.in-Some.is) k))) c.in_err-root.ensures.sound)

@@ -1,24 +1,47 @@
-use Rattle.std.proofs.Common.{arith}
+use Rattle.std.proofs.Common.{refl, ◌∙◌, arith}
 use Rattle.mr_record.specs.declared.version.Version.TheVariants.{One}
 use Rattle.mr_tree.specs.Digest.{by}
+use Rattle.mr_edit.specs.Changing.{CanReplay}
+use Rattle.mr_edit.proofs.Admitted.{next_change}
+use Rattle.mr_edit.proofs.Sound.{never, handed}
 use Rattle.mr_edit.proofs.Turns.{replays_none, replays_more, replays_all}
 use Rattle.mr_edit.proofs.replaying.replay.Goals as goal
 
 pub loop-i-init : goal.loop-i-init
-loop-i-init g c =
-    replays_none (by One g.H.Hashes.of) (g.F.PageFile.told c.args.desk.now.file) c.args.desk.now.free c.args.root
-    c.args.dir.now c.args.batch.now
+loop-i-init g c = record {
+  replays = replays_none (by One g.F.Hash.Hashes.of) (g.F.PageFile.told c.args.desk.now.file) c.args.desk.now.free
+      c.args.root c.args.dir.now c.args.batch.now;
+  kept = g.met.F.PageFile.kept_self c.args.desk.now.file;
+  quiet = refl;
+}
 
 pub loop-i-preserved : goal.loop-i-preserved
-loop-i-preserved g c =
-    replays_more (by One g.H.Hashes.of) (g.F.PageFile.told c.args.desk.now.file) (g.F.PageFile.told c.loop-i.desk.file)
-    (g.F.PageFile.told c.make_change.new.desk.file) c.args.desk.now.free c.loop-i.desk.free
-    c.make_change.new.desk.free c.args.root c.loop-i.root c.in_ok-root.root c.args.dir.now c.loop-i.dir
-    c.make_change.new.dir c.args.batch.now c.loop-i.i c.change.result.now (omega arith) c.change.ensures
-    c.loop-i.invariant c.in_ok-root.ensures
+loop-i-preserved g c = record {
+  replays = replays_more (by One g.F.Hash.Hashes.of) (g.F.PageFile.told c.args.desk.now.file)
+      (g.F.PageFile.told c.loop-i.desk.file) (g.F.PageFile.told c.make_change.new.desk.file) c.args.desk.now.free
+      c.loop-i.desk.free c.make_change.new.desk.free c.args.root c.loop-i.root c.in_ok-root.root c.args.dir.now
+      c.loop-i.dir c.make_change.new.dir c.args.batch.now c.loop-i.i c.change.result.now (omega arith)
+      c.change.ensures c.loop-i.invariant.replays c.in_ok-root.ensures.changes;
+  kept = g.met.F.PageFile.kept_on c.args.desk.now.file c.loop-i.desk.file c.make_change.new.desk.file
+      c.loop-i.invariant.kept c.make_change.ensures.kept;
+  quiet = c.in_ok-root.ensures.quiet ∙ c.loop-i.invariant.quiet;
+}
 
-pub returns : goal.returns
-returns g c =
-    replays_all (by One g.H.Hashes.of) (g.F.PageFile.told c.args.desk.now.file) (g.F.PageFile.told c.loop-i.desk.file)
+pub returns-in_err-root-clause-sound : goal.returns-in_err-root-clause-sound
+returns-in_err-root-clause-sound g c =
+    let hash = g.F.Hash.Hashes.of in
+    let told = g.F.PageFile.told c.args.desk.now.file in
+    handed c.from_residual.result c.in_err-root.field-0.0
+    (CanReplay hash told c.args.desk.now.free c.args.root c.args.dir.now c.args.batch.now)
+    c.from_residual.ensures.1
+    (never c.in_err-root.field-0.0 _ _
+    (next_change hash told (g.F.PageFile.told c.loop-i.desk.file) c.args.desk.now.free c.loop-i.desk.free
+    c.args.root c.loop-i.root c.args.dir.now c.loop-i.dir c.args.batch.now c.loop-i.i c.change.result.now
+    (omega arith) c.change.ensures c.loop-i.invariant.replays) c.in_err-root.ensures.sound)
+
+pub returns-clause-replays : goal.returns-clause-replays
+returns-clause-replays g c =
+    replays_all (by One g.F.Hash.Hashes.of) (g.F.PageFile.told c.args.desk.now.file) (g.F.PageFile.told
+    c.loop-i.desk.file)
     c.args.desk.now.free c.loop-i.desk.free c.args.root c.loop-i.root c.args.dir.now c.loop-i.dir c.args.batch.now
-    c.loop-i.i (omega arith) c.loop-i.invariant
+    c.loop-i.i (omega arith) c.loop-i.invariant.replays

@@ -1,3 +1,4 @@
+use Rattle.std.proofs.Common.{◌≡◌}
 use Rattle.mr_record.specs.declared.version.Version.TheVariants.{One}
 use Rattle.mr_tree.specs.Digest.{by}
 use Rattle.mr_edit.proofs.Turns.{ReplaysFirst}
@@ -5,6 +6,9 @@ use Rattle.mr_edit.proofs.replaying.replay.Given as goal
 
 -- the first ones were made
 abbrev pub invariant-loop-i : goal.invariant-loop-i
-invariant-loop-i g l =
-    ReplaysFirst (by One g.H.Hashes.of) (g.F.PageFile.told l.initial.desk.file) l.initial.desk.free l.initial.root
-    l.initial.dir (g.F.PageFile.told l.desk.file) l.desk.free l.root l.dir l.batch l.i
+invariant-loop-i g l = record {
+  replays : ReplaysFirst (by One g.F.Hash.Hashes.of) (g.F.PageFile.told l.initial.desk.file) l.initial.desk.free
+      l.initial.root l.initial.dir (g.F.PageFile.told l.desk.file) l.desk.free l.root l.dir l.batch l.i;
+  kept : g.F.PageFile.kept l.initial.desk.file l.desk.file;
+  quiet : g.F.PageFile.faults l.desk.file ≡ g.F.PageFile.faults l.initial.desk.file;
+}

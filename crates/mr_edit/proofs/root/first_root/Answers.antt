@@ -1,15 +1,32 @@
 use Rattle.std.proofs.Common.{refl}
-use Rattle.std.proofs.lemmas.Result.{IfOk-weaker}
+use Rattle.std.proofs.lemmas.Result.{IfOk-weaker, IfErr-weaker}
 use Rattle.mr_record.specs.declared.version.Version.TheVariants.{One}
 use Rattle.mr_tree.specs.Digest.{by}
+use Rattle.mr_edit.specs.Growing.{CanAdd}
+use Rattle.mr_edit.proofs.Growth.{add_take, add_write}
 use Rattle.mr_edit.proofs.Roots.{root_first}
+use Rattle.mr_edit.proofs.Sound.{never, handed}
 use Rattle.mr_edit.proofs.root.first_root.Goals as goal
 
-pub returns : goal.returns
-returns g c =
+pub returns-clause-inserts : goal.returns-clause-inserts
+returns-clause-inserts g c =
     IfOk-weaker c.write_leaf.result _ _
-    (λ e w. root_first (by One g.H.Hashes.of) (g.F.PageFile.told c.args.desk.now.file)
+    (λ e w. root_first (by One g.F.Hash.Hashes.of) (g.F.PageFile.told c.args.desk.now.file)
     (g.F.PageFile.told c.take_page.new.desk.file) (g.F.PageFile.told c.write_leaf.new.desk.file)
     c.args.desk.now.free c.take_page.new.desk.free c.write_leaf.new.desk.free c.in_ok-page.page _ c.args.one.now e refl
     c.in_ok-page.ensures.takes w)
     c.write_leaf.ensures.writes
+
+pub returns-in_err-page-clause-sound : goal.returns-in_err-page-clause-sound
+returns-in_err-page-clause-sound g c =
+    let told = g.F.PageFile.told c.args.desk.now.file in
+    handed c.from_residual.result c.in_err-page.field-0.0 (CanAdd told c.args.desk.now.free) c.from_residual.ensures.1
+    (never c.in_err-page.field-0.0 _ _ (add_take told c.args.desk.now.free) c.in_err-page.ensures.sound)
+
+pub returns-clause-sound : goal.returns-clause-sound
+returns-clause-sound g c =
+    let told = g.F.PageFile.told c.args.desk.now.file in
+    IfErr-weaker c.write_leaf.result _ _
+    (λ e h. never e _ _ (add_write told (g.F.PageFile.told c.take_page.new.desk.file) c.args.desk.now.free
+    c.take_page.new.desk.free c.in_ok-page.page c.in_ok-page.ensures.takes) h)
+    c.write_leaf.ensures.sound

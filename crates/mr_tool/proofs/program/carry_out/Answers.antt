@@ -11,7 +11,7 @@ pub returns-in-List : goal.returns-in-List
 returns-in-List g c = as_said g.H.Hashes.of _ _ _ _ c.list-came.result c.in-List.is c.list-came.ensures
 
 pub returns-in-Apply : goal.returns-in-Apply
-returns-in-Apply g c = as_said g.H.Hashes.of _ _ _ _ c.apply-came.result c.in-Apply.is c.apply-came.ensures
+returns-in-Apply g c = as_said g.H.Hashes.of _ _ _ _ c.apply.result.0 c.in-Apply.is c.apply.ensures
 
 pub returns-in-Prove : goal.returns-in-Prove
 returns-in-Prove g c = as_said g.H.Hashes.of _ _ _ _ c.prove_query.result.0 c.in-Prove.is c.prove_query.ensures

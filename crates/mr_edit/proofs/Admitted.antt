@@ -1,0 +1,96 @@
+-- What the changes of a batch need to know holds of each in its turn.
+use Rattle.std.proofs.Common.{◌≡◌, ◌^◌, ◌<◌, true, false, ℕ, List, length, get_or, Option, Some, None, is_some, sym, ap, subst, ◌∙◌, arith}
+use Rattle.std.specs.Prelude.{nat_lt}
+use Rattle.std.proofs.lemmas.Bool.{ltb-true}
+use Rattle.mr_geom.specs.Rectangle.{Rectangle}
+use Rattle.mr_record.specs.RecordText.{has_number}
+use Rattle.mr_record.specs.declared.record.Record.{Record}
+use Rattle.mr_record.specs.declared.version.Version.TheVariants.{One}
+use Rattle.mr_tree.specs.Digest.{by}
+use Rattle.mr_tree.specs.Tree.{records}
+use Rattle.mr_tree.specs.declared.child.Child.{Child}
+use Rattle.mr_grow.proofs.Sizes.{well_rooted}
+use Rattle.mr_batch.specs.declared.change.Change.{Change}
+use Rattle.mr_batch.specs.declared.change.Change.TheVariants.{Add, Remove}
+use Rattle.mr_batch.specs.Changes.{Changes}
+use Rattle.mr_batch.specs.Directory.{Entries, rect_at}
+use Rattle.mr_batch.proofs.Replaying.{numbers_of, next_may}
+use Rattle.mr_edit.specs.Book.{Book}
+use Rattle.mr_edit.specs.Causes.{KnowsRoot}
+use Rattle.mr_edit.specs.Growing.{CanInsert}
+use Rattle.mr_edit.specs.Changing.{CanChange, CanReplay}
+use Rattle.mr_edit.specs.Removable.{CanDelete}
+use Rattle.mr_edit.proofs.Deletable.{root_sought}
+use Rattle.mr_edit.proofs.Directed.{directed}
+use Rattle.mr_edit.proofs.Once.{once_apart}
+use Rattle.mr_edit.proofs.Turns.{ReplaysFirst, room_part}
+
+-- a record that may be added can be put in
+pub add_insert : (hash : List ℕ → List ℕ) (told : Option Book) (free : ℕ) (root : Option Child) (dir : Entries)
+    (one : Record) → CanChange hash told free root dir (Add one) → CanInsert hash told free root 1
+add_insert hash told free root dir one k =
+    let room : length (records k.map.tree) < 2 ^ 20 = ltb-true (length (records k.map.tree)) (2 ^ 20)
+    (room_part (has_number one.number (records k.map.tree)) (nat_lt (length (records k.map.tree)) (2 ^ 20)) k.may) in
+    record {
+      tree = k.map.tree;
+      draft = k.map.draft;
+      rooted = well_rooted k.map.tree k.map.well;
+      few = omega (arith, room);
+    }
+
+-- a number that may be removed is in the directory
+pub lists_number : (hash : List ℕ → List ℕ) (told : Option Book) (free : ℕ) (root : Option Child) (dir : Entries)
+    (n : ℕ) → rect_at dir n ≡ None → CanChange hash told free root dir (Remove n) → ⊥
+lists_number hash told free root dir n none k =
+    let here : is_some (rect_at dir n) ≡ true =
+    (numbers_of dir (records k.map.tree) k.map.well.distinct k.map.directory).same n ∙ k.may in
+    no (sym (ap (λ (o : Option Rectangle). is_some o) none) ∙ here)
+  where
+    no : false ≡ true → ⊥
+    no e = cc
+
+-- and its record can be deleted by the rectangle that stands there
+pub remove_delete : (hash : List ℕ → List ℕ) (told : Option Book) (free : ℕ) (root : Option Child) (dir : Entries)
+    (n : ℕ) (rect : Rectangle) → rect_at dir n ≡ Some rect → CanChange hash told free root dir (Remove n) →
+    CanDelete hash told free root n rect
+remove_delete hash told free root dir n rect known k =
+    let m = k.map in
+    record {
+      tree = m.tree;
+      draft = m.draft;
+      rooted = well_rooted m.tree m.well;
+      few = m.well.few;
+      there = k.may;
+      rects = directed dir n rect (records m.tree) m.well.distinct m.directory known;
+      once = once_apart n (records m.tree) m.well.distinct;
+    }
+
+-- where all nodes can be looked at
+pub remove_known : (hash : List ℕ → List ℕ) (told : Option Book) (free : ℕ) (root : Option Child) (dir : Entries)
+    (n : ℕ) (rect : Rectangle) → rect_at dir n ≡ Some rect → CanChange hash told free root dir (Remove n) →
+    KnowsRoot hash told free root
+remove_known hash told free root dir n rect known k c is =
+    (root_sought hash told free c n rect (subst (λ o. CanDelete hash told free o n rect) is
+    (remove_delete hash told free root dir n rect known k))).below
+
+-- the next change of a batch that may be applied may be made
+pub next_change : (hash : List ℕ → List ℕ) (told told1 : Option Book) (free free1 : ℕ) (root root1 : Option Child)
+    (dir dir1 : Entries) (b : Changes) (i : ℕ) (c : Change) → i < length b.list → c ≡ get_or b.list i c →
+    ReplaysFirst (by One hash) told free root dir told1 free1 root1 dir1 b i →
+    CanReplay hash told free root dir b → CanChange hash told1 free1 root1 dir1 c
+next_change hash told told1 free free1 root root1 dir dir1 b i c within here first k =
+    let t = k.map.tree in
+    let h = first t k.held 0 k.map.draft.book.size 0 (record {
+      reaches = record { draft = k.map.draft; no_fewer = omega arith; no_more = omega arith };
+      well = k.map.well;
+      directory = k.map.directory;
+    }) k.admissible in
+    record {
+      map = record {
+        tree = h.tree;
+        draft = h.pages.reaches.draft;
+        well = h.pages.well;
+        directory = h.pages.directory;
+      };
+      may = next_may t h.tree b.list i c within here h.way;
+    }

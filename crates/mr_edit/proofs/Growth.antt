@@ -1,0 +1,373 @@
+-- An insertion over told pages has room, and what it reads is there.
+use Rattle.std.proofs.Common.{◌≡◌, ℕ, suc, ◌+◌, ◌^◌, ◌<◌, ◌≤◌, Bool, true, false, List, [], ◌∷◌, ◌++◌, length, map, take, drop, get_or, refl, sym, ap, subst, ◌∙◌, arith}
+use Rattle.std.specs.Prelude.{Option, Some, None, option_map, IfSome, IsSomeAnd}
+use Rattle.std.specs.Option.{option_to_list}
+use Rattle.std.proofs.lemmas.List.{length-append, length-map, length-take, take-map, drop-map}
+use Rattle.std.proofs.lemmas.List.Sorted.{length_permutation}
+use Rattle.mr_record.specs.declared.record.Record.{Record}
+use Rattle.mr_record.specs.declared.version.Version.TheVariants.{One}
+use Rattle.mr_tree.specs.Digest.{Scheme, by}
+use Rattle.mr_tree.specs.Tree.{records, level}
+use Rattle.mr_tree.specs.WellFormed.{IsFilled, IsFilledRoot}
+use Rattle.mr_tree.specs.declared.child.Child.{Child}
+use Rattle.mr_tree.specs.declared.tree.Tree.{Tree}
+use Rattle.mr_tree.specs.declared.tree.Tree.TheVariants as tree
+use Rattle.mr_tree.specs.declared.tree.Tree.TheOpen as node
+use Rattle.mr_tree.specs.declared.tree.Tree.TheViews.{out-Tree}
+use Rattle.mr_tree.specs.declared.tree.Tree.TheFolds.{every-Tree}
+use Rattle.mr_tree.proofs.Equations.{entry_level, level-Inner}
+use Rattle.mr_split.specs.Choice.{choose}
+use Rattle.mr_grow.specs.Grow.{outline, grown, ins}
+use Rattle.mr_grow.specs.Shrink.{all_in}
+use Rattle.mr_grow.specs.Views.{IsRooted}
+use Rattle.mr_grow.proofs.Dropping.{all_in_rooted, all_in_mixes}
+use Rattle.mr_grow.proofs.Grown.{grown-Leaf}
+use Rattle.mr_grow.proofs.Kept.{ins_mixes}
+use Rattle.mr_grow.proofs.Sizes.{root_shallow, has_room}
+use Rattle.mr_grow.proofs.Standing.{ins_root}
+use Rattle.mr_pages.specs.Page.{Link, page_limit}
+use Rattle.mr_pages.specs.Stands.{Placed, Leaf, tree_of, pages_of, link_of, IsWritten, whole_tree, whole_pages}
+use Rattle.mr_pages.specs.Walking.{child_link}
+use Rattle.mr_pages.proofs.Building.{FilledAs, filled_below}
+use Rattle.mr_edit.specs.Book.{Book, HasNode, Owned}
+use Rattle.mr_edit.specs.Held.{Name, trees, pages, entries}
+use Rattle.mr_edit.specs.Causes.{KnowsBelow}
+use Rattle.mr_edit.specs.Outcome.{Outcome, Grows, Uses, TakesPage, CanTake, CanWrite, CanPut}
+use Rattle.mr_edit.specs.Drafted.{Drafted}
+use Rattle.mr_edit.specs.Deleted.{InsertsAll}
+use Rattle.mr_edit.specs.Growing.{CanAdd, CanRaise, CanGrow, CanInsert}
+use Rattle.mr_edit.specs.declared.stand.Stand.{Stand}
+use Rattle.mr_edit.proofs.Counts.{owned_length}
+use Rattle.mr_edit.proofs.Frame.{times_first}
+use Rattle.mr_edit.proofs.Places.{same_owned, owned_within}
+use Rattle.mr_edit.proofs.Rows.{row_trees}
+use Rattle.mr_edit.proofs.Levels.{all_at}
+use Rattle.mr_edit.proofs.Entries.{opens_leaf, outlines_are}
+use Rattle.mr_edit.proofs.Descending.{tree_at, among_others, owned_up, Step, step_down, joined_trees}
+use Rattle.mr_edit.proofs.Room.{all_nodes, nodes_pages, some_leaf, nodes_room, child_room, few_nodes, root_nodes}
+use Rattle.mr_edit.proofs.Roots.{start_counts, last_counts, raise_counts, move_counts, none_placed, over_two, below_root}
+
+-- ---- below an entry
+
+-- a leaf that was read can be put on its page with one record more
+pub leaf_put : (hash : List ℕ → List ℕ) (root : Bool) (told told1 : Option Book) (free : ℕ) (c : Child) (one : Record)
+    (rs : List Record) → told1 ≡ told → IfSome told (λ b. HasNode b c.id (node.Leaf rs)) →
+    CanGrow hash root told free c one → CanPut told1 free c.id
+leaf_put hash root told told1 free c one rs same reads k =
+    let b = k.below in
+    let has : HasNode b.book c.id (node.Leaf rs) =
+    subst (λ o. IfSome o (λ x. HasNode x c.id (node.Leaf rs))) b.is reads in
+    let here : b.placed ≡ Leaf c.id rs = opens_leaf (by One hash) b.book c rs b.placed b.names has in
+    record {
+      book = b.book;
+      is = same ∙ b.is;
+      chain = b.chain;
+      linked = b.linked;
+      others = b.others;
+      owned = subst (λ Q. Owned b.book.size (pages_of Q ++ (b.chain ++ b.others))) here b.owned;
+      few = omega (
+        arith,
+        k.room,
+        some_leaf (rs ++ one ∷ []),
+        ap (λ Q. all_nodes (grown one (tree_of Q))) here,
+        ap all_nodes (grown-Leaf one rs),
+      );
+    }
+
+module _ (hash : List ℕ → List ℕ) (root : Bool) (told told1 : Option Book) (free : ℕ) (c : Child) (one : Record)
+    (at : ℕ) (cs : List Child) (d : Child) where
+  abbrev Goes : CanGrow hash root told free c one → Type 0
+  Goes k = Step (by One hash) k.below.book k.below.chain k.below.others k.below.placed c cs at d
+
+  goes : IfSome told (λ b. HasNode b c.id (node.Inner (map child_link cs))) → at < length cs → d ≡ get_or cs at d →
+      (k : CanGrow hash root told free c one) → Goes k
+  goes reads within is_d k =
+      let b = k.below in
+      let has : HasNode b.book c.id (node.Inner (map child_link cs)) =
+      subst (λ o. IfSome o (λ x. HasNode x c.id (node.Inner (map child_link cs)))) b.is reads in
+      step_down (by One hash) b.book b.chain b.others b.placed c cs at d b.names has within is_d b.owned
+
+  -- what the node would become, by the trees of its children
+  all_grown : (k : CanGrow hash root told free c one) (s : Goes k) →
+      all_nodes (grown one (tree_of k.below.placed)) ≡ all_nodes (grown one (tree.Inner (trees s.parts)))
+  all_grown k s = ap (λ Q. all_nodes (grown one (tree_of Q))) s.is
+      ∙ ap (λ ts. all_nodes (grown one (tree.Inner ts))) (row_trees s.parts)
+
+  chosen_tree : (k : CanGrow hash root told free c one) (s : Goes k) →
+      at ≡ choose (map (λ (e : Child). e.rect) cs) one.rect → at ≡ choose (map outline (trees s.parts)) one.rect
+  chosen_tree k s chosen = chosen
+      ∙ ap (λ rects. choose rects one.rect) (outlines_are (by One hash) k.below.book cs s.parts s.named)
+
+  child_filled : (k : CanGrow hash root told free c one) (s : Goes k) → every-Tree IsFilled (tree_of s.child)
+  child_filled k s =
+      let ts = trees s.parts in
+      let whole : FilledAs root (tree.Inner ts) = subst (λ us. FilledAs root (tree.Inner us)) (row_trees s.parts)
+      (subst (λ Q. FilledAs root (tree_of Q)) s.is k.below.filled) in
+      subst (every-Tree IsFilled) (sym (tree_at s.parts at s.child s.inside s.child_is))
+      (all_at (every-Tree IsFilled) at ts (tree_of s.child) (omega (arith, s.inside, length-map s.parts tree_of))
+      (filled_below root ts whole))
+
+  -- the record can be put into the subtree of the child that takes it
+  pub child_grow : told1 ≡ told → IfSome told (λ b. HasNode b c.id (node.Inner (map child_link cs))) →
+      at ≡ choose (map (λ (e : Child). e.rect) cs) one.rect → at < length cs → d ≡ get_or cs at d →
+      CanGrow hash root told free c one → CanGrow hash false told1 free d one
+  child_grow same reads chosen within is_d k =
+      let b = k.below in
+      let s = goes reads within is_d k in
+      let l = pages (take at s.parts) in
+      let r = pages (drop (suc at) s.parts) in
+      let ts = trees s.parts in
+      record {
+        below = record {
+          book = b.book;
+          is = same ∙ b.is;
+          chain = b.chain;
+          linked = b.linked;
+          placed = s.child;
+          names = s.held;
+          filled = child_filled k s;
+          others = c.id ∷ ((l ++ r) ++ b.others);
+          owned = s.owned;
+          head = among_others 0 c.id l r b.others b.head;
+        };
+        room = omega (
+          arith,
+          k.room,
+          all_grown k s,
+          child_room one ts at (tree_of s.child) (omega (arith, s.inside, length-map s.parts tree_of))
+              (tree_at s.parts at s.child s.inside s.child_is) (chosen_tree k s chosen),
+          length-append (l ++ r) b.others,
+          length-append l r,
+          nodes_pages (take at s.parts),
+          nodes_pages (drop (suc at) s.parts),
+          ap all_nodes (take-map tree_of at s.parts),
+          ap all_nodes (drop-map tree_of (suc at) s.parts),
+        );
+      }
+
+  -- and its node can be put on its page, once the record went in below it
+  pub inner_put : (told2 : Option Book) (free2 : ℕ) (new : List Child) → told1 ≡ told →
+      IfSome told (λ b. HasNode b c.id (node.Inner (map child_link cs))) →
+      at ≡ choose (map (λ (e : Child). e.rect) cs) one.rect → at < length cs → d ≡ get_or cs at d →
+      Grows (by One hash) told1 free told2 free2 d one new → CanGrow hash root told free c one →
+      CanPut told2 free2 c.id
+  inner_put told2 free2 new same reads chosen within is_d grows k =
+      let b = k.below in
+      let s = goes reads within is_d k in
+      let l = pages (take at s.parts) in
+      let r = pages (drop (suc at) s.parts) in
+      let o = grows b.book b.chain s.child (c.id ∷ ((l ++ r) ++ b.others)) (same ∙ b.is) s.held b.linked s.owned in
+      let Qs = take at s.parts ++ (o.parts ++ drop (suc at) s.parts) in
+      record {
+        book = o.book;
+        is = o.is;
+        chain = o.chain;
+        linked = o.linked;
+        others = pages Qs ++ b.others;
+        owned = same_owned o.book.size (c.id ∷ (pages Qs ++ (o.chain ++ b.others))) _
+            (λ q. sym (raise_counts q c.id (pages Qs) o.chain b.others))
+            (owned_up o.book.size c.id at s.parts o.parts o.chain b.others o.owned);
+        few = omega (
+          arith,
+          k.room,
+          all_grown k s,
+          ap all_nodes (joined_trees one s.parts o.parts at s.child s.inside s.child_is o.stand
+              (chosen_tree k s chosen)),
+          nodes_room (trees Qs),
+          nodes_pages Qs,
+          length-append (pages Qs) b.others,
+        );
+      }
+
+-- ---- a page that is taken and written
+
+pub add_take : (told : Option Book) (free : ℕ) → CanAdd told free → CanTake told free
+add_take told free k = record {
+  book = k.book;
+  is = k.is;
+  chain = k.chain;
+  linked = k.linked;
+  room = λ none. omega (
+    arith,
+    owned_length k.book.size (k.chain ++ k.others) k.owned,
+    length-append k.chain k.others,
+    ap length none,
+    k.few,
+  );
+}
+
+pub add_write : (told told1 : Option Book) (free free1 page : ℕ) → TakesPage told free told1 free1 page →
+    CanAdd told free → CanWrite told1 page
+add_write told told1 free free1 page takes k =
+    let t = takes k.book k.chain k.is k.linked in
+    subst (λ o. IsSomeAnd o (λ b. page < b.size)) (sym t.is)
+    (owned_within t.book.size page (page ∷ (t.chain ++ k.others)) (t.owned k.others k.owned)
+    (times_first page (t.chain ++ k.others)))
+
+pub raise_take : (told : Option Book) (free level : ℕ) → CanRaise told free level → CanTake told free
+raise_take told free level k = add_take told free k.add
+
+pub raise_write : (told told1 : Option Book) (free free1 page level : ℕ) → TakesPage told free told1 free1 page →
+    CanRaise told free level → CanWrite told1 page
+raise_write told told1 free free1 page level takes k = add_write told told1 free free1 page takes k.add
+
+-- ---- the root
+
+-- what is known of a map's tree: it stands below the root, and page 0 alone is another's
+record KnowsRoot (hash : List ℕ → List ℕ) (told : Option Book) (free : ℕ) (c : Child) (t : Tree) : Type 0 where
+  below : KnowsBelow hash true told free c
+  tree : tree_of below.placed ≡ t
+  others : below.others ≡ 0 ∷ []
+
+root_known : (hash : List ℕ → List ℕ) (told : Option Book) (free : ℕ) (c : Child) (t : Tree) →
+    Drafted (by One hash) told free (Some c) t → IsFilledRoot (out-Tree t) → KnowsRoot hash told free c t
+root_known hash told free c t d filled = at d.placed d.tree d.root_is d.written d.owned
+  where
+    at : (o : Option Placed) → whole_tree o ≡ t → ◌≡◌ {A = Option Link} (Some (child_link c))
+        (option_map (link_of (by One hash)) o) → IfSome o (IsWritten (by One hash) (HasNode d.book)) →
+        Owned d.book.size (0 ∷ (whole_pages o ++ d.chain)) → KnowsRoot hash told free c t
+    at None is root written owned = cc
+    at (Some P) is root written owned =
+        let said : child_link c ≡ link_of (by One hash) P = cc in
+        record {
+          below = record {
+            book = d.book;
+            is = d.is;
+            chain = d.chain;
+            linked = d.linked;
+            placed = P;
+            names = record { said = said; written = written };
+            filled = subst (λ u. IsFilledRoot (out-Tree u)) (sym is) filled;
+            others = 0 ∷ [];
+            owned = same_owned d.book.size (0 ∷ (pages_of P ++ d.chain)) _
+                (λ q. start_counts q (pages_of P) d.chain) owned;
+            head = times_first 0 [];
+          };
+          tree = is;
+          others = refl;
+        }
+
+-- there are few nodes after an insertion
+few_after : (one : Record) (t : Tree) → IsRooted t → length (records t) + 1 ≤ 2 ^ 20 →
+    all_nodes (grown one t) + 1 < page_limit
+few_after one t rooted few = omega (
+  arith,
+  root_nodes (grown one t),
+  few_nodes (ins one t) (ins_root one t rooted),
+  length_permutation (one ∷ records t) (records (ins one t)) (ins_mixes one t (has_room t rooted)),
+  few,
+)
+
+pub root_grow : (hash : List ℕ → List ℕ) (told : Option Book) (free : ℕ) (c : Child) (one : Record) →
+    CanInsert hash told free (Some c) 1 → CanGrow hash true told free c one
+root_grow hash told free c one k =
+    let r = root_known hash told free c k.tree k.draft k.rooted.filled in
+    record {
+      below = r.below;
+      room = omega (
+        arith,
+        few_after one k.tree k.rooted k.few,
+        ap (λ u. all_nodes (grown one u)) r.tree,
+        ap length r.others,
+      );
+    }
+
+-- the first record
+pub first_add : (hash : List ℕ → List ℕ) (told : Option Book) (free : ℕ) → CanInsert hash told free None 1 →
+    CanAdd told free
+first_add hash told free k =
+    let d = k.draft in
+    let none = none_placed (by One hash) d.placed d.root_is in
+    let owned : Owned d.book.size (0 ∷ ([] ++ d.chain)) = subst
+    (λ o. Owned d.book.size (0 ∷ (whole_pages o ++ d.chain))) none d.owned in
+    record {
+      book = d.book;
+      is = d.is;
+      chain = d.chain;
+      linked = d.linked;
+      others = 0 ∷ [];
+      owned = same_owned d.book.size (0 ∷ ([] ++ d.chain)) _ (λ q. last_counts q d.chain) owned;
+      few = omega arith;
+    }
+
+first_low : (scheme : Scheme) (b : Book) (x y : Child) (Ps : List Placed) → Name scheme b (x ∷ y ∷ []) Ps →
+    level (tree.Inner (trees Ps)) ≡ x.level + 1
+first_low scheme b x y [] named = absurd named
+first_low scheme b x y (P ∷ Ps) named =
+    level-Inner (trees (P ∷ Ps))
+    ∙ ap (λ n. n + 1) (sym (ap (λ (l : Link). l.entry.level) named.0.said ∙ entry_level scheme (tree_of P)))
+
+-- a root can be put above the two nodes of a root that was split
+pub root_raise : (hash : List ℕ → List ℕ) (told told1 : Option Book) (free free1 : ℕ) (c : Child) (one : Record)
+    (s : Stand) (second : Child) → s.second ≡ Some second → Grows (by One hash) told free told1 free1 c one (entries s)
+    →
+    CanInsert hash told free (Some c) 1 → CanRaise told1 free1 s.first.level
+root_raise hash told told1 free free1 c one s second some grows k =
+    let scheme = by One hash in
+    let d = k.draft in
+    let t = k.tree in
+    let cs : List Child = s.first ∷ second ∷ [] in
+    let both : entries s ≡ cs = ap (λ x. s.first ∷ option_to_list x) some in
+    let o : Outcome scheme d.book (Uses d.book.size d.chain) told1 free1 (0 ∷ []) (grown one t) cs =
+    subst (Outcome scheme d.book (Uses d.book.size d.chain) told1 free1 (0 ∷ []) (grown one t)) both
+    (below_root scheme told told1 free free1 c one (entries s) grows t d).outcome in
+    let high : tree.Inner (trees o.parts) ≡ ins one t = over_two scheme o.book s.first second o.parts (grown one t)
+    o.named o.stand in
+    let shallow = root_shallow (ins one t) (ins_root one t k.rooted) (omega (
+      arith,
+      length_permutation (one ∷ records t) (records (ins one t)) (ins_mixes one t (has_room t k.rooted)),
+      k.few,
+    )) in
+    record {
+      add = record {
+        book = o.book;
+        is = o.is;
+        chain = o.chain;
+        linked = o.linked;
+        others = pages o.parts ++ (0 ∷ []);
+        owned = same_owned o.book.size (pages o.parts ++ (o.chain ++ (0 ∷ []))) _
+            (λ q. move_counts q (pages o.parts) o.chain (0 ∷ [])) o.owned;
+        few = omega (
+          arith,
+          few_after one t k.rooted k.few,
+          length-append (pages o.parts) (0 ∷ []),
+          nodes_pages o.parts,
+          ap all_nodes o.stand,
+        );
+      };
+      low = omega (arith, shallow, ap level high, first_low scheme o.book s.first second o.parts o.named);
+    }
+
+-- ---- records one after another
+
+-- the next one can be put in as well
+pub next_insert : (hash : List ℕ → List ℕ) (told told1 : Option Book) (free free1 : ℕ) (root root1 : Option Child)
+    (rs : List Record) (i : ℕ) → i < length rs →
+    InsertsAll (by One hash) told free root told1 free1 root1 (take i rs) →
+    CanInsert hash told free root (length rs) → CanInsert hash told1 free1 root1 1
+next_insert hash told told1 free free1 root root1 rs i within inserts k =
+    let first = take i rs in
+    let r = inserts k.tree 0 k.draft.book.size 0 (record {
+      draft = k.draft;
+      no_fewer = omega arith;
+      no_more = omega arith;
+    }) in
+    record {
+      tree = all_in first k.tree;
+      draft = r.draft;
+      rooted = all_in_rooted first k.tree k.rooted;
+      few = omega (
+        arith,
+        k.few,
+        within,
+        length-take i rs,
+        length-append first (records k.tree),
+        length_permutation (first ++ records k.tree) (records (all_in first k.tree))
+            (all_in_mixes first k.tree k.rooted),
+      );
+    }
+
+-- the root that is told, by its kind
+pub at_root : (hash : List ℕ → List ℕ) (told : Option Book) (free count : ℕ) (root root1 : Option Child) →
+    root ≡ root1 → CanInsert hash told free root count → CanInsert hash told free root1 count
+at_root hash told free count root root1 is = subst (λ r. CanInsert hash told free r count) is

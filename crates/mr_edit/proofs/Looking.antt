@@ -1,0 +1,135 @@
+-- A node that is looked at, where the pages are told, is the one that its entry is of, and as full as it has to be.
+use Rattle.std.proofs.Common.{◌≡◌, ℕ, zero, suc, ◌<◌, ◌≤◌, Bool, true, false, List, [], ◌∷◌, ◌++◌, map, refl, sym, ap, subst, ◌∙◌, arith}
+use Rattle.std.specs.Prelude.{not, nat_lt, Option, Some, IfSome}
+use Rattle.std.proofs.lemmas.Bool.{le-ltb}
+use Rattle.mr_geom.specs.Rectangle.{union_of}
+use Rattle.mr_record.specs.declared.version.Version.TheVariants.{One}
+use Rattle.mr_tree.specs.Digest.{Scheme, by}
+use Rattle.mr_tree.specs.View as view
+use Rattle.mr_tree.specs.declared.entry.Entry.{Entry}
+use Rattle.mr_tree.specs.declared.child.Child.{Child}
+use Rattle.mr_tree.specs.declared.tree.Tree.TheOpen.{Empty, Leaf, Inner}
+use Rattle.mr_pages.specs.Faults.{same_rect, size, least}
+use Rattle.mr_pages.specs.Judging.{Fills}
+use Rattle.mr_pages.specs.Page.{Link, Node, entry_of}
+use Rattle.mr_pages.specs.Stands as placed
+use Rattle.mr_pages.specs.Stands.{Placed, tree_of, trees_of, pages_of, links_of}
+use Rattle.mr_pages.specs.Walking.{child_link, page_node}
+use Rattle.mr_pages.proofs.Building.{FilledAs, leaf_filled, inner_filled, length_row}
+use Rattle.mr_pages.proofs.Judged.{entry_same}
+use Rattle.mr_pages.proofs.Rules.{same_rect_self}
+use Rattle.mr_store.specs.Copying.{is_round}
+use Rattle.mr_edit.specs.Book.{Book, HasNode, Owned, times}
+use Rattle.mr_edit.specs.Held.{Names}
+use Rattle.mr_edit.specs.Causes.{CanRead, CanLook, KnowsBelow}
+use Rattle.mr_edit.proofs.Frame.{times-append}
+use Rattle.mr_edit.proofs.Places.{owned_within}
+use Rattle.mr_edit.proofs.Entries.{same_node, said_leaf, said_inner}
+
+both : (b : Bool) → b ≡ true → b ≡ false → ⊥
+both true p q = cc
+both false p q = cc
+
+-- ---- the rectangle
+
+rects : (cs : List Child) → map (λ (e : Entry). e.rect) (map view.entry_of cs) ≡ map (λ (c : Child). Some c.rect) cs
+rects [] = refl
+rects (c ∷ cs) = ap (λ rs. Some c.rect ∷ rs) (rects cs)
+
+rect_known : (scheme : Scheme) (n : view.Node) → (view.entry_over scheme n).rect ≡ view.rect_of n
+rect_known scheme Empty = refl
+rect_known scheme (Leaf rs) = refl
+rect_known scheme (Inner cs) = ap union_of (rects cs)
+
+-- the node on the page that an entry names
+node_of : Scheme → Placed → Node
+node_of scheme (placed.Leaf p rs) = Leaf rs
+node_of scheme (placed.Inner p R) = Inner (links_of scheme R)
+
+node_there : (scheme : Scheme) (b : Book) (c : Child) (P : Placed) (m : Node) → Names scheme b c P →
+    HasNode b c.id m → m ≡ node_of scheme P
+unfolding node_of
+node_there scheme b c (placed.Leaf p rs) m names has =
+    let at : c.id ≡ p = ap (λ (l : Link). l.page) names.said in
+    same_node (b.sheet p).node m (Leaf rs) (subst (λ q. HasNode b q m) at has) names.written
+node_there scheme b c (placed.Inner p R) m names has =
+    let at : c.id ≡ p = ap (λ (l : Link). l.page) names.said in
+    same_node (b.sheet p).node m (Inner (links_of scheme R)) (subst (λ q. HasNode b q m) at has) names.written.0
+
+node_said : (scheme : Scheme) (c : Child) (P : Placed) → child_link c ≡ placed.link_of scheme P →
+    entry_of scheme (node_of scheme P) ≡ view.entry_of c
+unfolding node_of
+node_said scheme c (placed.Leaf p rs) said = said_leaf scheme rs ∙ sym (ap (λ (l : Link). l.entry) said)
+node_said scheme c (placed.Inner p R) said = said_inner scheme R ∙ sym (ap (λ (l : Link). l.entry) said)
+
+round : (scheme : Scheme) (b : Book) (c : Child) (P : Placed) (n : view.Node) → Names scheme b c P →
+    HasNode b c.id (page_node n) → is_round c n ≡ true
+round scheme b c P n names has =
+    let same : view.rect_of n ≡ Some c.rect =
+    sym (rect_known scheme n) ∙ ap (λ (e : Entry). e.rect) (entry_same scheme n
+    ∙ ap (entry_of scheme) (node_there scheme b c P (page_node n) names has) ∙ node_said scheme c P names.said) in
+    ap (λ o. same_rect o (Some c.rect)) same ∙ same_rect_self (Some c.rect)
+
+-- ---- how full it is
+
+full : (scheme : Scheme) (root : Bool) (P : Placed) → FilledAs root (tree_of P) →
+    not (nat_lt (size (node_of scheme P)) (least root (node_of scheme P))) ≡ true
+unfolding node_of
+full scheme root (placed.Leaf p rs) filled = ap not (le-ltb _ _ (leaf_filled root rs filled))
+full scheme root (placed.Inner p R) filled =
+    ap not (le-ltb _ _ (inner_filled root (links_of scheme R) (trees_of R) (length_row scheme R) filled))
+
+fills : (scheme : Scheme) (root : Bool) (b : Book) (c : Child) (P : Placed) (n : view.Node) → Names scheme b c P →
+    FilledAs root (tree_of P) → HasNode b c.id (page_node n) → Fills root n ≡ true
+fills scheme root b c P n names filled has =
+    ap (λ m. not (nat_lt (size m) (least root m))) (node_there scheme b c P (page_node n) names has)
+    ∙ full scheme root P filled
+
+-- ---- so it is not blamed
+
+reads_in : (told : Option Book) (b : Book) (c : Child) (n : view.Node) → told ≡ Some b →
+    IfSome told (λ x. HasNode x c.id (page_node n)) → HasNode b c.id (page_node n)
+reads_in told b c n is reads = subst (λ o. IfSome o (λ x. HasNode x c.id (page_node n))) is reads
+
+pub off_blames : (hash : List ℕ → List ℕ) (root : Bool) (told : Option Book) (c : Child) (n : view.Node) →
+    IfSome told (λ b. HasNode b c.id (page_node n)) → is_round c n ≡ false → CanLook hash root told c → ⊥
+off_blames hash root told c n reads off k =
+    both (is_round c n) (round (by One hash) k.read.book c k.read.placed n k.read.names
+    (reads_in told k.read.book c n k.read.is reads)) off
+
+pub few_blames : (hash : List ℕ → List ℕ) (root : Bool) (told : Option Book) (c : Child) (n : view.Node) →
+    IfSome told (λ b. HasNode b c.id (page_node n)) → Fills root n ≡ false → CanLook hash root told c → ⊥
+few_blames hash root told c n reads few k =
+    both (Fills root n) (fills (by One hash) root k.read.book c k.read.placed n k.read.names k.filled
+    (reads_in told k.read.book c n k.read.is reads)) few
+
+-- ---- what is known of a subtree
+
+-- page 0 has another owner
+no_head : (size : ℕ) (mine chain others : List ℕ) → Owned size (mine ++ (chain ++ others)) → 0 < times 0 others →
+    (q : ℕ) → 0 < times q mine → 1 ≤ q
+no_head size mine chain others owned head zero some =
+    let all = times-append 0 mine (chain ++ others) in
+    let rest = times-append 0 chain others in
+    let within = owned_within size 0 (mine ++ (chain ++ others)) owned (omega (arith, some, all)) in
+    absurd (omega (arith, some, all, rest, head, owned.each 0 within))
+no_head size mine chain others owned head (suc q) some = omega arith
+
+can_read_below : (hash : List ℕ → List ℕ) (root : Bool) (told : Option Book) (free : ℕ) (c : Child) →
+    KnowsBelow hash root told free c → CanRead hash told c
+can_read_below hash root told free c k = record {
+  book = k.book;
+  is = k.is;
+  placed = k.placed;
+  names = k.names;
+  inside = λ q some. (
+    no_head k.book.size (pages_of k.placed) k.chain k.others k.owned k.head q some,
+    owned_within k.book.size q (pages_of k.placed ++ (k.chain ++ k.others)) k.owned
+        (omega (arith, some, times-append q (pages_of k.placed) (k.chain ++ k.others))),
+  );
+}
+
+pub can_look : (hash : List ℕ → List ℕ) (root : Bool) (told : Option Book) (free : ℕ) (c : Child) →
+    KnowsBelow hash root told free c → CanLook hash root told c
+unfolding can_read_below
+can_look hash root told free c k = record { read = can_read_below hash root told free c k; filled = k.filled }

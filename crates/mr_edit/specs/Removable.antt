@@ -1,0 +1,70 @@
+-- What is known of a map beforehand where something is taken out of it, so that none of its pages
+-- can be blamed: whose each page is, and that each node is as full as it has to be.
+use Rattle.std.specs.Prelude.{◌≡◌, ℕ, ◌<◌, ◌≤◌, Bool, true, List, ◌∷◌, ◌++◌, length, Option, Some}
+use Rattle.std.specs.List.{AllByRecursion}
+use Rattle.mr_geom.specs.Rectangle.{Rectangle}
+use Rattle.mr_record.specs.declared.version.Version.TheVariants.{One}
+use Rattle.mr_tree.specs.Digest.{by}
+use Rattle.mr_tree.specs.Tree.{records}
+use Rattle.mr_tree.specs.Limits.{count_limit}
+use Rattle.mr_tree.specs.WellFormed.{HasOneLevel, IsFilled}
+use Rattle.mr_tree.specs.declared.child.Child.{Child}
+use Rattle.mr_tree.specs.declared.tree.Tree.{Tree}
+use Rattle.mr_tree.specs.declared.tree.Tree.TheFolds.{every-Tree}
+use Rattle.mr_pages.specs.Stands.{Placed, tree_of, IsChain}
+use Rattle.mr_grow.specs.Found.{has}
+use Rattle.mr_grow.specs.Views.{IsRooted}
+use Rattle.mr_edit.specs.Book.{Book, HasFree, Owned, times}
+use Rattle.mr_edit.specs.Held.{Name, trees, pages}
+use Rattle.mr_edit.specs.Causes.{KnowsBelow}
+use Rattle.mr_edit.specs.Drafted.{Drafted}
+use Rattle.mr_edit.specs.Removal.{HaveRect, IsOnce}
+
+-- these entries stand for subtrees below a root; page 0 is neither theirs nor free
+pub record CanFree (hash : List ℕ → List ℕ) (told : Option Book) (free : ℕ) (cs : List Child)
+    : Type 0 where
+  pub book : Book
+  pub is : told ≡ Some book
+  pub parts : List Placed
+  pub named : Name (by One hash) book cs parts
+  pub chain : List ℕ
+  pub linked : IsChain (HasFree book) free chain
+  pub others : List ℕ
+  pub owned : Owned book.size (pages parts ++ (chain ++ others))
+  pub head : 0 < times 0 others
+  pub filled : AllByRecursion (every-Tree IsFilled) (trees parts)
+
+-- the same beside a page, on which they are to be written
+pub record CanLeave (hash : List ℕ → List ℕ) (told : Option Book) (free page : ℕ)
+    (cs : List Child) : Type 0 where
+  pub book : Book
+  pub is : told ≡ Some book
+  pub parts : List Placed
+  pub named : Name (by One hash) book cs parts
+  pub chain : List ℕ
+  pub linked : IsChain (HasFree book) free chain
+  pub others : List ℕ
+  pub owned : Owned book.size (page ∷ (pages parts ++ (chain ++ others)))
+  pub head : 0 < times 0 others
+  pub filled : AllByRecursion (every-Tree IsFilled) (trees parts)
+  pub some : 0 < length cs
+
+-- a record can be searched below an entry, as a root or below it, where the number has this
+-- rectangle
+pub record CanTakeOut (hash : List ℕ → List ℕ) (root : Bool) (told : Option Book) (free : ℕ)
+    (c : Child) (n : ℕ) (rect : Rectangle) : Type 0 where
+  pub below : KnowsBelow hash root told free c
+  pub one_level : every-Tree HasOneLevel (tree_of below.placed)
+  pub rects : HaveRect n rect (records (tree_of below.placed))
+  pub once : IsOnce n (records (tree_of below.placed))
+
+-- the draft stands for a tree that has a record with the number, which has this rectangle
+pub record CanDelete (hash : List ℕ → List ℕ) (told : Option Book) (free : ℕ)
+    (root : Option Child) (n : ℕ) (rect : Rectangle) : Type 0 where
+  pub tree : Tree
+  pub draft : Drafted (by One hash) told free root tree
+  pub rooted : IsRooted tree
+  pub few : length (records tree) ≤ count_limit
+  pub there : has n (records tree) ≡ true
+  pub rects : HaveRect n rect (records tree)
+  pub once : IsOnce n (records tree)

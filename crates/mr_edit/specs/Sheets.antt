@@ -1,0 +1,154 @@
+-- A file of pages under edit on a shelf, and the nodes of it that are kept.
+use Rattle.std.specs.Prelude.{◌≡◌, ◌≢◌, ⊤, ◌⊎◌, ℕ, ◌+◌, ◌-◌, ◌*◌, ◌≤◌, ◌==◌, if◌then◌else◌, List, [], ◌++◌, length, take, drop, replicate, Contains, Option, Some, None, IfSome, IsSome, MatchOption}
+use Rattle.std.specs.Option.{option_and_then}
+use Rattle.mr_record.specs.Bytes.{AreBytes}
+use Rattle.mr_outside.specs.Files.{Files, file, with_file}
+use Rattle.mr_outside.specs.State.{Shelved}
+use Rattle.mr_outside.specs.Writing.{IsChanged}
+use Rattle.mr_tree.specs.View.{level_of, preimage_of}
+use Rattle.mr_tree.specs.Snapshot.{HasShape}
+use Rattle.mr_pages.specs.Page.{page_limit}
+use Rattle.mr_pages.specs.PageBytes.{first_form}
+use Rattle.mr_pages.specs.File.{page_at}
+use Rattle.mr_pages.specs.Saved.{Leaves}
+use Rattle.mr_pages.specs.Source.{told_bytes}
+use Rattle.mr_pages.specs.Walking.{page_node}
+use Rattle.mr_store.specs.Kept.{Entries, node_of}
+use Rattle.mr_store.specs.Stored.{room}
+use Rattle.mr_store.specs.declared.kept.Kept.{Kept}
+use Rattle.mr_edit.specs.Book.{Sheet, Book, HasNode}
+use Rattle.mr_edit.specs.Shelves.{HasShelfCause}
+use Rattle.mr_edit.specs.declared.error.EditErr.{EditErr}
+
+-- ---- the pages
+
+-- what a page of these bytes is read as
+unfoldable pub sheet_of : List ℕ → Sheet
+sheet_of page = record { node = first_form.node_in page; free = first_form.free_in page }
+
+-- so many pages, if the file has just these
+abbrev pub book_in : (pages : ℕ) → List ℕ → Option Book
+book_in pages bytes =
+    if length bytes == pages * 4096
+    then Some (record { size = pages; sheet = λ p. sheet_of (page_at first_form bytes p) })
+    else None
+
+-- the same of a file on a shelf, where it is told
+abbrev pub book_on : Option Files → (name : List ℕ) → (pages : ℕ) → Option Book
+book_on told name pages = option_and_then (book_in pages) (told_bytes told name)
+
+-- so many zeros
+unfoldable pub zeros : ℕ → List ℕ
+zeros n = replicate n 0
+
+-- these bytes are so many pages at least, of which page 0 is not yet written
+pub record HasPages (pages : ℕ) (bytes : List ℕ) : Type 0 where
+  pub some : 1 ≤ pages
+  pub few : pages ≤ page_limit
+  pub are : AreBytes bytes
+  pub long : pages * 4096 ≤ length bytes
+  pub blank : page_at first_form bytes 0 ≡ zeros 4096
+
+-- a file that is told is there, and has such bytes
+pub record ArePages (told : Option Files) (name : List ℕ) (pages : ℕ) : Type 0 where
+  pub there : MatchOption told ⊤ (λ files. IsSome (file files name))
+  pub have : IfSome (told_bytes told name) (HasPages pages)
+
+-- ---- the nodes that are kept
+
+-- what is kept of a page can be shown, and has its level and its digest
+pub record IsKeptAs (hash : List ℕ → List ℕ) (k : Kept) : Type 0 where
+  pub shape : HasShape (node_of k.node)
+  pub level : level_of (node_of k.node) ≡ k.level
+  pub digest : hash (preimage_of (node_of k.node)) ≡ k.digest
+
+-- each page that is kept holds what is kept of it
+abbrev pub AreOn : Entries → Book → Type 0
+AreOn es b = (e : ℕ × Kept) → Contains es e → HasNode b e.0 (page_node (node_of e.1.node))
+
+-- the same where the pages are told
+pub record AreKept (hash : List ℕ → List ℕ) (told : Option Book) (es : Entries) (cap : ℕ)
+    : Type 0 where
+  pub cap_is : cap ≡ room
+  pub each : (e : ℕ × Kept) → Contains es e → IsKeptAs hash e.1
+  pub on : IfSome told (AreOn es)
+
+-- what is known of a file under edit, whether or not it is told
+pub record IsSheets (hash : List ℕ → List ℕ) (told : Option Files) (name : List ℕ) (pages : ℕ)
+    (es : Entries) (cap : ℕ) : Type 0 where
+  pub file_ : ArePages told name pages
+  pub kept : AreKept hash (book_on told name pages) es cap
+
+-- ---- what calls leave
+
+-- The name, and each other file; the pages and the counts do not fall.
+pub record KeepsSheets (n n' : List ℕ) (p p' : ℕ) (s s' : Shelved) : Type 0 where
+  pub name : n' ≡ n
+  pub pages : p ≤ p'
+  pub files : Leaves (λ bytes. ⊤) n s.files s'.files
+  pub faults : s.faults ≤ s'.faults
+  pub reads : s.reads ≤ s'.reads
+
+-- each page but this one is as before, where pages are still told
+abbrev pub ChangesPage : (page : ℕ) → (before after : Option Book) → Type 0
+ChangesPage page before after = IfSome after (λ b. (a : Book) × (before ≡ Some a)
+    × ((q : ℕ) → q ≢ page → b.sheet q ≡ a.sheet q))
+
+-- the pages are told no more, or are as before
+abbrev pub LosesPages : (before after : Option Book) → Type 0
+LosesPages before after = (after ≡ None) ⊎ (after ≡ before)
+
+-- nothing is kept that was not before, and of this page nothing
+pub record Forgets (page : ℕ) (before after : Entries) : Type 0 where
+  pub none_new : (e : ℕ × Kept) → Contains after e → Contains before e
+  pub gone : (e : ℕ × Kept) → Contains after e → e.0 ≢ page
+
+-- ---- pages are copied from one file to another
+
+-- a file was made, and is empty
+pub record IsMade (new : List ℕ) (before after : Shelved) : Type 0 where
+  pub files : IsChanged (with_file new) [] before.files after.files
+  pub quiet : after.faults ≡ before.faults
+  pub reads : after.reads ≡ before.reads
+
+-- the other file has page 0 as zeros, and those of this one from page 1 up to this page
+pub record HasCopied (old new : List ℕ) (pages page : ℕ) (before after : Shelved) : Type 0 where
+  pub some : 1 ≤ page
+  pub nodes : List ℕ
+  pub files : IsChanged (with_file new) (zeros 4096 ++ nodes) before.files after.files
+  pub so_far : (bytes : List ℕ) → told_bytes before.files old ≡ Some bytes →
+      length bytes ≡ pages * 4096 → nodes ≡ take ((page - 1) * 4096) (drop 4096 bytes)
+  pub quiet : after.faults ≡ before.faults
+  pub more : before.reads ≤ after.reads
+  pub few : after.reads + 1 ≤ before.reads + page
+
+-- so far, and these bytes were read behind that
+pub record WasRead (old new : List ℕ) (pages page : ℕ) (piece : List ℕ) (before after : Shelved)
+    : Type 0 where
+  pub some : 1 ≤ page
+  pub nodes : List ℕ
+  pub files : IsChanged (with_file new) (zeros 4096 ++ nodes) before.files after.files
+  pub so_far : (bytes : List ℕ) → told_bytes before.files old ≡ Some bytes →
+      length bytes ≡ pages * 4096 →
+      nodes ++ piece ≡ take ((page - 1) * 4096 + length piece) (drop 4096 bytes)
+  pub quiet : after.faults ≡ before.faults
+  pub more : before.reads ≤ after.reads
+  pub few : after.reads ≤ before.reads + page
+
+-- a front of a page of zeros and what is behind it
+abbrev pub IsFront : (bytes : List ℕ) → Type 0
+IsFront bytes =
+    (nodes : List ℕ) × (rest : List ℕ) × (zeros 4096 ++ nodes ≡ bytes ++ rest)
+
+-- it was not copied
+pub record CopyStops (new : List ℕ) (pages : ℕ) (before after : Shelved) (e : EditErr) : Type 0
+  where
+    pub left : Leaves IsFront new before.files after.files
+    pub cause : HasShelfCause before.faults after.faults e
+    pub later : before.faults ≤ after.faults
+    pub more : before.reads ≤ after.reads
+    pub few : after.reads ≤ before.reads + pages
+
+-- a file that is told is there
+abbrev pub IsFiled : Option Files → (name : List ℕ) → Type 0
+IsFiled told name = MatchOption told ⊤ (λ files. IsSome (file files name))

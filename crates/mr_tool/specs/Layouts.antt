@@ -1,0 +1,50 @@
+-- Maps after batches, whatever the layout of their files: what they stand for goes by the map and the
+-- batches alone. With proof.
+use Rattle.std.specs.Prelude.{◌≡◌, ℕ, List, [], ◌∷◌}
+use Rattle.std.proofs.Common.{sym, subst}
+use Rattle.mr_tree.specs.declared.tree.Tree.{Tree}
+use Rattle.mr_pages.specs.Law.{IsMap}
+use Rattle.mr_pages.specs.PageBytes.{first_form}
+use Rattle.mr_batch.specs.Changes.{Changes}
+use Rattle.mr_batch.specs.Replay.{replay}
+
+-- whatever map the old bytes stand for, the new ones stand for the map after the batch
+abbrev pub IsAfter : (List ℕ → List ℕ) → (old : List ℕ) → Changes → (new : List ℕ) → Type 0
+IsAfter hash old batch new = (t : Tree) (held : ℕ) → IsMap first_form hash old t held
+    → IsMap first_form hash new (replay t (batch ∷ [])) batch.number
+
+-- files one after the other, each after one batch more
+abbrev pub IsAfterAll : (List ℕ → List ℕ) → (old : List ℕ) → List Changes → (new : List ℕ) → Type 0
+IsAfterAll hash old [] new = new ≡ old
+IsAfterAll hash old (batch ∷ batches) new = (between : List ℕ) × IsAfter hash old batch between
+    × IsAfterAll hash between batches new
+
+-- the batch at which a map then stands
+abbrev pub number_after : (held : ℕ) → List Changes → ℕ
+number_after held [] = held
+number_after held (batch ∷ batches) = number_after batch.number batches
+
+-- the last of them stands for the map after all batches
+pub stands_after : (hash : List ℕ → List ℕ) (batches : List Changes) (old new : List ℕ) →
+    IsAfterAll hash old batches new → (t : Tree) (held : ℕ) → IsMap first_form hash old t held →
+    IsMap first_form hash new (replay t batches) (number_after held batches)
+stands_after hash [] old new same t held is =
+    subst (λ bytes. IsMap first_form hash bytes t held) (sym same) is
+stands_after hash (batch ∷ batches) old new on t held is =
+    stands_after hash batches on.0 new on.2 (replay t (batch ∷ [])) batch.number (on.1 t held is)
+
+-- So two files that stand for one map stand for one map after the same batches: then both have its
+-- one root digest.
+pub record StandAlike (hash : List ℕ → List ℕ) (one other : List ℕ) (t : Tree) (batch : ℕ)
+    : Type 0 where
+  pub one_is : IsMap first_form hash one t batch
+  pub other_is : IsMap first_form hash other t batch
+
+pub alike_after : (hash : List ℕ → List ℕ) (batches : List Changes) (one other one' other' : List ℕ)
+    (t : Tree) (held : ℕ) → StandAlike hash one other t held → IsAfterAll hash one batches one' →
+    IsAfterAll hash other batches other' →
+    StandAlike hash one' other' (replay t batches) (number_after held batches)
+alike_after hash batches one other one' other' t held alike first second = record {
+  one_is = stands_after hash batches one one' first t held alike.one_is;
+  other_is = stands_after hash batches other other' second t held alike.other_is;
+}
