@@ -6,6 +6,7 @@ ghost use Rattle.mr_outside.specs.Faults.{next_count};
 use crate::assertions::holds;
 use crate::bench::{file_of, ran, ran_on, shelf_of};
 use crate::parts::File;
+use crate::parts::Part::{Removed, Text};
 use hex::FromHex;
 use mr_outside::{MemShelf, NoGate, Shelf, ShelfErr};
 use mr_tool::Status::BadMap;
@@ -48,6 +49,35 @@ fn bytes_at(
     let at = (at as usize).min(bytes.len());
     let count = most.min(bytes.len() - at);
     bytes[at..at + count].to_vec(alloc)
+}
+
+// The bytes of a file with these in the place of its own.
+fn overwritten(
+    alloc: Global,
+    shelf: &MemShelf,
+    name: &str,
+    at: u64,
+    bytes: &[u8],
+) -> Result<Vec<u8>, AllocError> {
+    let old = shelf.file(name).unwrap_or(&[]);
+    let (front, behind) = old.split_at((at as usize).min(old.len()));
+    let (_, rest) = behind.split_at(bytes.len().min(behind.len()));
+    let mut all = front.to_vec(alloc)?;
+    all.extend_from_slice(bytes)?;
+    all.extend_from_slice(rest)?;
+    Ok(all)
+}
+
+fn write(
+    alloc: Global,
+    shelf: &mut MemShelf,
+    name: &str,
+    at: u64,
+    bytes: &[u8],
+) -> Result<(), ShelfErr> {
+    let all = overwritten(alloc, shelf, name, at, bytes)?;
+    shelf.put(name, &all)?;
+    Ok(())
 }
 
 // Whether these are the bytes of a leaf page.
@@ -148,7 +178,7 @@ impl Shelf for Fickle {
     }
 
     fn write_at(&mut self, name: &str, at: u64, bytes: &[u8]) -> Result<(), ShelfErr> {
-        let answer = self.shelf.write_at(name, at, bytes);
+        let answer = write(self.alloc, &mut self.shelf, name, at, bytes);
         count_refusal(&mut self.faults, &answer);
         answer
     }
@@ -175,13 +205,15 @@ fn built<R: Threads + Sync>(
 
 // Whether two digests differ in their lowest bit alone.
 fn are_neighbours(held: &str, found: &str) -> bool {
-    match (
-        <[u8; 32] as FromHex>::from_hex(held),
-        <[u8; 32] as FromHex>::from_hex(found),
-    ) {
-        (Ok(held), Ok(found)) => held[..31] == found[..31] && held[31] ^ found[31] == 1,
-        _ => false,
-    }
+    let Ok(held) = <[u8; 32] as FromHex>::from_hex(held) else {
+        return false;
+    };
+    let Ok(found) = <[u8; 32] as FromHex>::from_hex(found) else {
+        return false;
+    };
+    let mut other = held;
+    other[31] ^= 1;
+    other.as_slice() == found.as_slice()
 }
 
 // Whether a line says of some page that its digest is another in the lowest bit.
@@ -238,5 +270,29 @@ fn a_leaf_that_is_another_when_it_is_read_again(rt: HostRuntime) {
         &rt,
         "prove",
         is_refused(&rt, rt.alloc(), &[], PROVE, "m", false),
+    );
+}
+
+// Batch 1, which takes out the records 1 to 2,000: more than 256 leaves change.
+const BATCH: &[File<'static>] = &[(
+    "b",
+    &[
+        Text("batch 1\n"),
+        Removed {
+            first: 0,
+            count: 2000,
+            step: 1,
+            of: 2000,
+        },
+    ],
+)];
+
+// Leaves of the map that is made, which the batch changes and later reads again.
+#[test]
+fn a_leaf_that_was_written_is_another_when_it_is_read(rt: HostRuntime) {
+    holds(
+        &rt,
+        "apply",
+        is_refused(&rt, rt.alloc(), BATCH, "apply m b n", "n", true),
     );
 }
