@@ -24,7 +24,7 @@ pub(crate) struct Hints {
     looks: u32,
 }
 
-/// The pages on which a record may be found, from its leaf's up; 0 for none.
+/// The pages on which a record may be found, from its leaf's up, by level; 0 for none.
 #[derive(Clone, Copy)]
 pub(crate) struct Way {
     pages: [u32; LEVELS],
@@ -36,24 +36,24 @@ impl Way {
         Way { pages: [0; LEVELS] }
     }
 
-    // Whether the way leads over this page.
-    fn leads_over(&self, page: u32) -> bool {
-        for one in &self.pages {
-            if *one == page {
-                return true;
-            }
-        }
-        false
-    }
-
-    /// The first of some children over whose page the way leads; their number, if over none.
-    pub(crate) fn turn(&self, children: &[Child]) -> usize {
+    /// Which of the children of a node of this level stands on the page to which the way leads
+    /// below it; their number, if none does.
+    pub(crate) fn turn(&self, level: u8, children: &[Child]) -> usize {
+        let page = self.page_below(level as usize);
         for at in 0..children.len() {
-            if self.leads_over(children[at].id) {
+            if children[at].id == page {
                 return at;
             }
         }
         children.len()
+    }
+
+    // The page of the way one level below this one, 0 for none.
+    fn page_below(&self, level: usize) -> u32 {
+        if level == 0 || level > LEVELS {
+            return 0;
+        }
+        self.pages[level - 1]
     }
 }
 

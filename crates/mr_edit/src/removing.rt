@@ -329,7 +329,7 @@ pub(crate) fn take_out<F: PageFile>(
         Ok(Some(leave_records::<F>(alloc, desk, child.id, records, root)?))
     } else {
         let children = view.children();
-        let turn = way.turn(children);
+        let turn = way.turn(level, children);
         for n in 0..children.len() + 1 {
             let at = tried(turn, n);
             if at >= children.len() {
