@@ -8,7 +8,7 @@ usage: tests/plain.py RECORDS [BATCH ..]
 Prints the root digest of the map of the record text in the file RECORDS, and then that after each batch in turn, or
 the line on the first batch that may not be applied. It takes texts to be without a fault. `make` prints the text that
 the program's command of that name writes to a file, `demo` what the program's prints. With no words it prints the
-roots in the stories of crates/mr_tests, by their names. The gate does not run it; tests/clients takes its functions.
+roots in the stories of crates/mr_rows, by their names. The gate does not run it; tests/clients takes its functions.
 """
 import hashlib
 import math

@@ -7,16 +7,14 @@ import re
 import sys
 import tempfile
 import time
-from typing import Callable, Dict, List, Optional, Tuple
+from typing import Callable, List, Optional, Tuple
 
 from bench import TOP, Bench, read, write
 import chances
 import mrtree_check
-import proofs
 import tables
 import trips
 import vectors
-from proofs import plain
 
 LONGEST = 40  # lines of a function
 MOST_IN_SHORT = 2**17  # bytes of a proof that the short run takes from a story
@@ -129,68 +127,64 @@ def says_under(bench: Bench, words: List[str], hash_: Callable) -> bytes:
 
 
 def rows_hold(bench: Bench) -> None:
-    """The rows and stories of crates/mr_tests: what they print under their hash, and both clients under SHA-256."""
-    checks = 0
-    for table in tables.tables(os.path.join(TOP, "crates", "mr_tests", "src")):
+    """The rows and stories of crates/mr_rows: what they print under their hash, and both clients under SHA-256."""
+    folder, checks = os.path.join(TOP, "crates", "mr_rows"), 0
+    with open(os.path.join(folder, "args")) as file:
+        gone_through = file.read().split()
+    bench.holds(gone_through == sorted(os.listdir(os.path.join(folder, "data"))), "a table is not gone through")
+    for group in tables.groups(os.path.join(folder, "data")):
         for name in os.listdir("."):
             os.remove(name)
-        for name, bytes_ in table["files"].items():
+        for name, bytes_ in group.files().items():
             write(name, bytes_)
-        if table[""] == "Row":
-            if table["words"].startswith("check ") and not table["fails"]:
-                checks += row_holds(bench, table)
-        else:
-            checks += story_holds(bench, table)
+        if group.kind() == "row" and group.first("run").words.startswith("check ") and not group.has("fails"):
+            checks += row_holds(bench, group)
+        elif group.kind() == "story":
+            checks += story_holds(bench, group)
     bench.holds(checks >= 150, "only %d checks are found in the tables" % checks)
 
 
-def row_holds(bench: Bench, row: Dict) -> int:
+def row_holds(bench: Bench, row: tables.Group) -> int:
     """A row is as it says under one of the two hash functions; both clients agree on its proof. Answers how many."""
-    words = row["words"].replace("..", "0" * 62).split(" ")
-    text = row["text"].replace("..", "0" * 62).encode()
+    words = row.first("run").words.replace("..", tables.ZEROS).split(" ")
+    text = row.text(row.first("prints"))
     said = [says_under(bench, words, hash_) for hash_ in (exclusive_or, mrtree_check.digest)]
-    bench.holds(text in said, "the row '%s': the client says %s" % (row["name"], said))
-    found = bench.agree(words, "the row '%s'" % row["name"])[1]
+    bench.holds(text in said, "the row '%s': the client says %s" % (row.name(), said))
+    found = bench.agree(words, "the row '%s'" % row.name())[1]
     if b" found " in found:
-        bench.agree([words[0], found.split()[-1].decode(), *words[2:]], "the row '%s', its own root" % row["name"])
+        bench.agree([words[0], found.split()[-1].decode(), *words[2:]], "the row '%s', its own root" % row.name())
     return 1
 
 
-def story_holds(bench: Bench, story: Dict) -> int:
+def story_holds(bench: Bench, story: tables.Group) -> int:
     """The steps of a story, done by the program under SHA-256; both clients agree on each proof that it judges."""
     root, checks = "0" * 64, 0
-    for step in story["steps"]:
-        line = step["words"] if isinstance(step, dict) else step[1] if step[0] in ("Do", "Print") else ""
-        words = line.replace("..", "0" * 62).split(" ")
+    for at, step in enumerate(story.items):
+        words = step.words.replace("..", tables.ZEROS).split(" ") if step.key in ("run", "do") else [""]
         if words[0] in ("check", "audit"):
             query, proof = words[2:]
             if os.path.exists(proof) and (bench.is_long or os.path.getsize(proof) < MOST_IN_SHORT):
-                bench.agree(["check", root, query, proof], "the story '%s'" % story["name"])
-                bench.agree(["check", "0" * 64, query, proof], "the story '%s', no root" % story["name"])
+                said = bench.agree(["check", root, query, proof], "the story '%s'" % story.name())
+                bench.agree(["check", "0" * 64, query, proof], "the story '%s', no root" % story.name())
+                if words[1] == root:
+                    bench.holds(said[1] == story.text(story.items[at + 2]), "the story '%s': %s" % (story.name(), said))
             checks += 2
         elif words[0] in ("root", "build", "apply", "list", "prove", "make"):
             status, said = bench.program(words)
             if words[0] in ("build", "apply") and status == 0:
                 root = said.decode().strip()
-        elif step[0] == "Change" and os.path.exists(step[1]):
-            bytes_ = bytearray(read(step[1]))
-            for place, value in step[2]:
-                bytes_[place : place + 1] = bytes([value])
-            write(step[1], bytes(bytes_))
+        elif step.key == "change":
+            change(*step.words.split(" ", 1))
     return checks
 
 
-def flips_hold(bench: Bench) -> None:
-    """What the tables say of the proof of a path with one bit of a byte changed."""
-    names = tables.Names(os.path.join(TOP, "crates", "mr_tests", "src", "levels.rt"))
-    _, root, query, _ = names.value("CHECK").split(" ")
-    tree = plain.pack([(i, (i, 0, i, 0), b"") for i in range(1, 1026)])
-    proof = proofs.honest(tree, 0, (700, 0, 702, 0))
-    for flip in names.value("FLIPS"):
-        bent = bytearray(proof)
-        bent[flip["place"]] ^= 1
-        said = bench.agree_on(root, query, bytes(bent), "the flip of " + flip["what"])[1]
-        bench.holds(said == flip["says"].encode(), "the flip of %s: both say %s" % (flip["what"], said))
+def change(name: str, words: str) -> None:
+    """Changes bytes of a file, by places and values; of the byte at a place alone the lowest bit turns."""
+    bytes_, numbers = bytearray(read(name)), tables.numbers_of(words)
+    for place, value in zip(numbers[::2], [*numbers[1::2], None]):
+        if place < len(bytes_):
+            bytes_[place] = bytes_[place] ^ 1 if value is None else value
+    write(name, bytes(bytes_))
 
 
 # ---- all of it
@@ -204,7 +198,6 @@ def main(how: str, program: str) -> int:
         ("the rules that vectors show", each_rule_is_shown),
         ("vectors", lambda bench: vectors_hold(bench, "vectors.tsv")),
         ("the tables of the program's tests", rows_hold),
-        ("a proof with a bit changed", flips_hold),
         ("proofs at random", chances.random_proofs),
         ("from files of publishers and back", trips.trips_hold),
     ]

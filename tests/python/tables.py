@@ -1,228 +1,188 @@
-"""The tables of crates/mr_tests as values: rows and stories of runs, with the bytes of their files.
+"""The tables of crates/mr_rows as values: rows and stories of runs, with the bytes of their files.
 
-A small reader of constants of Rust: literals, lists, tuples, structs and the names of other constants. A struct is a
-dictionary with its name under "", and a variant with values a tuple that begins with its name.
+An item is a line `KEY: WORDS`, with the lines of its parts below it, two spaces in. A group is an item of one of the
+keys that begin one, with the items behind it.
 """
 import glob
 import os
-import re
 import struct
-from typing import Any, Dict, Iterable, Iterator, List, Tuple
+from typing import Dict, Iterable, Iterator, List, NamedTuple, Optional, Tuple
 
 from proofs import plain
 
-TOKEN = re.compile(
-    r'\s+|//[^\n]*|(?P<string>b?"(?:[^"\\]|\\.)*")|(?P<byte>b\'[^\']\')|(?P<number>-?[0-9][0-9A-Za-z_]*)'
-    r"|(?P<name>[A-Za-z_][A-Za-z0-9_]*(?:::[A-Za-z_][A-Za-z0-9_]*)*)|(?P<sign>.)",
-    re.S,
-)
+ZEROS = "0" * 62  # what `..` stands for
+BEGINS = ("hash", "let", "row", "false row", "story", "bad words")
 
 
 class Unread(Exception):
-    """Something that is no constant of the forms that are read here."""
+    """A line that is no item, or no part of one."""
 
 
-def string_of(token: str) -> Any:
-    """The value of a string, or of a string of bytes."""
-    body = re.sub(r"\\\n\s*", "", token[token.index('"') + 1 : -1])
-    escapes = {"n": "\n", "r": "\r", "t": "\t", "0": "\0", '"': '"', "\\": "\\", "'": "'"}
+class Item(NamedTuple):
+    """An item, and the lines of its parts."""
 
-    def escaped(match):
-        if match[1][0] == "x":
-            return chr(int(match[1][1:], 16))
-        return chr(int(match[1][2:-1], 16)) if match[1][0] == "u" else escapes[match[1]]
-
-    text = re.sub(r"\\(x[0-9a-fA-F]{2}|u\{[0-9a-fA-F]+\}|.)", escaped, body, flags=re.S)
-    return text.encode("latin-1") if token[0] == "b" else text
+    key: str
+    words: str
+    parts: List[str]
 
 
-def number_of(token: str) -> int:
-    """The value of a number, whatever the name of its type behind it."""
-    digits = re.sub("_", "", re.sub(r"_?([iu](8|16|32|64|128|size))$", "", token))
-    return int(digits, 0)
+class Group(NamedTuple):
+    """The items of a row or a story, the first one with its name."""
+
+    table: "Table"
+    hash: str
+    items: List[Item]
+
+    def kind(self) -> str:
+        """What group it is."""
+        return self.items[0].key
+
+    def name(self) -> str:
+        """Its name."""
+        return self.items[0].words
+
+    def first(self, key: str) -> Item:
+        """Its first item of this key."""
+        return next(item for item in self.items if item.key == key)
+
+    def has(self, key: str) -> bool:
+        """Whether it has an item of this key."""
+        return any(item.key == key for item in self.items)
+
+    def files(self) -> Dict[str, bytes]:
+        """Its files, by their names."""
+        return {item.words: self.table.bytes_of(item) for item in self.items if item.key == "file"}
+
+    def text(self, item: Item) -> bytes:
+        """What is printed."""
+        return put(b"", "| " + item.words) if item.words else self.table.bytes_of(item)
 
 
-class Names:
-    """The constants of one file, by their names; `others` are those of the other files."""
+class Table:
+    """One file: its groups, and the parts that go under names."""
 
     def __init__(self, path: str) -> None:
+        self.parts: Dict[str, List[str]] = {}
+        self.groups: List[Group] = []
+        hash_ = ""
         with open(path) as file:
-            self.source = file.read()
-        self.texts = {m[1]: m[2] for m in re.finditer(r"\bconst (\w+): [^=]*= (.*?);\n", self.source, re.S)}
-        self.others: Dict[str, "Names"] = {}
+            items = list(items_of(file))
+        for item in items:
+            if item.key == "let":
+                self.parts[item.words] = item.parts
+            elif item.key == "hash":
+                hash_ = item.words
+            elif item.key in BEGINS:
+                self.groups.append(Group(self, hash_, [item]))
+            else:
+                self.groups[-1].items.append(item)
 
-    def value(self, name: str) -> Any:
-        """The value of a constant, here or in the file that this one uses it of."""
-        if name in self.texts:
-            return Reader(self, self.texts[name]).value()
-        for module, names in re.findall(r"use crate::(\w+)::(\{[^}]*\}|\w+);", self.source):
-            if re.search(r"\b%s\b" % name, names) and name in self.others[module].texts:
-                return self.others[module].value(name)
-        return name
+    def bytes_of(self, item: Item) -> bytes:
+        """The bytes of the parts of an item."""
+        bytes_ = b""
+        for part in item.parts:
+            used = self.parts[part[4:]] if part.startswith("use ") else [part]
+            for one in used:
+                bytes_ = put(bytes_, one)
+        return bytes_
 
 
-class Reader:
-    """Reads one value from the tokens of its text."""
-
-    def __init__(self, names: Names, text: str) -> None:
-        self.names, self.at = names, 0
-        self.tokens = [m for m in TOKEN.finditer(text) if m.lastgroup]
-
-    def take(self, sign: str = "") -> Any:
-        """The next token; only if it is this sign, where one is given."""
-        token = self.tokens[self.at] if self.at < len(self.tokens) else None
-        if token is None or (sign and token[0] != sign):
-            return None
-        self.at += 1
-        return token
-
-    def many(self, close: str) -> List[Any]:
-        """The values up to a closing sign, with commas between."""
-        values = []
-        while not self.take(close):
-            values.append(self.value())
-            self.take(",")
-        return values
-
-    def fields(self, name: str) -> Dict[str, Any]:
-        """The fields of a struct up to its closing brace."""
-        values: Dict[str, Any] = {"": name}
-        while not self.take("}"):
-            key = self.take()[0]
-            if not self.take(":"):
-                raise Unread(key)
-            values[key] = self.value()
-            self.take(",")
-        return values
-
-    def value(self) -> Any:
-        """The next value."""
-        while self.take("&"):
-            pass
-        token = self.take()
-        if token is None:
-            raise Unread("the end")
-        if token.lastgroup == "string":
-            return string_of(token[0])
-        if token.lastgroup == "byte":
-            return ord(token[0][2])
-        if token.lastgroup == "number":
-            return number_of(token[0]) + (self.value() if self.take("+") else 0)
-        if token[0] == "[":
-            return self.many("]")
-        if token[0] == "(":
-            return tuple(self.many(")"))
-        if token.lastgroup != "name":
-            raise Unread(token[0])
-        name = token[0].split("::")[-1]
-        if self.take("{"):
-            return self.fields(name)
-        return (name, *self.many(")")) if self.take("(") else self.names.value(name)
+def items_of(lines: Iterable[str]) -> Iterator[Item]:
+    """The items of a table."""
+    item: Optional[Item] = None
+    for line in lines:
+        line = line.rstrip("\n")
+        if line.startswith("  "):
+            if item is None:
+                raise Unread(line)
+            item.parts.append(line[2:])
+        elif line and not line.startswith("#"):
+            key, _, words = line.partition(":")
+            item = Item(key, words[1:], [])
+            yield item
 
 
 # ---- the parts of files
 
 
-def lines(front: str, numbers: Iterable[int]) -> bytes:
+def number_of(word: str) -> Optional[int]:
+    """The number that a word spells; none where it is there for the reader."""
+    try:
+        return int(word, 0)
+    except ValueError:
+        return None
+
+
+def numbers_of(words: str) -> List[int]:
+    """The numbers among these words."""
+    return [number for number in map(number_of, words.split(" ")) if number is not None]
+
+
+def lines(front_: str, numbers: Iterable[int]) -> bytes:
     """The lines of the places of these numbers, as the tests scatter them, each behind this front."""
-    return "".join(front + plain.line_of(plain.place(number)) + "\n" for number in numbers).encode()
+    return "".join(front_ + plain.line_of(plain.place(number)) + "\n" for number in numbers).encode()
 
 
-def changes(part: Any) -> bytes:
-    """The lines of a batch that are made up by a rule."""
-    if isinstance(part, dict):
-        places = range(part["first"], part["first"] + part["count"])
-        return "".join("- %d\n" % (place * part["step"] % part["of"] + 1) for place in places).encode()
-    if part[0] == "Renewed":
-        return (b"- %d\n" % part[1] + lines("+ ", [part[1]])) * part[2]
-    places = range(part[1], part[1] + 250)
+def removed(first: int, count: int, step: int, of: int) -> bytes:
+    """The changes of a batch that removes records by a rule."""
+    return "".join("- %d\n" % (place * step % of + 1) for place in range(first, first + count)).encode()
+
+
+def mixed(first: int) -> bytes:
+    """The changes of a batch by which records of 3,000 go, and others come."""
+    places = range(first, first + 250)
     return b"".join(b"- %d\n" % (place * 7 % 3000 + 1) + lines("+ ", [place + 3001]) for place in places)
 
 
-def leaf(text: str) -> bytes:
-    """An opened leaf of these record lines."""
-    records = [plain.record_bytes(plain.record_of(one.split(" "))) for one in text.splitlines()]
-    return b"L" + bytes([len(records) % 256]) + b"".join(records)
-
-
-def entry(part: Dict[str, Any]) -> bytes:
-    """The corners of a part, and its digest of which all but the last byte is zero."""
-    return struct.pack(">4i", *part["corners"]) + bytes(31) + bytes([part["digest"]])
-
-
-def front(kind: bytes, part: Dict[str, Any]) -> bytes:
-    """The head of a proof at batch 0 up to its count."""
-    return b"MRVO\x01" + kind + struct.pack(">QQ", 0, part["count"])
-
-
-def radius(value: Any) -> bytes:
-    """The flag, and the squared radius where there is one."""
-    return b"\x00" if value == "None" else b"\x01" + value[1].to_bytes(16, "big")
-
-
-def put(bytes_: bytes, part: Any) -> bytes:
-    """A file with one more part at its end."""
-    kind = part if isinstance(part, str) else part[""] if isinstance(part, dict) else part[0]
-    kind = "Row" if kind == "InARow" else kind
-    ways = {
-        "Raw": lambda: part[1],
-        "Text": lambda: part[1].encode(),
-        "Zeros": lambda: bytes(part[1]),
-        "Row": lambda: "".join("%d %d 0 %d 0 -\n" % (i, i, i) for i in range(1, part[1] + 1)).encode(),
-        "Places": lambda: lines("", range(part[1], part[1] + part[2])),
-        "Added": lambda: lines("+ ", range(part[1], part[1] + part[2])),
-        "Window": lambda: front(b"W", part) + bytes([part["level"]]),
-        "Nearest": lambda: front(b"K", part) + radius(part["radius"]) + bytes([part["level"]]),
-        "Leaf": lambda: leaf(part[1]),
-        "Node": lambda: b"N" + bytes([part[1]]),
-        "Pruned": lambda: b"P" + entry(part),
-        "Map": lambda: b"MRMP\x01" + bytes([part["level"]]) + bytes(8)
-        + struct.pack(">QII", part["count"], part["pages"], part["root"]) + entry(part),
-        "Inner": lambda: b"N" + bytes([part["level"], part["children"]]),
-        "Child": lambda: struct.pack(">I", part["page"]) + entry(part),
-        "Seal": lambda: bytes(4092 - len(bytes_)) + b"SEAL",
-        "Fill": lambda: bytes(-len(bytes_) % 4096),
-    }
-    if kind in ("Removed", "Renewed", "Mixed"):
-        return bytes_ + changes(part)
-    if kind not in ways:
-        raise Unread(kind)
-    return bytes_ + ways[kind]()
-
-
-
-def bytes_of(parts: List[Any]) -> bytes:
-    """The bytes of a file's parts."""
-    bytes_ = b""
-    for part in parts:
-        bytes_ = put(bytes_, part)
+def fields(front_: bytes, form: str, numbers: Tuple[int, ...]) -> bytes:
+    """These bytes and then numbers, by the letters of `struct`; a digest and a radius are written by their values."""
+    bytes_ = front_
+    for letter, number in zip(form, numbers):
+        widths = {"D": 32, "R": 16}
+        bytes_ += number.to_bytes(widths[letter], "big") if letter in widths else struct.pack(">" + letter, number)
+    if len(form) != len(numbers):
+        raise Unread(form)
     return bytes_
 
 
-def files_of(files: List[Tuple[str, List[Any]]]) -> Dict[str, bytes]:
-    """The files of a row or a story, by their names."""
-    return {name: bytes_of(parts) for name, parts in files}
+def record(line: str) -> bytes:
+    """A record in a leaf."""
+    return plain.record_bytes(plain.record_of(line.split(" ")))
 
 
-# ---- rows and stories
+def put(bytes_: bytes, part: str) -> bytes:
+    """A file with one more part at its end."""
+    kind, _, words = part.partition(" ")
+    n = tuple(numbers_of(words))
+    ways = {
+        "|": lambda: words.replace("..", ZEROS).encode() + b"\n",
+        "text": lambda: words.replace("..", ZEROS).encode(),
+        "hex": lambda: bytes.fromhex(words),
+        "zeros": lambda: bytes(n[0]),
+        "points": lambda: "".join("%d %d 0 %d 0 -\n" % (i, i, i) for i in range(1, n[0] + 1)).encode(),
+        "places": lambda: lines("", range(n[0], n[0] + n[1])),
+        "added": lambda: lines("+ ", range(n[0], n[0] + n[1])),
+        "removed": lambda: removed(*n),
+        "renewed": lambda: (b"- %d\n" % n[0] + lines("+ ", [n[0]])) * n[1],
+        "mixed": lambda: mixed(n[0]),
+        "window": lambda: fields(b"MRVO\x01W", "QQB", n),
+        "nearest": lambda: fields(b"MRVO\x01K", "QQBRB" if n[2] else "QQBB", n),
+        "leaf": lambda: fields(b"L", "B", n),
+        "record": lambda: record(words),
+        "node": lambda: fields(b"N", "B", n),
+        "pruned": lambda: fields(b"P", "iiiiD", n),
+        "map": lambda: fields(b"MRMP\x01", "BQQIIiiiiD", n),
+        "inner": lambda: fields(b"N", "BB", n),
+        "child": lambda: fields(b"", "IiiiiD", n),
+        "seal": lambda: bytes(4092 - len(bytes_)) + b"SEAL",
+        "fill": lambda: bytes(-len(bytes_) % 4096),
+    }
+    if kind not in ways:
+        raise Unread(part)
+    return bytes_ + ways[kind]()
 
 
-def tables(folder: str) -> Iterator[Dict[str, Any]]:
-    """Each row and story of the tables in a folder, as a dictionary; a table that is not read is left out."""
-    modules = {os.path.basename(path)[:-3]: Names(path) for path in sorted(glob.glob(os.path.join(folder, "*.rt")))}
-    for names in modules.values():
-        names.others = modules
-    for names in modules.values():
-        for name in names.texts:
-            try:
-                found = names.value(name)
-                rows = found if isinstance(found, list) else []
-                ready = [dict(row, files=files_of(row["files"])) for row in rows if is_run(row)]
-            except (Unread, KeyError, TypeError, AttributeError, ValueError, RecursionError):
-                continue
-            yield from ready
-
-
-def is_run(row: Any) -> bool:
-    """Whether a value is a row or a story."""
-    return isinstance(row, dict) and row[""] in ("Row", "Story") and "files" in row
+def groups(folder: str) -> Iterator[Group]:
+    """Each row, story and list of bad words of the tables in a folder."""
+    for path in sorted(glob.glob(os.path.join(folder, "*.rows"))):
+        yield from Table(path).groups

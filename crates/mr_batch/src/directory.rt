@@ -68,6 +68,19 @@ impl Directory {
         Ok(())
     }
 
+    /// As `put`, and answers whether the number had a rectangle before, with no search of its own.
+    pub fn meet(&mut self, number: u64, rect: Rect) -> Result<bool, AllocError>
+        ensures met { IfOk result (λ before. before ≡ is_some (rect_at self.old number)) }
+        ensures put { OnOk result ((n : ℕ) → rect_at self.new n
+            ≡ (if number == n then Some rect else rect_at self.old n)) }
+        ensures counted { OnOk result (length self.new
+            ≡ length self.old + (if is_some (rect_at self.old number) then 0 else 1)) }
+        ensures unchanged { OnErr result (self.new ≡ self.old) }
+    {
+        let before = self.rects.insert(number, rect)?;
+        Ok(before.is_some())
+    }
+
     /// Takes the number out, and gives its rectangle, if it had one.
     pub fn take(&mut self, number: u64) -> Option<Rect>
         ensures value { result ≡ rect_at self.old number }

@@ -14,8 +14,9 @@ use Rattle.mr_outside.specs.declared.shelf.ShelfErr.TheVariants as shelf
 use Rattle.mr_outside.proofs.Changes.{IsChanged-grown, file-with_file, file-with_other}
 use Rattle.mr_pages.specs.Source.{told_bytes}
 use Rattle.mr_edit.specs.Sheets.{zeros, IsMade, WasRead, HasCopied, CopyStops, IsFiled}
-use Rattle.mr_edit.specs.Shelves.{HasShelfCause, Refuses}
+use Rattle.mr_edit.specs.Shelves.{HasShelfCause, Refuses, RefusesMade}
 use Rattle.mr_edit.specs.declared.error.EditErr.{EditErr}
+use Rattle.mr_edit.specs.declared.error.EditErr.TheVariants as errors
 use Rattle.mr_edit.proofs.Filed.{shelf_cause}
 
 -- ---- files of which one was set
@@ -53,6 +54,48 @@ pub of_bytes : (told : Option Files) (name bytes : List ℕ) (P : List ℕ → T
 of_bytes None name bytes P e h = let no : ◌≡◌ {A = Option (List ℕ)} None (Some bytes) = e in absurd cc
 of_bytes (Some files) name bytes P e h = subst (λ o. MatchOption o ⊥ P) e h
 
+none_before : (name bytes : List ℕ) (before after : Option Files) → IsChanged (with_file name) bytes before after →
+    after ≡ None → before ≡ None
+none_before name bytes None after put none = refl
+none_before name bytes (Some files) after put none =
+    let no : ◌≡◌ {A = Option Files} (Some (with_file name bytes files)) None = sym put ∙ none in absurd cc
+
+-- ---- why a call is refused
+
+-- a file that is there is missing only where no file is told
+not_told : {A : Type 0} (name : List ℕ) (before after : Shelved) (e : ShelfErr) (r : EditErr) →
+    IsFiled before.files name → ShelfCauses {A = A} name before after (Err e) → Refuses e r → r ≡ errors.Missing →
+    before.files ≡ None
+not_told name before after shelf.Missing r there c is missing = at before.files refl there (c.missing refl)
+  where
+    at : (o : Option Files) → before.files ≡ o → IsFiled o name → MayMiss o name before.faults after.faults →
+        before.files ≡ None
+    at None found there miss = found
+    at (Some files) found there miss =
+        let none : IsSome {T = List ℕ} None = subst (IsSome {T = List ℕ}) miss there in absurd cc
+not_told name before after shelf.Fault r there c is missing =
+    let no : ◌≡◌ {A = EditErr} errors.Fault errors.Missing = sym is ∙ missing in absurd cc
+not_told name before after shelf.NoMemory r there c is missing =
+    let no : ◌≡◌ {A = EditErr} errors.NoMemory errors.Missing = sym is ∙ missing in absurd cc
+
+-- the file that is made is never said to be missing
+not_missing : (e : ShelfErr) (r : EditErr) → RefusesMade e r → r ≡ errors.Missing → ⊥
+not_missing shelf.Missing r is missing =
+    let no : ◌≡◌ {A = EditErr} errors.Fault errors.Missing = sym is ∙ missing in cc
+not_missing shelf.Fault r is missing =
+    let no : ◌≡◌ {A = EditErr} errors.Fault errors.Missing = sym is ∙ missing in cc
+not_missing shelf.NoMemory r is missing =
+    let no : ◌≡◌ {A = EditErr} errors.NoMemory errors.Missing = sym is ∙ missing in cc
+
+made_cause : {A : Type 0} (name : List ℕ) (before after : Shelved) (e : ShelfErr) (r : EditErr) →
+    IsFiled before.files name → ShelfCauses {A = A} name before after (Err e) → RefusesMade e r →
+    HasShelfCause before.faults after.faults r
+made_cause name before after shelf.Missing r there c is =
+    subst (HasShelfCause before.faults after.faults) (sym is)
+    (shelf_cause name before after shelf.Missing errors.Missing there c refl)
+made_cause name before after shelf.Fault r there c is = shelf_cause name before after shelf.Fault r there c is
+made_cause name before after shelf.NoMemory r there c is = shelf_cause name before after shelf.NoMemory r there c is
+
 -- ---- the first page
 
 create_rose : (told : Option Files) (name : List ℕ) (a b : ℕ) → told ≡ None → MayMiss told name a b → Rose a b
@@ -60,10 +103,11 @@ create_rose told name a b none miss = subst (λ o. MayMiss o name a b) none miss
 
 pub create_stops : {A : Type 0} (new : List ℕ) (pages : ℕ) (s b : Shelved) (e : ShelfErr) (r : EditErr) →
     (IsErrOf {T = A} (Err e) shelf.Missing → s.files ≡ None) → b.files ≡ s.files → b.reads ≡ s.reads →
-    ShelfCauses {A = A} new s b (Err e) → Refuses e r → CopyStops new pages s b r
+    ShelfCauses {A = A} new s b (Err e) → RefusesMade e r → CopyStops new pages s b r
 create_stops {A = A} new pages s b e r never files reads c is = record {
   left = inl files;
   cause = at e c never is;
+  untold = λ missing. absurd (not_missing e r is missing);
   later = c.faults;
   more = omega (arith, reads);
   few = omega (arith, reads);
@@ -71,7 +115,7 @@ create_stops {A = A} new pages s b e r never files reads c is = record {
   where
     at : (e : ShelfErr) → ShelfCauses {A = A} new s b (Err e) → (IsErrOf {T = A} (Err e) shelf.Missing →
         s.files ≡ None) →
-        Refuses e r → HasShelfCause s.faults b.faults r
+        RefusesMade e r → HasShelfCause s.faults b.faults r
     at shelf.Missing c never is =
         subst (HasShelfCause s.faults b.faults) (sym is)
         (create_rose s.files new s.faults b.faults (never refl) (c.missing refl))
@@ -95,7 +139,7 @@ module _ (new : List ℕ) (pages : ℕ) (page : List ℕ) (zero_page : page ≡ 
   }
 
   pub first_stops : {A : Type 0} (e : ShelfErr) (r : EditErr) → IsChangedPartly (grown new) page a.files b.files →
-      ShelfCauses {A = A} new a b (Err e) → Refuses e r → CopyStops new pages s b r
+      ShelfCauses {A = A} new a b (Err e) → RefusesMade e r → CopyStops new pages s b r
   first_stops e r p c is = record {
     left = inr (
       p.front,
@@ -103,7 +147,8 @@ module _ (new : List ℕ) (pages : ℕ) (page : List ℕ) (zero_page : page ≡ 
       IsChanged-grown new [] p.front s.files a.files b.files made.files p.changed,
     );
     cause = subst (λ n. HasShelfCause n b.faults r) made.quiet
-        (shelf_cause new a b e r (set_there new [] s.files a.files made.files) c is);
+        (made_cause new a b e r (set_there new [] s.files a.files made.files) c is);
+    untold = λ missing. absurd (not_missing e r is missing);
     later = omega (arith, c.faults, made.quiet);
     more = omega (arith, same, made.reads);
     few = omega (arith, same, made.reads);
@@ -155,6 +200,9 @@ module _ (old new : List ℕ) (pages page count : ℕ) (s a : Shelved) (differ :
     cause = subst (λ n. HasShelfCause n b.faults r) h.quiet
         (shelf_cause old a b e r (other_there old new (zeros 4096 ++ h.nodes) s.files a.files differ h.files there)
         c is);
+    untold = λ missing. none_before new (zeros 4096 ++ h.nodes) s.files a.files h.files
+        (not_told old a b e r (other_there old new (zeros 4096 ++ h.nodes) s.files a.files differ h.files there) c is
+        missing);
     later = omega (arith, c.faults, h.quiet);
     more = omega (arith, h.more, reads.refused);
     few = omega (arith, h.few, reads.refused, within);
@@ -181,7 +229,7 @@ module _ (old new : List ℕ) (pages page count : ℕ) (piece : List ℕ) (s a b
     }
 
     pub piece_stops : {A : Type 0} (e : ShelfErr) (r : EditErr) → IsChangedPartly (grown new) piece a.files b.files →
-        ShelfCauses {A = A} new a b (Err e) → Refuses e r → CopyStops new pages s b r
+        ShelfCauses {A = A} new a b (Err e) → RefusesMade e r → CopyStops new pages s b r
     piece_stops e r p c is = record {
       left = inr (
         (zeros 4096 ++ w.nodes) ++ p.front,
@@ -194,7 +242,8 @@ module _ (old new : List ℕ) (pages page count : ℕ) (piece : List ℕ) (s a b
         IsChanged-grown new (zeros 4096 ++ w.nodes) p.front s.files a.files b.files w.files p.changed,
       );
       cause = subst (λ n. HasShelfCause n b.faults r) w.quiet
-          (shelf_cause new a b e r (set_there new (zeros 4096 ++ w.nodes) s.files a.files w.files) c is);
+          (made_cause new a b e r (set_there new (zeros 4096 ++ w.nodes) s.files a.files w.files) c is);
+      untold = λ missing. absurd (not_missing e r is missing);
       later = omega (arith, c.faults, w.quiet);
       more = omega (arith, w.more, same);
       few = omega (arith, w.few, same, within);

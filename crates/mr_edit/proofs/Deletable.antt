@@ -116,7 +116,7 @@ singles : (rs : List Record) → flat_map alone rs ≡ rs
 unfolding alone
 singles rs = flat_map_single (λ (r : Record). r) rs ∙ map-id rs
 
-sorted_length : (rs : List Record) → length (sorted_by_key (λ (r : Record). r.number) rs) ≡ length rs
+pub sorted_length : (rs : List Record) → length (sorted_by_key (λ (r : Record). r.number) rs) ≡ length rs
 sorted_length rs =
     let before : Record → Record → Bool = λ a b. is_lt (nat_cmp a.number b.number) in
     ap length (sym (singles (sorted_by before rs)))

@@ -1,5 +1,5 @@
 -- What the calls of a draft come to.
-use Rattle.std.proofs.Common.{◌≡◌, ℕ, ◌≤◌, List, [], ◌++◌, length, inl, inr, refl, sym, ap, subst, ◌∙◌, append-nil, arith}
+use Rattle.std.proofs.Common.{◌≡◌, ℕ, ◌+◌, ◌≤◌, List, [], ◌++◌, length, inl, inr, refl, sym, ap, subst, ◌∙◌, append-nil, arith}
 use Rattle.std.specs.Prelude.{max, Option, Some, None, option_map, IfSome, IfErr, OnOk, Result, Ok, Err}
 use Rattle.mr_record.specs.declared.version.Version.TheVariants.{One}
 use Rattle.mr_outside.specs.Files.{Files, with_file}
@@ -32,6 +32,8 @@ use Rattle.mr_edit.specs.Replayed.{Replays}
 use Rattle.mr_edit.specs.Shelves.{HasShelfCause}
 use Rattle.mr_edit.specs.Sheets.{zeros, book_on, HasPages, ArePages, HasCopied, CopyStops, KeepsSheets}
 use Rattle.mr_edit.specs.declared.error.EditErr.{EditErr}
+use Rattle.mr_edit.specs.Counted.{ReplaysWithin}
+use Rattle.mr_edit.specs.Reads.{reads_along}
 use Rattle.mr_edit.specs.declared.error.EditErr.TheVariants as errors
 use Rattle.mr_edit.proofs.Copies.{copy_draft}
 use Rattle.mr_edit.proofs.ReadPages.{book_size}
@@ -53,6 +55,9 @@ module _ (hash : List ℕ → List ℕ) (h : MapHead) (es : Entries) (cap : ℕ)
     named = refl;
     at_batch = refl;
     paged = refl;
+    root = refl;
+    free = refl;
+    count = refl;
     bytes = zeros 4096 ++ c.nodes;
     unsealed = unsealed_front hash (zeros 4096 ++ c.nodes) (c.nodes, [], sym (append-nil (zeros 4096 ++ c.nodes)));
     files = c.files;
@@ -68,6 +73,7 @@ module _ (hash : List ℕ → List ℕ) (h : MapHead) (es : Entries) (cap : ℕ)
       | inr set ↦ inr (set.0, unsealed_front hash set.0 set.1, set.2)
     ];
     cause = c.cause;
+    untold = c.untold;
     later = c.later;
     more = c.more;
     few = c.few;
@@ -148,6 +154,22 @@ module _ (hash : List ℕ → List ℕ) (d : Drawn) (dir : Directed) (b : Change
         no_fewer = omega (arith, n.reaches.no_fewer, after);
         no_more = omega (arith, n.reaches.no_more, after);
       }
+
+  -- and what it reads
+  pub applied_within : (r r' : ℕ) → ReplaysWithin (by One hash) (book_on d.shelf.files d.name d.pages) d.free d.root dir
+      b
+      r r' → (t : Tree) → CanApply hash d dir b t → r' ≤ r + reads_along t b.list
+  applied_within r r' within t can =
+      let size = book_size d.shelf.files d.name d.pages can.draft.drafted.book can.draft.drafted.is in
+      within t d.batch d.pages d.pages (nodes t) (record {
+        reaches = record {
+          draft = can.draft.drafted;
+          no_fewer = omega (arith, size);
+          no_more = omega (arith, size);
+        };
+        well = can.draft.well;
+        directory = can.directory;
+      }) can.admissible
 
 some_node : (P : Placed) → 1 ≤ nodes (tree_of P)
 some_node (stands.Leaf p rs) = omega (arith, fold-Leaf ℕ nodes_step rs)

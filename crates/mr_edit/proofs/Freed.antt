@@ -86,7 +86,7 @@ turn_counts q x p f o = omega (
   times-append q f o,
 )
 
-take_counts : (q : ℕ) (p l r f o : List ℕ) → p ≡ l ++ r → times q (l ++ (f ++ (r ++ o))) ≡ times q (p ++ (f ++ o))
+pub take_counts : (q : ℕ) (p l r f o : List ℕ) → p ≡ l ++ r → times q (l ++ (f ++ (r ++ o))) ≡ times q (p ++ (f ++ o))
 take_counts q p l r f o is = front_counts q l r f o ∙ ap (λ us. times q (us ++ (f ++ o))) (sym is)
 
 -- some subtrees, and then others

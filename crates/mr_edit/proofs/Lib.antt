@@ -10,6 +10,7 @@ pub mod Taking
 pub mod Splitting
 pub mod Descending
 pub mod Roots
+pub mod Alike
 pub mod Results
 pub mod Caused
 pub mod Looking
@@ -39,3 +40,7 @@ pub mod Seals
 pub mod ReadPages
 pub mod NodesKept
 pub mod Ends
+pub mod FreeReads
+pub mod Tries
+pub mod SearchReads
+pub mod ChangeReads

@@ -117,7 +117,7 @@ pub leave_some : (hash : List ℕ → List ℕ) (told : Option Book) (free page 
     CanLeave hash told free page cs → ⊥
 leave_some hash told free page cs none k = omega (arith, none, k.some)
 
-one_item : {X : Type 0} (xs : List X) (d : X) → length xs ≡ 1 → d ≡ get_or xs 0 d → xs ≡ d ∷ []
+pub one_item : {X : Type 0} (xs : List X) (d : X) → length xs ≡ 1 → d ≡ get_or xs 0 d → xs ≡ d ∷ []
 one_item [] d one is = absurd (omega (arith, one))
 one_item (x ∷ []) d one is = ap (λ y. y ∷ []) (sym is)
 one_item (x ∷ y ∷ xs) d one is = absurd (omega (arith, one))

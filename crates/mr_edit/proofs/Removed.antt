@@ -103,13 +103,20 @@ left_trees n Ps ns at x within place is stand =
 -- A record was taken out below one of the entries. The others, and what stands in the place of that one, are named
 -- side by side, and their pages are apart from the node's.
 pub record Rejoined (scheme : Scheme) (a : Book) (told : Option Book) (free : ℕ) (c : Child) (n at : ℕ)
-    (cs new : List Child) (before : List Record) (P : Placed) (others : List ℕ) : Type 0 where
+    (cs new : List Child) (before : List Record) (P : Placed) (others : List ℕ) (d : Child) (r : Rectangle)
+    (chain : List ℕ) : Type 0 where
   pub parts : List Placed
   pub opened : P ≡ Inner c.id (row_of parts)
   pub had : Name scheme a cs parts
   pub child : Placed
   pub within : at < length parts
   pub tree_is : tree_of child ≡ get_or (trees parts) at (tree_of child)
+  pub child_is : child ≡ get_or parts at child
+  pub held : Names scheme a d child
+  pub apart : Owned a.size
+      (pages_of child ++ (chain ++ (c.id ∷ ((pages (take at parts) ++ pages (drop (suc at) parts)) ++ others))))
+  pub rects : HaveRect n r (records (tree_of child))
+  pub once : IsOnce n (records (tree_of child))
   pub there : has n (records (tree_of child)) ≡ true
   pub left : IsLeft scheme false a told free (c.id ∷ ((pages (take at parts) ++ pages (drop (suc at) parts)) ++ others))
       (shrunk n (tree_of child)) new before
@@ -129,7 +136,7 @@ pub rejoined : (scheme : Scheme) (told told1 told2 : Option Book) (free free1 fr
     Removes scheme false told1 free1 told2 free2 d n r new before → (a : Book) (chain : List ℕ) (P : Placed)
     (others : List ℕ) → told ≡ Some a → Names scheme a c P → IsChain (HasFree a) free chain →
     Owned a.size (pages_of P ++ (chain ++ others)) → HaveRect n r (records (tree_of P)) →
-    IsOnce n (records (tree_of P)) → Rejoined scheme a told2 free2 c n at cs new before P others
+    IsOnce n (records (tree_of P)) → Rejoined scheme a told2 free2 c n at cs new before P others d r chain
 rejoined scheme told told1 told2 free free1 free2 c n r at cs new before d same same_free reads within is_d removes a
     chain P others is names linked owned all once =
     let has_node : HasNode a c.id (node.Inner (map child_link cs)) =
@@ -160,6 +167,11 @@ rejoined scheme told told1 told2 free free1 free2 c n r at cs new before d same 
       child = x;
       within = st.inside;
       tree_is = t_is;
+      child_is = st.child_is;
+      held = st.held;
+      apart = st.owned;
+      rects = here;
+      once = alone;
       there = g.0;
       left = g.1;
       named = zip_both (Names scheme o.book) (take at cs) (new ++ drop (suc at) cs) (take at Ps)
@@ -171,6 +183,31 @@ rejoined scheme told told1 told2 free free1 free2 c n r at cs new before d same 
           (zip_drop (Names scheme a) (suc at) cs Ps st.named)));
       owned = owned_up o.book.size c.id at Ps o.parts o.chain others o.owned;
     }
+
+-- what is left of the node is what is left of its tree
+pub left_of : (scheme : Scheme) (a : Book) (told : Option Book) (free : ℕ) (c : Child) (n at : ℕ) (cs new : List Child)
+    (before : List Record) (P : Placed) (others : List ℕ) (d : Child) (r : Rectangle) (chain : List ℕ)
+    (j : Rejoined scheme a told free c n at cs new before P others d r chain) → IsOnce n (records (tree_of P)) →
+    ◌≡◌ {A = Rest} (record {
+      tree = tree.Inner (trees (take at j.parts ++ (j.left.outcome.parts ++ drop (suc at) j.parts)));
+      aside =
+          before;
+    }) (shrunk n (tree_of P))
+left_of scheme a told free c n at cs new before P others d r chain j once =
+    let Ps = j.parts in
+    let t = tree_of j.child in
+    let o = j.left.outcome in
+    let alone : IsOnce n (flat_map records (trees Ps)) = subst (IsOnce n) (records_opened P c.id Ps j.opened) once in
+    let size : at < length (trees Ps) = omega (arith, j.within, length-map Ps tree_of) in
+    let has_it : holds n (get_or (trees Ps) at t) ≡ true = subst (λ u. holds n u ≡ true) j.tree_is j.there in
+    let place : at ≡ holder n (trees Ps) = sym (place_found (holds n) (trees Ps) at t size
+    (alone_before n (trees Ps) at t size alone has_it) has_it) in
+    (λ i. record {
+      tree = tree.Inner (trees (take at Ps ++ (o.parts ++ drop (suc at) Ps)));
+      aside = j.left.aside_is i;
+    })
+    ∙ left_trees n Ps o.parts at t j.within place j.tree_is o.stand
+    ∙ ap (λ ts. shrunk n (tree.Inner ts)) (sym (row_trees Ps)) ∙ ap (λ Q. shrunk n (tree_of Q)) (sym j.opened)
 
 pub removes_below : (scheme : Scheme) (root : Bool) (told told1 told2 told' : Option Book) (free free1 free2 free' : ℕ)
     (c : Child) (n : ℕ) (r : Rectangle) (at : ℕ) (cs new out : List Child) (before aside : List Record) (d : Child) →
@@ -186,23 +223,10 @@ removes_below scheme root told told1 told2 told' free free1 free2 free' c n r at
     let Ps = j.parts in
     let t = tree_of j.child in
     let o = j.left.outcome in
-    let alone : IsOnce n (flat_map records (trees Ps)) = subst (IsOnce n) (records_opened P c.id Ps j.opened) once in
     let size : at < length (trees Ps) = omega (arith, j.within, length-map Ps tree_of) in
     let w = leaves o.book o.chain (take at Ps ++ (o.parts ++ drop (suc at) Ps)) others o.is j.named o.linked j.owned in
     let has_it : holds n (get_or (trees Ps) at t) ≡ true = subst (λ u. holds n u ≡ true) j.tree_is j.there in
-    let place : at ≡ holder n (trees Ps) = sym (place_found (holds n) (trees Ps) at t size
-    (alone_before n (trees Ps) at t size alone has_it) has_it) in
-    let rest : ◌≡◌ {A = Rest} (record {
-      tree = tree.Inner (trees (take at Ps ++ (o.parts ++ drop (suc at) Ps)));
-      aside =
-          before;
-    }) (shrunk n (tree_of P)) =
-    (λ i. record {
-      tree = tree.Inner (trees (take at Ps ++ (o.parts ++ drop (suc at) Ps)));
-      aside = j.left.aside_is i;
-    })
-    ∙ left_trees n Ps o.parts at t j.within place j.tree_is o.stand
-    ∙ ap (λ ts. shrunk n (tree.Inner ts)) (sym (row_trees Ps)) ∙ ap (λ Q. shrunk n (tree_of Q)) (sym j.opened) in
+    let rest = left_of scheme a told2 free2 c n at cs new before P others d r chain j once in
     let v = w.outcome in (
       ap (λ Q. has n (records (tree_of Q))) j.opened ∙ ap (λ ts. has n (records (tree.Inner ts))) (row_trees Ps)
           ∙ has_below n (trees Ps)

@@ -127,7 +127,7 @@ change_removed scheme told told' free free' root root' dir dir' n rect o known s
 
 -- ---- one more
 
-mixes_after : (t : Tree) (c : Change) → WellFormed t → may_make (records t) c ≡ true →
+pub mixes_after : (t : Tree) (c : Change) → WellFormed t → may_make (records t) c ≡ true →
     IsPermutation (made (records t) c) (records (changed t c))
 mixes_after t (Add r) well may =
     addition_leaves (records t) (records (ins r t)) r (ins_mixes r t (has_room t (well_rooted t well)))

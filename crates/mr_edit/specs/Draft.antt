@@ -90,15 +90,18 @@ entry_of_root (Some c) = entry_of c
 
 -- ---- a map is copied
 
--- The map whose page 0 says this was copied: the draft is of its tree, where that is told, and at
--- its batch, and has as many pages; the file that was made is not sealed, and each other file is as
--- before. Each page was read once at most.
+-- The map whose page 0 says this was copied: the draft is of its tree, where that is told, and has
+-- its batch, its root, its count, its first free page and as many pages; the file that was made is
+-- not sealed, and each other file is as before. There were no more reads than pages.
 pub record Copies (hash : List ℕ → List ℕ) (name : List ℕ) (h : MapHead) (before : Shelved)
     (new : List ℕ) (d : Drawn) : Type 0 where
   pub of_tree : IfSome (stands_for h (told_bytes before.files name)).tree (DraftOf hash d)
   pub named : d.name ≡ new
   pub at_batch : d.batch ≡ h.batch
   pub paged : d.pages ≡ h.pages
+  pub root : d.root ≡ h.root
+  pub free : d.free ≡ h.free
+  pub count : d.count ≡ h.count
   pub bytes : List ℕ
   pub unsealed : IsUnsealed first_form hash bytes
   pub files : IsChanged (with_file new) bytes before.files d.shelf.files
@@ -106,11 +109,13 @@ pub record Copies (hash : List ℕ → List ℕ) (name : List ℕ) (h : MapHead)
   pub more : before.reads ≤ d.shelf.reads
   pub few : d.shelf.reads ≤ before.reads + h.pages
 
--- It was not: the files are as before, or the one that was made is not sealed.
+-- It was not: the files are as before, or the one that was made is not sealed. That a file is
+-- missing comes only where none is told.
 pub record CopyFails (hash : List ℕ → List ℕ) (h : MapHead) (before : Shelved) (new : List ℕ)
     (after : Shelved) (e : EditErr) : Type 0 where
   pub left : Leaves (IsUnsealed first_form hash) new before.files after.files
   pub cause : HasShelfCause before.faults after.faults e
+  pub untold : e ≡ errors.Missing → before.files ≡ None
   pub later : before.faults ≤ after.faults
   pub more : before.reads ≤ after.reads
   pub few : after.reads ≤ before.reads + h.pages

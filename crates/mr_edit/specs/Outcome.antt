@@ -1,5 +1,5 @@
 -- What a change of pages leaves.
-use Rattle.std.specs.Prelude.{◌≡◌, ⊤, ◌⊎◌, ℕ, ◌+◌, ◌<◌, ◌≤◌, length, List, [], ◌∷◌, ◌++◌, Option, Some, IsSomeAnd, option_map, map}
+use Rattle.std.specs.Prelude.{◌≡◌, ⊤, ◌⊎◌, ℕ, ◌+◌, ◌<◌, ◌≤◌, length, List, [], ◌∷◌, ◌++◌, Option, Some, None, IsSomeAnd, option_map, map}
 use Rattle.mr_geom.specs.Rectangle.{Rectangle}
 use Rattle.mr_record.specs.declared.record.Record.{Record}
 use Rattle.mr_tree.specs.Digest.{Scheme}
@@ -9,6 +9,8 @@ use Rattle.mr_tree.specs.declared.tree.Tree.TheOpen.{Inner}
 use Rattle.mr_pages.specs.Page.{Node, entry_of, page_limit}
 use Rattle.mr_pages.specs.Stands.{Placed, tree_of, pages_of, IsChain}
 use Rattle.mr_pages.specs.Walking.{child_link}
+use Rattle.mr_pages.specs.declared.rule.MapFault.{MapFault}
+use Rattle.mr_pages.specs.declared.rule.MapRule.TheVariants as rule
 use Rattle.mr_split.specs.Split.{sides}
 use Rattle.mr_grow.specs.Grow.{grown, leaves_over, nodes_over}
 use Rattle.mr_grow.specs.Parts.{first_part, second_part}
@@ -125,6 +127,22 @@ pub record Raises (scheme : Scheme) (told : Option Book) (free : ℕ)
 abbrev pub NeverMap : EditErr → Type 0 → Type 0
 NeverMap (errors.Map fault) holds = holds → ⊥
 NeverMap e holds = ⊤
+
+-- the same refusal, but for the page that is blamed
+abbrev pub IsAlike : EditErr → EditErr → Type 0
+IsAlike (errors.Map fault) e = (other : MapFault) × (e ≡ errors.Map other)
+    × (other.rule ≡ fault.rule)
+IsAlike other e = e ≡ other
+
+-- the page of a root, 0 where there is none
+abbrev pub root_page : Option Child → ℕ
+root_page None = 0
+root_page (Some c) = c.id
+
+-- that a page is none that may stand there is said of page 0 only where this page of the root is 0
+abbrev pub IsOfRoot : (root : ℕ) → EditErr → Type 0
+IsOfRoot root (errors.Map fault) = fault.rule ≡ rule.Page → fault.page ≡ 0 → root ≡ 0
+IsOfRoot root e = ⊤
 
 -- the page is in the file
 abbrev pub CanWrite : (told : Option Book) → (page : ℕ) → Type 0

@@ -19,6 +19,7 @@ use Rattle.mr_store.specs.declared.kept.Kept.{Kept}
 use Rattle.mr_edit.specs.Book.{Sheet, Book, HasNode}
 use Rattle.mr_edit.specs.Shelves.{HasShelfCause}
 use Rattle.mr_edit.specs.declared.error.EditErr.{EditErr}
+use Rattle.mr_edit.specs.declared.error.EditErr.TheVariants as errors
 
 -- ---- the pages
 
@@ -140,11 +141,12 @@ abbrev pub IsFront : (bytes : List ℕ) → Type 0
 IsFront bytes =
     (nodes : List ℕ) × (rest : List ℕ) × (zeros 4096 ++ nodes ≡ bytes ++ rest)
 
--- it was not copied
+-- it was not copied; that a file is missing comes only where none is told
 pub record CopyStops (new : List ℕ) (pages : ℕ) (before after : Shelved) (e : EditErr) : Type 0
   where
     pub left : Leaves IsFront new before.files after.files
     pub cause : HasShelfCause before.faults after.faults e
+    pub untold : e ≡ errors.Missing → before.files ≡ None
     pub later : before.faults ≤ after.faults
     pub more : before.reads ≤ after.reads
     pub few : after.reads ≤ before.reads + pages

@@ -22,6 +22,12 @@ Refuses shelf.Missing e = e ≡ errors.Missing
 Refuses shelf.Fault e = e ≡ errors.Fault
 Refuses shelf.NoMemory e = e ≡ errors.NoMemory
 
+-- the same of a file that is made: that it is missing is a fault
+abbrev pub RefusesMade : ShelfErr → EditErr → Type 0
+RefusesMade shelf.Missing e = e ≡ errors.Fault
+RefusesMade shelf.Fault e = e ≡ errors.Fault
+RefusesMade shelf.NoMemory e = e ≡ errors.NoMemory
+
 -- what is said of a node that was read, in a change's own words
 abbrev pub blamed : NodesErr → EditErr
 blamed (nodes.Changed page held found) =

@@ -3,10 +3,11 @@
 ghost use Rattle.std.specs.Prelude.{◌≡◌, ◌≢◌, ◌+◌, ◌-◌, ◌*◌, ◌≤◌, ◌<◌, max, min, length, IfOk, MatchResult, ℕ, List};
 ghost use Rattle.mr_outside.specs.State.{Shelved};
 ghost use Rattle.mr_edit.specs.Sheets.{zeros, IsMade, WasRead, HasCopied, CopyStops, IsFiled};
+ghost use Rattle.mr_edit.specs.Shelves.{RefusesMade};
 
 use crate::EditErr;
 use crate::pages::{clear, refusal};
-use mr_outside::Shelf;
+use mr_outside::{Shelf, ShelfErr};
 use mr_pages::read_filled;
 use std::alloc::{AllocError, Global};
 
@@ -20,6 +21,17 @@ fn bytes_of(alloc: Global, size: usize) -> Result<Vec<u8>, AllocError>
     vec![in alloc; 0u8; size]
 }
 
+// The same cause in a change's own words, of the file that is made: that it is missing is a fault.
+fn refusal_of_made(error: ShelfErr) -> EditErr
+    ensures { RefusesMade error result }
+{
+    match error {
+        ShelfErr::Missing => EditErr::Fault,
+        ShelfErr::Fault => EditErr::Fault,
+        ShelfErr::NoMemory => EditErr::NoMemory,
+    }
+}
+
 // Appends page 0 to a file that was made.
 fn append_first<S: Shelf>(shelf: &mut S, new: &str, page: &[u8]) -> Result<(), EditErr>
     requires { page.now ≡ zeros 4096 }
@@ -29,7 +41,7 @@ fn append_first<S: Shelf>(shelf: &mut S, new: &str, page: &[u8]) -> Result<(), E
 {
     match shelf.append(new, page) {
         Ok(()) => Ok(()),
-        Err(error) => Err(refusal(error)),
+        Err(error) => Err(refusal_of_made(error)),
     }
 }
 
@@ -43,7 +55,7 @@ fn begin<S: Shelf>(shelf: &mut S, new: &str) -> Result<(), EditErr>
     clear(&mut page);
     match shelf.create(new) {
         Ok(()) => append_first(shelf, new, &page),
-        Err(error) => Err(refusal(error)),
+        Err(error) => Err(refusal_of_made(error)),
     }
 }
 
@@ -67,7 +79,7 @@ fn append_piece<S: Shelf>(
 {
     match shelf.append(new, piece) {
         Ok(()) => Ok(()),
-        Err(error) => Err(refusal(error)),
+        Err(error) => Err(refusal_of_made(error)),
     }
 }
 

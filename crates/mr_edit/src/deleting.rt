@@ -1,12 +1,14 @@
 //! Deletion from a map.
 
-ghost use Rattle.std.specs.Prelude.{◌≡◌, length, IfOk, IfErr, OnOk};
+ghost use Rattle.std.specs.Prelude.{◌≡◌, ◌+◌, ◌*◌, ◌≤◌, length, IfOk, IfErr, OnOk};
 ghost use Rattle.mr_record.specs.declared.version.Version.TheVariants.{One};
 ghost use Rattle.mr_tree.specs.Digest.{by};
 ghost use Rattle.mr_edit.specs.Causes.{HasEditCause};
+ghost use Rattle.mr_edit.specs.Counted.{DeletesTwice};
 ghost use Rattle.mr_edit.specs.Outcome.{NeverMap};
 ghost use Rattle.mr_edit.specs.Growing.{CanInsert};
 ghost use Rattle.mr_edit.specs.Deleted.{InsertsAll, Deletes};
+ghost use Rattle.mr_edit.specs.Reads.{insertion_reads};
 ghost use Rattle.mr_edit.specs.Removable.{CanDelete};
 
 use crate::hints::Way;
@@ -31,6 +33,8 @@ fn put_all<F: PageFile>(
     ensures sound { IfErr result (λ e. NeverMap e
         (CanInsert F.Hash.of (F.told desk.old.file) desk.old.free root (length records.now))) }
     ensures kept { F.kept desk.old.file desk.new.file }
+    ensures reads { F.reads desk.new.file
+        ≤ F.reads desk.old.file + length records.now * insertion_reads }
     ensures quiet { OnOk result (F.faults desk.new.file ≡ F.faults desk.old.file) }
     ensures cause { IfErr result (HasEditCause (F.faults desk.old.file) (F.faults desk.new.file)) }
 {
@@ -59,6 +63,8 @@ pub(crate) fn delete<F: PageFile>(
     ensures sound { IfErr result (λ e. NeverMap e
         (CanDelete F.Hash.of (F.told desk.old.file) desk.old.free root number rect.now)) }
     ensures kept { F.kept desk.old.file desk.new.file }
+    ensures twice { DeletesTwice (by One F.Hash.of) (F.told desk.old.file) desk.old.free root number
+        rect.now (F.reads desk.old.file) (F.reads desk.new.file) }
     ensures quiet { OnOk result (F.faults desk.new.file ≡ F.faults desk.old.file) }
     ensures cause { IfErr result (HasEditCause (F.faults desk.old.file) (F.faults desk.new.file)) }
 {

@@ -21,6 +21,7 @@ use mr_tree::{Child, NodeView};
 use std::alloc::Global;
 
 /// A file and its first free page, 0 for none.
+#[derive(Drop)]
 pub struct Desk<F> {
     pub file: F,
     pub free: u32,
@@ -57,6 +58,7 @@ pub(crate) fn look<F: PageFile>(
     ensures round { OnOk result (is_round child.now into.new ≡ true) }
     ensures full { OnOk result (Fills root into.new ≡ true) }
     ensures kept { F.kept file.old file.new }
+    ensures reads { F.reads file.new ≤ F.reads file.old + 1 }
     ensures quiet { OnOk result (F.faults file.new ≡ F.faults file.old) }
     ensures cause { IfErr result (HasEditCause (F.faults file.old) (F.faults file.new)) }
     ensures sound { IfErr result (λ e. NeverMap e
@@ -85,6 +87,7 @@ pub(crate) fn take_page<F: PageFile>(desk: &mut Desk<F>) -> Result<u32, EditErr>
         (F.told desk.new.file) desk.new.free page) }
     ensures sound { IfErr result (λ e. NeverMap e (CanTake (F.told desk.old.file) desk.old.free)) }
     ensures kept { F.kept desk.old.file desk.new.file }
+    ensures reads { F.reads desk.new.file ≤ F.reads desk.old.file + 1 }
     ensures quiet { OnOk result (F.faults desk.new.file ≡ F.faults desk.old.file) }
     ensures cause { IfErr result (HasEditCause (F.faults desk.old.file) (F.faults desk.new.file)) }
 {
@@ -111,6 +114,7 @@ pub(crate) fn write_leaf<F: PageFile>(
     ensures level { IfOk result (λ c. c.level ≡ 0) }
     ensures sound { IfErr result (λ e. NeverMap e (CanWrite (F.told desk.old.file) page)) }
     ensures kept { F.kept desk.old.file desk.new.file }
+    ensures reads { F.reads desk.new.file ≡ F.reads desk.old.file }
     ensures quiet { OnOk result (F.faults desk.new.file ≡ F.faults desk.old.file) }
     ensures cause { IfErr result (HasEditCause (F.faults desk.old.file) (F.faults desk.new.file)) }
 {
@@ -140,6 +144,7 @@ pub(crate) fn write_inner<F: PageFile>(
     ensures level { IfOk result (λ c. c.level ≡ level) }
     ensures sound { IfErr result (λ e. NeverMap e (CanWrite (F.told desk.old.file) page)) }
     ensures kept { F.kept desk.old.file desk.new.file }
+    ensures reads { F.reads desk.new.file ≡ F.reads desk.old.file }
     ensures quiet { OnOk result (F.faults desk.new.file ≡ F.faults desk.old.file) }
     ensures cause { IfErr result (HasEditCause (F.faults desk.old.file) (F.faults desk.new.file)) }
 {

@@ -1,10 +1,11 @@
 //! A draft of a map.
 
-ghost use Rattle.std.specs.Prelude.{◌≡◌, ◌≢◌, ◌↔◌, [], max, IfOk, IfErr, OnOk, MatchResult, IsTrue};
+ghost use Rattle.std.specs.Prelude.{◌≡◌, ◌≢◌, ◌+◌, ◌≤◌, ◌↔◌, [], max, IfOk, IfErr, OnOk, MatchResult, IsTrue};
 ghost use Rattle.std.specs.String.{string_bytes};
 ghost use Rattle.mr_tree.specs.declared.tree.Tree.{Tree};
 ghost use Rattle.mr_edit.specs.Causes.{HasEditCause};
 ghost use Rattle.mr_edit.specs.Draft.{drawn, IsTop, IsOff, Copies, CopyFails, CanApply, Applies, KeepsDraft};
+ghost use Rattle.mr_edit.specs.Reads.{reads_along};
 ghost use Rattle.mr_edit.specs.Sheets.{HasCopied, CopyStops, IsFiled, IsSheets};
 ghost use Rattle.mr_edit.specs.Shelves.{HasShelfCause};
 
@@ -141,7 +142,8 @@ fn root_page(root: &Option<Child>) -> u32 {
 
 // Refuses a count that does not fit the root.
 fn judge_top(count: u64, root: &Option<Child>) -> Result<(), EditErr>
-    ensures { IfErr result (IsOff count root.now) }
+    ensures off { IfErr result (IsOff count root.now) }
+    ensures top { OnOk result (IsTop count root.now) }
 {
     if !is_top(count, root) {
         return Err(EditErr::Map(MapFault {
@@ -166,6 +168,8 @@ impl<S: Shelf, H: Hashes> Draft<S, H> {
             self.new.desk.file.pages self.new.desk.free self.new.root self.new.count self.new.batch)
             dir.new) }
         ensures batch { OnOk result (self.new.batch ≡ batch.now.number) }
+        // Whether or not the files are told, a map may have so many records and this root.
+        ensures top { OnOk result (IsTop self.new.count self.new.root) }
         ensures kept { KeepsDraft H.of
             (drawn (S.state self.old.desk.file.shelf) (string_bytes self.old.desk.file.name)
             self.old.desk.file.pages self.old.desk.free self.old.root self.old.count self.old.batch)
@@ -176,6 +180,12 @@ impl<S: Shelf, H: Hashes> Draft<S, H> {
             ≡ (S.state self.old.desk.file.shelf).faults) }
         ensures cause { IfErr result (HasEditCause (S.state self.old.desk.file.shelf).faults
             (S.state self.new.desk.file.shelf).faults) }
+        // Where the files are told, the changes read no more pages than this.
+        ensures within { (t : Tree) → CanApply H.of
+            (drawn (S.state self.old.desk.file.shelf) (string_bytes self.old.desk.file.name)
+            self.old.desk.file.pages self.old.desk.free self.old.root self.old.count self.old.batch)
+            dir.old batch.now t → (S.state self.new.desk.file.shelf).reads
+            ≤ (S.state self.old.desk.file.shelf).reads + reads_along t batch.now.list }
         // Where the files are told, no page is blamed.
         ensures sound { (t : Tree) → CanApply H.of
             (drawn (S.state self.old.desk.file.shelf) (string_bytes self.old.desk.file.name)

@@ -1,6 +1,6 @@
 //! The pages of a map file under edit.
 
-ghost use Rattle.std.specs.Prelude.{◌≡◌, ℕ, ◌<◌, ◌≤◌, Option, option_map, IfSome, IsSomeAnd, IfOk, IfErr, OnOk};
+ghost use Rattle.std.specs.Prelude.{◌≡◌, ℕ, ◌+◌, ◌<◌, ◌≤◌, Option, option_map, IfSome, IsSomeAnd, IfOk, IfErr, OnOk};
 ghost use Rattle.mr_tree.specs.View.{size, level_of};
 ghost use Rattle.mr_pages.specs.Page.{page_limit};
 ghost use Rattle.mr_pages.specs.Walking.{page_node};
@@ -22,6 +22,9 @@ pub trait PageFile {
     // how many faults there were
     ghost faults: { Self → ℕ };
 
+    // how many pages were read
+    ghost reads: { Self → ℕ };
+
     // what a call leaves of the object, from what it was before it
     ghost kept: { Self → Self → Type 0 };
 
@@ -34,6 +37,7 @@ pub trait PageFile {
         ensures node { OnOk result (IfSome (told self.old)
             (λ b. HasNode b child.now.id (page_node into.new))) }
         ensures kept { kept self.old self.new }
+        ensures reads { reads self.new ≤ reads self.old + 1 }
         ensures quiet { OnOk result (faults self.new ≡ faults self.old) }
         ensures cause { IfErr result (HasEditCause (faults self.old) (faults self.new)) }
         ensures sound { IfErr result (λ e. NeverMap e
@@ -47,6 +51,7 @@ pub trait PageFile {
         ensures sound { IfErr result (λ e. NeverMap e
             (IsSomeAnd (told self.old) (λ b. (next : ℕ) × HasFree b page next))) }
         ensures kept { kept self.old self.new }
+        ensures reads { reads self.new ≤ reads self.old + 1 }
         ensures quiet { OnOk result (faults self.new ≡ faults self.old) }
         ensures cause { IfErr result (HasEditCause (faults self.old) (faults self.new)) };
 
@@ -60,6 +65,7 @@ pub trait PageFile {
             ≡ option_map (with_sheet child.now.id (node_sheet (page_node view.now)))
             (told self.old)) }
         ensures kept { kept self.old self.new }
+        ensures reads { reads self.new ≡ reads self.old }
         ensures quiet { OnOk result (faults self.new ≡ faults self.old) }
         ensures cause { IfErr result (HasEditCause (faults self.old) (faults self.new)) };
 
@@ -70,6 +76,7 @@ pub trait PageFile {
             ≡ option_map (with_sheet page (free_sheet next)) (told self.old)) }
         ensures sound { IfErr result (λ e. NeverMap e (CanWrite (told self.old) page)) }
         ensures kept { kept self.old self.new }
+        ensures reads { reads self.new ≡ reads self.old }
         ensures quiet { OnOk result (faults self.new ≡ faults self.old) }
         ensures cause { IfErr result (HasEditCause (faults self.old) (faults self.new)) };
 
@@ -81,6 +88,7 @@ pub trait PageFile {
         ensures sound { IfErr result (λ e. NeverMap e
             (IsSomeAnd (told self.old) (λ b. b.size < page_limit))) }
         ensures kept { kept self.old self.new }
+        ensures reads { reads self.new ≡ reads self.old }
         ensures quiet { OnOk result (faults self.new ≡ faults self.old) }
         ensures cause { IfErr result (HasEditCause (faults self.old) (faults self.new)) };
 

@@ -4,6 +4,7 @@ ghost use Rattle.std.specs.Prelude.{◌≡◌, ◌≤◌, ◌∷◌, [], IfErr, 
 ghost use Rattle.mr_record.specs.declared.version.Version.TheVariants.{One};
 ghost use Rattle.mr_tree.specs.Digest.{by};
 ghost use Rattle.mr_edit.specs.Causes.{HasEditCause};
+ghost use Rattle.mr_edit.specs.Counted.{FreesOnce};
 ghost use Rattle.mr_edit.specs.Outcome.{NeverMap, CanWrite};
 ghost use Rattle.mr_edit.specs.Removal.{FreesPage, Frees};
 ghost use Rattle.mr_edit.specs.Removable.{CanFree};
@@ -19,6 +20,7 @@ pub(crate) fn free_page<F: PageFile>(desk: &mut Desk<F>, page: u32) -> Result<()
     ensures frees { OnOk result (FreesPage (F.told desk.old.file) desk.old.free
         (F.told desk.new.file) desk.new.free page) }
     ensures kept { F.kept desk.old.file desk.new.file }
+    ensures reads { F.reads desk.new.file ≡ F.reads desk.old.file }
     ensures quiet { OnOk result (F.faults desk.new.file ≡ F.faults desk.old.file) }
     ensures cause { IfErr result (HasEditCause (F.faults desk.old.file) (F.faults desk.new.file)) }
     ensures sound { IfErr result (λ e. NeverMap e (CanWrite (F.told desk.old.file) page)) }
@@ -37,6 +39,9 @@ fn free_subtree<F: PageFile>(
     ensures frees { OnOk result (Frees (by One F.Hash.of) (F.told desk.old.file) desk.old.free
         (F.told desk.new.file) desk.new.free (child.now ∷ []) list.old.items list.new.items) }
     ensures kept { F.kept desk.old.file desk.new.file }
+    ensures once { FreesOnce (by One F.Hash.of) (F.told desk.old.file) desk.old.free
+        (child.now ∷ [])
+        (F.reads desk.old.file) (F.reads desk.new.file) }
     ensures quiet { OnOk result (F.faults desk.new.file ≡ F.faults desk.old.file) }
     ensures cause { IfErr result (HasEditCause (F.faults desk.old.file) (F.faults desk.new.file)) }
     ensures sound { IfErr result (λ e. NeverMap e
@@ -65,6 +70,8 @@ pub(crate) fn free_subtrees<F: PageFile>(
     ensures frees { OnOk result (Frees (by One F.Hash.of) (F.told desk.old.file) desk.old.free
         (F.told desk.new.file) desk.new.free children.now list.old.items list.new.items) }
     ensures kept { F.kept desk.old.file desk.new.file }
+    ensures once { FreesOnce (by One F.Hash.of) (F.told desk.old.file) desk.old.free children.now
+        (F.reads desk.old.file) (F.reads desk.new.file) }
     ensures quiet { OnOk result (F.faults desk.new.file ≡ F.faults desk.old.file) }
     ensures cause { IfErr result (HasEditCause (F.faults desk.old.file) (F.faults desk.new.file)) }
     ensures sound { IfErr result (λ e. NeverMap e

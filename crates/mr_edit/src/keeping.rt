@@ -1,6 +1,6 @@
 //! The nodes of a file under edit: read, kept and written.
 
-ghost use Rattle.std.specs.Prelude.{◌≡◌, ◌<◌, ◌≤◌, option_map, IfErr, OnOk, IfSome};
+ghost use Rattle.std.specs.Prelude.{◌≡◌, ◌+◌, ◌<◌, ◌≤◌, option_map, IfErr, OnOk, IfSome};
 ghost use Rattle.mr_tree.specs.View.{size, level_of};
 ghost use Rattle.mr_pages.specs.Walking.{page_node};
 ghost use Rattle.mr_edit.specs.Book.{HasNode, node_sheet, free_sheet, with_sheet};
@@ -68,6 +68,7 @@ fn read_node<H: Hashes, S: Shelf>(
     ensures files { (S.state shelf.new).files ≡ (S.state shelf.old).files }
     ensures reads { (S.state shelf.old).reads ≤ (S.state shelf.new).reads }
     ensures faults { (S.state shelf.old).faults ≤ (S.state shelf.new).faults }
+    ensures one { (S.state shelf.new).reads ≤ (S.state shelf.old).reads + 1 }
     ensures quiet { OnOk result ((S.state shelf.new).faults ≡ (S.state shelf.old).faults) }
     ensures cause { IfErr result (HasEditCause (S.state shelf.old).faults
         (S.state shelf.new).faults) }
@@ -106,6 +107,7 @@ fn show_inside<H: Hashes, S: Shelf>(
     ensures kept { KeepsSheets name.now name.now pages pages (S.state shelf.old)
         (S.state shelf.new) }
     ensures files { (S.state shelf.new).files ≡ (S.state shelf.old).files }
+    ensures one { (S.state shelf.new).reads ≤ (S.state shelf.old).reads + 1 }
     ensures quiet { OnOk result ((S.state shelf.new).faults ≡ (S.state shelf.old).faults) }
     ensures cause { IfErr result (HasEditCause (S.state shelf.old).faults
         (S.state shelf.new).faults) }
@@ -143,6 +145,7 @@ pub(crate) fn show_node<H: Hashes, S: Shelf>(
     ensures kept { KeepsSheets name.now name.now pages pages (S.state shelf.old)
         (S.state shelf.new) }
     ensures files { (S.state shelf.new).files ≡ (S.state shelf.old).files }
+    ensures one { (S.state shelf.new).reads ≤ (S.state shelf.old).reads + 1 }
     ensures quiet { OnOk result ((S.state shelf.new).faults ≡ (S.state shelf.old).faults) }
     ensures cause { IfErr result (HasEditCause (S.state shelf.old).faults
         (S.state shelf.new).faults) }
@@ -182,6 +185,7 @@ pub(crate) fn write_node<H: Hashes, S: Shelf>(
         (CanWrite (book_on (S.state shelf.old).files name.now pages) child.now.id)) }
     ensures kept { KeepsSheets name.now name.now pages pages (S.state shelf.old)
         (S.state shelf.new) }
+    ensures reads { (S.state shelf.new).reads ≡ (S.state shelf.old).reads }
     ensures quiet { OnOk result ((S.state shelf.new).faults ≡ (S.state shelf.old).faults) }
     ensures cause { IfErr result (HasEditCause (S.state shelf.old).faults
         (S.state shelf.new).faults) }
@@ -216,6 +220,7 @@ pub(crate) fn free_page<H: Hashes, S: Shelf>(
         (CanWrite (book_on (S.state shelf.old).files name.now pages) page)) }
     ensures kept { KeepsSheets name.now name.now pages pages (S.state shelf.old)
         (S.state shelf.new) }
+    ensures reads { (S.state shelf.new).reads ≡ (S.state shelf.old).reads }
     ensures quiet { OnOk result ((S.state shelf.new).faults ≡ (S.state shelf.old).faults) }
     ensures cause { IfErr result (HasEditCause (S.state shelf.old).faults
         (S.state shelf.new).faults) }

@@ -1,12 +1,13 @@
 //! The directory of a map whose nodes are fetched one by one.
 
-ghost use Rattle.std.specs.Prelude.{◌≡◌, ◌++◌, List, [], length, IfOk, IfErr, OnOk, IfSome};
+ghost use Rattle.std.specs.Prelude.{◌≡◌, ◌+◌, ◌≤◌, ◌++◌, List, [], length, IfOk, IfErr, OnOk, IfSome, IsSome};
 ghost use Rattle.mr_record.specs.declared.record.Record as types;
 ghost use Rattle.mr_tree.specs.Tree.{records as records_in};
 ghost use Rattle.mr_tree.specs.declared.nodes.NodesErr.TheVariants as errors;
-ghost use Rattle.mr_tree.specs.Nodes.{MayFetch, Shows, HasSomeCause};
+ghost use Rattle.mr_tree.specs.Nodes.{MayFetch, Shows, HasSomeCause, subtrees};
 ghost use Rattle.mr_batch.specs.Directory.{IsDirectoryOf};
-ghost use Rattle.mr_store.specs.Copying.{IsFull};
+ghost use Rattle.mr_outside.specs.Faults.{next_count};
+ghost use Rattle.mr_store.specs.Copying.{IsFull, nodes_at};
 ghost use Rattle.mr_edit.specs.Listing.{ListsRecords, ListsBelow, CanList, CanListAll, Refuses, IsTwice};
 
 use mr_batch::Directory;
@@ -25,6 +26,7 @@ fn look<N: Nodes>(
     requires { MayFetch N.Hash.of (N.stands nodes.old) child.now }
     ensures kept { N.kept nodes.old nodes.new }
     ensures shows { OnOk result (Shows N.Hash.of (N.stands nodes.old) child.now view.new) }
+    ensures counted { N.fetches nodes.new ≡ next_count (N.fetches nodes.old) }
     ensures quiet { OnOk result (N.faults nodes.new ≡ N.faults nodes.old) }
     ensures cause { IfErr result (Refuses (N.stands nodes.old) (N.faults nodes.old)
         (N.faults nodes.new) (IsFull (N.stands nodes.old) root child.now)) }
@@ -45,10 +47,9 @@ fn list_records(dir: &mut Directory, records: &[Record]) -> Result<bool, AllocEr
         ListsRecords twice qs records.now dir.new) }
 {
     for one in records {
-        if dir.rect(one.number).is_some() {
+        if dir.meet(one.number, one.rect)? {
             return Ok(true);
         }
-        dir.put(one.number, one.rect)?;
     }
     Ok(false)
 }
@@ -76,6 +77,8 @@ fn list<N: Nodes>(
     requires { MayFetch N.Hash.of (N.stands nodes.old) child.now }
     ensures kept { N.kept nodes.old nodes.new }
     ensures lists { OnOk result (ListsBelow (N.stands nodes.old) child.now dir.old dir.new) }
+    ensures fetched { IsSome (N.stands nodes.old).tree → N.fetches nodes.new
+        ≤ N.fetches nodes.old + nodes_at ((N.stands nodes.old).node child.now.id) }
     ensures quiet { OnOk result (N.faults nodes.new ≡ N.faults nodes.old) }
     ensures cause { IfErr result (Refuses (N.stands nodes.old) (N.faults nodes.old)
         (N.faults nodes.new) (CanList (N.stands nodes.old) root dir.old child.now)) }
@@ -103,6 +106,8 @@ fn list_all<N: Nodes>(
     ensures kept { N.kept nodes.old nodes.new }
     ensures lists { OnOk result (ListsBelow (N.stands nodes.old) root.now dir.old dir.new) }
     ensures count { OnOk result (length dir.new ≡ count) }
+    ensures fetched { IsSome (N.stands nodes.old).tree → N.fetches nodes.new
+        ≤ N.fetches nodes.old + nodes_at ((N.stands nodes.old).node root.now.id) }
     ensures quiet { OnOk result (N.faults nodes.new ≡ N.faults nodes.old) }
     ensures cause { IfErr result (Refuses (N.stands nodes.old) (N.faults nodes.old)
         (N.faults nodes.new) (CanListAll (N.stands nodes.old) dir.old root.now count)) }
@@ -135,6 +140,9 @@ pub fn directory<N: Nodes>(alloc: Global, nodes: &mut N) -> Result<Directory, No
     ensures kept { N.kept nodes.old nodes.new }
     ensures lists { IfOk result (λ d. IfSome (N.stands nodes.old).tree
         (λ t. IsDirectoryOf d (records_in t))) }
+    // Each node is fetched once at most.
+    ensures fetched { IfSome (N.stands nodes.old).tree (λ t. N.fetches nodes.new
+        ≤ N.fetches nodes.old + length (subtrees t)) }
     ensures quiet { OnOk result (N.faults nodes.new ≡ N.faults nodes.old) }
     ensures cause { IfErr result (HasSomeCause (N.stands nodes.old)
         (N.faults nodes.old) (N.faults nodes.new)) }

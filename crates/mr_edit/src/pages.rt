@@ -67,6 +67,7 @@ fn write_at<S: Shelf>(
         (book_on (S.state shelf.new).files name.now pages) }
     ensures kept { KeepsSheets name.now name.now pages pages (S.state shelf.old)
         (S.state shelf.new) }
+    ensures reads { (S.state shelf.new).reads ≡ (S.state shelf.old).reads }
     ensures quiet { OnOk result ((S.state shelf.new).faults ≡ (S.state shelf.old).faults) }
     ensures cause { IfErr result (HasShelfCause (S.state shelf.old).faults
         (S.state shelf.new).faults) }
@@ -97,6 +98,7 @@ pub(crate) fn put_page<S: Shelf>(
         (book_on (S.state shelf.new).files name.now pages) }
     ensures kept { KeepsSheets name.now name.now pages pages (S.state shelf.old)
         (S.state shelf.new) }
+    ensures reads { (S.state shelf.new).reads ≡ (S.state shelf.old).reads }
     ensures quiet { OnOk result ((S.state shelf.new).faults ≡ (S.state shelf.old).faults) }
     ensures cause { IfErr result (HasEditCause (S.state shelf.old).faults
         (S.state shelf.new).faults) }
@@ -124,6 +126,7 @@ fn append_page<S: Shelf>(shelf: &mut S, name: &str, pages: u32) -> Result<(), Ed
         (book_on (S.state shelf.new).files name.now pages)) }
     ensures kept { KeepsSheets name.now name.now pages pages (S.state shelf.old)
         (S.state shelf.new) }
+    ensures reads { (S.state shelf.new).reads ≡ (S.state shelf.old).reads }
     ensures quiet { OnOk result ((S.state shelf.new).faults ≡ (S.state shelf.old).faults) }
     ensures cause { IfErr result (HasShelfCause (S.state shelf.old).faults
         (S.state shelf.new).faults) }
@@ -149,6 +152,7 @@ pub(crate) fn add_page<S: Shelf>(shelf: &mut S, name: &str, pages: u32) -> Resul
         (book_on (S.state shelf.new).files name.now pages)) }
     ensures kept { KeepsSheets name.now name.now pages pages (S.state shelf.old)
         (S.state shelf.new) }
+    ensures reads { (S.state shelf.new).reads ≡ (S.state shelf.old).reads }
     ensures quiet { OnOk result ((S.state shelf.new).faults ≡ (S.state shelf.old).faults) }
     ensures cause { IfErr result (HasEditCause (S.state shelf.old).faults
         (S.state shelf.new).faults) }
@@ -185,6 +189,7 @@ pub(crate) fn read_bytes<S: Shelf>(
     ensures files { (S.state shelf.new).files ≡ (S.state shelf.old).files }
     ensures reads { (S.state shelf.old).reads ≤ (S.state shelf.new).reads }
     ensures faults { (S.state shelf.old).faults ≤ (S.state shelf.new).faults }
+    ensures one { (S.state shelf.new).reads ≤ (S.state shelf.old).reads + 1 }
     ensures quiet { OnOk result ((S.state shelf.new).faults ≡ (S.state shelf.old).faults) }
     ensures cause { IfErr result (HasShelfCause (S.state shelf.old).faults
         (S.state shelf.new).faults) }
@@ -212,6 +217,7 @@ pub(crate) fn next_free<S: Shelf>(
     ensures files { (S.state shelf.new).files ≡ (S.state shelf.old).files }
     ensures reads { (S.state shelf.old).reads ≤ (S.state shelf.new).reads }
     ensures faults { (S.state shelf.old).faults ≤ (S.state shelf.new).faults }
+    ensures one { (S.state shelf.new).reads ≤ (S.state shelf.old).reads + 1 }
     ensures quiet { OnOk result ((S.state shelf.new).faults ≡ (S.state shelf.old).faults) }
     ensures cause { IfErr result (HasEditCause (S.state shelf.old).faults
         (S.state shelf.new).faults) }

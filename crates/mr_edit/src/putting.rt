@@ -1,10 +1,11 @@
 //! Insertion below an entry.
 
-ghost use Rattle.std.specs.Prelude.{◌≡◌, ◌≤◌, ◌<◌, ◌+◌, ◌++◌, ◌∷◌, [], suc, length, map, take, drop, All, IfOk, IfErr, OnOk};
+ghost use Rattle.std.specs.Prelude.{◌≡◌, ◌≤◌, ◌<◌, ◌+◌, ◌*◌, ◌++◌, ◌∷◌, [], suc, min, length, map, take, drop, All, IfOk, IfErr, OnOk};
 ghost use Rattle.std.specs.List.{AllByRecursion};
 ghost use Rattle.mr_record.specs.declared.record.Record as record_types;
 ghost use Rattle.mr_record.specs.declared.version.Version.TheVariants.{One};
 ghost use Rattle.mr_tree.specs.Digest.{by};
+ghost use Rattle.mr_tree.specs.Limits.{level_limit};
 ghost use Rattle.mr_tree.specs.declared.child.Child as child_types;
 ghost use Rattle.mr_split.specs.Choice.{choose as chosen};
 ghost use Rattle.mr_edit.specs.Held.{entries};
@@ -108,6 +109,7 @@ fn put_leaf<F: PageFile>(
     ensures sound { IfErr result (λ e. NeverMap e
         (CanPut (F.told desk.old.file) desk.old.free page)) }
     ensures kept { F.kept desk.old.file desk.new.file }
+    ensures reads { F.reads desk.new.file ≤ F.reads desk.old.file + 1 }
     ensures quiet { OnOk result (F.faults desk.new.file ≡ F.faults desk.old.file) }
     ensures cause { IfErr result (HasEditCause (F.faults desk.old.file) (F.faults desk.new.file)) }
 {
@@ -150,6 +152,7 @@ fn put_inner<F: PageFile>(
     ensures sound { IfErr result (λ e. NeverMap e
         (CanPut (F.told desk.old.file) desk.old.free page)) }
     ensures kept { F.kept desk.old.file desk.new.file }
+    ensures reads { F.reads desk.new.file ≤ F.reads desk.old.file + 1 }
     ensures quiet { OnOk result (F.faults desk.new.file ≡ F.faults desk.old.file) }
     ensures cause { IfErr result (HasEditCause (F.faults desk.old.file) (F.faults desk.new.file)) }
 {
@@ -186,6 +189,8 @@ pub(crate) fn put_into<F: PageFile>(
     ensures sound { IfErr result (λ e. NeverMap e
         (CanGrow F.Hash.of root (F.told desk.old.file) desk.old.free child.now one.now)) }
     ensures kept { F.kept desk.old.file desk.new.file }
+    ensures reads { F.reads desk.new.file
+        ≤ F.reads desk.old.file + 2 * (min child.now.level level_limit + 1) }
     ensures quiet { OnOk result (F.faults desk.new.file ≡ F.faults desk.old.file) }
     ensures cause { IfErr result (HasEditCause (F.faults desk.old.file) (F.faults desk.new.file)) }
 {

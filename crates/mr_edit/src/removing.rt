@@ -1,6 +1,6 @@
 //! Deletion below an entry.
 
-ghost use Rattle.std.specs.Prelude.{◌≡◌, ◌≢◌, ◌≤◌, ◌<◌, ◌+◌, ◌-◌, ◌==◌, if◌then◌else◌, ◌++◌, ◌∷◌, [], suc, length, map, take, drop, true, false, IfOk, IfSome, IfErr, OnOk};
+ghost use Rattle.std.specs.Prelude.{◌≡◌, ◌≢◌, ◌≤◌, ◌<◌, ◌+◌, ◌-◌, ◌==◌, ◌&&◌, not, if◌then◌else◌, ◌++◌, ◌∷◌, [], suc, length, map, take, drop, true, false, IfOk, IfSome, IfErr, OnOk};
 ghost use Rattle.std.specs.List.{AllByRecursion};
 ghost use Rattle.std.specs.Option.{option_to_list};
 ghost use Rattle.mr_geom.specs.Rectangle.{union};
@@ -8,6 +8,7 @@ ghost use Rattle.mr_record.specs.declared.version.Version.TheVariants.{One};
 ghost use Rattle.mr_tree.specs.Digest.{by};
 ghost use Rattle.mr_tree.specs.declared.child.Child as child_types;
 ghost use Rattle.mr_edit.specs.Causes.{HasEditCause, KnowsBelow};
+ghost use Rattle.mr_edit.specs.Counted.{FreesOnce, LeavesOnce, ReadsTwice, TakesTwice};
 ghost use Rattle.mr_edit.specs.Outcome.{NeverMap, CanWrite};
 ghost use Rattle.mr_edit.specs.Removal.{LeavesLeaf, LeavesInner, Shortens, Searches};
 ghost use Rattle.mr_edit.specs.Removable.{CanLeave, CanTakeOut};
@@ -45,6 +46,7 @@ fn leave_leaf<F: PageFile>(
     ensures level { IfOk result
         (λ l. AllByRecursion (λ (c : child_types.Child). c.level ≡ 0) (option_to_list l.entry)) }
     ensures kept { F.kept desk.old.file desk.new.file }
+    ensures reads { F.reads desk.new.file ≡ F.reads desk.old.file }
     ensures quiet { OnOk result (F.faults desk.new.file ≡ F.faults desk.old.file) }
     ensures cause { IfErr result (HasEditCause (F.faults desk.old.file) (F.faults desk.new.file)) }
     ensures sound { IfErr result (λ e. NeverMap e (CanWrite (F.told desk.old.file) page)) }
@@ -77,6 +79,7 @@ fn leave_top_leaf<F: PageFile>(
         desk.old.free (F.told desk.new.file) desk.new.free page records.items
         (option_to_list l.entry) l.aside.items) }
     ensures kept { F.kept desk.old.file desk.new.file }
+    ensures reads { F.reads desk.new.file ≡ F.reads desk.old.file }
     ensures quiet { OnOk result (F.faults desk.new.file ≡ F.faults desk.old.file) }
     ensures cause { IfErr result (HasEditCause (F.faults desk.old.file) (F.faults desk.new.file)) }
     ensures sound { IfErr result (λ e. NeverMap e (CanWrite (F.told desk.old.file) page)) }
@@ -116,6 +119,10 @@ fn leave_inner<F: PageFile>(
     ensures level { IfOk result (λ l. AllByRecursion (λ (c : child_types.Child). c.level ≡ level)
         (option_to_list l.entry)) }
     ensures kept { F.kept desk.old.file desk.new.file }
+    ensures once { LeavesOnce (by One F.Hash.of) (F.told desk.old.file) desk.old.free page
+        children.now (F.reads desk.old.file) (F.reads desk.new.file) }
+    ensures still { IfOk result (λ l. IfSome l.entry
+        (λ c. F.reads desk.new.file ≡ F.reads desk.old.file)) }
     ensures quiet { OnOk result (F.faults desk.new.file ≡ F.faults desk.old.file) }
     ensures cause { IfErr result (HasEditCause (F.faults desk.old.file) (F.faults desk.new.file)) }
     ensures sound { IfErr result (λ e. NeverMap e
@@ -144,6 +151,9 @@ fn shorten<F: PageFile>(desk: &mut Desk<F>, child: &Child) -> Result<Child, Edit
     ensures shortens { IfOk result (λ c. Shortens (by One F.Hash.of) (F.told desk.old.file)
         desk.old.free (F.told desk.new.file) desk.new.free child.now c) }
     ensures kept { F.kept desk.old.file desk.new.file }
+    ensures once { FreesOnce (by One F.Hash.of) (F.told desk.old.file) desk.old.free
+        (child.now ∷ [])
+        (F.reads desk.old.file) (F.reads desk.new.file) }
     ensures quiet { OnOk result (F.faults desk.new.file ≡ F.faults desk.old.file) }
     ensures cause { IfErr result (HasEditCause (F.faults desk.old.file) (F.faults desk.new.file)) }
     ensures sound { IfErr result (λ e. NeverMap e
@@ -180,6 +190,8 @@ fn leave_top_inner<F: PageFile>(
         desk.old.free (F.told desk.new.file) desk.new.free page children.now aside.items
         (option_to_list l.entry) l.aside.items) }
     ensures kept { F.kept desk.old.file desk.new.file }
+    ensures once { LeavesOnce (by One F.Hash.of) (F.told desk.old.file) desk.old.free page
+        children.now (F.reads desk.old.file) (F.reads desk.new.file) }
     ensures quiet { OnOk result (F.faults desk.new.file ≡ F.faults desk.old.file) }
     ensures cause { IfErr result (HasEditCause (F.faults desk.old.file) (F.faults desk.new.file)) }
     ensures sound { IfErr result (λ e. NeverMap e
@@ -228,6 +240,10 @@ fn leave<F: PageFile>(
     ensures level { IfOk result (λ l. root ≡ false → AllByRecursion
         (λ (c : child_types.Child). c.level ≡ level) (option_to_list l.entry)) }
     ensures kept { F.kept desk.old.file desk.new.file }
+    ensures once { LeavesOnce (by One F.Hash.of) (F.told desk.old.file) desk.old.free page
+        children.now (F.reads desk.old.file) (F.reads desk.new.file) }
+    ensures still { IfOk result (λ l. root ≡ false → IfSome l.entry
+        (λ c. F.reads desk.new.file ≡ F.reads desk.old.file)) }
     ensures quiet { OnOk result (F.faults desk.new.file ≡ F.faults desk.old.file) }
     ensures cause { IfErr result (HasEditCause (F.faults desk.old.file) (F.faults desk.new.file)) }
     ensures sound { IfErr result (λ e. NeverMap e
@@ -256,6 +272,7 @@ fn leave_records<F: PageFile>(
     ensures level { IfOk result (λ l. root ≡ false → AllByRecursion
         (λ (c : child_types.Child). c.level ≡ 0) (option_to_list l.entry)) }
     ensures kept { F.kept desk.old.file desk.new.file }
+    ensures reads { F.reads desk.new.file ≡ F.reads desk.old.file }
     ensures quiet { OnOk result (F.faults desk.new.file ≡ F.faults desk.old.file) }
     ensures cause { IfErr result (HasEditCause (F.faults desk.old.file) (F.faults desk.new.file)) }
     ensures sound { IfErr result (λ e. NeverMap e (CanWrite (F.told desk.old.file) page)) }
@@ -293,6 +310,13 @@ fn tried(turn: usize, n: usize) -> usize
     if n == 0 { turn } else { n - 1 }
 }
 
+// Whether this one was tried first.
+fn is_again(turn: usize, n: usize, at: usize) -> bool
+    ensures { result ≡ (not (n == 0) && (at == turn)) }
+{
+    if n == 0 { false } else { at == turn }
+}
+
 // Takes a record out of the subtree below an entry, if it is there. Only nodes whose rectangle
 // holds the record's are read, first that to which the way leads.
 pub(crate) fn take_out<F: PageFile>(
@@ -310,6 +334,10 @@ pub(crate) fn take_out<F: PageFile>(
         (λ l. AllByRecursion (λ (c : child_types.Child). c.level ≡ child.now.level)
         (option_to_list l.entry))) }
     ensures kept { F.kept desk.old.file desk.new.file }
+    ensures twice { ReadsTwice (by One F.Hash.of) (F.told desk.old.file) desk.old.free child.now
+        number rect.now (F.reads desk.old.file) (F.reads desk.new.file) }
+    ensures takes { IfOk result (TakesTwice (by One F.Hash.of) root (F.told desk.old.file)
+        desk.old.free child.now number rect.now (F.reads desk.old.file) (F.reads desk.new.file)) }
     ensures quiet { OnOk result (F.faults desk.new.file ≡ F.faults desk.old.file) }
     ensures cause { IfErr result (HasEditCause (F.faults desk.old.file) (F.faults desk.new.file)) }
     ensures sound { IfErr result (λ e. NeverMap e (CanTakeOut F.Hash.of root
@@ -333,6 +361,9 @@ pub(crate) fn take_out<F: PageFile>(
         for n in 0..children.len() + 1 {
             let at = tried(turn, n);
             if at >= children.len() {
+                continue;
+            }
+            if is_again(turn, n, at) {
                 continue;
             }
             if !may_hold(&children[at], rect) {

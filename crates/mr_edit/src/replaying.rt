@@ -1,12 +1,14 @@
 //! The changes of a batch.
 
-ghost use Rattle.std.specs.Prelude.{◌≡◌, IfOk, IfErr, OnOk};
+ghost use Rattle.std.specs.Prelude.{◌≡◌, ◌+◌, ◌≤◌, IfOk, IfErr, OnOk};
 ghost use Rattle.mr_record.specs.declared.version.Version.TheVariants.{One};
 ghost use Rattle.mr_tree.specs.Digest.{by};
 ghost use Rattle.mr_batch.specs.declared.change.Change.TheVariants as changes;
 ghost use Rattle.mr_edit.specs.Causes.{HasEditCause};
 ghost use Rattle.mr_edit.specs.Changing.{CanChange, CanReplay};
+ghost use Rattle.mr_edit.specs.Counted.{ChangesWithin, ReplaysWithin};
 ghost use Rattle.mr_edit.specs.Outcome.{NeverMap};
+ghost use Rattle.mr_edit.specs.Reads.{insertion_reads};
 ghost use Rattle.mr_edit.specs.Replayed.{ChangesOne, Replays};
 
 use crate::deleting::delete;
@@ -30,6 +32,7 @@ fn add<F: PageFile>(
         desk.old.free root dir.old (F.told desk.new.file) desk.new.free r dir.new
         (changes.Add one.now)) }
     ensures kept { F.kept desk.old.file desk.new.file }
+    ensures reads { F.reads desk.new.file ≤ F.reads desk.old.file + insertion_reads }
     ensures quiet { OnOk result (F.faults desk.new.file ≡ F.faults desk.old.file) }
     ensures cause { IfErr result (HasEditCause (F.faults desk.old.file)
         (F.faults desk.new.file)) }
@@ -42,18 +45,22 @@ fn add<F: PageFile>(
     Ok(Some(child))
 }
 
-// Takes out the record with a number.
+// Takes out the record with a number. All nodes may be looked at before, unless they were.
 fn remove<F: PageFile>(
     alloc: Global,
     desk: &mut Desk<F>,
     root: Option<Child>,
     dir: &mut Directory,
+    learned: &mut bool,
     number: u64,
 ) -> Result<Option<Child>, EditErr>
     ensures changes { IfOk result (λ r. ChangesOne (by One F.Hash.of) (F.told desk.old.file)
         desk.old.free root dir.old (F.told desk.new.file) desk.new.free r dir.new
         (changes.Remove number)) }
     ensures kept { F.kept desk.old.file desk.new.file }
+    ensures within { ChangesWithin (by One F.Hash.of) (F.told desk.old.file) desk.old.free root
+        dir.old (changes.Remove number) learned.old learned.new (F.reads desk.old.file)
+        (F.reads desk.new.file) }
     ensures quiet { OnOk result (F.faults desk.new.file ≡ F.faults desk.old.file) }
     ensures cause { IfErr result (HasEditCause (F.faults desk.old.file) (F.faults desk.new.file)) }
     ensures sound { IfErr result (λ e. NeverMap e (CanChange F.Hash.of (F.told desk.old.file)
@@ -66,7 +73,7 @@ fn remove<F: PageFile>(
         }));
     };
     desk.hints.search();
-    learn_once::<F>(desk, &root)?;
+    learn_once::<F>(desk, &root, learned)?;
     let way = desk.hints.way(number);
     let root = delete::<F>(alloc, desk, root, number, &rect, &way)?;
     dir.take(number);
@@ -79,11 +86,15 @@ fn make_change<F: PageFile>(
     desk: &mut Desk<F>,
     root: Option<Child>,
     dir: &mut Directory,
+    learned: &mut bool,
     change: &Change,
 ) -> Result<Option<Child>, EditErr>
     ensures changes { IfOk result (λ r. ChangesOne (by One F.Hash.of) (F.told desk.old.file)
         desk.old.free root dir.old (F.told desk.new.file) desk.new.free r dir.new change.now) }
     ensures kept { F.kept desk.old.file desk.new.file }
+    ensures within { ChangesWithin (by One F.Hash.of) (F.told desk.old.file) desk.old.free root
+        dir.old change.now learned.old learned.new (F.reads desk.old.file)
+        (F.reads desk.new.file) }
     ensures quiet { OnOk result (F.faults desk.new.file ≡ F.faults desk.old.file) }
     ensures cause { IfErr result (HasEditCause (F.faults desk.old.file) (F.faults desk.new.file)) }
     ensures sound { IfErr result (λ e. NeverMap e (CanChange F.Hash.of (F.told desk.old.file)
@@ -91,7 +102,7 @@ fn make_change<F: PageFile>(
 {
     match change {
         Change::Add(one) => add::<F>(alloc, desk, root, dir, one),
-        Change::Remove(number) => remove::<F>(alloc, desk, root, dir, *number),
+        Change::Remove(number) => remove::<F>(alloc, desk, root, dir, learned, *number),
     }
 }
 
@@ -108,13 +119,16 @@ pub fn replay<F: PageFile>(
     ensures replays { IfOk result (λ r. Replays (by One F.Hash.of) (F.told desk.old.file)
         desk.old.free root dir.old (F.told desk.new.file) desk.new.free r dir.new batch.now) }
     ensures kept { F.kept desk.old.file desk.new.file }
+    ensures within { ReplaysWithin (by One F.Hash.of) (F.told desk.old.file) desk.old.free root
+        dir.old batch.now (F.reads desk.old.file) (F.reads desk.new.file) }
     ensures quiet { OnOk result (F.faults desk.new.file ≡ F.faults desk.old.file) }
     ensures cause { IfErr result (HasEditCause (F.faults desk.old.file) (F.faults desk.new.file)) }
     ensures sound { IfErr result (λ e. NeverMap e (CanReplay F.Hash.of (F.told desk.old.file)
         desk.old.free root dir.old batch.now)) }
 {
+    let mut learned = false;
     for i in 0..batch.len() {
-        root = make_change::<F>(alloc, desk, root, dir, batch.change(i))?;
+        root = make_change::<F>(alloc, desk, root, dir, &mut learned, batch.change(i))?;
     }
     Ok(root)
 }

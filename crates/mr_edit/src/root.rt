@@ -1,12 +1,14 @@
 //! Insertion into a map.
 
-ghost use Rattle.std.specs.Prelude.{◌≡◌, IfOk, IfErr, OnOk, None};
+ghost use Rattle.std.specs.Prelude.{◌≡◌, ◌+◌, ◌≤◌, IfOk, IfErr, OnOk, Some, None};
 ghost use Rattle.mr_record.specs.declared.version.Version.TheVariants.{One};
 ghost use Rattle.mr_tree.specs.Digest.{by};
 ghost use Rattle.mr_edit.specs.Causes.{HasEditCause};
-ghost use Rattle.mr_edit.specs.Outcome.{Raises, NeverMap};
+ghost use Rattle.mr_edit.specs.Outcome.{Raises, NeverMap, IsAlike, root_page, IsOfRoot};
 ghost use Rattle.mr_edit.specs.Drafted.{Inserts};
+ghost use Rattle.mr_edit.specs.Reads.{insertion_reads};
 ghost use Rattle.mr_edit.specs.Growing.{CanAdd, CanRaise, CanInsert};
+ghost use Rattle.mr_edit.specs.declared.error.EditErr.TheVariants as errors;
 
 use crate::desk::{take_page, write_inner, write_leaf};
 use crate::putting::put_into;
@@ -22,6 +24,7 @@ fn first_root<F: PageFile>(desk: &mut Desk<F>, one: &Record) -> Result<Child, Ed
         desk.old.free None (F.told desk.new.file) desk.new.free c one.now) }
     ensures sound { IfErr result (λ e. NeverMap e (CanAdd (F.told desk.old.file) desk.old.free)) }
     ensures kept { F.kept desk.old.file desk.new.file }
+    ensures reads { F.reads desk.new.file ≤ F.reads desk.old.file + 1 }
     ensures quiet { OnOk result (F.faults desk.new.file ≡ F.faults desk.old.file) }
     ensures cause { IfErr result (HasEditCause (F.faults desk.old.file) (F.faults desk.new.file)) }
 {
@@ -37,6 +40,7 @@ fn raise<F: PageFile>(desk: &mut Desk<F>, first: Child, second: Child) -> Result
     ensures sound { IfErr result (λ e. NeverMap e
         (CanRaise (F.told desk.old.file) desk.old.free first.level)) }
     ensures kept { F.kept desk.old.file desk.new.file }
+    ensures reads { F.reads desk.new.file ≤ F.reads desk.old.file + 1 }
     ensures quiet { OnOk result (F.faults desk.new.file ≡ F.faults desk.old.file) }
     ensures cause { IfErr result (HasEditCause (F.faults desk.old.file) (F.faults desk.new.file)) }
 {
@@ -50,10 +54,62 @@ fn raise<F: PageFile>(desk: &mut Desk<F>, first: Child, second: Child) -> Result
     write_inner::<F>(desk, page, first.level + 1, &[first, second])
 }
 
+// A fault by `Page` is one of this page, where it is one of page 0: no node stands there.
+fn on_root(fault: MapFault, page: u32) -> MapFault
+    ensures rule { result.rule ≡ fault.rule }
+    ensures page { IsOfRoot page (errors.Map result) }
+{
+    match fault.rule {
+        MapRule::Page => MapFault {
+            page: if fault.page == 0 { page } else { fault.page },
+            rule: MapRule::Page,
+        },
+        _ => fault,
+    }
+}
+
+// The same refusal. Where the file would grow past its last page this one of the root is blamed,
+// since what adds a page knows no root.
+fn at_root(error: EditErr, page: u32) -> EditErr
+    ensures same { IsAlike error result }
+    ensures page { IsOfRoot page result }
+{
+    match error {
+        EditErr::Map(fault) => EditErr::Map(on_root(fault, page)),
+        EditErr::Missing => EditErr::Missing,
+        EditErr::Fault => EditErr::Fault,
+        EditErr::NoMemory => EditErr::NoMemory,
+    }
+}
+
+// Puts a record into a map with a root.
+fn put_below<F: PageFile>(
+    alloc: Global,
+    desk: &mut Desk<F>,
+    root: &Child,
+    one: &Record,
+) -> Result<Child, EditErr>
+    ensures inserts { IfOk result (λ c. Inserts (by One F.Hash.of) (F.told desk.old.file)
+        desk.old.free (Some root.now) (F.told desk.new.file) desk.new.free c one.now) }
+    ensures sound { IfErr result (λ e. NeverMap e
+        (CanInsert F.Hash.of (F.told desk.old.file) desk.old.free (Some root.now) 1)) }
+    ensures kept { F.kept desk.old.file desk.new.file }
+    ensures reads { F.reads desk.new.file ≤ F.reads desk.old.file + insertion_reads }
+    ensures quiet { OnOk result (F.faults desk.new.file ≡ F.faults desk.old.file) }
+    ensures cause { IfErr result (HasEditCause (F.faults desk.old.file) (F.faults desk.new.file)) }
+{
+    let Stand { first, second } = put_into::<F>(alloc, desk, root, true, one)?;
+    match second {
+        None => Ok(first),
+        Some(second) => raise::<F>(desk, first, second),
+    }
+}
+
 /// Puts a record into a map with this root, and answers its root then.
 ///
 /// Where the pages are not told, `Page` blames besides a node whose rectangle is not the one that
-/// its entry tells of, or one with too few entries; and the root, where it would rise too high.
+/// its entry tells of, or one with too few entries; and the root, or page 0 where there is none,
+/// where it would rise too high or the file would grow past its last page.
 pub fn insert<F: PageFile>(
     alloc: Global,
     desk: &mut Desk<F>,
@@ -64,18 +120,17 @@ pub fn insert<F: PageFile>(
         desk.old.free root (F.told desk.new.file) desk.new.free c one.now) }
     ensures sound { IfErr result (λ e. NeverMap e
         (CanInsert F.Hash.of (F.told desk.old.file) desk.old.free root 1)) }
+    ensures page { IfErr result (IsOfRoot (root_page root)) }
     ensures kept { F.kept desk.old.file desk.new.file }
+    ensures reads { F.reads desk.new.file ≤ F.reads desk.old.file + insertion_reads }
     ensures quiet { OnOk result (F.faults desk.new.file ≡ F.faults desk.old.file) }
     ensures cause { IfErr result (HasEditCause (F.faults desk.old.file) (F.faults desk.new.file)) }
 {
     match root {
         None => first_root::<F>(desk, one),
-        Some(child) => {
-            let Stand { first, second } = put_into::<F>(alloc, desk, &child, true, one)?;
-            match second {
-                None => Ok(first),
-                Some(second) => raise::<F>(desk, first, second),
-            }
-        }
+        Some(child) => match put_below::<F>(alloc, desk, &child, one) {
+            Ok(raised) => Ok(raised),
+            Err(error) => Err(at_root(error, child.id)),
+        },
     }
 }

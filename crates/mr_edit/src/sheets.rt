@@ -37,6 +37,8 @@ impl<S: Shelf, H: Hashes> PageFile for Sheets<S, H> {
 
     ghost faults = { λ s. (S.state s.shelf).faults };
 
+    ghost reads = { λ s. (S.state s.shelf).reads };
+
     ghost kept = { λ s t. KeepsSheets (string_bytes s.name) (string_bytes t.name) s.pages t.pages
         (S.state s.shelf) (S.state t.shelf) };
 

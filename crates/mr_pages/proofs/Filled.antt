@@ -1,10 +1,9 @@
--- A piece of a file that is read over zeros.
-use Rattle.std.proofs.Common.{◌≡◌, ℕ, ◌+◌, ◌-◌, ◌≤◌, List, [], ◌++◌, length, take, drop, replicate, Option, ap, ◌∙◌, arith}
-use Rattle.std.proofs.lemmas.List.{append-nil, drop_all, drop-replicate}
-use Rattle.std.specs.Prelude.{Result, Ok, Err, IfOk}
+-- A piece of a file that is read, and zeros behind it.
+use Rattle.std.proofs.Common.{◌≡◌, ℕ, ◌+◌, ◌-◌, ◌≤◌, List, ◌++◌, length, take, drop, replicate, Option, ap, ◌∙◌, arith}
+use Rattle.std.proofs.lemmas.List.{append-nil, drop_all, drop_at, length-take-le, take_all}
 use Rattle.mr_outside.specs.Files.{Files}
 use Rattle.mr_outside.specs.Told.{OfFile}
-use Rattle.mr_outside.specs.Reading.{FillsFront, GivesFrom}
+use Rattle.mr_outside.specs.Reading.{GivesFrom}
 use Rattle.mr_outside.proofs.Pieces.{OfFile-map}
 use Rattle.mr_pages.specs.PageBytes.{filled}
 
@@ -13,23 +12,26 @@ abbrev pub IsPiece : (at : ℕ) → (before after bytes : List ℕ) → Type 0
 IsPiece at before after bytes =
     at + length before ≤ length bytes → after ≡ take (length before) (drop at bytes)
 
--- what a read gives over zeros
-pub ok_piece : {E : Type 0} (r : Result ℕ E) (told : Option Files) (name : List ℕ) (at : ℕ)
-    (old before after : List ℕ) → length before ≡ length old →
-    IfOk r (λ n. OfFile told name ⊥ (GivesFrom at before after n)) →
-    IfOk r (λ n. OfFile told name ⊥ (IsPiece at old after))
-ok_piece (Err e) told name at old before after long gives = tt
-ok_piece (Ok n) told name at old before after long gives =
+-- what a read gives, and zeros behind it
+pub piece_over : (told : Option Files) (name : List ℕ) (at n : ℕ) (old after final : List ℕ) →
+    length after ≡ length old → final ≡ filled (length after) (take n after) →
+    OfFile told name ⊥ (GivesFrom at old after n) → OfFile told name ⊥ (IsPiece at old final)
+piece_over told name at n old after final long is gives =
     OfFile-map told name _ _
     (λ bytes g room.
-    let all : n ≡ length old = omega (arith, g.count_is, long, room) in
-    g.bytes_are ∙ (λ i. take (all i) (drop at bytes) ++ drop_all n before (omega (arith, long, all)) i)
-    ∙ append-nil (take (length old) (drop at bytes))) gives
+    let all : n ≡ length old = omega (arith, g.count_is, room) in
+    let whole : after ≡ take (length old) (drop at bytes) =
+    g.bytes_are ∙ (λ i. take (all i) (drop at bytes) ++ drop_all n old (omega (arith, all)) i)
+    ∙ append-nil (take (length old) (drop at bytes)) in
+    let none : length after - length (take n after) ≡ 0 =
+    omega (arith, long, all, length-take-le n after (omega (arith, long, all))) in
+    is ∙ (λ i. take n after ++ replicate (none i) 0) ∙ append-nil (take n after)
+    ∙ take_all n after (omega (arith, long, all)) ∙ whole) gives
 
-pub ok_zeros_there : {E : Type 0} (r : Result ℕ E) (old before after : List ℕ) →
-    before ≡ filled (length old) [] → IfOk r (λ n. FillsFront before after n) →
-    IfOk r (λ n. drop n after ≡ replicate (length old - n) 0)
-ok_zeros_there (Err e) old before after is fills = tt
-ok_zeros_there (Ok n) old before after is fills =
-    let none : length old - 0 ≡ length old = omega arith in
-    fills.rest ∙ ap (drop n) (is ∙ ap (λ k. replicate k 0) none) ∙ drop-replicate {X = ℕ} n (length old) 0
+pub zeros_over : (n : ℕ) (old after final : List ℕ) → length after ≡ length old → n ≤ length old →
+    final ≡ filled (length after) (take n after) → drop n final ≡ replicate (length old - n) 0
+zeros_over n old after final long within is =
+    let some : length (take n after) ≡ n = length-take-le n after (omega (arith, long, within)) in
+    let left : length after - length (take n after) ≡ length old - n = omega (arith, some, long) in
+    ap (drop n) is ∙ drop_at (take n after) (replicate (length after - length (take n after)) 0) n some
+    ∙ ap (λ k. replicate k 0) left

@@ -29,4 +29,5 @@ pub mod PageReads
 mod Put
 pub mod Answered
 mod Written
+mod Fronts
 pub mod Imaged

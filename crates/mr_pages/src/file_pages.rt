@@ -9,10 +9,10 @@ ghost use Rattle.mr_pages.specs.Page.{page_limit};
 ghost use Rattle.mr_pages.specs.Source.{AreMade, IsPaged, Stay, on_shelf, tree_over};
 
 use crate::head::MapHead;
-use crate::layout::Layout;
+use crate::layout::{Layout, PAGE_SIZE};
 use crate::node::Node;
 use crate::page::{read_free_page, read_head, read_page};
-use crate::reading::page_bytes;
+use crate::reading::{page_bytes, page_into};
 use crate::rule::MapRule;
 use crate::source::Source;
 use mr_outside::{Items, Shelf, ShelfErr};
@@ -69,9 +69,15 @@ impl<S: Shelf, H: Hashes> Source for FilePages<'_, '_, S, H> {
         Ok(read_head(&page, self.pages))
     }
 
-    fn node(&mut self, page: u32, level: u8, into: &mut NodeView) -> Result<bool, ShelfErr> {
-        let bytes = page_bytes(self.shelf, self.name, page)?;
-        Ok(read_page(&bytes, level, into))
+    fn node(
+        &mut self,
+        page: u32,
+        level: u8,
+        bytes: &mut [u8; PAGE_SIZE],
+        into: &mut NodeView,
+    ) -> Result<bool, ShelfErr> {
+        page_into(self.shelf, self.name, page, bytes)?;
+        Ok(read_page(bytes, level, into))
     }
 
     fn free(&mut self, page: u32) -> Result<Option<u32>, ShelfErr> {

@@ -4,12 +4,15 @@ ghost use Rattle.std.specs.Prelude.{◌≡◌, Some, IfSome};
 ghost use Rattle.mr_record.specs.declared.version.Version.TheVariants.{One};
 ghost use Rattle.mr_tree.specs.Digest.{by};
 ghost use Rattle.mr_pages.specs.Page.{entry_of};
+ghost use Rattle.mr_pages.specs.PageBytes.{first_form};
 ghost use Rattle.mr_pages.specs.Faults.{same_rect, least as fewest};
 ghost use Rattle.mr_pages.specs.Walking.{child_link, page_node};
 ghost use Rattle.mr_pages.specs.Judging.{Fills, Judges};
 ghost use Rattle.mr_pages.specs.Source.{IsOfOneRead};
 
 use crate::MapRule;
+use crate::layout::PAGE_SIZE;
+use crate::page::digest_on;
 use mr_geom::Rect;
 use mr_tree::{Child, Entry, Hashes, INNER_FILL, LEAF_FILL, NodeView, ROOT_FILL};
 
@@ -18,6 +21,23 @@ pub fn entry_on<H: Hashes>(view: &NodeView) -> Entry
     ensures { result ≡ entry_of (by One H.of) (page_node view.now) }
 {
     view.entry::<H>()
+}
+
+// The same of a node that stands on a page.
+fn entry_from<H: Hashes>(page: &[u8; PAGE_SIZE], view: &NodeView) -> Entry
+    requires { page.now ≡ first_form.node_page (page_node view.now) }
+    ensures { result ≡ entry_of (by One H.of) (page_node view.now) }
+{
+    if view.level() == 0 {
+        let _records = view.records();
+        Entry {
+            level: 0,
+            rect: view.rect(),
+            digest: digest_on::<H>(page, view),
+        }
+    } else {
+        entry_on::<H>(view)
+    }
 }
 
 /// Whether a rectangle is the one that is said.
@@ -52,12 +72,18 @@ pub fn is_full(view: &NodeView, root: bool) -> bool
     view.len() >= least(view, root)
 }
 
-/// The first rule that a node breaks against what is said of it.
-pub fn judge<H: Hashes>(view: &NodeView, child: &Child, root: bool) -> Option<MapRule>
+/// The first rule that the node on a page breaks against what is said of it.
+pub fn judge<H: Hashes>(
+    page: &[u8; PAGE_SIZE],
+    view: &NodeView,
+    child: &Child,
+    root: bool,
+) -> Option<MapRule>
+    requires { page.now ≡ first_form.node_page (page_node view.now) }
     ensures told { Judges (by One H.of) root (child_link child.now) (page_node view.now) result }
     ensures once { IfSome result IsOfOneRead }
 {
-    let found = entry_on::<H>(view);
+    let found = entry_from::<H>(page, view);
     if found.digest.as_slice() != child.digest.as_slice() {
         return Some(MapRule::Digest {
             held: child.digest,

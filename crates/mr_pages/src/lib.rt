@@ -31,11 +31,11 @@ pub use node::Node;
 pub use numbers::Numbers;
 pub use opening::{Opened, open_plain};
 pub use page::{
-    level_of_root, read_free_page, read_head, read_page, write_free_page, write_head_page,
-    write_page,
+    digest_on, level_of_root, read_free_page, read_head, read_page, write_free_page,
+    write_head_page, write_page,
 };
 pub use putting::child_on;
-pub use reading::{page_bytes, read_filled};
+pub use reading::{page_bytes, page_into, read_filled};
 pub use rule::{MapFault, MapRule};
 pub use saving::save_plain;
 pub use seen::Seen;

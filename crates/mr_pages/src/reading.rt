@@ -1,14 +1,33 @@
 //! Reading a page of a file.
 
-ghost use Rattle.std.specs.Prelude.{◌≡◌, ◌+◌, ◌-◌, ◌≤◌, length, take, drop, replicate, IfOk};
+ghost use Rattle.std.specs.Prelude.{◌≡◌, ◌+◌, ◌-◌, ◌≤◌, length, take, drop, replicate, IfOk, OnOk};
 ghost use Rattle.mr_outside.specs.Told.{OfFile};
 ghost use Rattle.mr_outside.specs.Causes.{ShelfCauses, CountsRead};
 ghost use Rattle.mr_pages.specs.PageBytes.{first_form};
 ghost use Rattle.mr_pages.specs.Source.{IsPage, TellsPage};
 
 use crate::layout::PAGE_SIZE;
-use crate::page::fill;
+use crate::page::fill_up;
 use mr_outside::{Shelf, ShelfErr};
+
+/// Reads the bytes of a page to where they are wanted. What the read gives short counts as zeros.
+pub fn page_into<S: Shelf>(
+    shelf: &mut S,
+    name: &str,
+    page: u32,
+    into: &mut [u8; PAGE_SIZE],
+) -> Result<(), ShelfErr>
+    ensures told { OnOk result (OfFile (S.state shelf.old).files name.now ⊥
+        (TellsPage page into.new)) }
+    ensures is { OnOk result (IsPage first_form into.new) }
+    ensures causes { ShelfCauses name.now (S.state shelf.old) (S.state shelf.new) result }
+    ensures files { (S.state shelf.new).files ≡ (S.state shelf.old).files }
+    ensures reads { CountsRead (S.state shelf.old) (S.state shelf.new) result }
+{
+    read_filled(shelf, name, page as u64 * PAGE_SIZE as u64, into)?;
+    is_page(into);
+    Ok(())
+}
 
 /// The bytes of a page. What the read gives short counts as zeros.
 pub fn page_bytes<S: Shelf>(
@@ -24,8 +43,7 @@ pub fn page_bytes<S: Shelf>(
     ensures reads { CountsRead (S.state shelf.old) (S.state shelf.new) result }
 {
     let mut bytes = [0; PAGE_SIZE];
-    read_filled(shelf, name, page as u64 * PAGE_SIZE as u64, &mut bytes)?;
-    is_page(&bytes);
+    page_into(shelf, name, page, &mut bytes)?;
     Ok(bytes)
 }
 
@@ -51,6 +69,11 @@ pub fn read_filled<S: Shelf>(
     ensures files { (S.state shelf.new).files ≡ (S.state shelf.old).files }
     ensures reads { CountsRead (S.state shelf.old) (S.state shelf.new) result }
 {
-    fill(into, &[]);
-    shelf.read_at(name, at, into)
+    match shelf.read_at(name, at, into) {
+        Ok(count) => {
+            fill_up(into, count);
+            Ok(count)
+        }
+        Err(error) => Err(error),
+    }
 }

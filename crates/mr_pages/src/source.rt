@@ -5,10 +5,12 @@ ghost use Rattle.mr_tree.specs.declared.tree.Tree as trees;
 ghost use Rattle.mr_tree.specs.declared.tree.Tree.TheVariants as tree;
 ghost use Rattle.mr_pages.specs.Faults.{of_level};
 ghost use Rattle.mr_pages.specs.Page.{IsNode, level_of};
+ghost use Rattle.mr_pages.specs.PageBytes.{first_form};
 ghost use Rattle.mr_pages.specs.Source.{Sourced, GivesPage, GivesHead, ReadsPage, IsOfOneRead, SaysHead, MayKeep, Stay, AreMade, tree_over};
 ghost use Rattle.mr_pages.specs.Walking.{page_node, Shows, Heads};
 
 use crate::head::MapHead;
+use crate::layout::PAGE_SIZE;
 use crate::node::Node;
 use crate::rule::MapRule;
 use mr_outside::ShelfErr;
@@ -47,13 +49,22 @@ pub trait Source {
         ensures reads { ReadsPage (state self.old) (state self.new) result }
         ensures stay { Stay (keeps self.old) (keeps self.new) };
 
-    /// Shows the node of this level that the page spells, and answers whether it spells one.
-    fn node(&mut self, page: u32, level: u8, into: &mut NodeView) -> Result<bool, ShelfErr>
+    /// Shows the node of this level that the page spells, and answers whether it spells one. Where
+    /// it does, the page's bytes are in `bytes`.
+    fn node(
+        &mut self,
+        page: u32,
+        level: u8,
+        bytes: &mut [u8; PAGE_SIZE],
+        into: &mut NodeView,
+    ) -> Result<bool, ShelfErr>
         requires { page < (state self.old).pages }
         ensures shows { IfOk result (λ shown. GivesPage (state self.old) page
             (λ f. Shows shown into.new (of_level level (f.node page)))) }
         ensures spelled { IfOk result (λ shown. shown ≡ true →
             IsNode (page_node into.new) × (level_of (page_node into.new) ≡ level)) }
+        ensures on { IfOk result (λ shown. shown ≡ true →
+            bytes.new ≡ first_form.node_page (page_node into.new)) }
         ensures reads { ReadsPage (state self.old) (state self.new) result }
         ensures stay { Stay (keeps self.old) (keeps self.new) };
 

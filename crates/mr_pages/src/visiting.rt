@@ -7,6 +7,7 @@ ghost use Rattle.mr_pages.specs.Source.{Goes, Stay, AreKept, Gives, GivesPage, K
 ghost use Rattle.mr_pages.specs.Walking.{child_link};
 
 use crate::judging::judge;
+use crate::layout::PAGE_SIZE;
 use crate::node::Node;
 use crate::seen::Seen;
 use crate::source::Source;
@@ -31,13 +32,14 @@ fn look<P: Source>(
     ensures goes { Goes (P.state pages.old) (P.state pages.new) 1 0 result }
     ensures stay { Stay (P.keeps pages.old) (P.keeps pages.new) }
 {
-    if !pages.node(child.id, child.level, view)? {
+    let mut bytes = [0; PAGE_SIZE];
+    if !pages.node(child.id, child.level, &mut bytes, view)? {
         return Err(MapErr::Map(MapFault {
             page: child.id,
             rule: MapRule::Page,
         }));
     }
-    if let Some(rule) = judge::<P::Hash>(view, child, root) {
+    if let Some(rule) = judge::<P::Hash>(&bytes, view, child, root) {
         return Err(MapErr::Map(MapFault {
             page: child.id,
             rule,

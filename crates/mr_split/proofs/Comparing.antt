@@ -91,23 +91,32 @@ keeps_on beats n i at new inside here is rest = record {
 
 -- ---- as the code compares them
 
-int_less : (x y : ℤ) → SFits w128 x → SFits w128 y → lt_z (to_z w128 (of_z w128 x)) (to_z w128 (of_z w128 y)) ≡ true →
-    is_lt (int_cmp x y) ≡ true
-int_less x y fx fy h = grind (arith, ints)
+int_less : (x y : ℤ) → SFits w128 y → lt_z x (to_z w128 (of_z w128 y)) ≡ true → is_lt (int_cmp x y) ≡ true
+int_less x y fy h = grind (arith, ints)
 
-int_not_less : (x y : ℤ) → SFits w128 x → SFits w128 y → lt_z (to_z w128 (of_z w128 x)) (to_z w128 (of_z w128 y)) ≡
-    false → is_lt (int_cmp x y) ≡ false
-int_not_less x y fx fy h = grind (arith, ints)
+int_not_less : (x y : ℤ) → SFits w128 y → lt_z x (to_z w128 (of_z w128 y)) ≡ false → is_lt (int_cmp x y) ≡ false
+int_not_less x y fy h = grind (arith, ints)
 
-pub more_waste : (list : List Rectangle) (p q : Pair) (x y : ℤ) → SFits w128 x → SFits w128 y → x ≡ waste list p →
-    y ≡ waste list q →
-    lt_z (to_z w128 (of_z w128 y)) (to_z w128 (of_z w128 x)) ≡ true → wastes_more list p q ≡ true
-more_waste list p q x y fx fy a b h = sym (λ i. is_lt (int_cmp (b i) (a i))) ∙ int_less y x fy fx h
+pub more_waste : (list : List Rectangle) (p q : Pair) (x y : ℤ) → SFits w128 x → x ≡ waste list p →
+    y ≡ waste list q → lt_z y (to_z w128 (of_z w128 x)) ≡ true → wastes_more list p q ≡ true
+more_waste list p q x y fx a b h = sym (λ i. is_lt (int_cmp (b i) (a i))) ∙ int_less y x fx h
 
-pub less_waste : (list : List Rectangle) (p q : Pair) (x y : ℤ) → SFits w128 x → SFits w128 y → x ≡ waste list p →
-    y ≡ waste list q →
-    lt_z (to_z w128 (of_z w128 y)) (to_z w128 (of_z w128 x)) ≡ false → wastes_more list p q ≡ false
-less_waste list p q x y fx fy a b h = sym (λ i. is_lt (int_cmp (b i) (a i))) ∙ int_not_less y x fy fx h
+pub less_waste : (list : List Rectangle) (p q : Pair) (x y : ℤ) → SFits w128 x → x ≡ waste list p →
+    y ≡ waste list q → lt_z y (to_z w128 (of_z w128 x)) ≡ false → wastes_more list p q ≡ false
+less_waste list p q x y fx a b h = sym (λ i. is_lt (int_cmp (b i) (a i))) ∙ int_not_less y x fx h
+
+-- a whole number that fits is kept as it is
+pub kept_whole : (x : ℤ) → SFits w128 x → to_z w128 (of_z w128 x) ≡ x
+kept_whole x fits = omega (arith, ints)
+
+-- the waste of a pair is that of the same pair
+pub waste_at : (list : List Rectangle) (x : ℤ) (p q : Pair) → x ≡ waste list q → p ≡ q → x ≡ waste list p
+waste_at list x p q is same = is ∙ sym (ap (waste list) same)
+
+-- the urgency at a position is that at the same position
+pub urgency_at : (list : List Rectangle) (marks : List Mark) (f s : Option Rectangle) (n i j : ℕ) →
+    n ≡ urgency f s (mark_at marks j) (rect_at list j) → i ≡ j → n ≡ urgency f s (mark_at marks i) (rect_at list i)
+urgency_at list marks f s n i j is same = is ∙ sym (λ k. urgency f s (mark_at marks (same k)) (rect_at list (same k)))
 
 pub more_urgent : (a b u v : ℕ) → a ≡ u → b ≡ v → a < b → nat_lt u v ≡ true
 more_urgent a b u v p q h = grind (arith, nat_tests)

@@ -35,10 +35,13 @@ fn best_partner(list: &[Rect], mut best: Pair, first: usize) -> Pair
     ensures ordered { result.first < result.second }
     ensures inside { result.second < length list.now }
 {
+    let mut most = waste(list, best);
     for second in first + 1..list.len() {
         let pair = Pair { first, second };
-        if waste(list, pair) > waste(list, best) {
+        let more = waste(list, pair);
+        if more > most {
             best = pair;
+            most = more;
         }
     }
     best

@@ -71,11 +71,12 @@ fn most_urgent(list: &[Rect], marks: &[Mark], first: &Option<Rect>, second: &Opt
     ensures within { result < length list.now }
 {
     let mut at = 0;
+    let mut most = urgency(first, second, marks[0], &list[0]);
     for i in 1..list.len() {
-        if urgency(first, second, marks[at], &list[at])
-            < urgency(first, second, marks[i], &list[i])
-        {
+        let more = urgency(first, second, marks[i], &list[i]);
+        if most < more {
             at = i;
+            most = more;
         }
     }
     at

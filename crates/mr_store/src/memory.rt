@@ -40,7 +40,7 @@ impl<S: Shelf, H: Hash32> Paged<S, H> {
         // Told or not, it is of the map that page 0 told of.
         ensures says { IfOk result (λ p.
             IsSaid H.of (top_in self.old.head) (standing p.nodes.items p.top)) }
-        // Each node is fetched once at most.
+        // There are no more fetches than nodes.
         ensures fetched { IfSome (stands_for self.old.head
             (told_bytes (S.state self.old.shelf).files (string_bytes self.old.name))).tree
             (λ t. self.new.fetches ≤ self.old.fetches + length (subtrees t)) }

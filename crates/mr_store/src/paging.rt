@@ -15,7 +15,10 @@ use crate::cache::put;
 use crate::kept::Kept;
 use lru::LruCache;
 use mr_outside::{Shelf, ShelfErr};
-use mr_pages::{MapHead, MapRule, Node, Source, page_bytes, read_free_page, read_head, read_page};
+use mr_pages::{
+    MapHead, MapRule, Node, PAGE_SIZE, Source, page_bytes, page_into, read_free_page, read_head,
+    read_page,
+};
 use mr_tree::{Child, Hashes, NodeView};
 use std::alloc::AllocError;
 use std::marker::PhantomData;
@@ -51,9 +54,15 @@ impl<S: Shelf, H: Hashes> Source for Paging<S, H> {
         Ok(read_head(&page, self.pages))
     }
 
-    fn node(&mut self, page: u32, level: u8, into: &mut NodeView) -> Result<bool, ShelfErr> {
-        let bytes = page_bytes(&mut self.shelf, self.name.as_str(), page)?;
-        Ok(read_page(&bytes, level, into))
+    fn node(
+        &mut self,
+        page: u32,
+        level: u8,
+        bytes: &mut [u8; PAGE_SIZE],
+        into: &mut NodeView,
+    ) -> Result<bool, ShelfErr> {
+        page_into(&mut self.shelf, self.name.as_str(), page, bytes)?;
+        Ok(read_page(bytes, level, into))
     }
 
     fn free(&mut self, page: u32) -> Result<Option<u32>, ShelfErr> {

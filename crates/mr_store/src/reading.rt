@@ -5,12 +5,11 @@ ghost use Rattle.mr_outside.specs.Told.{OfFile};
 ghost use Rattle.mr_pages.specs.Page as pages_spec;
 ghost use Rattle.mr_pages.specs.PageBytes.{first_form};
 ghost use Rattle.mr_pages.specs.Walking.{page_node};
-ghost use Rattle.mr_tree.specs.View.{preimage_of};
 ghost use Rattle.mr_store.specs.Kept.{AreInside};
 ghost use Rattle.mr_store.specs.Again.{Outside, IsRead, IsSaid, TellsNode, TellsAgain, IsBlamed, IsRefused, ReadsOne, Refuses};
 
 use mr_outside::{Shelf, ShelfErr};
-use mr_pages::{page_bytes, read_page};
+use mr_pages::{PAGE_SIZE, digest_on, page_into, read_page};
 use mr_tree::{Child, Hashes, NodeView, NodesErr, is_view};
 
 /// Whether two digests are the same.
@@ -33,13 +32,6 @@ fn outside(view: &NodeView, pages: u32) -> Option<u32>
     None
 }
 
-// The digest of the node that a view shows.
-fn digest_of<H: Hashes>(view: &NodeView) -> [u8; 32]
-    ensures { result ≡ H.of (preimage_of view.now) }
-{
-    view.entry::<H>().digest
-}
-
 /// The node that a page of a file of so many pages spells, if it is what is said of the child.
 pub fn judge<H: Hashes>(
     page: &[u8; 4096],
@@ -57,7 +49,7 @@ pub fn judge<H: Hashes>(
         return Err(NodesErr::Page { page: child.id });
     }
     is_view(into);
-    let found = digest_of::<H>(into);
+    let found = digest_on::<H>(page, into);
     if !are_same(&child.digest, &found) {
         return Err(NodesErr::Changed {
             page: child.id,
@@ -98,8 +90,9 @@ pub(crate) fn read_again<H: Hashes, S: Shelf>(
     ensures quiet { OnOk result ((S.state shelf.new).faults ≡ (S.state shelf.old).faults) }
     ensures one { ReadsOne (S.state shelf.old) (S.state shelf.new) }
 {
-    match page_bytes(shelf, name, child.id) {
-        Ok(page) => judge::<H>(&page, pages, child, into),
+    let mut page = [0; PAGE_SIZE];
+    match page_into(shelf, name, child.id, &mut page) {
+        Ok(()) => judge::<H>(&page, pages, child, into),
         Err(error) => Err(refusal(error)),
     }
 }

@@ -22,12 +22,3 @@ pub fn all_hold(rt: &impl Abort, first_other: Result<Option<&str>, AllocError>) 
         Err(_) => assert!(rt; false, "no memory"),
     }
 }
-
-/// As `all_hold`, of stories: the name of the first one and the number of its step.
-pub fn all_go(rt: &impl Abort, first_untrue: Result<Option<(&str, usize)>, AllocError>) {
-    match first_untrue {
-        Ok(None) => {}
-        Ok(Some((name, step))) => assert!(rt; false, "{name}, step {step}"),
-        Err(_) => assert!(rt; false, "no memory"),
-    }
-}

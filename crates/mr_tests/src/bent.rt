@@ -1,9 +1,9 @@
 //! Bundles that are cut at every byte or grow, or of which every second proof is bent.
 
 use crate::assertions::{holds, holds_at};
-use crate::bench::{ran_on, shelf_with};
-use crate::bundles::{BOTH, BUNDLE, VERDICTS};
-use crate::parts::{bytes_of, edited, expanded};
+use crate::files::{BOTH, BUNDLE};
+use mr_bench::parts::{bytes_of, edited, expanded};
+use mr_bench::runs::{ran_on, shelf_with};
 use mr_tool::Status::{self, Done, Refused};
 use mr_tree::XorHash;
 use std::alloc::{AllocError, Global};
@@ -31,6 +31,8 @@ const NEITHER: &str = "query 1 missing\nquery 2 missing\naccepted 0 refused 0 mi
 const FIRST: &str = "query 1 ok 1\n7 0 0 0 0 -\nquery 2 missing\n\
     accepted 1 refused 0 missing 1\nbundle broken at 54\n";
 
+const VERDICTS: &str = "query 1 ok 1\n7 0 0 0 0 -\nquery 2 ok 0\naccepted 2 refused 0 missing 0\n";
+
 const GROWN: &str = "query 1 ok 1\n7 0 0 0 0 -\nquery 2 ok 0\n\
     accepted 2 refused 0 missing 0\nbundle broken at 130\n";
 
@@ -57,7 +59,7 @@ fn is_cut<R: Threads + Sync>(rt: &R, alloc: Global, size: usize) -> Result<bool,
     let status = if size == 130 { Done } else { Refused };
     let text = text_of(size).as_bytes();
     bytes.truncate(size);
-    is_judged(rt, alloc, BOTH.as_bytes(), &bytes, status, text)
+    is_judged(rt, alloc, &bytes_of(alloc, BOTH)?, &bytes, status, text)
 }
 
 #[test]

@@ -2,13 +2,11 @@
 //! its gate.
 
 use crate::assertions::all_hold;
-use crate::bench::{ran, shelf_of};
-use crate::cuts::agrees;
 use crate::gates::{each_once, fresh};
-use crate::listed::Listed;
-use crate::maps::SEVENTEEN;
-use crate::parts::File;
-use crate::parts::Part::{Places, Text};
+use mr_bench::cuts::agrees;
+use mr_bench::listed::Listed;
+use mr_bench::parts::File;
+use mr_bench::runs::{ran, shelf_of};
 use mr_outside::MemShelf;
 use mr_tool::Status;
 use mr_tree::XorHash;
@@ -25,12 +23,9 @@ struct Made<'a> {
 }
 
 const SMALL: &[File<'static>] = &[
-    ("r", &[Text(SEVENTEEN)]),
-    ("b", &[Text("batch 1\n- 7\n")]),
-    (
-        "s",
-        &[Text("window:2,0,3,0\nnearest:0,0,1\nwindow:2,0,3,0\n")],
-    ),
+    ("r", "points 17"),
+    ("b", "| batch 1\n| - 7"),
+    ("s", "| window:2,0,3,0\n| nearest:0,0,1\n| window:2,0,3,0"),
 ];
 
 // The pages of a map are synced before its first page is written over the zeros that stand for it,
@@ -98,7 +93,7 @@ const CALLS: &[Made<'static>] = &[
 ];
 
 // The text, the map, the proof and the made text have more than 65,536 bytes each.
-const LARGE: &[File<'static>] = &[("r", &[Places(1, 5000)]), ("b", &[Text("batch 1\n- 7\n")])];
+const LARGE: &[File<'static>] = &[("r", "places 1 5000"), ("b", "| batch 1\n| - 7")];
 
 // Of calls that are equal and stand behind one another the first one alone.
 const LARGE_CALLS: &[Made<'static>] = &[

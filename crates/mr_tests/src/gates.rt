@@ -2,12 +2,10 @@
 //! once, since either one may wait behind the gate until the other has left.
 
 use crate::assertions::holds;
-use crate::bench::{ran, shelf_of};
-use crate::bundles::BOTH;
+use crate::files::BOTH;
 use crate::joined::{numbers, plain};
-use crate::maps::SEVENTEEN;
-use crate::parts::Part::Text;
-use crate::rows::SEVEN;
+use mr_bench::parts::bytes_of;
+use mr_bench::runs::{ran, shelf_of};
 use mr_outside::{Gate, MemShelf, NoGate};
 use mr_record::read_lines;
 use mr_tool::Status;
@@ -133,12 +131,12 @@ impl Gate for Holding {
     }
 }
 
-// The root of those records, from a program of another language.
+// The root of the records I at (I,0) for I from 1 to 17, from a program of another language.
 const ROOT: &[u8] = b"fca9bc9b6913b889be0ca77137347077fd3728352e16c0e58283d2175d1eb0bf\n";
 
 // Whether the map of those records is built, through this gate.
 fn builds<G: Gate, R: Threads + Sync>(rt: &R, alloc: Global, gate: &G) -> Result<bool, AllocError> {
-    let shelf = shelf_of(alloc, &[("r", &[Text(SEVENTEEN)])], &[])?;
+    let shelf = shelf_of(alloc, &[("r", "points 17")], &[])?;
     let (status, printed, _) = ran::<Sha, _, G, R>(rt, alloc, "build m r", shelf, &[], gate)?;
     Ok(status == Status::Done && printed.as_slice() == ROOT)
 }
@@ -146,7 +144,7 @@ fn builds<G: Gate, R: Threads + Sync>(rt: &R, alloc: Global, gate: &G) -> Result
 // The numbers of the leaves of those records, by one thread.
 fn expected(alloc: Global) -> Result<Vec<u64>, AllocError> {
     let mut list = Vec::new(alloc);
-    if let Ok(records) = read_lines(alloc, SEVENTEEN.as_bytes()) {
+    if let Ok(records) = read_lines(alloc, &bytes_of(alloc, "points 17")?) {
         if let Some(tree) = plain(alloc, records) {
             numbers::<Sha>(&tree, &mut list)?;
         }
@@ -200,8 +198,7 @@ fn is_held(gate: &Holding, numbers: &[u64]) -> bool {
 
 // A shelf with the map of one record, and a script of two queries.
 fn with_map<R: Threads + Sync>(rt: &R, alloc: Global) -> Result<MemShelf, AllocError> {
-    let files = &[("r", &[Text(SEVEN)] as &[_]), ("s", &[Text(BOTH)])];
-    let shelf = shelf_of(alloc, files, &[])?;
+    let shelf = shelf_of(alloc, &[("r", "| 7 0 0 0 0 -"), ("s", BOTH)], &[])?;
     let (_, _, left) = ran::<Sha, _, _, R>(rt, alloc, "build m r", shelf, &[], &NoGate)?;
     Ok(left)
 }

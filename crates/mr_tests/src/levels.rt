@@ -1,10 +1,9 @@
 //! The proof of one path in a map of three levels: with a byte changed, and cut off at each place.
 //! Digests and lines come from a program of another language.
 
-use crate::assertions::{all_hold, holds, holds_at};
-use crate::bench::{digest, file_of, ran, shelf_of, shelf_with};
-use crate::cuts::agrees;
-use crate::parts::Part::Row;
+use crate::assertions::{holds, holds_at};
+use mr_bench::cuts::agrees;
+use mr_bench::runs::{digest, file_of, ran, shelf_of, shelf_with};
 use mr_outside::NoGate;
 use mr_tool::Status::Refused;
 use mr_tree::{Hash32, Sha, XorHash};
@@ -14,8 +13,7 @@ use std::thread::Threads;
 
 // The proof of the path, on the map of the records I at (I,0).
 fn path<R: Threads + Sync>(rt: &R, alloc: Global) -> Result<Vec<u8>, AllocError> {
-    let row = [Row(1025)];
-    let shelf = shelf_of(alloc, &[("r", row.as_slice())], &[])?;
+    let shelf = shelf_of(alloc, &[("r", "points 1025")], &[])?;
     let (_, _, shelf) = ran::<Sha, _, _, R>(rt, alloc, "build m r", shelf, &[], &NoGate)?;
     let prove = "prove m window:700,0,702,0 p";
     let (_, _, shelf) = ran::<Sha, _, _, R>(rt, alloc, prove, shelf, &[], &NoGate)?;
@@ -82,183 +80,6 @@ fn each_byte_of_a_path_counts(rt: HostRuntime) -> Result<(), Fail> {
     }
     holds(&rt, "what is said", is_all_said(alloc, &said));
     Ok(())
-}
-
-// A place of the proof, what stands there, and the line on it where the lowest bit of its byte is
-// changed.
-#[derive(Clone, Copy)]
-struct Flip<'a> {
-    place: usize,
-    what: &'a str,
-    says: &'a str,
-}
-
-const FLIPS: &[Flip<'static>] = &[
-    Flip {
-        place: 0,
-        what: "the magic word",
-        says: "refused BadMagic at 0\n",
-    },
-    Flip {
-        place: 3,
-        what: "its last byte",
-        says: "refused BadMagic at 0\n",
-    },
-    Flip {
-        place: 4,
-        what: "the version",
-        says: "refused BadVersion at 4\n",
-    },
-    Flip {
-        place: 5,
-        what: "the kind",
-        says: "refused WrongKind at 5\n",
-    },
-    Flip {
-        place: 13,
-        what: "the batch",
-        says: "refused WrongRoot at 2046 found 6f80344a5a628756a54eb0e7ae61a35ed549481f0dd9d53bf62\
-            fafeada164a8f\n",
-    },
-    Flip {
-        place: 14,
-        what: "the count, past the limit",
-        says: "refused BadCount at 14\n",
-    },
-    Flip {
-        place: 18,
-        what: "the count, past the limit",
-        says: "refused BadCount at 14\n",
-    },
-    Flip {
-        place: 19,
-        what: "the count",
-        says: "refused WrongRoot at 2046 found dc615006db1fc6ec42be934ae0f2f76b8a06421cc0343f4083b\
-            64884d5c7f626\n",
-    },
-    Flip {
-        place: 22,
-        what: "the level: the leaf is met where an inner node is due",
-        says: "refused BadTag at 664\n",
-    },
-    Flip {
-        place: 23,
-        what: "the tag of the root",
-        says: "refused BadTag at 23\n",
-    },
-    Flip {
-        place: 24,
-        what: "its entries: a third child is missing",
-        says: "refused Short at 2046\n",
-    },
-    Flip {
-        place: 25,
-        what: "the tag of its first child",
-        says: "refused BadTag at 25\n",
-    },
-    Flip {
-        place: 26,
-        what: "the left side of that, past the right",
-        says: "refused BadRect at 26\n",
-    },
-    Flip {
-        place: 34,
-        what: "the right side, within the window",
-        says: "refused Hidden at 26\n",
-    },
-    Flip {
-        place: 41,
-        what: "the top, higher",
-        says: "refused WrongRoot at 2046 found f1505e35dab6bd31e2f3fde4249f34fe7f9b4cac32e4d5cf49e\
-            edf3ba286ae66\n",
-    },
-    Flip {
-        place: 42,
-        what: "the digest",
-        says: "refused WrongRoot at 2046 found e08343f3f31d97f5239dadff826b21bd4a7f975b80a9f1b76b9\
-            e9c698b5078a7\n",
-    },
-    Flip {
-        place: 74,
-        what: "the tag of its second child",
-        says: "refused BadTag at 74\n",
-    },
-    Flip {
-        place: 75,
-        what: "the entries of that: the last child of them is left over",
-        says: "refused Trailing at 1997\n",
-    },
-    Flip {
-        place: 76,
-        what: "the tag of a pruned leaf before the path",
-        says: "refused BadTag at 76\n",
-    },
-    Flip {
-        place: 664,
-        what: "the tag of the leaf",
-        says: "refused BadTag at 664\n",
-    },
-    Flip {
-        place: 665,
-        what: "its entries, past the limit",
-        says: "refused BadEntries at 665\n",
-    },
-    Flip {
-        place: 673,
-        what: "a number",
-        says: "refused WrongRoot at 2046 found e8f2b9f17bdf625a2e786ef38425e04703f625f8aea39e48302\
-            892cfde8f0814\n",
-    },
-    Flip {
-        place: 674,
-        what: "a left side, past the right",
-        says: "refused BadRect at 674\n",
-    },
-    Flip {
-        place: 690,
-        what: "a length, by which all behind moves",
-        says: "refused BadTag at 1147\n",
-    },
-    Flip {
-        place: 1265,
-        what: "a left side of a pruned leaf behind the path, within the window",
-        says: "refused Hidden at 1263\n",
-    },
-    Flip {
-        place: 1997,
-        what: "the tag of the last one",
-        says: "refused BadTag at 1997\n",
-    },
-];
-
-fn is_said<R: Threads + Sync>(
-    rt: &R,
-    alloc: Global,
-    proof: &[u8],
-    flip: &Flip<'_>,
-) -> Result<bool, AllocError> {
-    let flipped = flipped(alloc, proof, flip.place)?;
-    let (refused, said) = refused::<Sha, R>(rt, alloc, CHECK, &flipped)?;
-    Ok(refused && said.as_slice() == flip.says.as_bytes())
-}
-
-fn first_unsaid<R: Threads + Sync>(
-    rt: &R,
-    alloc: Global,
-    flips: &[Flip<'static>],
-) -> Result<Option<&'static str>, AllocError> {
-    let proof = path(rt, alloc)?;
-    for flip in flips {
-        if !is_said(rt, alloc, &proof, flip)? {
-            return Ok(Some(flip.what));
-        }
-    }
-    Ok(None)
-}
-
-#[test]
-fn what_is_said_of_a_changed_byte(rt: HostRuntime) {
-    all_hold(&rt, first_unsaid(&rt, rt.alloc(), FLIPS));
 }
 
 // The fields of the proof: how often these widths stand behind one another.

@@ -1,26 +1,14 @@
-//! Tests by whole runs of the program over files in memory, with values from outside.
+//! Tests of whole runs that are no rows of a table, with values from outside.
 #![tactic(auto)]
 
 #[cfg(test)]
-mod applications;
-#[cfg(test)]
 mod assertions;
-#[cfg(test)]
-mod audits;
-#[cfg(test)]
-mod bench;
 #[cfg(test)]
 mod bent;
 #[cfg(test)]
-mod bundles;
-#[cfg(test)]
 mod calls;
 #[cfg(test)]
-mod changes;
-#[cfg(test)]
-mod cuts;
-#[cfg(test)]
-mod faults;
+mod files;
 #[cfg(test)]
 mod gates;
 #[cfg(test)]
@@ -30,32 +18,16 @@ mod large;
 #[cfg(test)]
 mod levels;
 #[cfg(test)]
-mod listed;
-#[cfg(test)]
 mod made;
 #[cfg(test)]
 mod many;
 #[cfg(test)]
-mod maps;
-#[cfg(test)]
-mod nearest;
-#[cfg(test)]
-mod nearest_audits;
-#[cfg(test)]
-mod nearest_checks;
-#[cfg(test)]
 mod pages;
 #[cfg(test)]
-mod parts;
-#[cfg(test)]
-mod pieces;
-#[cfg(test)]
-mod proofs;
+mod plainly;
 #[cfg(test)]
 mod rereads;
 #[cfg(test)]
-mod rows;
-#[cfg(test)]
-mod stopped;
+mod turned;
 #[cfg(test)]
 mod two_leaves;

@@ -1,9 +1,9 @@
 //! Three thousand queries that are made up, on a map that is made up, after a batch.
 
 use crate::assertions::holds;
-use crate::bench::{ran_on, shelf_of};
 use crate::made::word;
 use mr_batch::generate_queries;
+use mr_bench::runs::{ran_on, shelf_of};
 use mr_outside::MemShelf;
 use mr_tool::Status::{self, Done};
 use mr_tree::Sha;

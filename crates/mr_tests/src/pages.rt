@@ -1,14 +1,13 @@
-//! How often `prove` and `audit` read a map, and what they say of one that changes in between.
+//! What `prove` and `audit` say of a map that changes while it is read.
 
 ghost use Rattle.std.specs.Prelude.{◌≡◌};
 
-use crate::assertions::{all_hold, holds};
-use crate::bench::{file_of, ran, ran_on, shelf_of};
+use crate::assertions::all_hold;
+use mr_bench::runs::{file_of, ran, ran_on, shelf_of};
 use mr_outside::{MemShelf, NoGate, Shelf, ShelfErr};
 use mr_tool::Status::{self, BadMap, Done, Outside};
 use mr_tree::XorHash;
 use std::alloc::{AllocError, Global};
-use std::process::Abort;
 use std::thread::Threads;
 
 // Runs these command lines over one shelf.
@@ -25,50 +24,9 @@ fn left_by<R: Threads + Sync>(
     Ok(shelf)
 }
 
-// Whether a command line that is done raises the count of reads by so many, from the least to the
-// most.
-fn takes<R: Threads + Sync>(
-    rt: &R,
-    alloc: Global,
-    before: &[&str],
-    line: &str,
-    least: u64,
-    most: u64,
-) -> Result<bool, AllocError> {
-    let shelf = left_by(rt, alloc, before)?;
-    let read = shelf.reads();
-    let (status, left) = ran_on::<XorHash, R>(rt, alloc, line, shelf, &mut Vec::new(alloc))?;
-    let reads = left.reads().saturating_sub(read);
-    Ok(status == Done && least <= reads && reads <= most)
-}
-
-const FEW: &[&str] = &["make 2500 3 r", "build m r"];
-
-const MANY: &[&str] = &["make 5000 3 r", "build m r"];
-
-const MANY_AND_NO_QUERY: &[&str] = &["make 5000 3 r", "build m r", "make 0 1 s"];
-
-const NEAREST: &str = "prove m nearest:0,0,10 p";
-
 const WHOLE: &str = "prove m window:-1000000,-1000000,1000063,1000063 p";
 
 const WHOLE_AUDIT: &str = "audit m window:-1000000,-1000000,1000063,1000063 p";
-
-#[test]
-fn a_map_of_few_pages_is_read_once(rt: HostRuntime) {
-    let once = takes(&rt, rt.alloc(), FEW, NEAREST, 162, 162);
-    holds(&rt, "162 pages", once);
-}
-
-#[test]
-fn a_large_map_is_read_once_and_then_by_nodes(rt: HostRuntime) {
-    // its 320 pages, and most of the 319 nodes that the proof opens
-    let again = takes(&rt, rt.alloc(), MANY, WHOLE, 577, 639);
-    holds(&rt, "320 pages", again);
-    // its 320 pages, and each of its 319 nodes once, but for the 256 at most that are kept
-    let taken = takes(&rt, rt.alloc(), MANY_AND_NO_QUERY, "serve m s u", 383, 639);
-    holds(&rt, "320 pages and 319 nodes", taken);
-}
 
 // Tells nothing, and gives the bytes of a map and of a proof. After so many reads one byte of the
 // map is another, or nothing is left of it, or it is gone.

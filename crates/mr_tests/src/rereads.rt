@@ -4,10 +4,9 @@ ghost use Rattle.std.specs.Prelude.{◌≡◌, OnOk, OnErr};
 ghost use Rattle.mr_outside.specs.Faults.{next_count};
 
 use crate::assertions::holds;
-use crate::bench::{file_of, ran, ran_on, shelf_of};
-use crate::parts::File;
-use crate::parts::Part::{Removed, Text};
 use hex::FromHex;
+use mr_bench::parts::File;
+use mr_bench::runs::{file_of, ran, ran_on, shelf_of};
 use mr_outside::{MemShelf, NoGate, Shelf, ShelfErr};
 use mr_tool::Status::BadMap;
 use mr_tree::XorHash;
@@ -274,18 +273,7 @@ fn a_leaf_that_is_another_when_it_is_read_again(rt: HostRuntime) {
 }
 
 // Batch 1, which takes out the records 1 to 2,000: more than 256 leaves change.
-const BATCH: &[File<'static>] = &[(
-    "b",
-    &[
-        Text("batch 1\n"),
-        Removed {
-            first: 0,
-            count: 2000,
-            step: 1,
-            of: 2000,
-        },
-    ],
-)];
+const BATCH: &[File<'static>] = &[("b", "| batch 1\nremoved 0 2000 step 1 of 2000")];
 
 // Leaves of the map that is made, which the batch changes and later reads again.
 #[test]

@@ -2,10 +2,10 @@
 //! changed.
 
 use crate::assertions::{holds, holds_at};
-use crate::bench::{file_of, ran, shelf_of};
+use crate::files::PROOF_OF_TWO;
 use crate::levels::{flipped, is_short, places, refused};
-use crate::maps::{PROOF_OF_TWO, TEXT_OF_SEVENTEEN};
-use crate::parts::bytes_of;
+use mr_bench::parts::bytes_of;
+use mr_bench::runs::{file_of, ran, shelf_of};
 use mr_outside::NoGate;
 use mr_tree::Sha;
 use std::alloc::{AllocError, Global};
@@ -53,7 +53,7 @@ fn each_cut_of_two_leaves_is_short(rt: HostRuntime) -> Result<(), Fail> {
 
 // The proof under SHA-256.
 fn by_sha<R: Threads + Sync>(rt: &R, alloc: Global) -> Result<Vec<u8>, AllocError> {
-    let shelf = shelf_of(alloc, TEXT_OF_SEVENTEEN, &[])?;
+    let shelf = shelf_of(alloc, &[("r", "points 17")], &[])?;
     let (_, _, shelf) = ran::<Sha, _, _, R>(rt, alloc, "build m r", shelf, &[], &NoGate)?;
     let prove = "prove m window:2,0,3,0 p";
     let (_, _, shelf) = ran::<Sha, _, _, R>(rt, alloc, prove, shelf, &[], &NoGate)?;

@@ -1,6 +1,6 @@
 -- `apply` on a map that is opened page by page: its batch, and the whole of it.
 use Rattle.std.proofs.Common.{◌≡◌, ℕ, ◌+◌, ◌≤◌, ltb, List, length, refl, sym, ap, subst, ◌∙◌, inl, inr, arith}
-use Rattle.std.specs.Prelude.{◌⊎◌, ⊤, Option, Some, None, IfSome, IsSome, Result, Ok, Err}
+use Rattle.std.specs.Prelude.{if◌then◌else◌, Option, Some, None, IfSome, IsSome, Result, Ok, Err}
 use Rattle.std.specs.Global.{Vec}
 use Rattle.std.proofs.lemmas.Bool.{cases_Bool, ltb-true, ltb-false}
 use Rattle.mr_outside.specs.Files.{Files, file}
@@ -9,7 +9,7 @@ use Rattle.mr_outside.specs.Told.{OfFile}
 use Rattle.mr_record.specs.Bytes.{AreBytes}
 use Rattle.mr_record.specs.declared.record.Record.{Record}
 use Rattle.mr_record.specs.declared.text_fault.TextFault.{TextFault}
-use Rattle.mr_tree.specs.Nodes.{Standing, HasSomeCause}
+use Rattle.mr_tree.specs.Nodes.{Standing, HasSomeCause, subtrees}
 use Rattle.mr_tree.specs.Tree.{records}
 use Rattle.mr_tree.specs.WellFormed.{WellFormed}
 use Rattle.mr_tree.specs.declared.nodes.NodesErr.{NodesErr}
@@ -22,6 +22,7 @@ use Rattle.mr_pages.specs.declared.opening.Opened.{Opened}
 use Rattle.mr_store.specs.Laws.{keeps_stands}
 use Rattle.mr_store.specs.Opening.{OpensMap, RefusesMap, pages_in}
 use Rattle.mr_store.specs.Stored.{IsMapOf, IsSameMap, Keeps, room, stands_for, told_bytes}
+use Rattle.mr_edit.specs.Reads.{reads_along}
 use Rattle.mr_batch.specs.Admissible.{batch_fault}
 use Rattle.mr_batch.specs.Applied.{IsAdmissible}
 use Rattle.mr_batch.specs.BatchText.{batch_of_text}
@@ -29,8 +30,8 @@ use Rattle.mr_batch.specs.Changes.{Changes}
 use Rattle.mr_batch.specs.Directory.{Entries, IsDirectoryOf, HaveNumbers}
 use Rattle.mr_batch.specs.declared.admission.BatchFault.{BatchFault}
 use Rattle.mr_batch.proofs.Replaying.{numbers_of}
-use Rattle.mr_tool.specs.Applying.{MayApply, ComesBehind, IsFewOfBatch, IsFewOfText, IsFewOfFile}
-use Rattle.mr_tool.specs.Counting.{pieces_of, IsFewApplied, MayChange, ReadsFew}
+use Rattle.mr_tool.specs.Applying.{MayApply, ComesBehind, IsFewOfCopy, IsFewOfChanges, IsFewOfText, IsFewOfFile}
+use Rattle.mr_tool.specs.Counting.{nodes_listed, pieces_of, IsFewApplied, IsFewOfBatch, ReadsFew}
 use Rattle.mr_tool.specs.Ending.{Comes, ComesBut, with_reads, AreJudged, Blames, Came, Ends, GivesOrStops, GivesUp, GoesOn, Misses, NoneFalls, Reads, SaysRefusal, SaysUntold, Stops, printed_of}
 use Rattle.mr_tool.specs.Found.{as_map_error}
 use Rattle.mr_tool.specs.Lines.{bad_batch_line, bad_text_line}
@@ -50,6 +51,7 @@ use Rattle.mr_tool.proofs.Going.{comes_missed, comes_read, comes_unread, judged_
 use Rattle.mr_tool.proofs.Pages.{HasMap, at_input, few_refused, few_there, file_has, files_told, has_map, refused_blamed, refused_told, told_on, with_same}
 use Rattle.mr_tool.proofs.Plans.{stays}
 use Rattle.mr_tool.proofs.Rereading.{comes_told, comes_untold, fetch_blamed, fetch_stopped, says_refused}
+use Rattle.mr_tool.proofs.Served.{few_walked}
 
 -- the batch of the map is that of its head
 pub batch_in : (h : MapHead) (o : Option (List ℕ)) → (stands_for h o).batch ≡ h.batch
@@ -59,7 +61,8 @@ batch_in h (Some bytes) = refl
 -- ---- a batch for the map
 
 module _ (hash : List ℕ → List ℕ) (map new batch : List ℕ) (n n' : List ℕ) (h h' : MapHead) (f0 f : ℕ) (b : Changes)
-    (before mid : Shelved) (kept : Keeps n n' h h' before mid f0 f) where
+    (before mid : Shelved) (kept : Keeps n n' h h' before mid f0 f) (none : f0 ≡ 0)
+    (fetched : IfSome (stands_for h (told_bytes before.files n)).tree (λ t. f ≤ f0 + length (subtrees t))) where
   abbrev standing : Standing
   standing = stands_for h (told_bytes before.files n)
 
@@ -70,17 +73,29 @@ module _ (hash : List ℕ → List ℕ) (map new batch : List ℕ) (n n' : List 
   said_of_batch m = say_batch hash new h.pages m b
 
   abbrev few_of_batch : Shelved → Tree → Type 0
-  few_of_batch after = IsFewOfBatch h.pages h.batch b before.reads after.reads
+  few_of_batch after = IsFewOfChanges h.pages h.batch b before.reads after.reads
 
   counts_listed : NoneFalls before mid
   counts_listed = record { faults = kept.faults; reads = kept.reads }
 
-  few_still : IfSome standing.tree (few_of_batch mid)
-  few_still = by_some standing.tree (few_of_batch mid) (λ t told. elim (cases_Bool (ltb (room + 1) h.pages)) [
-    | inl large ↦ inr (inl (ltb-true (room + 1) h.pages large))
-    | inr small ↦ inl (kept.still (files_told h before.files n (subst IsSome (sym told) refl))
-        (ltb-false (room + 1) h.pages small))
-  ])
+  -- what the directory reads
+  listed : (t : Tree) → standing.tree ≡ Some t → mid.reads ≤ before.reads + nodes_listed h.pages t
+  listed t told = elim (cases_Bool (ltb (room + 1) h.pages)) [
+    | inl large ↦ omega (
+      arith,
+      few_walked before.reads mid.reads f0 f (length (subtrees t)) none kept.few kept.most
+          (at_some standing.tree t (λ t. f ≤ f0 + length (subtrees t)) told fetched),
+      ap (λ b. if b then length (subtrees t) else 0) large,
+    )
+    | inr small ↦ omega (
+      arith,
+      kept.still (files_told h before.files n (subst IsSome (sym told) refl)) (ltb-false (room + 1) h.pages small),
+    )
+  ]
+
+  few_listed : IfSome standing.tree (few_of_batch mid)
+  few_listed = by_some standing.tree (few_of_batch mid)
+      (λ t told. (nodes_listed h.pages t, listed t told, inl (omega arith)))
 
   -- a node was not fetched
   pub unlisted : (e : NodesErr) (result : Result Ending Halt) → HasSomeCause standing before.faults mid.faults e
@@ -96,7 +111,7 @@ module _ (hash : List ℕ → List ℕ) (map new batch : List ℕ) (n n' : List 
     untold = λ none.
         says_refused hash applies_batch map (λ o is. inl is) before mid kept.files (as_map_error e) result
         (fetch_blamed hash standing e before mid cause) says;
-    few_read = few_still;
+    few_read = few_listed;
   }
 
   module _ (well : (t : Tree) → standing.tree ≡ Some t → WellFormed t) (dir : Entries)
@@ -114,7 +129,7 @@ module _ (hash : List ℕ → List ℕ) (map new batch : List ℕ) (n n' : List 
         → GivesOrStops (ends BadBatch (bad_batch_line fault)) result
         → ComesBehind applies_batch standing (λ m. comes (said_of_batch m)) (few_of_batch mid) before mid result
     unadmitted text fault result are is some exact gives =
-        behind_given applies_batch standing said_of_batch (few_of_batch mid) before mid counts_listed few_still (ends BadBatch (bad_batch_line fault)) result
+        behind_given applies_batch standing said_of_batch (few_of_batch mid) before mid counts_listed few_listed (ends BadBatch (bad_batch_line fault)) result
         refl
         (λ t told. ap (say_admitted hash new h.pages t b)
         (subst (λ n. batch_fault (records t) n b ≡ Some fault) held_is (exact (records t) (numbers t told))))
@@ -145,7 +160,8 @@ module _ (hash : List ℕ → List ℕ) (map new batch : List ℕ) (n n' : List 
     pub admitted : ((rs : List Record) → HaveNumbers dir rs → IsAdmissible rs held b) → (after : Shelved)
         (result : Result Ending Halt)
         → ComesBehind applies_batch (stands_for h' (told_bytes mid.files n'))
-        (λ m. comes (say_changed hash new h'.pages m.tree b)) (λ t. ⊤) mid after result
+        (λ m. comes (say_changed hash new h'.pages m.tree b))
+        (IsFewOfCopy h'.pages b mid.reads after.reads) mid after result
         → ComesBehind applies_batch standing (λ m. comes (said_of_batch m)) (few_of_batch after) before after result
     admitted fine after result on = record {
       counts = record {
@@ -161,17 +177,28 @@ module _ (hash : List ℕ → List ℕ) (map new batch : List ℕ) (n n' : List 
           (with_same after.reads before mid kept.files quiet) own));
       untold = λ none.
           untold_from applies_batch before mid after result kept.files quiet (on.untold (kept.files ∙ none));
-      few_read = by_some standing.tree (few_of_batch after) (λ t told. inr (inr
-          (subst (λ n. IsAdmissible (records t) n b) (batch_in h (told_bytes before.files n))
-          (admissible fine t told))));
+      few_read = by_some standing.tree (few_of_batch after) (λ t told. (
+        nodes_listed h.pages t + h.pages + reads_along t b.list,
+        omega (
+          arith,
+          listed t told,
+          at_some standing.tree t (IsFewOfCopy h.pages b mid.reads after.reads) told same.few_read,
+        ),
+        inr (
+          subst (λ n. IsAdmissible (records t) n b) (batch_in h (told_bytes before.files n)) (admissible fine t told),
+          omega arith,
+        ),
+      ));
     }
       where
-        same : ComesBehind applies_batch standing (λ m. comes (say_changed hash new h.pages m.tree b)) (λ t. ⊤) mid after result
+        same : ComesBehind applies_batch standing (λ m. comes (say_changed hash new h.pages m.tree b))
+            (IsFewOfCopy h.pages b mid.reads after.reads) mid after result
         same =
             subst (λ (st : Standing). ComesBehind applies_batch st (λ m. comes (say_changed hash new h.pages m.tree b))
-            (λ t. ⊤) mid after result) (keeps_stands n n' h h' before mid f0 f kept)
+            (IsFewOfCopy h.pages b mid.reads after.reads) mid after result) (keeps_stands n n' h h' before mid f0 f kept)
             (subst (λ (x : MapHead). ComesBehind applies_batch (stands_for h' (told_bytes mid.files n'))
-            (λ m. comes (say_changed hash new x.pages m.tree b)) (λ t. ⊤) mid after result) kept.head on)
+            (λ m. comes (say_changed hash new x.pages m.tree b)) (IsFewOfCopy x.pages b mid.reads after.reads) mid after
+            result) kept.head on)
 
 -- ---- the text of a batch
 
@@ -188,7 +215,7 @@ module _ (hash : List ℕ → List ℕ) (map new batch : List ℕ) (s : Standing
 
   pub batch_read : (b : Changes) (after : Shelved) (result : Result Ending Halt) → batch_of_text text ≡ Ok b
       → ComesBehind applies_text s (λ m. comes (say_batch hash new pages m b))
-      (IsFewOfBatch pages held b before.reads after.reads) before after result
+      (IsFewOfChanges pages held b before.reads after.reads) before after result
       → ComesBehind applies_text s (λ m. comes (said_of_text m)) (few_of_text after) before after result
   batch_read b after result is on = record {
     counts = on.counts;
@@ -198,17 +225,15 @@ module _ (hash : List ℕ → List ℕ) (map new batch : List ℕ) (s : Standing
         on.told));
     untold = on.untold;
     few_read = by_some s.tree (few_of_text after) (λ t told.
-        elim (at_some s.tree t (IsFewOfBatch pages held b before.reads after.reads) told on.few_read) [
-          | inl same ↦ inl same
-          | inr may ↦ inr (b, is, may)
-        ]);
+        let few = at_some s.tree t (IsFewOfChanges pages held b before.reads after.reads) told on.few_read in
+        (few.0, few.1, inr (b, is, few.2)));
   }
 
   counts_none : NoneFalls before before
   counts_none = record { faults = omega arith; reads = omega arith }
 
   few_none : IfSome s.tree (few_of_text before)
-  few_none = by_some s.tree (few_of_text before) (λ t told. inl refl)
+  few_none = by_some s.tree (few_of_text before) (λ t told. (0, omega arith, inl refl))
 
   pub batch_bad : (fault : TextFault) (result : Result Ending Halt) → AreBytes text → batch_of_text text ≡ Err fault
       → GivesOrStops (ends BadText (bad_text_line fault)) result
@@ -283,8 +308,11 @@ module _ (hash : List ℕ → List ℕ) (map batch new : List ℕ) (n n' : List 
           → OnceFrom o batch before.reads mid.reads → IsFewOfText h.pages h.batch text.items mid.reads after.reads t
           → IsFewOfFile h.pages h.batch o batch before.reads after.reads t
       by_files t None input once few = tt
-      by_files t (Some files) input once (inl none) = inl (omega (arith, once, none))
-      by_files t (Some files) input once (inr may) = inr (subst (MayChange h.pages t h.batch) (sym input) may)
+      by_files t (Some files) input once few = (
+        few.0,
+        omega (arith, once, few.1),
+        subst (λ i. IsFewOfBatch h.pages t h.batch i few.0) (sym input) few.2,
+      )
 
   -- nothing is read behind_file it
   few_alone : (result : Result (Option (Vec ℕ)) Halt) → Reads batch before mid result → IfSome standing_of_file.tree (few_of_file mid)
@@ -293,7 +321,11 @@ module _ (hash : List ℕ → List ℕ) (map batch new : List ℕ) (n n' : List 
       by_files : (t : Tree) (o : Option Files) → OnceFrom o batch before.reads mid.reads
           → IsFewOfFile h.pages h.batch o batch before.reads mid.reads t
       by_files t None once = tt
-      by_files t (Some files) once = inl once
+      by_files t (Some files) once = (0, omega (arith, once), none_more (file files batch))
+        where
+          none_more : (input : Input) → IsFewOfBatch h.pages t h.batch input 0
+          none_more None = refl
+          none_more (Some text) = inl refl
 
   -- it is missing
   pub file_missed : (read : Option (Vec ℕ)) (result : Result Ending Halt) → read ≡ None
@@ -467,22 +499,19 @@ module _ (hash : List ℕ → List ℕ) (sized : (xs : List ℕ) → length (has
 
       few_in : (bytes : List ℕ) (input : Input) (t : Tree) → IsMap first_form hash bytes t standing_opened.batch
           → h.pages ≡ pages_in bytes → mid.reads ≤ before.reads + pages_in bytes
-          → (end.reads ≤ mid.reads + pieces_of input) ⊎ MayChange h.pages t h.batch input
+          → (k : ℕ) × (end.reads ≤ mid.reads + pieces_of input + k) × IsFewOfBatch h.pages t h.batch input k
           → (k : ℕ) × (end.reads ≤ before.reads + k) × IsFewApplied hash bytes input k
-      few_in bytes input t stands pages few (inl some) = (
-        pages_in bytes + pieces_of input,
-        omega (arith, few, some),
-        inr (t, standing_opened.batch, stands, inl (omega arith)),
-      )
-      few_in bytes input t stands pages few (inr may) = (
-        end.reads,
-        omega arith,
+      few_in bytes input t stands pages few behind = (
+        pages_in bytes + pieces_of input + behind.0,
+        omega (arith, few, behind.1),
         inr (
           t,
           standing_opened.batch,
           stands,
-          inr (subst (λ k. MayChange (pages_in bytes) t k input) (sym (batch_in h (told_bytes mid.files n)))
-              (subst (λ k. MayChange k t h.batch input) pages may)),
+          behind.0,
+          omega arith,
+          subst (λ k. IsFewOfBatch (pages_in bytes) t k input behind.0) (sym (batch_in h (told_bytes mid.files n)))
+              (subst (λ k. IsFewOfBatch k t h.batch input behind.0) pages behind.2),
         ),
       )
 

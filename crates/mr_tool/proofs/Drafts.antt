@@ -1,6 +1,6 @@
 -- `apply` behind an opened map: what comes of its changes on a copy of the map's file, and why it may stop.
-use Rattle.std.proofs.Common.{◌≡◌, ℕ, ◌≤◌, List, [], ◌∷◌, length, refl, sym, ap, subst, ◌∙◌, inl, inr, arith}
-use Rattle.std.specs.Prelude.{⊤, Option, Some, None, option_map, IfSome, MatchResult, Result, Ok, Err}
+use Rattle.std.proofs.Common.{◌≡◌, ℕ, ◌+◌, ◌≤◌, List, [], ◌∷◌, length, refl, sym, ap, subst, ◌∙◌, inl, inr, arith}
+use Rattle.std.specs.Prelude.{Option, Some, None, option_map, IfSome, MatchResult, Result, Ok, Err}
 use Rattle.mr_outside.specs.Files.{Files, with_file}
 use Rattle.mr_outside.specs.State.{Shelved}
 use Rattle.mr_outside.specs.Writing.{IsChanged}
@@ -13,6 +13,7 @@ use Rattle.mr_pages.specs.Law.{IsMap}
 use Rattle.mr_pages.specs.PageBytes.{first_form}
 use Rattle.mr_pages.specs.Saved.{IsUnsealed, Leaves}
 use Rattle.mr_pages.specs.Source.{told_bytes}
+use Rattle.mr_pages.specs.declared.error.MapErr.TheVariants as errors
 use Rattle.mr_pages.specs.declared.head.MapHead.{MapHead}
 use Rattle.mr_pages.specs.declared.opening.Opened.{Opened}
 use Rattle.mr_pages.specs.declared.rule.MapRule.{MapRule}
@@ -25,10 +26,11 @@ use Rattle.mr_batch.specs.Peak.{peak}
 use Rattle.mr_batch.specs.Replay.{replay}
 use Rattle.mr_edit.specs.Causes.{HasEditCause, IsOfPages}
 use Rattle.mr_edit.specs.Draft.{Drawn, DraftOf, Copies, CopyFails, CanApply, Applied, Applies, KeepsDraft, MayBeSealed, IsSealed, Seals, SealFails}
+use Rattle.mr_edit.specs.Reads.{reads_along}
 use Rattle.mr_edit.specs.Shelves.{HasShelfCause}
 use Rattle.mr_edit.specs.declared.error.EditErr.{EditErr}
 use Rattle.mr_edit.specs.declared.error.EditErr.TheVariants as edits
-use Rattle.mr_tool.specs.Applying.{of_edit, SaysSealed, MayApply, ComesBehind}
+use Rattle.mr_tool.specs.Applying.{of_copy, of_edit, SaysSealed, MayApply, ComesBehind, IsFewOfCopy}
 use Rattle.mr_tool.specs.Ending.{ComesBut, Gives, GivesOrStops, NoneFalls, SaysRefusal, Stops}
 use Rattle.mr_tool.specs.First.{first}
 use Rattle.mr_tool.specs.Lines.{digest_line}
@@ -213,28 +215,50 @@ module _ (hash : List ℕ → List ℕ) (map new batch : List ℕ) (name : List 
   abbrev said : Opened → Outcome
   said m = say_changed hash new h.pages m.tree b
 
+  abbrev few_of_copy : Shelved → Tree → Type 0
+  few_of_copy after = IsFewOfCopy h.pages b before.reads after.reads
+
   abbrev changes : Shelved → Result Ending Halt → Type 0
   changes after result =
-      ComesBehind (applying hash map batch new) s (λ m. comes (said m)) (λ t. ⊤) before after result
+      ComesBehind (applying hash map batch new) s (λ m. comes (said m)) (few_of_copy after) before after result
 
   may_stand : (t : Tree) (after : Option Files) → Leaves (IsUnsealed first_form hash) new before.files after
       → MayLeave (say_changed hash new h.pages t b).written before.files after
   may_stand t after (inl same) = inl same
   may_stand t after (inr held) = inr (held.0, inl held.1, held.2)
 
-  read : IfSome s.tree (λ t. ⊤)
-  read = by_some s.tree (λ t. ⊤) (λ t told. tt)
+  not_copied : (after : Shelved) (e : EditErr) (result : Result Ending Halt)
+      → CopyFails hash h before new after e → SaysRefusal map (of_edit e) result → changes after result
+  not_copied after e result fails says =
+      let stop = shelf_stopped map e before after result fails.cause says in
+      subst (changes after) (sym stop.is)
+      (behind_halted (applying hash map batch new) s said (few_of_copy after) before after
+      (record { faults = fails.later; reads = fails.more })
+      (by_some s.tree (few_of_copy after) (λ t told. omega (arith, fails.few))) stop.halt stop.stops
+      (λ t told. may_stand t after.files fails.left)
+      (λ none. left_none (IsUnsealed first_form hash) new before.files after.files none fails.left))
+
+  none_told : before.files ≡ None → (t : Tree) → s.tree ≡ Some t → ⊥
+  none_told none t told =
+      let no : ◌≡◌ {A = Option Tree} None (Some t) = ap (λ o. (stands_for h (told_bytes o name)).tree) (sym none)
+      ∙ told in cc
 
   -- the map was not copied
   pub uncopied : (after : Shelved) (e : EditErr) (result : Result Ending Halt)
-      → CopyFails hash h before new after e → SaysRefusal map (of_edit e) result → changes after result
-  uncopied after e result fails says =
-      let stop = shelf_stopped map e before after result fails.cause says in
-      subst (changes after) (sym stop.is)
-      (behind_halted (applying hash map batch new) s said (λ t. ⊤) before after
-      (record { faults = fails.later; reads = fails.more }) read stop.halt stop.stops
-      (λ t told. may_stand t after.files fails.left)
-      (λ none. left_none (IsUnsealed first_form hash) new before.files after.files none fails.left))
+      → CopyFails hash h before new after e → SaysRefusal map (of_copy e) result → changes after result
+  uncopied after (edits.Map f) result fails says = absurd fails.cause
+  uncopied after edits.Missing result fails says = record {
+    counts = record { faults = fails.later; reads = fails.more };
+    told = by_some s.tree (λ t. ComesBut (comes (said (map_in s t))) before after result)
+        (λ t told. absurd (none_told (fails.untold refl) t told));
+    untold = λ none.
+        says_refused hash (applying hash map batch new) map (λ said is. inl is) before after
+        (left_none (IsUnsealed first_form hash) new before.files after.files none fails.left) errors.Missing result
+        (record { missing = λ is. fails.cause; fault = λ is. absurd (cc); map = λ f is. absurd (cc) }) says;
+    few_read = by_some s.tree (few_of_copy after) (λ t told. omega (arith, fails.few));
+  }
+  uncopied after edits.Fault result fails says = not_copied after edits.Fault result fails says
+  uncopied after edits.NoMemory result fails says = not_copied after edits.NoMemory result fails says
 
   module _ (dir : Entries) (may : IfSome s.tree (MayApply dir h.batch b)) (d : Drawn)
       (copies : Copies hash name h before new d) where
@@ -247,7 +271,12 @@ module _ (hash : List ℕ → List ℕ) (map new batch : List ℕ) (name : List 
           admissible = subst (λ n. IsAdmissible (records t) n b) (sym copies.at_batch) fits.admissible;
         }
 
-    module _ (e : Drawn) (keeps : KeepsDraft hash d e) where
+    module _ (e : Drawn) (keeps : KeepsDraft hash d e)
+        (within : (t : Tree) → CanApply hash d dir b t → e.shelf.reads ≤ d.shelf.reads + reads_along t b.list) where
+      read : (after : Shelved) → after.reads ≡ e.shelf.reads → IfSome s.tree (few_of_copy after)
+      read after same =
+          by_some s.tree (few_of_copy after) (λ t told. omega (arith, same, within t (can t told), copies.few))
+
       counts : NoneFalls before e.shelf
       counts = record {
         faults = omega (arith, copies.quiet, keeps.faults);
@@ -281,7 +310,7 @@ module _ (hash : List ℕ → List ℕ) (map new batch : List ℕ) (name : List 
             (of_edit error) result
             (edit_blamed hash error before e.shelf
             (subst (λ n. HasEditCause n e.shelf.faults error) copies.quiet cause)) says;
-        few_read = read;
+        few_read = read e.shelf refl;
       }
 
       module _ (dir' : Entries) (applies : Applies hash d dir b e dir') (at_batch : e.batch ≡ b.number)
@@ -335,14 +364,14 @@ module _ (hash : List ℕ → List ℕ) (map new batch : List ℕ) (name : List 
             λ outside. absurd (gives.settled.0 outside),
             λ settled. seals.quiet ∙ quiet ∙ copies.quiet,
           );
-          few_read = read;
+          few_read = read after unread;
         }
           where
             content_of : (digest bytes : List ℕ) → Outcome
             content_of digest bytes = say_text (digest_line digest) new bytes
         sealed_so digest (Err halt) seals long none =
-            behind_halted (applying hash map batch new) s said (λ t. ⊤) before after
-            (counts_on (omega (arith, seals.quiet))) read halt (subst (Stops before after) (sym none) tt)
+            behind_halted (applying hash map batch new) s said (few_of_copy after) before after
+            (counts_on (omega (arith, seals.quiet))) (read after unread) halt (subst (Stops before after) (sym none) tt)
             (λ t told.
             let a = applies t (can t told) in
             inr (
@@ -360,8 +389,9 @@ module _ (hash : List ℕ → List ℕ) (map new batch : List ℕ) (name : List 
             let cause = subst (λ n. HasShelfCause n after.faults error) (quiet ∙ copies.quiet) fails.cause in
             let stop = shelf_stopped map error before after result cause says in
             subst (changes after) (sym stop.is)
-            (behind_halted (applying hash map batch new) s said (λ t. ⊤) before after (counts_on fails.later) read
-            stop.halt stop.stops (λ t told. may_end t (applies t (can t told)) fails.left)
+            (behind_halted (applying hash map batch new) s said (few_of_copy after) before after
+            (counts_on fails.later) (read after unread) stop.halt stop.stops
+            (λ t told. may_end t (applies t (can t told)) fails.left)
             (λ none. ends_none none fails.left))
           where
             may_end : (t : Tree) → Applied hash d b t e dir'

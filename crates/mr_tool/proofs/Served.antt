@@ -109,7 +109,7 @@ serving_refused hash map script bundle next before after e r = by_told before.fi
         (λ bytes. inl (omega arith)) few
 
 -- what is read for a walk that fetches so many nodes
-few_walked : (r r' f f' n : ℕ) → f ≡ 0 → FewFetches r f r' f' → r' ≤ max r last_count → f' ≤ f + n → r' ≤ r + n
+pub few_walked : (r r' f f' n : ℕ) → f ≡ 0 → FewFetches r f r' f' → r' ≤ max r last_count → f' ≤ f + n → r' ≤ r + n
 few_walked r r' f f' n none few most bound = elim few [
   | inl each ↦ omega (arith, each, bound, none)
   | inr last ↦ omega (arith, last, most, bound, none)

@@ -1,5 +1,5 @@
 -- What `apply` comes to behind an opened map. This serves private functions.
-use Rattle.std.specs.Prelude.{◌≡◌, ◌⊎◌, ℕ, ◌+◌, ◌<◌, ◌≤◌, List, length, Option, Some, None, IfSome, Result, Ok, Err}
+use Rattle.std.specs.Prelude.{◌≡◌, ℕ, ◌+◌, ◌≤◌, List, length, Option, Some, None, IfSome, Result, Ok, Err}
 use Rattle.mr_outside.specs.Files.{Files, file}
 use Rattle.mr_outside.specs.State.{Shelved}
 use Rattle.mr_outside.specs.Told.{OfFiles}
@@ -9,13 +9,13 @@ use Rattle.mr_tree.specs.declared.tree.Tree.{Tree}
 use Rattle.mr_pages.specs.declared.error.MapErr.{MapErr}
 use Rattle.mr_pages.specs.declared.error.MapErr.TheVariants as errors
 use Rattle.mr_pages.specs.declared.opening.Opened.{Opened}
-use Rattle.mr_store.specs.Stored.{room}
 use Rattle.mr_batch.specs.Applied.{IsAdmissible}
 use Rattle.mr_batch.specs.Changes.{Changes}
 use Rattle.mr_batch.specs.Directory.{Entries, IsDirectoryOf}
+use Rattle.mr_edit.specs.Reads.{reads_along}
 use Rattle.mr_edit.specs.declared.error.EditErr.{EditErr}
 use Rattle.mr_edit.specs.declared.error.EditErr.TheVariants as edits
-use Rattle.mr_tool.specs.Counting.{pieces_of, MayChange}
+use Rattle.mr_tool.specs.Counting.{pieces_of, IsFewBehind, IsFewOfBatch}
 use Rattle.mr_tool.specs.Ending.{ComesBut, GivesOrStops, NoneFalls, SaysRefusal, SaysUntold}
 use Rattle.mr_tool.specs.Lines.{digest_line}
 use Rattle.mr_tool.specs.Plan.{Plan}
@@ -30,6 +30,13 @@ of_edit (edits.Map fault) = errors.Map fault
 of_edit edits.Missing = errors.Fault
 of_edit edits.Fault = errors.Fault
 of_edit edits.NoMemory = errors.NoMemory
+
+-- Why a map was not copied: what is missing is its file.
+abbrev pub of_copy : EditErr → MapErr
+of_copy (edits.Map fault) = errors.Map fault
+of_copy edits.Missing = errors.Missing
+of_copy edits.Fault = errors.Fault
+of_copy edits.NoMemory = errors.NoMemory
 
 -- the root digest of a map that was written, or why it was not
 abbrev pub SaysSealed : List ℕ → Result (List ℕ) EditErr → Result Ending Halt → Type 0
@@ -53,18 +60,23 @@ pub record ComesBehind (reading : Rereading) (s : Standing) (next : Opened → P
   pub untold : before.files ≡ None → SaysUntold reading before after result
   pub few_read : IfSome s.tree few
 
--- behind the batch nothing is read, unless the map is large or the batch may be applied to it
-abbrev pub IsFewOfBatch : (pages held : ℕ) → Changes → (before after : ℕ) → Tree → Type 0
-IsFewOfBatch pages held batch before after t = (after ≡ before)
-    ⊎ ((room + 1 < pages) ⊎ IsAdmissible (records t) held batch)
+-- what is read for the copy of a map in so many pages, and for the changes of a batch on it
+abbrev pub IsFewOfCopy : (pages : ℕ) → Changes → (before after : ℕ) → Tree → Type 0
+IsFewOfCopy pages batch before after t = after ≤ before + (pages + reads_along t batch.list)
 
--- nor behind the text of it
+-- behind a batch
+abbrev pub IsFewOfChanges : (pages held : ℕ) → Changes → (before after : ℕ) → Tree → Type 0
+IsFewOfChanges pages held batch before after t =
+    (n : ℕ) × (after ≤ before + n) × IsFewBehind pages t held batch n
+
+-- behind the text of it
 abbrev pub IsFewOfText : (pages held : ℕ) → List ℕ → (before after : ℕ) → Tree → Type 0
 IsFewOfText pages held text before after t =
-    (after ≡ before) ⊎ MayChange pages t held (Some text)
+    (n : ℕ) × (after ≤ before + n) × IsFewOfBatch pages t held (Some text) n
 
--- nor behind the pieces of its file
+-- with the pieces of its file
 abbrev pub IsFewOfFile : (pages held : ℕ) → Option Files → List ℕ → (before after : ℕ) → Tree
     → Type 0
-IsFewOfFile pages held told name before after t = OfFiles told (λ files.
-    (after ≤ before + pieces_of (file files name)) ⊎ MayChange pages t held (file files name))
+IsFewOfFile pages held told name before after t = OfFiles told (λ files. (n : ℕ)
+    × (after ≤ before + pieces_of (file files name) + n)
+    × IsFewOfBatch pages t held (file files name) n)

@@ -1,6 +1,7 @@
 -- How many reads a plan takes over files that are told: an input that is read whole takes its
--- pieces once, a map its pages once, and the nodes that are fetched beside.
-use Rattle.std.specs.Prelude.{◌≡◌, ◌⊎◌, ⊤, ℕ, ◌+◌, ◌-◌, ◌*◌, ◌≤◌, ◌<◌, List, length, take, Some, None, MatchOption, Ok}
+-- pieces once, a map its pages once, and the nodes that are fetched beside; and of `apply` the map
+-- its pages once more for the copy, and what the changes read.
+use Rattle.std.specs.Prelude.{◌≡◌, ◌⊎◌, ⊤, ℕ, ◌+◌, ◌-◌, ◌*◌, ◌≤◌, ◌<◌, nat_lt, if◌then◌else◌, List, length, take, Some, None, MatchOption, Ok}
 use Rattle.mr_outside.specs.Files.{Files, file}
 use Rattle.mr_outside.specs.Reading.{piece_count}
 use Rattle.mr_outside.specs.State.{Shelved}
@@ -18,6 +19,7 @@ use Rattle.mr_proof.specs.Feeding.{IsUnsettled}
 use Rattle.mr_proof.specs.Honest.{opened}
 use Rattle.mr_prove.specs.Causes.{rounds}
 use Rattle.mr_clash.specs.Finding.{opened_accepted}
+use Rattle.mr_edit.specs.Reads.{reads_along}
 use Rattle.mr_store.specs.Opening.{pages_in}
 use Rattle.mr_store.specs.Stored.{room}
 use Rattle.mr_tool.specs.First.{first}
@@ -67,21 +69,33 @@ IsFewServed hash bytes script n = (n ≤ pages_in bytes)
     × ((n ≤ pages_in bytes + pieces_of script) ⊎ (IsLarge bytes
     × (n ≤ pages_in bytes + length (subtrees t) + pieces_of script))))
 
--- the text of a batch has no fault, and the map has more pages than are all kept or the batch may be
--- applied to it
-abbrev pub MayChange : (pages : ℕ) → Tree → (held : ℕ) → Input → Type 0
-MayChange pages t held None = ⊥
-MayChange pages t held (Some text) = (batch : Changes) × (batch_of_text text ≡ Ok batch)
-    × ((room + 1 < pages) ⊎ IsAdmissible (records t) held batch)
+-- what the directory of a map in so many pages reads again: each node once, where it is large
+abbrev pub nodes_listed : (pages : ℕ) → Tree → ℕ
+nodes_listed pages t = if nat_lt (room + 1) pages then length (subtrees t) else 0
 
--- the pages of a file of these bytes, and the pieces of a batch where it stands for a map; where the
--- batch may be applied, or the map is large, nothing more is said
+-- behind a batch: what the directory reads; and where the batch may be applied, each page once more
+-- for the copy, and what its changes read
+abbrev pub IsFewBehind : (pages : ℕ) → Tree → (held : ℕ) → Changes → ℕ → Type 0
+IsFewBehind pages t held batch n = (n ≤ nodes_listed pages t)
+    ⊎ (IsAdmissible (records t) held batch
+    × (n ≤ nodes_listed pages t + pages + reads_along t batch.list))
+
+-- behind the pieces of a batch: nothing, unless its text has no fault
+abbrev pub IsFewOfBatch : (pages : ℕ) → Tree → (held : ℕ) → Input → ℕ → Type 0
+IsFewOfBatch pages t held None n = n ≡ 0
+IsFewOfBatch pages t held (Some text) n = (n ≡ 0)
+    ⊎ ((batch : Changes) × (batch_of_text text ≡ Ok batch) × IsFewBehind pages t held batch n)
+
+-- the pages of a file of these bytes; where it stands for a map the pieces of a batch besides, and
+-- what is read behind it
 abbrev pub IsFewApplied : (List ℕ → List ℕ) → List ℕ → Input → ℕ → Type 0
 IsFewApplied hash bytes batch n = (n ≤ pages_in bytes)
     ⊎ ((t : Tree) × (held : ℕ) × IsMap first_form hash bytes t held
-    × ((n ≤ pages_in bytes + pieces_of batch) ⊎ MayChange (pages_in bytes) t held batch))
+    × (behind : ℕ) × (n ≤ pages_in bytes + pieces_of batch + behind)
+    × IsFewOfBatch (pages_in bytes) t held batch behind)
 
--- so many reads of the map, and of the proof for an audit, the script for a bundle or the batch
+-- so many reads of the map, and of the proof for an audit, the script for a bundle, or the batch and
+-- the new file for `apply`
 abbrev pub AllowsPages : Rereading → Files → ℕ → Type 0
 AllowsPages (proving hash map q proof) files n =
     MatchOption (file files map) (n ≡ 0) (λ bytes. IsFewOf hash q bytes n)

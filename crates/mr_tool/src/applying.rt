@@ -1,12 +1,12 @@
 //! The command `apply`.
 
-ghost use Rattle.std.specs.Prelude.{◌≡◌, ◌≢◌, List, ℕ, ⊤, length, IfSome, Ok};
+ghost use Rattle.std.specs.Prelude.{◌≡◌, ◌≢◌, List, ℕ, length, IfSome, Ok};
 ghost use Rattle.std.specs.String.{string_bytes};
 ghost use Rattle.mr_batch.specs.Answer.{Answers};
 ghost use Rattle.mr_batch.specs.BatchText.{batch_of_text};
 ghost use Rattle.mr_record.specs.Bytes.{AreBytes};
 ghost use Rattle.mr_store.specs.Stored.{stands_for, told_bytes};
-ghost use Rattle.mr_tool.specs.Applying.{of_edit, SaysSealed, MayApply, ComesBehind, IsFewOfBatch, IsFewOfText, IsFewOfFile};
+ghost use Rattle.mr_tool.specs.Applying.{of_copy, of_edit, SaysSealed, MayApply, ComesBehind, IsFewOfCopy, IsFewOfChanges, IsFewOfText, IsFewOfFile};
 ghost use Rattle.mr_tool.specs.Ending.{Comes, GivesOrStops, SaysRefusal};
 ghost use Rattle.mr_tool.specs.Lines.{bad_batch_line as line_of, digest_line as line_on};
 ghost use Rattle.mr_tool.specs.Plan.{comes};
@@ -56,6 +56,25 @@ fn unchanged(alloc: Global, name: &str, error: &EditErr) -> Result<Ending, Halt>
     unopened(alloc, name, &map_error(error))
 }
 
+// Why a map was not copied, as a refusal of its file: the shelf is blamed, or the file is missing.
+fn copy_error(error: &EditErr) -> MapErr
+    ensures { result ≡ of_copy error.now }
+{
+    match error {
+        EditErr::Map(fault) => MapErr::Map(*fault),
+        EditErr::Missing => MapErr::Missing,
+        EditErr::Fault => MapErr::Fault,
+        EditErr::NoMemory => MapErr::NoMemory,
+    }
+}
+
+// What the command comes to where the map in a file was not copied.
+fn uncopied(alloc: Global, name: &str, error: &EditErr) -> Result<Ending, Halt>
+    ensures { SaysRefusal name.now (of_copy error.now) result }
+{
+    unopened(alloc, name, &copy_error(error))
+}
+
 // The ending over a root digest.
 fn say_root(alloc: Global, digest: &[u8; 32]) -> Result<Ending, Halt>
     ensures size { length digest.now ≡ 32 }
@@ -93,10 +112,11 @@ fn change<H: Hash32, S: Shelf>(
         ComesBehind (applying H.of map.now name new.now)
         (stands_for paged.head (told_bytes before.files (string_bytes paged.name)))
         (λ m. comes (say_changed H.of new.now paged.head.pages m.tree batch.now))
-        (λ t. ⊤) before (S.state result.1) result.0 }
+        (IsFewOfCopy paged.head.pages batch.now before.reads (S.state result.1).reads)
+        before (S.state result.1) result.0 }
 {
     match copy_map::<S, H>(alloc, paged, new) {
-        Err((shelf, error)) => (unchanged(alloc, map, &error), shelf),
+        Err((shelf, error)) => (uncopied(alloc, map, &error), shelf),
         Ok(draft) => {
             let mut dir = dir;
             let mut draft = draft;
@@ -120,12 +140,13 @@ fn apply_batch<H: Hash32, S: Shelf>(
     batch: &Batch,
 ) -> (Result<Ending, Halt>, S)
     requires names { string_bytes paged.name ≢ new.now }
+    requires none { paged.fetches ≡ 0 }
     requires text { (text : List ℕ) × AreBytes text × (batch_of_text text ≡ Ok batch.now) }
     ensures { (name : List ℕ) → let before = S.state paged.shelf in
         ComesBehind (applying H.of map.now name new.now)
         (stands_for paged.head (told_bytes before.files (string_bytes paged.name)))
         (λ m. comes (say_batch H.of new.now paged.head.pages m batch.now))
-        (IsFewOfBatch paged.head.pages paged.head.batch batch.now before.reads
+        (IsFewOfChanges paged.head.pages paged.head.batch batch.now before.reads
         (S.state result.1).reads) before (S.state result.1) result.0 }
 {
     let mut paged = paged;
@@ -154,7 +175,8 @@ fn apply_text<H: Hash32, S: Shelf>(
     paged: Paged<S, H>,
     text: Vec<u8>,
 ) -> (Result<Ending, Halt>, S)
-    requires { string_bytes paged.name ≢ new.now }
+    requires names { string_bytes paged.name ≢ new.now }
+    requires none { paged.fetches ≡ 0 }
     ensures { (name : List ℕ) → let before = S.state paged.shelf in
         ComesBehind (applying H.of map.now name new.now)
         (stands_for paged.head (told_bytes before.files (string_bytes paged.name)))
@@ -178,7 +200,8 @@ fn apply_file<H: Hash32, S: Shelf>(
     new: &str,
     paged: Paged<S, H>,
 ) -> (Result<Ending, Halt>, S)
-    requires { string_bytes paged.name ≢ new.now }
+    requires names { string_bytes paged.name ≢ new.now }
+    requires none { paged.fetches ≡ 0 }
     ensures { let before = S.state paged.shelf in
         ComesBehind (applying H.of map.now batch.now new.now)
         (stands_for paged.head (told_bytes before.files (string_bytes paged.name)))

@@ -148,8 +148,10 @@ pub fn run<H: Hash32, S: Shelf, W: Sink, G: Gate, R: Threads + Sync>(
         let after = world (S.state result.1) (W.state out.new) in
         IsQuiet result.0 before after }
     // Where the files are told, no input that is read whole is read twice; a map that is read page
-    // by page takes its pages once, and a large one besides the nodes that the proof opens; and of
-    // a proof that `check` judges no piece is read behind the one that fixes a fault.
+    // by page takes its pages once, and a large one besides the nodes that the proof opens, or each
+    // node once for `serve` and for the directory of `apply`; `apply`, where the batch may be
+    // applied, takes the pages once more for the copy, and what the changes read of the new file;
+    // and of a proof that `check` judges no piece is read behind the one that fixes a fault.
     ensures reads { let before = world (S.state shelf) (W.state out.old) in
         let after = world (S.state result.1) (W.state out.new) in
         ReadsFewWords H.of (map string_bytes words.now) before after }

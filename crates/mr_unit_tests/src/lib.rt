@@ -12,6 +12,8 @@ mod grown;
 #[cfg(test)]
 mod judge;
 #[cfg(test)]
+mod limits;
+#[cfg(test)]
 mod made;
 #[cfg(test)]
 mod opening;
@@ -21,6 +23,8 @@ mod outside;
 mod packing;
 #[cfg(test)]
 mod paged;
+#[cfg(test)]
+mod plain_batches;
 #[cfg(test)]
 mod queries;
 #[cfg(test)]

@@ -10,5 +10,5 @@ returns-in-Ok g c = λ s old pages made.
 pub returns-in-Err : goal.returns-in-Err
 returns-in-Err g c = λ s old pages made.
     first_stops c.args.new.now pages c.args.page.now c.requires s (g.S.Shelf.state c.args.shelf.now)
-    (g.S.Shelf.state c.append.new.self) made c.in-Err.ensures.writes.reads c.in-Err.error c.refusal.result
-    c.in-Err.ensures.writes.front c.in-Err.ensures.causes c.refusal.ensures
+    (g.S.Shelf.state c.append.new.self) made c.in-Err.ensures.writes.reads c.in-Err.error c.refusal_of_made.result
+    c.in-Err.ensures.writes.front c.in-Err.ensures.causes c.refusal_of_made.ensures

@@ -12,5 +12,5 @@ returns-in-Ok g c = λ old pages.
 pub returns-in-Err : goal.returns-in-Err
 returns-in-Err g c = λ old pages.
     create_stops c.args.new.now pages (g.S.Shelf.state c.args.shelf.now) (g.S.Shelf.state c.create.new.self)
-    c.in-Err.error c.refusal.result c.in-Err.ensures.never c.in-Err.ensures.refused c.create.ensures.reads
-    c.in-Err.ensures.causes c.refusal.ensures
+    c.in-Err.error c.refusal_of_made.result c.in-Err.ensures.never c.in-Err.ensures.refused c.create.ensures.reads
+    c.in-Err.ensures.causes c.refusal_of_made.ensures

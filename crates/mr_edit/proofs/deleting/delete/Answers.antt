@@ -1,4 +1,4 @@
-use Rattle.std.proofs.Common.{true, sym, subst, ◌∙◌}
+use Rattle.std.proofs.Common.{true, refl, sym, subst, ◌∙◌}
 use Rattle.std.proofs.lemmas.Result.{IfOk-weaker}
 use Rattle.mr_record.specs.declared.version.Version.TheVariants.{One}
 use Rattle.mr_tree.specs.Digest.{by}
@@ -9,6 +9,7 @@ use Rattle.mr_edit.proofs.Deletable.{no_root, root_sought, none_lacks, left_inse
 use Rattle.mr_edit.proofs.Dropped.{deleted}
 use Rattle.mr_edit.proofs.Results.{if_err}
 use Rattle.mr_edit.proofs.Sound.{never, handed}
+use Rattle.mr_edit.proofs.ChangeReads.{deletes_none, deletes_stopped, deletes_twice}
 use Rattle.mr_edit.proofs.deleting.delete.Goals as goal
 
 pub returns-clause-deletes : goal.returns-clause-deletes
@@ -70,3 +71,40 @@ returns-clause-sound g c =
     (subst (λ x. CanDelete g.F.Hash.Hashes.of (g.F.PageFile.told c.args.desk.now.file)
     c.args.desk.now.free x c.args.number c.args.rect.now) c.in-Some.is k)) h)
     c.put_all.ensures.sound
+
+pub returns-in_default-clause-twice : goal.returns-in_default-clause-twice
+returns-in_default-clause-twice g c =
+    deletes_none (by One g.F.Hash.Hashes.of) (g.F.PageFile.told c.args.desk.now.file) c.args.desk.now.free c.args.root
+    c.args.number c.args.rect.now (g.F.PageFile.reads c.args.desk.now.file) (g.F.PageFile.reads c.args.desk.now.file)
+    refl
+
+pub returns-in_err-found-clause-twice : goal.returns-in_err-found-clause-twice
+returns-in_err-found-clause-twice g c =
+    deletes_stopped (by One g.F.Hash.Hashes.of) (g.F.PageFile.told c.args.desk.now.file) c.args.desk.now.free
+    c.args.root c.in-Some.child c.args.number c.args.rect.now (g.F.PageFile.reads c.args.desk.now.file)
+    (g.F.PageFile.reads c.take_out.new.desk.file) c.in-Some.is c.take_out.ensures.twice
+
+pub returns-in_default-found-clause-twice : goal.returns-in_default-found-clause-twice
+returns-in_default-found-clause-twice g c =
+    deletes_stopped (by One g.F.Hash.Hashes.of) (g.F.PageFile.told c.args.desk.now.file) c.args.desk.now.free
+    c.args.root c.in-Some.child c.args.number c.args.rect.now (g.F.PageFile.reads c.args.desk.now.file)
+    (g.F.PageFile.reads c.take_out.new.desk.file) c.in-Some.is c.take_out.ensures.twice
+
+pub returns-in_err-sort_by_number-clause-twice : goal.returns-in_err-sort_by_number-clause-twice
+returns-in_err-sort_by_number-clause-twice g c =
+    deletes_stopped (by One g.F.Hash.Hashes.of) (g.F.PageFile.told c.args.desk.now.file) c.args.desk.now.free
+    c.args.root c.in-Some.child c.args.number c.args.rect.now (g.F.PageFile.reads c.args.desk.now.file)
+    (g.F.PageFile.reads c.take_out.new.desk.file) c.in-Some.is c.take_out.ensures.twice
+
+pub returns-clause-twice : goal.returns-clause-twice
+returns-clause-twice g c =
+    let l = c.in-Some-found.left in
+    deletes_twice (by One g.F.Hash.Hashes.of) (g.F.PageFile.told c.args.desk.now.file)
+    (g.F.PageFile.told c.take_out.new.desk.file) c.args.desk.now.free c.take_out.new.desk.free c.args.root
+    c.in-Some.child c.args.number c.args.rect.now l.entry l.aside.items c.deref.result.now
+    (g.F.PageFile.reads c.args.desk.now.file) (g.F.PageFile.reads c.take_out.new.desk.file)
+    (g.F.PageFile.reads c.put_all.new.desk.file) c.in-Some.is
+    (subst (Searches (by One g.F.Hash.Hashes.of) true (g.F.PageFile.told c.args.desk.now.file) c.args.desk.now.free
+    (g.F.PageFile.told c.take_out.new.desk.file) c.take_out.new.desk.free c.in-Some.child c.args.number
+    c.args.rect.now) c.in-Some-found.is c.in_ok-found.ensures.searches)
+    (c.deref.ensures.value ∙ c.in_ok-sort_by_number.ensures) c.take_out.ensures.twice c.put_all.ensures.reads

@@ -1,10 +1,11 @@
-use Rattle.std.proofs.Common.{length, refl, subst, ◌∙◌}
+use Rattle.std.proofs.Common.{◌+◌, arith, length, refl, subst, ◌∙◌}
 use Rattle.std.proofs.lemmas.List.{take_all}
 use Rattle.mr_record.specs.declared.version.Version.TheVariants.{One}
 use Rattle.mr_tree.specs.Digest.{by}
 use Rattle.mr_edit.specs.Deleted.{InsertsAll}
 use Rattle.mr_edit.specs.Growing.{CanInsert}
 use Rattle.mr_edit.proofs.Dropped.{inserts_none, inserts_more}
+use Rattle.mr_edit.proofs.ChangeReads.{taken_few, taken_more}
 use Rattle.mr_edit.proofs.Growth.{next_insert}
 use Rattle.mr_edit.proofs.Sound.{never, handed}
 use Rattle.mr_edit.proofs.deleting.put_all.Goals as goal
@@ -13,6 +14,7 @@ pub loop-one-init : goal.loop-one-init
 loop-one-init g c = record {
   inserts = inserts_none (by One g.F.Hash.Hashes.of) (g.F.PageFile.told c.args.desk.now.file) c.args.desk.now.free
       c.args.root;
+  reads = omega arith;
   kept = g.met.F.PageFile.kept_self c.args.desk.now.file;
   quiet = refl;
 }
@@ -24,6 +26,12 @@ loop-one-preserved g c = record {
       c.loop-one.desk.free c.insert.new.desk.free
       c.args.root c.loop-one.root c.in_ok-child.child c.args.records.now c.loop-one.one-index c.one-item.result
       c.loop-one-test.true c.one-item.is c.loop-one.invariant.inserts c.in_ok-child.ensures.inserts;
+  reads = omega (
+    arith,
+    c.loop-one.invariant.reads,
+    c.insert.ensures.reads,
+    taken_more c.args.records.now c.loop-one.one-index c.loop-one-test.true,
+  );
   kept = g.met.F.PageFile.kept_on c.args.desk.now.file c.loop-one.desk.file c.insert.new.desk.file
       c.loop-one.invariant.kept c.insert.ensures.kept;
   quiet = c.in_ok-child.ensures.quiet ∙ c.loop-one.invariant.quiet;
@@ -47,3 +55,17 @@ returns-in_err-child-clause-sound g c =
     c.args.root c.loop-one.root c.args.records.now c.loop-one.one-index c.loop-one-test.true
     c.loop-one.invariant.inserts)
     c.in_err-child.ensures.sound)
+
+pub returns-in_err-child-clause-reads : goal.returns-in_err-child-clause-reads
+returns-in_err-child-clause-reads g c =
+    omega (
+      arith,
+      c.loop-one.invariant.reads,
+      c.insert.ensures.reads,
+      taken_more c.args.records.now c.loop-one.one-index c.loop-one-test.true,
+      taken_few c.args.records.now (c.loop-one.one-index + 1),
+    )
+
+pub returns-clause-reads : goal.returns-clause-reads
+returns-clause-reads g c =
+    omega (arith, taken_few c.args.records.now c.loop-one.one-index, c.loop-one.invariant.reads)

@@ -1,7 +1,8 @@
-use Rattle.std.proofs.Common.{◌≡◌, take}
+use Rattle.std.proofs.Common.{◌≡◌, ◌+◌, ◌*◌, ◌≤◌, length, take}
 use Rattle.mr_record.specs.declared.version.Version.TheVariants.{One}
 use Rattle.mr_tree.specs.Digest.{by}
 use Rattle.mr_edit.specs.Deleted.{InsertsAll}
+use Rattle.mr_edit.specs.Reads.{insertion_reads}
 use Rattle.mr_edit.proofs.deleting.put_all.Given as goal
 
 -- the first ones went in
@@ -9,6 +10,8 @@ abbrev pub invariant-loop-one : goal.invariant-loop-one
 invariant-loop-one g l = record {
   inserts : InsertsAll (by One g.F.Hash.Hashes.of) (g.F.PageFile.told l.initial.desk.file) l.initial.desk.free
       l.initial.root (g.F.PageFile.told l.desk.file) l.desk.free l.root (take l.one-index l.records);
+  reads : g.F.PageFile.reads l.desk.file
+      ≤ g.F.PageFile.reads l.initial.desk.file + length (take l.one-index l.records) * insertion_reads;
   kept : g.F.PageFile.kept l.initial.desk.file l.desk.file;
   quiet : g.F.PageFile.faults l.desk.file ≡ g.F.PageFile.faults l.initial.desk.file;
 }

@@ -1,4 +1,4 @@
-use Rattle.std.proofs.Common.{◌≡◌, false, ◌<◌, [], ◌∷◌, ◌++◌, take, sym, ap, subst, ◌∙◌, arith}
+use Rattle.std.proofs.Common.{◌≡◌, false, refl, ◌+◌, ◌<◌, [], ◌∷◌, ◌++◌, take, sym, ap, subst, ◌∙◌, arith}
 use Rattle.std.specs.Prelude.{IfSome}
 use Rattle.std.proofs.lemmas.List.{take_all}
 use Rattle.mr_record.specs.declared.version.Version.TheVariants.{One}
@@ -10,7 +10,8 @@ use Rattle.mr_edit.specs.Book.{HasNode}
 use Rattle.mr_edit.specs.Removal.{Frees}
 use Rattle.mr_edit.specs.Removable.{CanFree}
 use Rattle.mr_edit.proofs.Caused.{handed_cause}
-use Rattle.mr_edit.proofs.Freed.{frees_more, frees_leaf, frees_inner}
+use Rattle.mr_edit.proofs.Freed.{frees_none, frees_more, frees_leaf, frees_inner}
+use Rattle.mr_edit.proofs.FreeReads.{frees_nothing, frees_looked, frees_next, frees_part, frees_below}
 use Rattle.mr_edit.proofs.Looking.{can_look}
 use Rattle.mr_edit.proofs.Owners.{one_below, known_writes, children_below, next_below}
 use Rattle.mr_edit.proofs.Sound.{never, handed}
@@ -24,6 +25,12 @@ loop-one-preserved g t c = record {
       c.children-one-items.result.now c.loop-one.one-index c.one-item.result c.args.list.now.items
       c.loop-one.list.items c.free_subtree.new.list.items c.loop-one-test.true c.one-item.is
       c.loop-one.invariant.frees c.in_ok-free_subtree.ensures.frees;
+  once = frees_next (by One g.F.Hash.Hashes.of) (g.F.PageFile.told c.free_page.new.desk.file)
+      (g.F.PageFile.told c.loop-one.desk.file) c.free_page.new.desk.free c.loop-one.desk.free
+      c.children-one-items.result.now c.loop-one.one-index c.one-item.result c.args.list.now.items
+      c.loop-one.list.items (g.F.PageFile.reads c.free_page.new.desk.file) (g.F.PageFile.reads c.loop-one.desk.file)
+      (g.F.PageFile.reads c.free_subtree.new.desk.file) c.loop-one-test.true c.one-item.is c.loop-one.invariant.frees
+      c.loop-one.invariant.once c.free_subtree.ensures.once;
   kept = g.met.F.PageFile.kept_on c.free_page.new.desk.file c.loop-one.desk.file c.free_subtree.new.desk.file
       c.loop-one.invariant.kept c.free_subtree.ensures.kept;
   quiet = c.in_ok-free_subtree.ensures.quiet ∙ c.loop-one.invariant.quiet;
@@ -121,3 +128,76 @@ returns-in_err-free_subtree-clause-sound g t c =
     (one_below g.F.Hash.Hashes.of (g.F.PageFile.told c.args.desk.now.file) c.args.desk.now.free
     c.args.child.now k)))
     c.in_err-free_subtree.ensures.sound)
+
+pub loop-one-init : goal.loop-one-init
+loop-one-init g t c = record {
+  frees = frees_none (by One g.F.Hash.Hashes.of) (g.F.PageFile.told c.free_page.new.desk.file)
+      c.free_page.new.desk.free c.args.list.now.items;
+  once = frees_nothing (by One g.F.Hash.Hashes.of) (g.F.PageFile.told c.free_page.new.desk.file)
+      c.free_page.new.desk.free (g.F.PageFile.reads c.free_page.new.desk.file);
+  kept = g.met.F.PageFile.kept_self c.free_page.new.desk.file;
+  quiet = refl;
+}
+
+pub returns-in_err-look-clause-once : goal.returns-in_err-look-clause-once
+returns-in_err-look-clause-once g t c =
+    frees_looked (by One g.F.Hash.Hashes.of) (g.F.PageFile.told c.args.desk.now.file) c.args.desk.now.free
+    c.args.child.now (g.F.PageFile.reads c.args.desk.now.file) (g.F.PageFile.reads c.look.new.file)
+    (omega (arith, c.look.ensures.reads))
+
+pub returns-in_err-free_page-clause-once : goal.returns-in_err-free_page-clause-once
+returns-in_err-free_page-clause-once g t c =
+    frees_looked (by One g.F.Hash.Hashes.of) (g.F.PageFile.told c.args.desk.now.file) c.args.desk.now.free
+    c.args.child.now (g.F.PageFile.reads c.args.desk.now.file) (g.F.PageFile.reads c.free_page.new.desk.file)
+    (omega (arith, c.look.ensures.reads, c.free_page.ensures.reads))
+
+pub returns-in_err-extend_from_slice-clause-once : goal.returns-in_err-extend_from_slice-clause-once
+returns-in_err-extend_from_slice-clause-once g t c =
+    frees_looked (by One g.F.Hash.Hashes.of) (g.F.PageFile.told c.args.desk.now.file) c.args.desk.now.free
+    c.args.child.now (g.F.PageFile.reads c.args.desk.now.file) (g.F.PageFile.reads c.free_page.new.desk.file)
+    (omega (arith, c.look.ensures.reads, c.free_page.ensures.reads))
+
+pub returns-in_ok-extend_from_slice-clause-once : goal.returns-in_ok-extend_from_slice-clause-once
+returns-in_ok-extend_from_slice-clause-once g t c =
+    frees_looked (by One g.F.Hash.Hashes.of) (g.F.PageFile.told c.args.desk.now.file) c.args.desk.now.free
+    c.args.child.now (g.F.PageFile.reads c.args.desk.now.file) (g.F.PageFile.reads c.free_page.new.desk.file)
+    (omega (arith, c.look.ensures.reads, c.free_page.ensures.reads))
+
+pub returns-in_err-free_subtree-clause-once : goal.returns-in_err-free_subtree-clause-once
+returns-in_err-free_subtree-clause-once g t c =
+    let view = c.look.new.into in
+    let cs = c.children-one-items.result.now in
+    let high : 0 < c.level.result = omega (arith, c.if-level-eq0.false) in
+    let is = c.children-one-items.ensures.inner (subst (λ n. 0 < n) c.level.ensures.value high) in
+    frees_below (by One g.F.Hash.Hashes.of) (g.F.PageFile.told c.args.desk.now.file) (g.F.PageFile.told c.look.new.file)
+    (g.F.PageFile.told c.free_page.new.desk.file) c.args.desk.now.free c.free_page.new.desk.free c.args.child.now cs
+    (g.F.PageFile.reads c.args.desk.now.file) (g.F.PageFile.reads c.free_page.new.desk.file)
+    (g.F.PageFile.reads c.free_subtree.new.desk.file) c.in_ok-look.ensures.same
+    (subst (λ n. IfSome (g.F.PageFile.told c.args.desk.now.file) (λ b. HasNode b c.args.child.now.id (page_node n))) (is
+    ∙ ap node.Inner (sym c.children-one-items.ensures.value)) c.in_ok-look.ensures.node)
+    c.in_ok-free_page.ensures.frees (omega (arith, c.look.ensures.reads, c.free_page.ensures.reads))
+    (frees_part (by One g.F.Hash.Hashes.of) (g.F.PageFile.told c.free_page.new.desk.file) c.free_page.new.desk.free cs
+    (c.loop-one.one-index + 1) (g.F.PageFile.reads c.free_page.new.desk.file)
+    (g.F.PageFile.reads c.free_subtree.new.desk.file)
+    (frees_next (by One g.F.Hash.Hashes.of) (g.F.PageFile.told c.free_page.new.desk.file)
+    (g.F.PageFile.told c.loop-one.desk.file) c.free_page.new.desk.free c.loop-one.desk.free cs c.loop-one.one-index
+    c.one-item.result c.args.list.now.items c.loop-one.list.items (g.F.PageFile.reads c.free_page.new.desk.file)
+    (g.F.PageFile.reads c.loop-one.desk.file) (g.F.PageFile.reads c.free_subtree.new.desk.file) c.loop-one-test.true
+    c.one-item.is c.loop-one.invariant.frees c.loop-one.invariant.once c.free_subtree.ensures.once))
+
+pub returns-after-loop-one-clause-once : goal.returns-after-loop-one-clause-once
+returns-after-loop-one-clause-once g t c =
+    let view = c.look.new.into in
+    let cs = c.children-one-items.result.now in
+    let high : 0 < c.level.result = omega (arith, c.if-level-eq0.false) in
+    let is = c.children-one-items.ensures.inner (subst (λ n. 0 < n) c.level.ensures.value high) in
+    frees_below (by One g.F.Hash.Hashes.of) (g.F.PageFile.told c.args.desk.now.file) (g.F.PageFile.told c.look.new.file)
+    (g.F.PageFile.told c.free_page.new.desk.file) c.args.desk.now.free c.free_page.new.desk.free c.args.child.now cs
+    (g.F.PageFile.reads c.args.desk.now.file) (g.F.PageFile.reads c.free_page.new.desk.file)
+    (g.F.PageFile.reads c.loop-one.desk.file) c.in_ok-look.ensures.same
+    (subst (λ n. IfSome (g.F.PageFile.told c.args.desk.now.file) (λ b. HasNode b c.args.child.now.id (page_node n))) (is
+    ∙ ap node.Inner (sym c.children-one-items.ensures.value)) c.in_ok-look.ensures.node)
+    c.in_ok-free_page.ensures.frees (omega (arith, c.look.ensures.reads, c.free_page.ensures.reads))
+    (frees_part (by One g.F.Hash.Hashes.of) (g.F.PageFile.told c.free_page.new.desk.file) c.free_page.new.desk.free cs
+    c.loop-one.one-index (g.F.PageFile.reads c.free_page.new.desk.file) (g.F.PageFile.reads c.loop-one.desk.file)
+    c.loop-one.invariant.once)

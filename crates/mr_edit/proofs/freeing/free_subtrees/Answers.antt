@@ -1,11 +1,12 @@
-use Rattle.std.proofs.Common.{◌∙◌, subst}
+use Rattle.std.proofs.Common.{◌+◌, refl, ◌∙◌, subst}
 use Rattle.std.proofs.lemmas.List.{take_all}
 use Rattle.mr_record.specs.declared.version.Version.TheVariants.{One}
 use Rattle.mr_tree.specs.Digest.{by}
 use Rattle.mr_edit.specs.Removal.{Frees}
 use Rattle.mr_edit.specs.Removable.{CanFree}
 use Rattle.mr_edit.proofs.Caused.{handed_cause}
-use Rattle.mr_edit.proofs.Freed.{frees_more}
+use Rattle.mr_edit.proofs.Freed.{frees_none, frees_more}
+use Rattle.mr_edit.proofs.FreeReads.{frees_nothing, frees_next, frees_part}
 use Rattle.mr_edit.proofs.Owners.{next_below}
 use Rattle.mr_edit.proofs.Sound.{never, handed}
 use Rattle.mr_edit.proofs.freeing.free_subtrees.Goals as goal
@@ -18,6 +19,12 @@ loop-child-preserved g c = record {
       c.args.children.now c.loop-child.child-index c.child-item.result c.args.list.now.items c.loop-child.list.items
       c.free_subtree.new.list.items c.loop-child-test.true c.child-item.is c.loop-child.invariant.frees
       c.in_ok-free_subtree.ensures.frees;
+  once = frees_next (by One g.F.Hash.Hashes.of) (g.F.PageFile.told c.args.desk.now.file)
+      (g.F.PageFile.told c.loop-child.desk.file) c.args.desk.now.free c.loop-child.desk.free c.args.children.now
+      c.loop-child.child-index c.child-item.result c.args.list.now.items c.loop-child.list.items
+      (g.F.PageFile.reads c.args.desk.now.file) (g.F.PageFile.reads c.loop-child.desk.file)
+      (g.F.PageFile.reads c.free_subtree.new.desk.file) c.loop-child-test.true c.child-item.is
+      c.loop-child.invariant.frees c.loop-child.invariant.once c.free_subtree.ensures.once;
   kept = g.met.F.PageFile.kept_on c.args.desk.now.file c.loop-child.desk.file c.free_subtree.new.desk.file
       c.loop-child.invariant.kept c.free_subtree.ensures.kept;
   quiet = c.in_ok-free_subtree.ensures.quiet ∙ c.loop-child.invariant.quiet;
@@ -53,3 +60,31 @@ returns-clause-frees g c =
     (g.F.PageFile.told c.loop-child.desk.file) c.loop-child.desk.free us c.args.list.now.items
     c.loop-child.list.items) (take_all c.loop-child.child-index c.args.children.now c.loop-child-test.false)
     c.loop-child.invariant.frees
+
+pub loop-child-init : goal.loop-child-init
+loop-child-init g c = record {
+  frees = frees_none (by One g.F.Hash.Hashes.of) (g.F.PageFile.told c.args.desk.now.file) c.args.desk.now.free
+      c.args.list.now.items;
+  once = frees_nothing (by One g.F.Hash.Hashes.of) (g.F.PageFile.told c.args.desk.now.file) c.args.desk.now.free
+      (g.F.PageFile.reads c.args.desk.now.file);
+  kept = g.met.F.PageFile.kept_self c.args.desk.now.file;
+  quiet = refl;
+}
+
+pub returns-in_err-free_subtree-clause-once : goal.returns-in_err-free_subtree-clause-once
+returns-in_err-free_subtree-clause-once g c =
+    frees_part (by One g.F.Hash.Hashes.of) (g.F.PageFile.told c.args.desk.now.file) c.args.desk.now.free
+    c.args.children.now (c.loop-child.child-index + 1) (g.F.PageFile.reads c.args.desk.now.file)
+    (g.F.PageFile.reads c.free_subtree.new.desk.file)
+    (frees_next (by One g.F.Hash.Hashes.of) (g.F.PageFile.told c.args.desk.now.file)
+    (g.F.PageFile.told c.loop-child.desk.file) c.args.desk.now.free c.loop-child.desk.free c.args.children.now
+    c.loop-child.child-index c.child-item.result c.args.list.now.items c.loop-child.list.items
+    (g.F.PageFile.reads c.args.desk.now.file) (g.F.PageFile.reads c.loop-child.desk.file)
+    (g.F.PageFile.reads c.free_subtree.new.desk.file) c.loop-child-test.true c.child-item.is
+    c.loop-child.invariant.frees c.loop-child.invariant.once c.free_subtree.ensures.once)
+
+pub returns-clause-once : goal.returns-clause-once
+returns-clause-once g c =
+    frees_part (by One g.F.Hash.Hashes.of) (g.F.PageFile.told c.args.desk.now.file) c.args.desk.now.free
+    c.args.children.now c.loop-child.child-index (g.F.PageFile.reads c.args.desk.now.file)
+    (g.F.PageFile.reads c.loop-child.desk.file) c.loop-child.invariant.once

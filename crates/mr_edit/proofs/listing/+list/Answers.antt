@@ -1,11 +1,13 @@
-use Rattle.std.proofs.Common.{◌<◌, false, sym, ap, subst, ◌∙◌, arith}
+use Rattle.std.proofs.Common.{◌<◌, ◌+◌, false, refl, sym, ap, subst, ◌∙◌, arith}
 use Rattle.std.proofs.lemmas.List.{take_all}
 use Rattle.std.proofs.lemmas.Result.{err_from_is_err_and}
 use Rattle.mr_tree.specs.Nodes.{Shows}
 use Rattle.mr_tree.specs.declared.tree.Tree.TheOpen.{Leaf, Inner}
 use Rattle.mr_edit.specs.Listing.{ListsAll, CanList}
-use Rattle.mr_edit.proofs.Listings.{lists_leaf, lists_more, lists_inner, refuses_along, twice_refuses, next_can}
+use Rattle.mr_edit.proofs.Listings.{lists_leaf, lists_none, lists_more, lists_inner, refuses_along, twice_refuses, next_can}
 use Rattle.mr_edit.proofs.Results.{if_err, on_ok}
+use Rattle.mr_outside.specs.Faults.{next_count}
+use Rattle.mr_store.proofs.Counted.{one_fetch, some_fetches, fetched_more}
 use Rattle.mr_edit.proofs.listing.+list.Goals as goal
 
 pub returns-in_err-list-clause-cause : goal.returns-in_err-list-clause-cause
@@ -38,6 +40,10 @@ loop-one-preserved g t c =
       all = lists_more s (g.N.Nodes.stands c.loop-one.nodes) c.children-one-items.result.now c.loop-one.one-index
           c.one-item.result c.args.dir.now c.loop-one.dir c.list.new.dir same c.loop-one-test.true c.one-item.is
           c.loop-one.invariant.all c.in_ok-list.ensures.lists;
+      fetched = λ told. fetched_more s (g.N.Nodes.stands c.loop-one.nodes) c.children-one-items.result.now
+          c.loop-one.one-index c.one-item.result (next_count (g.N.Nodes.fetches c.args.nodes.now))
+          (g.N.Nodes.fetches c.loop-one.nodes) (g.N.Nodes.fetches c.list.new.nodes) same c.one-item.is
+          c.loop-one-test.true (c.loop-one.invariant.fetched told) c.list.ensures.fetched told;
     }
 
 pub returns-then-level-eq0-clause-lists : goal.returns-then-level-eq0-clause-lists
@@ -74,3 +80,50 @@ returns-after-loop-one-clause-lists g t c =
     (subst (Shows hash s c.args.child.now) is c.in_ok-look.ensures.shows)
     (subst (λ cs. ListsAll s cs c.args.dir.now c.loop-one.dir)
     (take_all c.loop-one.one-index c.children-one-items.result.now c.loop-one-test.false) c.loop-one.invariant.all)
+
+pub loop-one-init : goal.loop-one-init
+loop-one-init g t c = record {
+  kept = c.look.ensures.kept;
+  quiet = c.in_ok-look.ensures.quiet;
+  all = lists_none (g.N.Nodes.stands c.args.nodes.now) c.args.dir.now;
+  fetched = λ told. omega (arith, c.look.ensures.counted);
+}
+
+pub returns-in_err-look-clause-fetched : goal.returns-in_err-look-clause-fetched
+returns-in_err-look-clause-fetched g t c =
+    λ told. one_fetch g.N.Hash.Hashes.of (g.N.Nodes.stands c.args.nodes.now) c.args.child.now c.requires told
+    (g.N.Nodes.fetches c.args.nodes.now) (g.N.Nodes.fetches c.look.new.nodes) c.look.ensures.counted
+
+pub returns-then-level-eq0-clause-fetched : goal.returns-then-level-eq0-clause-fetched
+returns-then-level-eq0-clause-fetched g t c =
+    λ told. one_fetch g.N.Hash.Hashes.of (g.N.Nodes.stands c.args.nodes.now) c.args.child.now c.requires told
+    (g.N.Nodes.fetches c.args.nodes.now) (g.N.Nodes.fetches c.look.new.nodes) c.look.ensures.counted
+
+pub returns-in_err-list-clause-fetched : goal.returns-in_err-list-clause-fetched
+returns-in_err-list-clause-fetched g t c =
+    let s = g.N.Nodes.stands c.args.nodes.now in
+    let hash = g.N.Hash.Hashes.of in
+    let cs = c.children-one-items.result.now in
+    let same = g.met.N.Nodes.kept_stands c.args.nodes.now c.loop-one.nodes c.loop-one.invariant.kept in
+    let high : 0 < c.level.result = omega (arith, c.if-level-eq0.false) in
+    let is = c.children-one-items.ensures.inner (subst (λ n. 0 < n) c.level.ensures.value high)
+    ∙ ap Inner (sym c.children-one-items.ensures.value) in
+    let shows = subst (Shows hash s c.args.child.now) is c.in_ok-look.ensures.shows in
+    λ told. some_fetches hash s c.args.child.now c.requires told cs cs refl shows (c.loop-one.one-index + 1)
+    (g.N.Nodes.fetches c.args.nodes.now) (g.N.Nodes.fetches c.list.new.nodes)
+    (fetched_more s (g.N.Nodes.stands c.loop-one.nodes) cs c.loop-one.one-index c.one-item.result
+    (next_count (g.N.Nodes.fetches c.args.nodes.now)) (g.N.Nodes.fetches c.loop-one.nodes)
+    (g.N.Nodes.fetches c.list.new.nodes) same c.one-item.is c.loop-one-test.true
+    (c.loop-one.invariant.fetched told) c.list.ensures.fetched told)
+
+pub returns-after-loop-one-clause-fetched : goal.returns-after-loop-one-clause-fetched
+returns-after-loop-one-clause-fetched g t c =
+    let s = g.N.Nodes.stands c.args.nodes.now in
+    let hash = g.N.Hash.Hashes.of in
+    let cs = c.children-one-items.result.now in
+    let high : 0 < c.level.result = omega (arith, c.if-level-eq0.false) in
+    let is = c.children-one-items.ensures.inner (subst (λ n. 0 < n) c.level.ensures.value high)
+    ∙ ap Inner (sym c.children-one-items.ensures.value) in
+    let shows = subst (Shows hash s c.args.child.now) is c.in_ok-look.ensures.shows in
+    λ told. some_fetches hash s c.args.child.now c.requires told cs cs refl shows c.loop-one.one-index
+    (g.N.Nodes.fetches c.args.nodes.now) (g.N.Nodes.fetches c.loop-one.nodes) (c.loop-one.invariant.fetched told)

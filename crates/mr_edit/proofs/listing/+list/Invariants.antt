@@ -1,4 +1,7 @@
-use Rattle.std.proofs.Common.{◌≡◌, take}
+use Rattle.std.proofs.Common.{◌≡◌, ◌+◌, ◌≤◌, take}
+use Rattle.std.specs.Prelude.{IsSome}
+use Rattle.mr_outside.specs.Faults.{next_count}
+use Rattle.mr_store.specs.Copying.{nodes_in}
 use Rattle.mr_edit.specs.Listing.{ListsAll}
 use Rattle.mr_edit.proofs.listing.+list.Given as goal
 
@@ -11,4 +14,7 @@ invariant-loop-one g l = record {
   kept : g.N.Nodes.kept l.fn.nodes l.nodes;
   quiet : g.N.Nodes.faults l.nodes ≡ g.N.Nodes.faults l.fn.nodes;
   all : ListsAll (g.N.Nodes.stands l.fn.nodes) (take l.one-index l.one-items) l.fn.dir l.dir;
+  fetched : IsSome (g.N.Nodes.stands l.fn.nodes).tree → g.N.Nodes.fetches l.nodes ≤
+      next_count (g.N.Nodes.fetches l.fn.nodes)
+      + nodes_in (g.N.Nodes.stands l.fn.nodes) (take l.one-index l.one-items);
 }

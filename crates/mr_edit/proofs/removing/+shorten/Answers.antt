@@ -13,6 +13,7 @@ use Rattle.mr_edit.proofs.Looking.{can_look}
 use Rattle.mr_edit.proofs.Owners.{known_writes, children_below, only_below}
 use Rattle.mr_edit.proofs.Results.{if_err}
 use Rattle.mr_edit.proofs.Sound.{never, handed}
+use Rattle.mr_edit.proofs.FreeReads.{frees_looked, frees_below, frees_only}
 use Rattle.mr_edit.proofs.removing.+shorten.Goals as goal
 
 pub returns-then-level-eq0-clause-shortens : goal.returns-then-level-eq0-clause-shortens
@@ -92,3 +93,44 @@ returns-clause-sound g t c =
     (subst (λ n. IfSome (g.F.PageFile.told c.args.desk.now.file) (λ b. HasNode b c.args.child.now.id (page_node n))) is
     c.in_ok-look.ensures.node) c.in_ok-free_page.ensures.frees k)) h)
     c.shorten.ensures.sound
+
+pub returns-in_err-look-clause-once : goal.returns-in_err-look-clause-once
+returns-in_err-look-clause-once g t c =
+    frees_looked (by One g.F.Hash.Hashes.of) (g.F.PageFile.told c.args.desk.now.file) c.args.desk.now.free
+    c.args.child.now (g.F.PageFile.reads c.args.desk.now.file) (g.F.PageFile.reads c.look.new.file)
+    (omega (arith, c.look.ensures.reads))
+
+pub returns-then-level-eq0-clause-once : goal.returns-then-level-eq0-clause-once
+returns-then-level-eq0-clause-once g t c =
+    frees_looked (by One g.F.Hash.Hashes.of) (g.F.PageFile.told c.args.desk.now.file) c.args.desk.now.free
+    c.args.child.now (g.F.PageFile.reads c.args.desk.now.file) (g.F.PageFile.reads c.look.new.file)
+    (omega (arith, c.look.ensures.reads))
+
+pub returns-then-children-ne1-clause-once : goal.returns-then-children-ne1-clause-once
+returns-then-children-ne1-clause-once g t c =
+    frees_looked (by One g.F.Hash.Hashes.of) (g.F.PageFile.told c.args.desk.now.file) c.args.desk.now.free
+    c.args.child.now (g.F.PageFile.reads c.args.desk.now.file) (g.F.PageFile.reads c.look.new.file)
+    (omega (arith, c.look.ensures.reads))
+
+pub returns-in_err-free_page-clause-once : goal.returns-in_err-free_page-clause-once
+returns-in_err-free_page-clause-once g t c =
+    frees_looked (by One g.F.Hash.Hashes.of) (g.F.PageFile.told c.args.desk.now.file) c.args.desk.now.free
+    c.args.child.now (g.F.PageFile.reads c.args.desk.now.file) (g.F.PageFile.reads c.free_page.new.desk.file)
+    (omega (arith, c.look.ensures.reads, c.free_page.ensures.reads))
+
+pub returns-clause-once : goal.returns-clause-once
+returns-clause-once g t c =
+    let cs = c.children-children.result.now in
+    let high : 0 < c.level.result = omega (arith, c.if-level-eq0.false) in
+    let is = c.children-children.ensures.inner (subst (λ n. 0 < n) c.level.ensures.value high)
+    ∙ ap node.Inner (sym c.children-children.ensures.value) in
+    frees_below (by One g.F.Hash.Hashes.of) (g.F.PageFile.told c.args.desk.now.file) (g.F.PageFile.told c.look.new.file)
+    (g.F.PageFile.told c.free_page.new.desk.file) c.args.desk.now.free c.free_page.new.desk.free c.args.child.now cs
+    (g.F.PageFile.reads c.args.desk.now.file) (g.F.PageFile.reads c.free_page.new.desk.file)
+    (g.F.PageFile.reads c.shorten.new.desk.file) c.in_ok-look.ensures.same
+    (subst (λ n. IfSome (g.F.PageFile.told c.args.desk.now.file) (λ b. HasNode b c.args.child.now.id (page_node n))) is
+    c.in_ok-look.ensures.node)
+    c.in_ok-free_page.ensures.frees (omega (arith, c.look.ensures.reads, c.free_page.ensures.reads))
+    (frees_only (by One g.F.Hash.Hashes.of) (g.F.PageFile.told c.free_page.new.desk.file) c.free_page.new.desk.free cs
+    c.index-children-0.result (g.F.PageFile.reads c.free_page.new.desk.file)
+    (g.F.PageFile.reads c.shorten.new.desk.file) c.if-children-ne1.false c.index-children-0.is c.shorten.ensures.once)

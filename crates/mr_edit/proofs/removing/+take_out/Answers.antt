@@ -10,16 +10,20 @@ use Rattle.mr_tree.specs.declared.tree.Tree.TheOpen as node
 use Rattle.mr_grow.specs.Found.{is_numbered, place_of}
 use Rattle.mr_pages.specs.Walking.{page_node}
 use Rattle.mr_edit.specs.Book.{HasNode}
+use Rattle.mr_edit.specs.Counted.{ReadsOnce, LeavesOnce, TakesTwice}
 use Rattle.mr_edit.specs.declared.left.Left.{Left}
 use Rattle.mr_edit.specs.Removal.{Lacks, LeavesInner, Searches}
 use Rattle.mr_edit.specs.Removable.{CanLeave, CanTakeOut}
+use Rattle.mr_edit.proofs.FreeReads.{beside_none, once_looked}
 use Rattle.mr_edit.proofs.Levels.{AreBelow, AreOf, replaced_below}
-use Rattle.mr_edit.proofs.Searching.{NoneYet, outside, none_tried, replaced_few, lacks_inner}
+use Rattle.mr_edit.proofs.Searching.{NoneYet, outside, none_first, none_tried, replaced_few, lacks_inner}
 use Rattle.mr_edit.proofs.Removed.{removes_leaf, lacks_leaf, removes_below}
 use Rattle.mr_edit.proofs.Looking.{can_look}
 use Rattle.mr_edit.proofs.Owners.{known_writes}
 use Rattle.mr_edit.proofs.Sought.{sought_below, leave_left}
+use Rattle.mr_edit.proofs.SearchReads.{once_searched, once_twice, takes_below, takes_leaf, twice_below, twice_left, twice_looked}
 use Rattle.mr_edit.proofs.Sound.{never, handed}
+use Rattle.mr_edit.proofs.Tries.{TriedOnce, new_try, none_again, none_past, tried_next, tried_none, tried_still, turned_again, turned_on, turned_past}
 use Rattle.mr_edit.proofs.removing.+take_out.Goals as goal
 
 pub returns-then-at-len-clause-searches : goal.returns-then-at-len-clause-searches
@@ -76,6 +80,14 @@ loop-n-preserved-then-not-may_hold g t c = record {
       c.tried-at.ensures (omega (arith, c.if-at-children.false)) c.index-children-at.is
       (outside (by One g.F.Hash.Hashes.of) (g.F.PageFile.told c.look.new.file) c.index-children-at.result c.args.number
       c.args.rect.now (c.may_hold.ensures c.if-not-may_hold.true)) c.loop-n.invariant.none;
+  turned = λ some. turned_on (by One g.F.Hash.Hashes.of) (g.F.PageFile.told c.look.new.file)
+      c.children-children.result.now c.args.number c.args.rect.now c.loop-n.n c.turn-turn.result c.tried-at.result
+      c.index-children-at.result c.tried-at.ensures (omega (arith, c.if-at-children.false)) c.index-children-at.is
+      (outside (by One g.F.Hash.Hashes.of) (g.F.PageFile.told c.look.new.file) c.index-children-at.result c.args.number
+      c.args.rect.now (c.may_hold.ensures c.if-not-may_hold.true)) c.loop-n.invariant.turned;
+  tried = tried_still (by One g.F.Hash.Hashes.of) (g.F.PageFile.told c.look.new.file) c.children-children.result.now
+      c.turn-turn.result c.loop-n.n (g.F.PageFile.reads c.look.new.file) (g.F.PageFile.reads c.loop-n.desk.file)
+      c.loop-n.invariant.tried;
 }
 
 pub loop-n-preserved : goal.loop-n-preserved
@@ -95,6 +107,22 @@ loop-n-preserved g t c =
           c.tried-at.ensures (omega (arith, c.if-at-children.false)) c.index-children-at-in-loop-n.is
           (subst (λ o. Lacks (by One g.F.Hash.Hashes.of) o d c.args.number c.args.rect.now) c.loop-n.invariant.same s.2)
           c.loop-n.invariant.none;
+      turned = λ some. turned_on (by One g.F.Hash.Hashes.of) (g.F.PageFile.told c.look.new.file)
+          c.children-children.result.now c.args.number c.args.rect.now c.loop-n.n c.turn-turn.result c.tried-at.result d
+          c.tried-at.ensures (omega (arith, c.if-at-children.false)) c.index-children-at-in-loop-n.is
+          (subst (λ o. Lacks (by One g.F.Hash.Hashes.of) o d c.args.number c.args.rect.now) c.loop-n.invariant.same s.2)
+          c.loop-n.invariant.turned;
+      tried = tried_next (by One g.F.Hash.Hashes.of) (g.F.PageFile.told c.look.new.file) c.children-children.result.now
+          c.turn-turn.result c.loop-n.n c.tried-at.result d (g.F.PageFile.reads c.look.new.file)
+          (g.F.PageFile.reads c.loop-n.desk.file) (g.F.PageFile.reads c.take_out.new.desk.file) c.tried-at.ensures
+          (new_try c.loop-n.n c.turn-turn.result c.tried-at.result (sym c.is_again.ensures ∙ c.if-is_again.false))
+          (omega (arith, c.if-at-children.false)) c.index-children-at-in-loop-n.is
+          (subst (λ o. ReadsOnce (by One g.F.Hash.Hashes.of) o d (g.F.PageFile.reads c.loop-n.desk.file)
+          (g.F.PageFile.reads c.take_out.new.desk.file)) c.loop-n.invariant.same
+          (subst (TakesTwice (by One g.F.Hash.Hashes.of) false (g.F.PageFile.told c.loop-n.desk.file) c.loop-n.desk.free
+          d c.args.number c.args.rect.now (g.F.PageFile.reads c.loop-n.desk.file)
+          (g.F.PageFile.reads c.take_out.new.desk.file)) c.in_default.is c.in_ok-found.ensures.takes))
+          c.loop-n.invariant.tried;
     }
 
 pub leave-requires-clause-few : goal.leave-requires-clause-few
@@ -244,3 +272,311 @@ returns-in_err-left-clause-sound g t c =
     (g.F.PageFile.told c.take_out.new.desk.file) c.take_out.new.desk.free d c.args.number c.args.rect.now)
     c.in-Some.is c.in_ok-found.ensures.searches) k))
     c.in_err-left.ensures.sound)
+
+pub loop-n-init : goal.loop-n-init
+loop-n-init g t c = record {
+  same = refl;
+  free = refl;
+  kept = g.met.F.PageFile.kept_self c.look.new.file;
+  quiet = refl;
+  none = none_first (by One g.F.Hash.Hashes.of) (g.F.PageFile.told c.look.new.file) c.children-children.result.now
+      c.args.number c.args.rect.now;
+  turned = λ some. absurd (some refl);
+  tried = tried_none (by One g.F.Hash.Hashes.of) (g.F.PageFile.told c.look.new.file) c.children-children.result.now
+      c.turn-turn.result (g.F.PageFile.reads c.look.new.file);
+}
+
+pub loop-n-preserved-then-at-children : goal.loop-n-preserved-then-at-children
+loop-n-preserved-then-at-children g t c = record {
+  same = c.loop-n.invariant.same;
+  free = c.loop-n.invariant.free;
+  kept = c.loop-n.invariant.kept;
+  quiet = c.loop-n.invariant.quiet;
+  none = none_past (by One g.F.Hash.Hashes.of) (g.F.PageFile.told c.look.new.file) c.children-children.result.now
+      c.args.number c.args.rect.now c.loop-n.n c.turn-turn.result c.tried-at.result
+      c.tried-at.ensures
+      (omega (arith, c.if-at-children.true)) (omega (arith, c.loop-n-test.true)) c.loop-n.invariant.none;
+  turned = λ some. turned_past (by One g.F.Hash.Hashes.of) (g.F.PageFile.told c.look.new.file)
+      c.children-children.result.now c.args.number c.args.rect.now c.loop-n.n c.turn-turn.result c.tried-at.result
+      c.tried-at.ensures (omega (arith, c.if-at-children.true)) c.loop-n.invariant.turned;
+  tried = tried_still (by One g.F.Hash.Hashes.of) (g.F.PageFile.told c.look.new.file) c.children-children.result.now
+      c.turn-turn.result c.loop-n.n (g.F.PageFile.reads c.look.new.file) (g.F.PageFile.reads c.loop-n.desk.file)
+      c.loop-n.invariant.tried;
+}
+
+pub loop-n-preserved-then-is_again : goal.loop-n-preserved-then-is_again
+loop-n-preserved-then-is_again g t c =
+    let again = sym c.is_again.ensures ∙ c.if-is_again.true in
+    record {
+      same = c.loop-n.invariant.same;
+      free = c.loop-n.invariant.free;
+      kept = c.loop-n.invariant.kept;
+      quiet = c.loop-n.invariant.quiet;
+      none = none_again (by One g.F.Hash.Hashes.of) (g.F.PageFile.told c.look.new.file) c.children-children.result.now
+          c.args.number c.args.rect.now c.loop-n.n c.turn-turn.result c.tried-at.result c.args.child.now
+          c.tried-at.ensures
+          (omega (arith, c.if-at-children.false)) again c.loop-n.invariant.turned c.loop-n.invariant.none;
+      turned = λ some. turned_again (by One g.F.Hash.Hashes.of) (g.F.PageFile.told c.look.new.file)
+          c.children-children.result.now c.args.number c.args.rect.now c.loop-n.n c.turn-turn.result c.tried-at.result
+          again c.loop-n.invariant.turned;
+      tried = tried_still (by One g.F.Hash.Hashes.of) (g.F.PageFile.told c.look.new.file) c.children-children.result.now
+          c.turn-turn.result c.loop-n.n (g.F.PageFile.reads c.look.new.file) (g.F.PageFile.reads c.loop-n.desk.file)
+          c.loop-n.invariant.tried;
+    }
+
+pub returns-in_err-look-clause-twice : goal.returns-in_err-look-clause-twice
+returns-in_err-look-clause-twice g t c =
+    twice_looked (by One g.F.Hash.Hashes.of) (g.F.PageFile.told c.args.desk.now.file) c.args.desk.now.free
+    c.args.child.now c.args.number c.args.rect.now (g.F.PageFile.reads c.args.desk.now.file)
+    (g.F.PageFile.reads c.look.new.file) (omega (arith, c.look.ensures.reads))
+
+pub returns-in_err-records-clause-twice : goal.returns-in_err-records-clause-twice
+returns-in_err-records-clause-twice g t c =
+    twice_looked (by One g.F.Hash.Hashes.of) (g.F.PageFile.told c.args.desk.now.file) c.args.desk.now.free
+    c.args.child.now c.args.number c.args.rect.now (g.F.PageFile.reads c.args.desk.now.file)
+    (g.F.PageFile.reads c.look.new.file) (omega (arith, c.look.ensures.reads))
+
+pub returns-then-at-len-clause-twice : goal.returns-then-at-len-clause-twice
+returns-then-at-len-clause-twice g t c =
+    twice_looked (by One g.F.Hash.Hashes.of) (g.F.PageFile.told c.args.desk.now.file) c.args.desk.now.free
+    c.args.child.now c.args.number c.args.rect.now (g.F.PageFile.reads c.args.desk.now.file)
+    (g.F.PageFile.reads c.look.new.file) (omega (arith, c.look.ensures.reads))
+
+pub returns-in_err-leave_records-clause-twice : goal.returns-in_err-leave_records-clause-twice
+returns-in_err-leave_records-clause-twice g t c =
+    twice_looked (by One g.F.Hash.Hashes.of) (g.F.PageFile.told c.args.desk.now.file) c.args.desk.now.free
+    c.args.child.now c.args.number c.args.rect.now (g.F.PageFile.reads c.args.desk.now.file)
+    (g.F.PageFile.reads c.leave_records.new.desk.file)
+    (omega (arith, c.look.ensures.reads, c.leave_records.ensures.reads))
+
+pub returns-in_ok-leave_records-clause-twice : goal.returns-in_ok-leave_records-clause-twice
+returns-in_ok-leave_records-clause-twice g t c =
+    twice_looked (by One g.F.Hash.Hashes.of) (g.F.PageFile.told c.args.desk.now.file) c.args.desk.now.free
+    c.args.child.now c.args.number c.args.rect.now (g.F.PageFile.reads c.args.desk.now.file)
+    (g.F.PageFile.reads c.leave_records.new.desk.file)
+    (omega (arith, c.look.ensures.reads, c.leave_records.ensures.reads))
+
+pub returns-then-at-len-clause-takes : goal.returns-then-at-len-clause-takes
+returns-then-at-len-clause-takes g t c =
+    once_looked (by One g.F.Hash.Hashes.of) (g.F.PageFile.told c.args.desk.now.file) c.args.child.now
+    (g.F.PageFile.reads c.args.desk.now.file) (g.F.PageFile.reads c.look.new.file) c.look.ensures.reads
+
+pub returns-in_ok-leave_records-clause-takes : goal.returns-in_ok-leave_records-clause-takes
+returns-in_ok-leave_records-clause-takes g t c =
+    let rs = c.in_ok-records.records.items in
+    let view = c.look.new.into in
+    let same : rs ≡ records_in view = c.in_ok-records.ensures.items ∙ c.records.ensures.value in
+    let is = c.records.ensures.leaf (sym c.level-level.ensures.value ∙ c.if-level-eq0.true) ∙ ap node.Leaf (sym same) in
+    let reads = subst (λ n. IfSome (g.F.PageFile.told c.args.desk.now.file)
+    (λ b. HasNode b c.args.child.now.id (page_node n))) is c.in_ok-look.ensures.node in
+    takes_leaf (by One g.F.Hash.Hashes.of) c.args.root (g.F.PageFile.told c.args.desk.now.file) c.args.desk.now.free
+    c.args.child.now c.args.number c.args.rect.now rs c.in_ok-leave_records.field-0
+    (g.F.PageFile.reads c.args.desk.now.file) (g.F.PageFile.reads c.leave_records.new.desk.file) reads
+    (omega (arith, c.look.ensures.reads, c.leave_records.ensures.reads))
+
+pub returns-in_err-found-clause-twice : goal.returns-in_err-found-clause-twice
+returns-in_err-found-clause-twice g t c =
+    let view = c.look.new.into in
+    let cs = c.children-children.result.now in
+    let high : 0 < c.level-level.result = omega (arith, c.if-level-eq0.false) in
+    let is = c.children-children.ensures.inner (subst (λ n. 0 < n) c.level-level.ensures.value high)
+    ∙ ap node.Inner (sym c.children-children.ensures.value) in
+    let reads = subst (λ n. IfSome (g.F.PageFile.told c.args.desk.now.file)
+    (λ b. HasNode b c.args.child.now.id (page_node n))) is c.in_ok-look.ensures.node in
+    let tried = subst (λ o. TriedOnce (by One g.F.Hash.Hashes.of) o cs c.turn-turn.result c.loop-n.n
+    (g.F.PageFile.reads c.look.new.file) (g.F.PageFile.reads c.loop-n.desk.file)) c.in_ok-look.ensures.same
+    c.loop-n.invariant.tried in
+    let d = c.index-children-at-in-loop-n.result in
+    let back = c.loop-n.invariant.same ∙ c.in_ok-look.ensures.same in
+    twice_below (by One g.F.Hash.Hashes.of) (g.F.PageFile.told c.args.desk.now.file)
+    (g.F.PageFile.told c.loop-n.desk.file) c.args.desk.now.free c.loop-n.desk.free c.args.child.now c.args.number
+    c.args.rect.now c.tried-at.result c.turn-turn.result c.loop-n.n cs d (g.F.PageFile.reads c.args.desk.now.file)
+    (g.F.PageFile.reads c.look.new.file) (g.F.PageFile.reads c.loop-n.desk.file)
+    (g.F.PageFile.reads c.take_out.new.desk.file) back c.loop-n.invariant.free reads
+    (omega (arith, c.if-at-children.false)) c.index-children-at-in-loop-n.is c.tried-at.ensures
+    (new_try c.loop-n.n c.turn-turn.result c.tried-at.result (sym c.is_again.ensures ∙ c.if-is_again.false))
+    c.look.ensures.reads tried c.take_out.ensures.twice
+
+pub returns-in_err-rest-clause-twice : goal.returns-in_err-rest-clause-twice
+returns-in_err-rest-clause-twice g t c =
+    let view = c.look.new.into in
+    let cs = c.children-children.result.now in
+    let high : 0 < c.level-level.result = omega (arith, c.if-level-eq0.false) in
+    let is = c.children-children.ensures.inner (subst (λ n. 0 < n) c.level-level.ensures.value high)
+    ∙ ap node.Inner (sym c.children-children.ensures.value) in
+    let reads = subst (λ n. IfSome (g.F.PageFile.told c.args.desk.now.file)
+    (λ b. HasNode b c.args.child.now.id (page_node n))) is c.in_ok-look.ensures.node in
+    let tried = subst (λ o. TriedOnce (by One g.F.Hash.Hashes.of) o cs c.turn-turn.result c.loop-n.n
+    (g.F.PageFile.reads c.look.new.file) (g.F.PageFile.reads c.loop-n.desk.file)) c.in_ok-look.ensures.same
+    c.loop-n.invariant.tried in
+    let d = c.index-children-at-in-loop-n.result in
+    let back = c.loop-n.invariant.same ∙ c.in_ok-look.ensures.same in
+    let l = c.in-Some.left in
+    let removes = subst (Searches (by One g.F.Hash.Hashes.of) false (g.F.PageFile.told c.loop-n.desk.file)
+    c.loop-n.desk.free (g.F.PageFile.told c.take_out.new.desk.file) c.take_out.new.desk.free d c.args.number
+    c.args.rect.now) c.in-Some.is c.in_ok-found.ensures.searches in
+    let took = subst (TakesTwice (by One g.F.Hash.Hashes.of) false (g.F.PageFile.told c.loop-n.desk.file)
+    c.loop-n.desk.free d c.args.number c.args.rect.now (g.F.PageFile.reads c.loop-n.desk.file)
+    (g.F.PageFile.reads c.take_out.new.desk.file)) c.in-Some.is c.in_ok-found.ensures.takes in
+    twice_left (by One g.F.Hash.Hashes.of) (g.F.PageFile.told c.args.desk.now.file)
+    (g.F.PageFile.told c.loop-n.desk.file) c.args.desk.now.free c.loop-n.desk.free c.args.child.now c.args.number
+    c.args.rect.now c.tried-at.result c.turn-turn.result c.loop-n.n cs d (g.F.PageFile.reads c.args.desk.now.file)
+    (g.F.PageFile.reads c.look.new.file) (g.F.PageFile.reads c.loop-n.desk.file)
+    (g.F.PageFile.reads c.take_out.new.desk.file) back c.loop-n.invariant.free reads
+    (omega (arith, c.if-at-children.false)) c.index-children-at-in-loop-n.is c.tried-at.ensures
+    (new_try c.loop-n.n c.turn-turn.result c.tried-at.result (sym c.is_again.ensures ∙ c.if-is_again.false))
+    c.look.ensures.reads tried (g.F.PageFile.told c.take_out.new.desk.file)
+    (g.F.PageFile.told c.take_out.new.desk.file) c.take_out.new.desk.free c.take_out.new.desk.free l
+    (g.F.PageFile.reads c.take_out.new.desk.file) removes took
+    (beside_none (by One g.F.Hash.Hashes.of) (g.F.PageFile.told c.take_out.new.desk.file) c.take_out.new.desk.free
+    c.args.child.now.id
+    (take c.tried-at.result cs ++ (option_to_list l.entry ++ drop (suc c.tried-at.result) cs))
+    (g.F.PageFile.reads c.take_out.new.desk.file) (g.F.PageFile.reads c.take_out.new.desk.file) refl)
+
+pub returns-in_err-left-clause-twice : goal.returns-in_err-left-clause-twice
+returns-in_err-left-clause-twice g t c =
+    let view = c.look.new.into in
+    let cs = c.children-children.result.now in
+    let high : 0 < c.level-level.result = omega (arith, c.if-level-eq0.false) in
+    let is = c.children-children.ensures.inner (subst (λ n. 0 < n) c.level-level.ensures.value high)
+    ∙ ap node.Inner (sym c.children-children.ensures.value) in
+    let reads = subst (λ n. IfSome (g.F.PageFile.told c.args.desk.now.file)
+    (λ b. HasNode b c.args.child.now.id (page_node n))) is c.in_ok-look.ensures.node in
+    let tried = subst (λ o. TriedOnce (by One g.F.Hash.Hashes.of) o cs c.turn-turn.result c.loop-n.n
+    (g.F.PageFile.reads c.look.new.file) (g.F.PageFile.reads c.loop-n.desk.file)) c.in_ok-look.ensures.same
+    c.loop-n.invariant.tried in
+    let d = c.index-children-at-in-loop-n.result in
+    let back = c.loop-n.invariant.same ∙ c.in_ok-look.ensures.same in
+    let l = c.in-Some.left in
+    let removes = subst (Searches (by One g.F.Hash.Hashes.of) false (g.F.PageFile.told c.loop-n.desk.file)
+    c.loop-n.desk.free (g.F.PageFile.told c.take_out.new.desk.file) c.take_out.new.desk.free d c.args.number
+    c.args.rect.now) c.in-Some.is c.in_ok-found.ensures.searches in
+    let took = subst (TakesTwice (by One g.F.Hash.Hashes.of) false (g.F.PageFile.told c.loop-n.desk.file)
+    c.loop-n.desk.free d c.args.number c.args.rect.now (g.F.PageFile.reads c.loop-n.desk.file)
+    (g.F.PageFile.reads c.take_out.new.desk.file)) c.in-Some.is c.in_ok-found.ensures.takes in
+    let leaves = subst (λ us. LeavesOnce (by One g.F.Hash.Hashes.of) (g.F.PageFile.told c.take_out.new.desk.file)
+    c.take_out.new.desk.free c.args.child.now.id us (g.F.PageFile.reads c.take_out.new.desk.file)
+    (g.F.PageFile.reads c.leave.new.desk.file)) (c.deref-in-loop-n.ensures.value ∙ c.in_ok-rest.ensures)
+    c.leave.ensures.once in
+    twice_left (by One g.F.Hash.Hashes.of) (g.F.PageFile.told c.args.desk.now.file)
+    (g.F.PageFile.told c.loop-n.desk.file) c.args.desk.now.free c.loop-n.desk.free c.args.child.now c.args.number
+    c.args.rect.now c.tried-at.result c.turn-turn.result c.loop-n.n cs d (g.F.PageFile.reads c.args.desk.now.file)
+    (g.F.PageFile.reads c.look.new.file) (g.F.PageFile.reads c.loop-n.desk.file)
+    (g.F.PageFile.reads c.take_out.new.desk.file) back c.loop-n.invariant.free reads
+    (omega (arith, c.if-at-children.false)) c.index-children-at-in-loop-n.is c.tried-at.ensures
+    (new_try c.loop-n.n c.turn-turn.result c.tried-at.result (sym c.is_again.ensures ∙ c.if-is_again.false))
+    c.look.ensures.reads tried (g.F.PageFile.told c.take_out.new.desk.file)
+    (g.F.PageFile.told c.leave.new.desk.file) c.take_out.new.desk.free c.leave.new.desk.free l
+    (g.F.PageFile.reads c.leave.new.desk.file) removes took leaves
+
+pub returns-in-loop-n-clause-twice : goal.returns-in-loop-n-clause-twice
+returns-in-loop-n-clause-twice g t c =
+    let view = c.look.new.into in
+    let cs = c.children-children.result.now in
+    let high : 0 < c.level-level.result = omega (arith, c.if-level-eq0.false) in
+    let is = c.children-children.ensures.inner (subst (λ n. 0 < n) c.level-level.ensures.value high)
+    ∙ ap node.Inner (sym c.children-children.ensures.value) in
+    let reads = subst (λ n. IfSome (g.F.PageFile.told c.args.desk.now.file)
+    (λ b. HasNode b c.args.child.now.id (page_node n))) is c.in_ok-look.ensures.node in
+    let tried = subst (λ o. TriedOnce (by One g.F.Hash.Hashes.of) o cs c.turn-turn.result c.loop-n.n
+    (g.F.PageFile.reads c.look.new.file) (g.F.PageFile.reads c.loop-n.desk.file)) c.in_ok-look.ensures.same
+    c.loop-n.invariant.tried in
+    let d = c.index-children-at-in-loop-n.result in
+    let back = c.loop-n.invariant.same ∙ c.in_ok-look.ensures.same in
+    let l = c.in-Some.left in
+    let removes = subst (Searches (by One g.F.Hash.Hashes.of) false (g.F.PageFile.told c.loop-n.desk.file)
+    c.loop-n.desk.free (g.F.PageFile.told c.take_out.new.desk.file) c.take_out.new.desk.free d c.args.number
+    c.args.rect.now) c.in-Some.is c.in_ok-found.ensures.searches in
+    let took = subst (TakesTwice (by One g.F.Hash.Hashes.of) false (g.F.PageFile.told c.loop-n.desk.file)
+    c.loop-n.desk.free d c.args.number c.args.rect.now (g.F.PageFile.reads c.loop-n.desk.file)
+    (g.F.PageFile.reads c.take_out.new.desk.file)) c.in-Some.is c.in_ok-found.ensures.takes in
+    let leaves = subst (λ us. LeavesOnce (by One g.F.Hash.Hashes.of) (g.F.PageFile.told c.take_out.new.desk.file)
+    c.take_out.new.desk.free c.args.child.now.id us (g.F.PageFile.reads c.take_out.new.desk.file)
+    (g.F.PageFile.reads c.leave.new.desk.file)) (c.deref-in-loop-n.ensures.value ∙ c.in_ok-rest.ensures)
+    c.leave.ensures.once in
+    twice_left (by One g.F.Hash.Hashes.of) (g.F.PageFile.told c.args.desk.now.file)
+    (g.F.PageFile.told c.loop-n.desk.file) c.args.desk.now.free c.loop-n.desk.free c.args.child.now c.args.number
+    c.args.rect.now c.tried-at.result c.turn-turn.result c.loop-n.n cs d (g.F.PageFile.reads c.args.desk.now.file)
+    (g.F.PageFile.reads c.look.new.file) (g.F.PageFile.reads c.loop-n.desk.file)
+    (g.F.PageFile.reads c.take_out.new.desk.file) back c.loop-n.invariant.free reads
+    (omega (arith, c.if-at-children.false)) c.index-children-at-in-loop-n.is c.tried-at.ensures
+    (new_try c.loop-n.n c.turn-turn.result c.tried-at.result (sym c.is_again.ensures ∙ c.if-is_again.false))
+    c.look.ensures.reads tried (g.F.PageFile.told c.take_out.new.desk.file)
+    (g.F.PageFile.told c.leave.new.desk.file) c.take_out.new.desk.free c.leave.new.desk.free l
+    (g.F.PageFile.reads c.leave.new.desk.file) removes took leaves
+
+pub returns-in-loop-n-clause-takes : goal.returns-in-loop-n-clause-takes
+returns-in-loop-n-clause-takes g t c =
+    let view = c.look.new.into in
+    let cs = c.children-children.result.now in
+    let high : 0 < c.level-level.result = omega (arith, c.if-level-eq0.false) in
+    let is = c.children-children.ensures.inner (subst (λ n. 0 < n) c.level-level.ensures.value high)
+    ∙ ap node.Inner (sym c.children-children.ensures.value) in
+    let reads = subst (λ n. IfSome (g.F.PageFile.told c.args.desk.now.file)
+    (λ b. HasNode b c.args.child.now.id (page_node n))) is c.in_ok-look.ensures.node in
+    let tried = subst (λ o. TriedOnce (by One g.F.Hash.Hashes.of) o cs c.turn-turn.result c.loop-n.n
+    (g.F.PageFile.reads c.look.new.file) (g.F.PageFile.reads c.loop-n.desk.file)) c.in_ok-look.ensures.same
+    c.loop-n.invariant.tried in
+    let d = c.index-children-at-in-loop-n.result in
+    let back = c.loop-n.invariant.same ∙ c.in_ok-look.ensures.same in
+    let l = c.in-Some.left in
+    let removes = subst (Searches (by One g.F.Hash.Hashes.of) false (g.F.PageFile.told c.loop-n.desk.file)
+    c.loop-n.desk.free (g.F.PageFile.told c.take_out.new.desk.file) c.take_out.new.desk.free d c.args.number
+    c.args.rect.now) c.in-Some.is c.in_ok-found.ensures.searches in
+    let took = subst (TakesTwice (by One g.F.Hash.Hashes.of) false (g.F.PageFile.told c.loop-n.desk.file)
+    c.loop-n.desk.free d c.args.number c.args.rect.now (g.F.PageFile.reads c.loop-n.desk.file)
+    (g.F.PageFile.reads c.take_out.new.desk.file)) c.in-Some.is c.in_ok-found.ensures.takes in
+    let leaves = subst (λ us. LeavesOnce (by One g.F.Hash.Hashes.of) (g.F.PageFile.told c.take_out.new.desk.file)
+    c.take_out.new.desk.free c.args.child.now.id us (g.F.PageFile.reads c.take_out.new.desk.file)
+    (g.F.PageFile.reads c.leave.new.desk.file)) (c.deref-in-loop-n.ensures.value ∙ c.in_ok-rest.ensures)
+    c.leave.ensures.once in
+    let out = c.in_ok-left.left in
+    takes_below (by One g.F.Hash.Hashes.of) (g.F.PageFile.told c.args.desk.now.file)
+    (g.F.PageFile.told c.loop-n.desk.file) c.args.desk.now.free c.loop-n.desk.free c.args.child.now c.args.number
+    c.args.rect.now c.tried-at.result c.turn-turn.result c.loop-n.n cs d (g.F.PageFile.reads c.args.desk.now.file)
+    (g.F.PageFile.reads c.look.new.file) (g.F.PageFile.reads c.loop-n.desk.file)
+    (g.F.PageFile.reads c.take_out.new.desk.file) back c.loop-n.invariant.free reads
+    (omega (arith, c.if-at-children.false)) c.index-children-at-in-loop-n.is c.tried-at.ensures
+    (new_try c.loop-n.n c.turn-turn.result c.tried-at.result (sym c.is_again.ensures ∙ c.if-is_again.false))
+    c.look.ensures.reads tried (g.F.PageFile.told c.take_out.new.desk.file)
+    (g.F.PageFile.told c.leave.new.desk.file) c.take_out.new.desk.free c.leave.new.desk.free l
+    (g.F.PageFile.reads c.leave.new.desk.file) removes took leaves c.args.root out
+    (subst (λ us. LeavesInner (by One g.F.Hash.Hashes.of) c.args.root (g.F.PageFile.told c.take_out.new.desk.file)
+    c.take_out.new.desk.free (g.F.PageFile.told c.leave.new.desk.file) c.leave.new.desk.free c.args.child.now.id us
+    l.aside.items (option_to_list out.entry) out.aside.items)
+    (c.deref-in-loop-n.ensures.value ∙ c.in_ok-rest.ensures) c.in_ok-left.ensures.leaves) c.in_ok-left.ensures.still
+
+pub returns-after-loop-n-clause-takes : goal.returns-after-loop-n-clause-takes
+returns-after-loop-n-clause-takes g t c =
+    let view = c.look.new.into in
+    let cs = c.children-children.result.now in
+    let high : 0 < c.level-level.result = omega (arith, c.if-level-eq0.false) in
+    let is = c.children-children.ensures.inner (subst (λ n. 0 < n) c.level-level.ensures.value high)
+    ∙ ap node.Inner (sym c.children-children.ensures.value) in
+    let reads = subst (λ n. IfSome (g.F.PageFile.told c.args.desk.now.file)
+    (λ b. HasNode b c.args.child.now.id (page_node n))) is c.in_ok-look.ensures.node in
+    let tried = subst (λ o. TriedOnce (by One g.F.Hash.Hashes.of) o cs c.turn-turn.result c.loop-n.n
+    (g.F.PageFile.reads c.look.new.file) (g.F.PageFile.reads c.loop-n.desk.file)) c.in_ok-look.ensures.same
+    c.loop-n.invariant.tried in
+    once_searched (by One g.F.Hash.Hashes.of) (g.F.PageFile.told c.args.desk.now.file) c.args.child.now cs
+    c.turn-turn.result c.loop-n.n (g.F.PageFile.reads c.args.desk.now.file) (g.F.PageFile.reads c.look.new.file)
+    (g.F.PageFile.reads c.loop-n.desk.file) reads c.look.ensures.reads tried
+
+pub returns-after-loop-n-clause-twice : goal.returns-after-loop-n-clause-twice
+returns-after-loop-n-clause-twice g t c =
+    let view = c.look.new.into in
+    let cs = c.children-children.result.now in
+    let high : 0 < c.level-level.result = omega (arith, c.if-level-eq0.false) in
+    let is = c.children-children.ensures.inner (subst (λ n. 0 < n) c.level-level.ensures.value high)
+    ∙ ap node.Inner (sym c.children-children.ensures.value) in
+    let reads = subst (λ n. IfSome (g.F.PageFile.told c.args.desk.now.file)
+    (λ b. HasNode b c.args.child.now.id (page_node n))) is c.in_ok-look.ensures.node in
+    let tried = subst (λ o. TriedOnce (by One g.F.Hash.Hashes.of) o cs c.turn-turn.result c.loop-n.n
+    (g.F.PageFile.reads c.look.new.file) (g.F.PageFile.reads c.loop-n.desk.file)) c.in_ok-look.ensures.same
+    c.loop-n.invariant.tried in
+    once_twice (by One g.F.Hash.Hashes.of) (g.F.PageFile.told c.args.desk.now.file) c.args.desk.now.free
+    c.args.child.now c.args.number c.args.rect.now (g.F.PageFile.reads c.args.desk.now.file)
+    (g.F.PageFile.reads c.loop-n.desk.file)
+    (once_searched (by One g.F.Hash.Hashes.of) (g.F.PageFile.told c.args.desk.now.file) c.args.child.now cs
+    c.turn-turn.result c.loop-n.n (g.F.PageFile.reads c.args.desk.now.file) (g.F.PageFile.reads c.look.new.file)
+    (g.F.PageFile.reads c.loop-n.desk.file) reads c.look.ensures.reads tried)

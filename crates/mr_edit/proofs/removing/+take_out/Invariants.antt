@@ -1,7 +1,8 @@
-use Rattle.std.proofs.Common.{◌≡◌, ◌-◌}
+use Rattle.std.proofs.Common.{◌≡◌, ◌≢◌, ◌-◌}
 use Rattle.mr_record.specs.declared.version.Version.TheVariants.{One}
 use Rattle.mr_tree.specs.Digest.{by}
 use Rattle.mr_edit.proofs.Searching.{NoneYet}
+use Rattle.mr_edit.proofs.Tries.{Turned, TriedOnce}
 use Rattle.mr_edit.proofs.removing.+take_out.Given as goal
 
 abbrev pub decreases-take_out : goal.decreases-take_out
@@ -16,4 +17,9 @@ invariant-loop-n g l = record {
   quiet : g.F.PageFile.faults l.desk.file ≡ g.F.PageFile.faults l.initial.desk.file;
   none : NoneYet (by One g.F.Hash.Hashes.of) (g.F.PageFile.told l.initial.desk.file) l.children l.number l.rect
       (l.n - 1);
+  turned : l.n ≢ 0 → Turned (by One g.F.Hash.Hashes.of) (g.F.PageFile.told l.initial.desk.file) l.children l.number
+      l.rect
+      l.turn;
+  tried : TriedOnce (by One g.F.Hash.Hashes.of) (g.F.PageFile.told l.initial.desk.file) l.children l.turn l.n
+      (g.F.PageFile.reads l.initial.desk.file) (g.F.PageFile.reads l.desk.file);
 }

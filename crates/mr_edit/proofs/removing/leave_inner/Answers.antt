@@ -7,6 +7,7 @@ use Rattle.mr_edit.specs.Removable.{CanLeave}
 use Rattle.mr_edit.proofs.Leaving.{inner_gone, inner_stayed}
 use Rattle.mr_edit.proofs.Owners.{leave_writes, left_below}
 use Rattle.mr_edit.proofs.Sound.{never, handed}
+use Rattle.mr_edit.proofs.FreeReads.{beside_none, beside_freed}
 use Rattle.mr_edit.proofs.removing.leave_inner.Goals as goal
 
 pub returns-in_ok-append-clause-leaves : goal.returns-in_ok-append-clause-leaves
@@ -60,3 +61,45 @@ returns-in_err-entry-clause-sound g c =
     (λ k. leave_writes g.F.Hash.Hashes.of (g.F.PageFile.told c.args.desk.now.file) c.args.desk.now.free
     c.args.page c.args.children.now k)
     c.in_err-entry.ensures.sound)
+
+pub returns-in_err-free_page-clause-once : goal.returns-in_err-free_page-clause-once
+returns-in_err-free_page-clause-once g c =
+    beside_none (by One g.F.Hash.Hashes.of) (g.F.PageFile.told c.args.desk.now.file) c.args.desk.now.free c.args.page
+    c.args.children.now (g.F.PageFile.reads c.args.desk.now.file) (g.F.PageFile.reads c.free_page.new.desk.file)
+    c.free_page.ensures.reads
+
+pub returns-in_err-free_subtrees-clause-once : goal.returns-in_err-free_subtrees-clause-once
+returns-in_err-free_subtrees-clause-once g c =
+    beside_freed (by One g.F.Hash.Hashes.of) (g.F.PageFile.told c.args.desk.now.file)
+    (g.F.PageFile.told c.free_page.new.desk.file) c.args.desk.now.free c.free_page.new.desk.free c.args.page
+    c.args.children.now (g.F.PageFile.reads c.args.desk.now.file) (g.F.PageFile.reads c.free_page.new.desk.file)
+    (g.F.PageFile.reads c.free_subtrees.new.desk.file) c.in_ok-free_page.ensures.frees c.free_page.ensures.reads
+    c.free_subtrees.ensures.once
+
+pub returns-in_err-append-clause-once : goal.returns-in_err-append-clause-once
+returns-in_err-append-clause-once g c =
+    beside_freed (by One g.F.Hash.Hashes.of) (g.F.PageFile.told c.args.desk.now.file)
+    (g.F.PageFile.told c.free_page.new.desk.file) c.args.desk.now.free c.free_page.new.desk.free c.args.page
+    c.args.children.now (g.F.PageFile.reads c.args.desk.now.file) (g.F.PageFile.reads c.free_page.new.desk.file)
+    (g.F.PageFile.reads c.free_subtrees.new.desk.file) c.in_ok-free_page.ensures.frees c.free_page.ensures.reads
+    c.free_subtrees.ensures.once
+
+pub returns-in_ok-append-clause-once : goal.returns-in_ok-append-clause-once
+returns-in_ok-append-clause-once g c =
+    beside_freed (by One g.F.Hash.Hashes.of) (g.F.PageFile.told c.args.desk.now.file)
+    (g.F.PageFile.told c.free_page.new.desk.file) c.args.desk.now.free c.free_page.new.desk.free c.args.page
+    c.args.children.now (g.F.PageFile.reads c.args.desk.now.file) (g.F.PageFile.reads c.free_page.new.desk.file)
+    (g.F.PageFile.reads c.free_subtrees.new.desk.file) c.in_ok-free_page.ensures.frees c.free_page.ensures.reads
+    c.free_subtrees.ensures.once
+
+pub returns-in_err-entry-clause-once : goal.returns-in_err-entry-clause-once
+returns-in_err-entry-clause-once g c =
+    beside_none (by One g.F.Hash.Hashes.of) (g.F.PageFile.told c.args.desk.now.file) c.args.desk.now.free c.args.page
+    c.args.children.now (g.F.PageFile.reads c.args.desk.now.file) (g.F.PageFile.reads c.write_inner.new.desk.file)
+    c.write_inner.ensures.reads
+
+pub returns-in_ok-entry-clause-once : goal.returns-in_ok-entry-clause-once
+returns-in_ok-entry-clause-once g c =
+    beside_none (by One g.F.Hash.Hashes.of) (g.F.PageFile.told c.args.desk.now.file) c.args.desk.now.free c.args.page
+    c.args.children.now (g.F.PageFile.reads c.args.desk.now.file) (g.F.PageFile.reads c.write_inner.new.desk.file)
+    c.write_inner.ensures.reads

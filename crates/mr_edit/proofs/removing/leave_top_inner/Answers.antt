@@ -4,6 +4,8 @@ use Rattle.mr_edit.specs.Removable.{CanLeave}
 use Rattle.mr_edit.proofs.Leaving.{top_inner_short, top_inner_stayed}
 use Rattle.mr_edit.proofs.Owners.{leave_writes, left_below, only_below}
 use Rattle.mr_edit.proofs.Sound.{never, handed}
+use Rattle.std.proofs.Common.{refl}
+use Rattle.mr_edit.proofs.FreeReads.{beside_none, beside_freed, frees_only}
 use Rattle.mr_edit.proofs.removing.leave_top_inner.Goals as goal
 
 pub returns-in_ok-entry-clause-leaves : goal.returns-in_ok-entry-clause-leaves
@@ -54,3 +56,46 @@ returns-in_err-entry-2-clause-sound g c =
     (λ k. leave_writes g.F.Hash.Hashes.of (g.F.PageFile.told c.args.desk.now.file) c.args.desk.now.free
     c.args.page c.args.children.now k)
     c.in_err-entry-2.ensures.sound)
+
+pub returns-then-is_empty-clause-once : goal.returns-then-is_empty-clause-once
+returns-then-is_empty-clause-once g c =
+    beside_none (by One g.F.Hash.Hashes.of) (g.F.PageFile.told c.args.desk.now.file) c.args.desk.now.free c.args.page
+    c.args.children.now (g.F.PageFile.reads c.args.desk.now.file) (g.F.PageFile.reads c.args.desk.now.file) refl
+
+pub returns-in_err-free_page-clause-once : goal.returns-in_err-free_page-clause-once
+returns-in_err-free_page-clause-once g c =
+    beside_none (by One g.F.Hash.Hashes.of) (g.F.PageFile.told c.args.desk.now.file) c.args.desk.now.free c.args.page
+    c.args.children.now (g.F.PageFile.reads c.args.desk.now.file) (g.F.PageFile.reads c.free_page.new.desk.file)
+    c.free_page.ensures.reads
+
+pub returns-in_err-entry-clause-once : goal.returns-in_err-entry-clause-once
+returns-in_err-entry-clause-once g c =
+    beside_freed (by One g.F.Hash.Hashes.of) (g.F.PageFile.told c.args.desk.now.file)
+    (g.F.PageFile.told c.free_page.new.desk.file) c.args.desk.now.free c.free_page.new.desk.free c.args.page
+    c.args.children.now (g.F.PageFile.reads c.args.desk.now.file) (g.F.PageFile.reads c.free_page.new.desk.file)
+    (g.F.PageFile.reads c.shorten.new.desk.file) c.in_ok-free_page.ensures.frees c.free_page.ensures.reads
+    (frees_only (by One g.F.Hash.Hashes.of) (g.F.PageFile.told c.free_page.new.desk.file) c.free_page.new.desk.free
+    c.args.children.now c.index-children-0.result (g.F.PageFile.reads c.free_page.new.desk.file)
+    (g.F.PageFile.reads c.shorten.new.desk.file) c.if-children-eq1.true c.index-children-0.is c.shorten.ensures.once)
+
+pub returns-in_ok-entry-clause-once : goal.returns-in_ok-entry-clause-once
+returns-in_ok-entry-clause-once g c =
+    beside_freed (by One g.F.Hash.Hashes.of) (g.F.PageFile.told c.args.desk.now.file)
+    (g.F.PageFile.told c.free_page.new.desk.file) c.args.desk.now.free c.free_page.new.desk.free c.args.page
+    c.args.children.now (g.F.PageFile.reads c.args.desk.now.file) (g.F.PageFile.reads c.free_page.new.desk.file)
+    (g.F.PageFile.reads c.shorten.new.desk.file) c.in_ok-free_page.ensures.frees c.free_page.ensures.reads
+    (frees_only (by One g.F.Hash.Hashes.of) (g.F.PageFile.told c.free_page.new.desk.file) c.free_page.new.desk.free
+    c.args.children.now c.index-children-0.result (g.F.PageFile.reads c.free_page.new.desk.file)
+    (g.F.PageFile.reads c.shorten.new.desk.file) c.if-children-eq1.true c.index-children-0.is c.shorten.ensures.once)
+
+pub returns-in_err-entry-2-clause-once : goal.returns-in_err-entry-2-clause-once
+returns-in_err-entry-2-clause-once g c =
+    beside_none (by One g.F.Hash.Hashes.of) (g.F.PageFile.told c.args.desk.now.file) c.args.desk.now.free c.args.page
+    c.args.children.now (g.F.PageFile.reads c.args.desk.now.file) (g.F.PageFile.reads c.write_inner.new.desk.file)
+    c.write_inner.ensures.reads
+
+pub returns-in_ok-entry-2-clause-once : goal.returns-in_ok-entry-2-clause-once
+returns-in_ok-entry-2-clause-once g c =
+    beside_none (by One g.F.Hash.Hashes.of) (g.F.PageFile.told c.args.desk.now.file) c.args.desk.now.free c.args.page
+    c.args.children.now (g.F.PageFile.reads c.args.desk.now.file) (g.F.PageFile.reads c.write_inner.new.desk.file)
+    c.write_inner.ensures.reads

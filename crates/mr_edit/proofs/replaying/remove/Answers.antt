@@ -1,4 +1,4 @@
-use Rattle.std.proofs.Common.{sym, subst, ◌∙◌}
+use Rattle.std.proofs.Common.{refl, sym, subst, ◌∙◌}
 use Rattle.mr_record.specs.declared.version.Version.TheVariants.{One}
 use Rattle.mr_tree.specs.Digest.{by}
 use Rattle.mr_batch.specs.declared.change.Change.TheVariants.{Remove}
@@ -8,6 +8,7 @@ use Rattle.mr_edit.proofs.Admitted.{lists_number, remove_delete, remove_known}
 use Rattle.mr_edit.proofs.Dropped.{deletes_then}
 use Rattle.mr_edit.proofs.Sound.{never, handed}
 use Rattle.mr_edit.proofs.Turns.{change_removed}
+use Rattle.mr_edit.proofs.ChangeReads.{within_learned, within_none, within_removed}
 use Rattle.mr_edit.proofs.replaying.remove.Goals as goal
 
 pub returns-clause-changes : goal.returns-clause-changes
@@ -52,3 +53,36 @@ returns-in_err-root-clause-sound g c =
     (subst (λ f. CanDelete hash told f c.args.root c.args.number c.in-Some.rect) (sym c.learn_once.ensures.free)
     (remove_delete hash told c.args.desk.now.free c.args.root c.args.dir.now c.args.number c.in-Some.rect
     (sym c.rect.ensures ∙ c.in-Some.is) k))) c.in_err-root.ensures.sound)
+
+pub returns-in_default-clause-within : goal.returns-in_default-clause-within
+returns-in_default-clause-within g c =
+    within_none (by One g.F.Hash.Hashes.of) (g.F.PageFile.told c.args.desk.now.file) c.args.desk.now.free c.args.root
+    c.args.dir.now c.args.number c.args.learned.now c.args.learned.now (g.F.PageFile.reads c.args.desk.now.file)
+    (g.F.PageFile.reads c.args.desk.now.file) refl refl
+
+pub returns-in_err-learn_once-clause-within : goal.returns-in_err-learn_once-clause-within
+returns-in_err-learn_once-clause-within g c =
+    within_learned (by One g.F.Hash.Hashes.of) (g.F.PageFile.told c.args.desk.now.file) c.args.desk.now.free
+    c.args.root c.args.dir.now c.args.number c.args.learned.now c.learn_once.new.learned
+    (g.F.PageFile.reads c.args.desk.now.file) (g.F.PageFile.reads c.learn_once.new.desk.file)
+    c.learn_once.ensures.once
+
+pub returns-in_err-root-clause-within : goal.returns-in_err-root-clause-within
+returns-in_err-root-clause-within g c =
+    within_removed (by One g.F.Hash.Hashes.of) (g.F.PageFile.told c.args.desk.now.file)
+    (g.F.PageFile.told c.learn_once.new.desk.file) c.args.desk.now.free c.learn_once.new.desk.free c.args.root
+    c.args.dir.now c.args.number c.in-Some.rect c.args.learned.now c.learn_once.new.learned
+    (g.F.PageFile.reads c.args.desk.now.file)
+    (g.F.PageFile.reads c.learn_once.new.desk.file) (g.F.PageFile.reads c.delete.new.desk.file)
+    (sym c.rect.ensures ∙ c.in-Some.is) c.learn_once.ensures.same c.learn_once.ensures.free c.learn_once.ensures.once
+    c.delete.ensures.twice
+
+pub returns-clause-within : goal.returns-clause-within
+returns-clause-within g c =
+    within_removed (by One g.F.Hash.Hashes.of) (g.F.PageFile.told c.args.desk.now.file)
+    (g.F.PageFile.told c.learn_once.new.desk.file) c.args.desk.now.free c.learn_once.new.desk.free c.args.root
+    c.args.dir.now c.args.number c.in-Some.rect c.args.learned.now c.learn_once.new.learned
+    (g.F.PageFile.reads c.args.desk.now.file)
+    (g.F.PageFile.reads c.learn_once.new.desk.file) (g.F.PageFile.reads c.delete.new.desk.file)
+    (sym c.rect.ensures ∙ c.in-Some.is) c.learn_once.ensures.same c.learn_once.ensures.free c.learn_once.ensures.once
+    c.delete.ensures.twice

@@ -3,6 +3,7 @@ use Rattle.mr_record.specs.declared.version.Version.TheVariants.{One}
 use Rattle.mr_tree.specs.Digest.{by}
 use Rattle.mr_edit.specs.Changing.{CanReplay}
 use Rattle.mr_edit.proofs.Admitted.{next_change}
+use Rattle.mr_edit.proofs.ChangeReads.{part_all, part_more, part_none, part_stopped}
 use Rattle.mr_edit.proofs.Sound.{never, handed}
 use Rattle.mr_edit.proofs.Turns.{replays_none, replays_more, replays_all}
 use Rattle.mr_edit.proofs.replaying.replay.Goals as goal
@@ -11,6 +12,8 @@ pub loop-i-init : goal.loop-i-init
 loop-i-init g c = record {
   replays = replays_none (by One g.F.Hash.Hashes.of) (g.F.PageFile.told c.args.desk.now.file) c.args.desk.now.free
       c.args.root c.args.dir.now c.args.batch.now;
+  part = part_none (by One g.F.Hash.Hashes.of) (g.F.PageFile.told c.args.desk.now.file) c.args.desk.now.free
+      c.args.root c.args.dir.now c.args.batch.now (g.F.PageFile.reads c.args.desk.now.file);
   kept = g.met.F.PageFile.kept_self c.args.desk.now.file;
   quiet = refl;
 }
@@ -22,6 +25,14 @@ loop-i-preserved g c = record {
       c.loop-i.desk.free c.make_change.new.desk.free c.args.root c.loop-i.root c.in_ok-root.root c.args.dir.now
       c.loop-i.dir c.make_change.new.dir c.args.batch.now c.loop-i.i c.change.result.now (omega arith)
       c.change.ensures c.loop-i.invariant.replays c.in_ok-root.ensures.changes;
+  part = part_more (by One g.F.Hash.Hashes.of) (g.F.PageFile.told c.args.desk.now.file)
+      (g.F.PageFile.told c.loop-i.desk.file) (g.F.PageFile.told c.make_change.new.desk.file) c.args.desk.now.free
+      c.loop-i.desk.free c.make_change.new.desk.free c.args.root c.loop-i.root c.in_ok-root.root c.args.dir.now
+      c.loop-i.dir c.make_change.new.dir c.args.batch.now c.loop-i.i c.change.result.now
+      c.loop-i.learned c.make_change.new.learned (g.F.PageFile.reads c.args.desk.now.file)
+      (g.F.PageFile.reads c.loop-i.desk.file)
+      (g.F.PageFile.reads c.make_change.new.desk.file) (omega arith) c.change.ensures c.loop-i.invariant.part
+      c.in_ok-root.ensures.changes c.make_change.ensures.within;
   kept = g.met.F.PageFile.kept_on c.args.desk.now.file c.loop-i.desk.file c.make_change.new.desk.file
       c.loop-i.invariant.kept c.make_change.ensures.kept;
   quiet = c.in_ok-root.ensures.quiet ∙ c.loop-i.invariant.quiet;
@@ -45,3 +56,20 @@ returns-clause-replays g c =
     c.loop-i.desk.file)
     c.args.desk.now.free c.loop-i.desk.free c.args.root c.loop-i.root c.args.dir.now c.loop-i.dir c.args.batch.now
     c.loop-i.i (omega arith) c.loop-i.invariant.replays
+
+pub returns-in_err-root-clause-within : goal.returns-in_err-root-clause-within
+returns-in_err-root-clause-within g c =
+    part_stopped (by One g.F.Hash.Hashes.of) (g.F.PageFile.told c.args.desk.now.file)
+    (g.F.PageFile.told c.loop-i.desk.file) c.args.desk.now.free c.loop-i.desk.free c.args.root c.loop-i.root
+    c.args.dir.now c.loop-i.dir c.args.batch.now c.loop-i.i c.change.result.now
+    c.loop-i.learned c.make_change.new.learned (g.F.PageFile.reads c.args.desk.now.file)
+    (g.F.PageFile.reads c.loop-i.desk.file)
+    (g.F.PageFile.reads c.make_change.new.desk.file) (omega arith) c.change.ensures c.loop-i.invariant.part
+    c.make_change.ensures.within
+
+pub returns-clause-within : goal.returns-clause-within
+returns-clause-within g c =
+    part_all (by One g.F.Hash.Hashes.of) (g.F.PageFile.told c.args.desk.now.file)
+    (g.F.PageFile.told c.loop-i.desk.file) c.args.desk.now.free c.loop-i.desk.free c.args.root c.loop-i.root
+    c.args.dir.now c.loop-i.dir c.args.batch.now c.loop-i.i c.loop-i.learned (g.F.PageFile.reads c.args.desk.now.file)
+    (g.F.PageFile.reads c.loop-i.desk.file) c.loop-i.invariant.part

@@ -1,12 +1,12 @@
-use Rattle.mr_pages.proofs.Filled.{ok_piece, ok_zeros_there}
+use Rattle.mr_pages.proofs.Filled.{piece_over, zeros_over}
 use Rattle.mr_pages.proofs.reading.read_filled.Goals as goal
 
-pub returns-clause-bytes : goal.returns-clause-bytes
-returns-clause-bytes g c =
-    ok_piece c.read_at.result (g.S.Shelf.state c.args.shelf.now).files c.args.name.now c.args.at c.args.into.now
-    c.fill.new.page c.read_at.new.into c.fill.auto.page c.read_at.ensures.gives
+pub returns-in-Ok-clause-bytes : goal.returns-in-Ok-clause-bytes
+returns-in-Ok-clause-bytes g c =
+    piece_over (g.S.Shelf.state c.args.shelf.now).files c.args.name.now c.args.at c.in-Ok.count c.args.into.now
+    c.read_at.new.into c.fill_up.new.page c.read_at.auto.into c.fill_up.ensures c.in-Ok.ensures.gives
 
-pub returns-clause-rest : goal.returns-clause-rest
-returns-clause-rest g c =
-    ok_zeros_there c.read_at.result c.args.into.now c.fill.new.page c.read_at.new.into c.fill.ensures
-    c.read_at.ensures.fills
+pub returns-in-Ok-clause-rest : goal.returns-in-Ok-clause-rest
+returns-in-Ok-clause-rest g c =
+    zeros_over c.in-Ok.count c.args.into.now c.read_at.new.into c.fill_up.new.page c.read_at.auto.into
+    c.in-Ok.ensures.fills.within c.fill_up.ensures

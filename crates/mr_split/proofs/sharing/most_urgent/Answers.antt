@@ -1,9 +1,18 @@
-use Rattle.std.proofs.Common.{◌≡◌, ◌+◌, length, ◌∙◌, ap}
+use Rattle.std.proofs.Common.{◌≡◌, refl, ◌+◌, length, ◌∙◌, ap}
 use Rattle.mr_split.specs.Split.{most_urgent, is_more_urgent, urgency, mark_at}
 use Rattle.mr_split.specs.Choice.{rect_at}
-use Rattle.mr_split.proofs.Comparing.{Keeps, rect_is, took, kept, keeps_on, found, urgency_order, more_urgent, less_urgent}
+use Rattle.mr_split.proofs.Comparing.{Keeps, rect_is, took, kept, keeps_on, found, urgency_order, urgency_at, more_urgent, less_urgent}
 use Rattle.mr_split.proofs.sharing.most_urgent.Goals as goal
-use Rattle.mr_split.proofs.sharing.most_urgent.Goals.{then-urgency, else-urgency}
+use Rattle.mr_split.proofs.sharing.most_urgent.Goals.{then-most-more, else-most-more}
+
+pub loop-i-init : goal.loop-i-init
+loop-i-init c = record {
+  within = c.requires.some;
+  most = c.urgency-most.ensures
+      ∙ ap (urgency c.args.first.now c.args.second.now (mark_at c.args.marks.now 0))
+      (rect_is c.args.list.now 0 c.index-list-0.result c.requires.some c.index-list-0.is);
+  rest = refl;
+}
 
 pub loop-i-preserved : goal.loop-i-preserved
 loop-i-preserved c =
@@ -14,20 +23,25 @@ loop-i-preserved c =
     let at = c.loop-i.at in
     let i = c.loop-i.i in
     let beats = is_more_urgent list marks f s in
-    let old : c.urgency.result ≡ urgency f s (mark_at marks at) (rect_at list at) =
-    c.urgency.ensures ∙ ap (urgency f s (mark_at marks at)) (rect_is list at c.index-list-at.result
-    c.loop-i.invariant.within c.index-list-at.is) in
-    let new : c.urgency-in-loop-i.result ≡ urgency f s (mark_at marks i) (rect_at list i) =
-    c.urgency-in-loop-i.ensures ∙ ap (urgency f s (mark_at marks i))
+    let old : c.loop-i.most ≡ urgency f s (mark_at marks at) (rect_at list at) = c.loop-i.invariant.most in
+    let new : c.urgency-more.result ≡ urgency f s (mark_at marks i) (rect_at list i) =
+    c.urgency-more.ensures ∙ ap (urgency f s (mark_at marks i))
     (rect_is list i c.index-list-i.result c.loop-i-test.true c.index-list-i.is) in
-    let k : Keeps beats (length list) (i + 1) c.if-urgency.at =
-    keeps_on beats (length list) i at c.if-urgency.at c.loop-i-test.true c.loop-i.invariant.within
-    (elim c.if-urgency.branch [
-      | then-urgency w ↦ took beats at i c.if-urgency.at (more_urgent _ _ _ _ old new w.if-urgency.true) w.at-is
-      | else-urgency w ↦ kept beats at i c.if-urgency.at (less_urgent _ _ _ _ old new w.if-urgency.false) w.at-is
+    let k : Keeps beats (length list) (i + 1) c.if-most-more.at =
+    keeps_on beats (length list) i at c.if-most-more.at c.loop-i-test.true c.loop-i.invariant.within
+    (elim c.if-most-more.branch [
+      | then-most-more w ↦ took beats at i c.if-most-more.at (more_urgent _ _ _ _ old new w.if-most-more.true) w.at-is
+      | else-most-more w ↦ kept beats at i c.if-most-more.at (less_urgent _ _ _ _ old new w.if-most-more.false) w.at-is
     ])
     c.loop-i.invariant.rest in
-    record { within = k.within; rest = k.rest }
+    record {
+      within = k.within;
+      most = elim c.if-most-more.branch [
+        | then-most-more w ↦ urgency_at list marks f s _ _ i (w.most-is ∙ new) w.at-is
+        | else-most-more w ↦ urgency_at list marks f s _ _ at (w.most-is ∙ old) w.at-is
+      ];
+      rest = k.rest;
+    }
 
 pub returns-clause-value : goal.returns-clause-value
 unfolding most_urgent

@@ -7,13 +7,13 @@ pub returns-then-not-are_same-clause-told : goal.returns-then-not-are_same-claus
 returns-then-not-are_same-clause-told g c = λ m there said.
     let shown = shown_is c.read_page.result c.read_page.new.into c.args.child.now.level _ m c.read_page.ensures.exact
     c.if-not-read_page.false there in
-    let same = digest_shown g.H.Hashes.of c.args.pages c.args.child.now c.read_page.new.into m c.digest_of-found.result
-    shown said c.digest_of-found.ensures in
+    let same = digest_shown g.H.Hashes.of c.args.pages c.args.child.now c.read_page.new.into m c.digest_on-found.result
+    shown said c.digest_on-found.ensures in
     let yes : c.are_same.result ≡ true = c.are_same.ensures ∙ (bytes_eq-Decides _ _).1 same in
     let differ : c.are_same.result ≡ false = c.if-not-are_same.true in cc
 
 pub returns-in-None-clause-read : goal.returns-in-None-clause-read
 returns-in-None-clause-read g c =
-    read_of g.H.Hashes.of c.args.pages c.args.child.now c.read_page.new.into c.args.page.now c.digest_of-found.result
-    c.is_view.ensures (c.read_page.ensures.written c.if-not-read_page.false) c.digest_of-found.ensures
+    read_of g.H.Hashes.of c.args.pages c.args.child.now c.read_page.new.into c.args.page.now c.digest_on-found.result
+    c.is_view.ensures (c.read_page.ensures.written c.if-not-read_page.false) c.digest_on-found.ensures
     ((bytes_eq-Decides _ _).0 (sym c.are_same.ensures ∙ c.if-not-are_same.false)) c.in-None.ensures

@@ -3,7 +3,7 @@ use Rattle.std.specs.String.{string_bytes}
 use Rattle.mr_tree.specs.Nodes.{Standing}
 use Rattle.mr_store.specs.Laws.{keeps_stands}
 use Rattle.mr_store.specs.Stored.{stands_for, told_bytes}
-use Rattle.mr_tool.specs.Applying.{ComesBehind, IsFewOfBatch}
+use Rattle.mr_tool.specs.Applying.{ComesBehind, IsFewOfChanges}
 use Rattle.mr_tool.specs.Plan.{comes}
 use Rattle.mr_tool.specs.Rereading.{applying}
 use Rattle.mr_tool.specs.Say.{say_batch}
@@ -19,11 +19,12 @@ returns-in-Err g c = λ name.
     subst (λ w. ComesBehind (applying hash c.args.map.now name c.args.new.now)
     (stands_for paged.head (told_bytes before.files (string_bytes paged.name)))
     (λ m. comes (say_batch hash c.args.new.now paged.head.pages m c.args.batch.now))
-    (IsFewOfBatch paged.head.pages paged.head.batch c.args.batch.now before.reads w.reads) before w c.unfetched.result)
+    (IsFewOfChanges paged.head.pages paged.head.batch c.args.batch.now before.reads w.reads) before w c.unfetched.result)
     (sym (ap g.S.Shelf.state c.close.ensures))
     (unlisted hash c.args.map.now c.args.new.now name (string_bytes paged.name) (string_bytes later.name) paged.head
     later.head paged.fetches later.fetches c.args.batch.now before (g.S.Shelf.state later.shelf) c.in-Err.ensures.kept
-    c.in-Err.error c.unfetched.result c.in-Err.ensures.cause c.unfetched.ensures)
+    c.requires.none c.in-Err.ensures.fetched c.in-Err.error c.unfetched.result
+    c.in-Err.ensures.cause c.unfetched.ensures)
 
 pub change-requires-clause-may : goal.change-requires-clause-may
 change-requires-clause-may g c κs within =
@@ -35,7 +36,8 @@ change-requires-clause-may g c κs within =
     let is = c.in-Ok.ensures in
     may_apply hash c.args.map.now c.args.new.now c.args.new.now (string_bytes paged.name) (string_bytes later.name)
     paged.head later.head paged.fetches later.fetches c.args.batch.now before mid is.kept
-    (well_in hash paged.head before.files (string_bytes paged.name) c.is_map.ensures) c.in-Ok.dir is.lists is.quiet
+    c.requires.none is.fetched (well_in hash paged.head before.files (string_bytes paged.name) c.is_map.ensures)
+    c.in-Ok.dir is.lists is.quiet
     c.top.result.batch
     (c.top.ensures.batch ∙ ap (λ (st : Standing). st.batch) (keeps_stands (string_bytes paged.name)
     (string_bytes later.name) paged.head later.head before mid paged.fetches later.fetches is.kept))
@@ -53,11 +55,12 @@ returns-in-Err-admit g c = λ name.
     subst (λ w. ComesBehind (applying hash c.args.map.now name c.args.new.now)
     (stands_for paged.head (told_bytes before.files (string_bytes paged.name)))
     (λ m. comes (say_batch hash c.args.new.now paged.head.pages m c.args.batch.now))
-    (IsFewOfBatch paged.head.pages paged.head.batch c.args.batch.now before.reads w.reads) before w c.bad_batch.result)
+    (IsFewOfChanges paged.head.pages paged.head.batch c.args.batch.now before.reads w.reads) before w c.bad_batch.result)
     (sym (ap g.S.Shelf.state c.close-in-Err-admit.ensures))
     (unadmitted hash c.args.map.now c.args.new.now name (string_bytes paged.name) (string_bytes later.name)
     paged.head later.head paged.fetches later.fetches c.args.batch.now before mid is.kept
-    (well_in hash paged.head before.files (string_bytes paged.name) c.is_map.ensures) c.in-Ok.dir is.lists is.quiet
+    c.requires.none is.fetched (well_in hash paged.head before.files (string_bytes paged.name) c.is_map.ensures)
+    c.in-Ok.dir is.lists is.quiet
     c.top.result.batch
     (c.top.ensures.batch ∙ ap (λ (st : Standing). st.batch) (keeps_stands (string_bytes paged.name)
     (string_bytes later.name) paged.head later.head before mid paged.fetches later.fetches is.kept))
@@ -74,7 +77,8 @@ returns-in-Ok-admit g c = λ name.
     let is = c.in-Ok.ensures in
     admitted hash c.args.map.now c.args.new.now name (string_bytes paged.name) (string_bytes later.name) paged.head
     later.head paged.fetches later.fetches c.args.batch.now before mid is.kept
-    (well_in hash paged.head before.files (string_bytes paged.name) c.is_map.ensures) c.in-Ok.dir is.lists is.quiet
+    c.requires.none is.fetched (well_in hash paged.head before.files (string_bytes paged.name) c.is_map.ensures)
+    c.in-Ok.dir is.lists is.quiet
     c.top.result.batch
     (c.top.ensures.batch ∙ ap (λ (st : Standing). st.batch) (keeps_stands (string_bytes paged.name)
     (string_bytes later.name) paged.head later.head before mid paged.fetches later.fetches is.kept))

@@ -1,9 +1,8 @@
 use Rattle.std.proofs.Common.{ap, sym, subst}
-use Rattle.std.specs.Prelude.{⊤}
 use Rattle.std.specs.String.{string_bytes}
 use Rattle.mr_store.specs.Stored.{stands_for, told_bytes}
 use Rattle.mr_edit.specs.Draft.{drawn}
-use Rattle.mr_tool.specs.Applying.{ComesBehind}
+use Rattle.mr_tool.specs.Applying.{ComesBehind, IsFewOfCopy}
 use Rattle.mr_tool.specs.Plan.{comes}
 use Rattle.mr_tool.specs.Rereading.{applying}
 use Rattle.mr_tool.specs.Say.{say_changed}
@@ -14,8 +13,8 @@ pub returns-in-Err : goal.returns-in-Err
 returns-in-Err g c = λ name.
     let paged = c.args.paged in
     uncopied g.H.Hashes.of c.args.map.now c.args.new.now name (string_bytes paged.name) paged.head c.args.batch.now
-    (g.S.Shelf.state paged.shelf) (g.S.Shelf.state c.in-Err.shelf) c.in-Err.error c.unchanged.result c.in-Err.ensures
-    c.unchanged.ensures
+    (g.S.Shelf.state paged.shelf) (g.S.Shelf.state c.in-Err.shelf) c.in-Err.error c.uncopied.result c.in-Err.ensures
+    c.uncopied.ensures
 
 pub returns-in-Err-apply_batch : goal.returns-in-Err-apply_batch
 returns-in-Err-apply_batch g c = λ name.
@@ -31,11 +30,13 @@ returns-in-Err-apply_batch g c = λ name.
     let is = c.in-Err-apply_batch.ensures in
     subst (λ w. ComesBehind (applying hash c.args.map.now name c.args.new.now)
     (stands_for paged.head (told_bytes before.files (string_bytes paged.name)))
-    (λ m. comes (say_changed hash c.args.new.now paged.head.pages m.tree c.args.batch.now)) (λ t. ⊤) before w
-    c.unchanged-in-Err-apply_batch.result) (sym (ap g.S.Shelf.state c.close.ensures))
+    (λ m. comes (say_changed hash c.args.new.now paged.head.pages m.tree c.args.batch.now))
+    (IsFewOfCopy paged.head.pages c.args.batch.now before.reads w.reads) before w
+    c.unchanged.result) (sym (ap g.S.Shelf.state c.close.ensures))
     (unapplied hash c.args.map.now c.args.new.now name (string_bytes paged.name) paged.head c.args.batch.now before
-    c.args.dir c.requires.may d c.in-Ok.ensures e is.kept c.in-Err-apply_batch.error c.unchanged-in-Err-apply_batch.result is.cause
-    is.sound c.unchanged-in-Err-apply_batch.ensures)
+    c.args.dir c.requires.may d c.in-Ok.ensures e is.kept is.within c.in-Err-apply_batch.error
+    c.unchanged.result is.cause
+    is.sound c.unchanged.ensures)
 
 pub returns : goal.returns
 returns g c = λ name.
@@ -49,6 +50,6 @@ returns g c = λ name.
     later.desk.free later.root later.count later.batch in
     let is = c.in-Ok-apply_batch.ensures in
     sealed hash c.args.map.now c.args.new.now name (string_bytes paged.name) paged.head c.args.batch.now
-    (g.S.Shelf.state paged.shelf) c.args.dir c.requires.may d c.in-Ok.ensures e is.kept c.apply_batch.new.dir
+    (g.S.Shelf.state paged.shelf) c.args.dir c.requires.may d c.in-Ok.ensures e is.kept is.within c.apply_batch.new.dir
     is.applies is.batch is.quiet (g.S.Shelf.state c.seal-shelf.result.0) c.seal-shelf.ensures.reads c.seal-shelf.result.1
     c.say_sealed.result c.seal-shelf.ensures.sealed c.say_sealed.ensures

@@ -4,7 +4,7 @@ use Rattle.mr_edit.specs.Changing.{CanReplay}
 use Rattle.mr_edit.specs.Draft.{drawn}
 use Rattle.mr_edit.specs.Shelves.{HasShelfCause}
 use Rattle.mr_edit.specs.Sheets.{book_on}
-use Rattle.mr_edit.proofs.Ends.{keeps_draft, blames_none, can_replay, applied, is_top, off_none, on_any}
+use Rattle.mr_edit.proofs.Ends.{keeps_draft, blames_none, can_replay, applied, applied_within, is_top, off_none, on_any}
 use Rattle.mr_edit.proofs.draft.Draft.apply_batch.Goals as goal
 
 pub returns-in_err-root-clause-kept : goal.returns-in_err-root-clause-kept
@@ -62,5 +62,21 @@ returns-clause-sound g c = λ t can.
     let a = applied g.H.Hashes.of before c.args.dir.now c.args.batch.now after c.replay.new.dir
     c.in_ok-root.ensures.replays c.len.ensures.exact t can in
     off_none (HasShelfCause (g.S.Shelf.state s.desk.file.shelf).faults (g.S.Shelf.state d.file.shelf).faults)
-    c.judge_top.result c.len.result c.in_ok-root.root c.judge_top.ensures
+    c.judge_top.result c.len.result c.in_ok-root.root c.judge_top.ensures.off
     (is_top g.H.Hashes.of after _ a.draft)
+
+pub returns-in_err-root-clause-within : goal.returns-in_err-root-clause-within
+returns-in_err-root-clause-within g c =
+    let s = c.args.self.now in
+    applied_within g.H.Hashes.of
+    (drawn (g.S.Shelf.state s.desk.file.shelf) (string_bytes s.desk.file.name) s.desk.file.pages s.desk.free s.root
+    s.count s.batch) c.args.dir.now c.args.batch.now (g.S.Shelf.state s.desk.file.shelf).reads
+    (g.S.Shelf.state c.replay.new.desk.file.shelf).reads c.replay.ensures.within
+
+pub returns-clause-within : goal.returns-clause-within
+returns-clause-within g c =
+    let s = c.args.self.now in
+    applied_within g.H.Hashes.of
+    (drawn (g.S.Shelf.state s.desk.file.shelf) (string_bytes s.desk.file.name) s.desk.file.pages s.desk.free s.root
+    s.count s.batch) c.args.dir.now c.args.batch.now (g.S.Shelf.state s.desk.file.shelf).reads
+    (g.S.Shelf.state c.replay.new.desk.file.shelf).reads c.replay.ensures.within

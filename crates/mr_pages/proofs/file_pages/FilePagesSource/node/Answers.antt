@@ -7,7 +7,7 @@ use Rattle.mr_pages.proofs.file_pages.FilePagesSource.node.Goals as goal
 pub returns-clause-shows : goal.returns-clause-shows
 returns-clause-shows g c =
     let s = c.args.self.now in
-    shelf_gives s.name.now s.shelf.ghost_name s.pages c.args.page c.in_ok-bytes.bytes (g.S.Shelf.state s.shelf.now) _
-    s.paged c.requires c.in_ok-bytes.ensures.told c.in_ok-bytes.ensures.is
+    shelf_gives s.name.now s.shelf.ghost_name s.pages c.args.page c.page_into.new.into (g.S.Shelf.state s.shelf.now) _
+    s.paged c.requires c.in_ok-page_into.ensures.told c.in_ok-page_into.ensures.is
     (λ f h. subst (λ o. Shows c.read_page.result c.read_page.new.into (of_level c.args.level o)) (sym h.node)
     c.read_page.ensures.exact)
