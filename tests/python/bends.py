@@ -240,7 +240,7 @@ def bender(chance: random.Random) -> Callable:
 
 
 def bent_pages(bytes_: bytes, chance: random.Random) -> bytes:
-    """A map file with a field of page 0, an entry, a page or the pages' order bent."""
+    """A map file, of which the last page may be cut, with a field of page 0, an entry, a page or their order bent."""
     pages = [bytes_[at : at + PAGE] for at in range(0, len(bytes_), PAGE)]
     way, at = chance.randrange(9), chance.randrange(len(pages))
     other = bytearray(pages[at])
@@ -250,14 +250,14 @@ def bent_pages(bytes_: bytes, chance: random.Random) -> bytes:
         value = chance.choice((0, 1, 2, len(pages), len(pages) - 1, 256**size - 1, chance.randrange(256**min(size, 4))))
         head[start : start + size] = (value % 256**size).to_bytes(size, "big")
         pages[0] = bytes(head)
-    elif way == 2 and other[:1] == b"N":
+    elif way == 2 and other[:1] == b"N" and len(other) > 2:
         start = 3 + 52 * chance.randrange(max(1, other[2]))
         size = chance.choice((4, 20, 52))
         other[start : start + size] = bytes(chance.randrange(3) for _ in range(size))
         pages[at] = bytes(other)
     elif way == 3:
         where = chance.choice((0, 1, 2, chance.randrange(60), chance.randrange(PAGE), PAGE - 1))
-        other[where] ^= 1 << chance.randrange(8)
+        other[where % len(other)] ^= 1 << chance.randrange(8)
         pages[at] = bytes(other)
     elif way == 4:
         pages[at] = pages[chance.randrange(len(pages))]
