@@ -1,24 +1,25 @@
 //! Files of tests, put together from parts, a line of words each: the lines of texts, the heads,
-//! leaves and pruned nodes of proofs, the pages of maps. The bytes are spelled here anew, by none of
-//! the program's writers.
+//! leaves and pruned nodes of proofs, the pages of maps. The bytes are spelled here anew, by none
+//! of the program's writers.
 //!
 //! - `| TEXT` is a line of a text with its line feed, `text TEXT` the same without one, and in both
 //!   `..` stands for 62 zeros; `hex DIGITS` are bytes, `zeros N` so many zeros.
-//! - `points N` are the lines of the records I at (I,0) for I from 1 to N, `places FIRST N` those of N
-//!   records from this number on, scattered over the plane, with a byte of payload each.
-//! - `added FIRST N` are changes of a batch that add those; `removed FIRST N STEP OF` remove N records:
-//!   of the numbers from 1 to OF in steps, those from the place FIRST on; by `renewed I N` record I
-//!   goes and comes N times; by `mixed FIRST` 250 times a record of 3,000 goes and another comes.
-//! - `window` and `nearest` are the head of a proof (batch, count; a flag and the radius that follows
-//!   a flag of 1; level), `leaf` begins an opened leaf or the page of one (count), and each
+//! - `points N` are the lines of the records I at (I,0) for I from 1 to N, `places FIRST N` those
+//!   of N records from this number on, scattered over the plane, with a byte of payload each.
+//! - `added FIRST N` are changes of a batch that add those; `removed FIRST N STEP OF` remove N
+//!   records: of the numbers from 1 to OF in steps, those from the place FIRST on; by `renewed I N`
+//!   record I goes and comes N times; by `mixed FIRST` 250 times a record of 3,000 goes and another
+//!   comes.
+//! - `window` and `nearest` are the head of a proof (batch, count; a flag and the radius that
+//!   follows a flag of 1; level), `leaf` begins an opened leaf or the page of one (count), and each
 //!   `record LINE` is one in it; `node` begins an opened inner node (count), `pruned` is a pruned
 //!   one (rectangle, digest).
 //! - `map` is the head of a map file (level, batch, count, pages, root page, rectangle, digest),
 //!   `inner` begins an inner node's page (level, count), `child` is a child on it (page, rectangle,
 //!   digest); `seal` fills the first page with zeros up to its seal, `fill` any page to its end.
 //!
-//! Numbers are decimal, or hexadecimal behind `0x`; words between them are for the reader. A digest is
-//! given by its value as a number: zeros come before it.
+//! Numbers are decimal, or hexadecimal behind `0x`; words between them are for the reader. A digest
+//! is given by its value as a number: zeros come before it.
 
 use mr_record::read_line;
 use std::alloc::{AllocError, Global};

@@ -59,8 +59,8 @@ abbrev pub nodes_left : (root : Bool) → Rest → ℕ
 nodes_left true r = 0
 nodes_left false r = sum (map nodes (stays r))
 
--- the same; and where the subtree is not the whole tree, the nodes that stay are read only once; and
--- all only once, where the record was not there
+-- the same; and where the subtree is not the whole tree, the nodes that stay are read only once;
+-- and all only once, where the record was not there
 abbrev pub TakesTwice : Scheme → (root : Bool) → (told : Option Book) → (free : ℕ) → Child → ℕ →
     Rectangle → (before after : ℕ) → Option Left → Type 0
 TakesTwice scheme root told free c n rect before after None = ReadsOnce scheme told c before after

@@ -103,7 +103,8 @@ module _ (hash : List ℕ → List ℕ) (map new batch : List ℕ) (n n' : List 
       → ComesBehind applies_batch standing (λ m. comes (said_of_batch m)) (few_of_batch mid) before mid result
   unlisted e result cause says = record {
     counts = counts_listed;
-    told = by_some standing.tree (λ t. ComesBut (comes (said_of_batch (map_in standing t))) before mid result) (λ t told.
+    told = by_some standing.tree (λ t. ComesBut (comes (said_of_batch (map_in standing t))) before mid result)
+        (λ t told.
         let stop = fetch_stopped map standing t e before mid result told cause says in
         subst (ComesBut (comes (said_of_batch (map_in standing t))) before mid) (sym stop.is)
         (halts_but (said_of_batch (map_in standing t)) before mid stop.halt counts_listed stop.stops
@@ -115,7 +116,8 @@ module _ (hash : List ℕ → List ℕ) (map new batch : List ℕ) (n n' : List 
   }
 
   module _ (well : (t : Tree) → standing.tree ≡ Some t → WellFormed t) (dir : Entries)
-      (lists : IfSome standing.tree (λ t. IsDirectoryOf dir (records t))) (quiet : mid.faults ≡ before.faults) (held : ℕ)
+      (lists : IfSome standing.tree (λ t. IsDirectoryOf dir (records t))) (quiet : mid.faults ≡ before.faults)
+          (held : ℕ)
       (held_is : held ≡ standing.batch) where
     numbers : (t : Tree) → standing.tree ≡ Some t → HaveNumbers dir (records t)
     numbers t told =
@@ -129,7 +131,8 @@ module _ (hash : List ℕ → List ℕ) (map new batch : List ℕ) (n n' : List 
         → GivesOrStops (ends BadBatch (bad_batch_line fault)) result
         → ComesBehind applies_batch standing (λ m. comes (said_of_batch m)) (few_of_batch mid) before mid result
     unadmitted text fault result are is some exact gives =
-        behind_given applies_batch standing said_of_batch (few_of_batch mid) before mid counts_listed few_listed (ends BadBatch (bad_batch_line fault)) result
+        behind_given applies_batch standing said_of_batch (few_of_batch mid) before mid counts_listed few_listed
+            (ends BadBatch (bad_batch_line fault)) result
         refl
         (λ t told. ap (say_admitted hash new h.pages t b)
         (subst (λ n. batch_fault (records t) n b ≡ Some fault) held_is (exact (records t) (numbers t told))))
@@ -141,7 +144,8 @@ module _ (hash : List ℕ → List ℕ) (map new batch : List ℕ) (n n' : List 
         kept.files quiet gives
 
     -- it may
-    admissible : ((rs : List Record) → HaveNumbers dir rs → IsAdmissible rs held b) → (t : Tree) → standing.tree ≡ Some t
+    admissible : ((rs : List Record) → HaveNumbers dir rs → IsAdmissible rs held b) → (t : Tree)
+        → standing.tree ≡ Some t
         → IsAdmissible (records t) standing.batch b
     admissible fine t told = subst (λ n. IsAdmissible (records t) n b) held_is (fine (records t) (numbers t told))
 
@@ -168,9 +172,11 @@ module _ (hash : List ℕ → List ℕ) (map new batch : List ℕ) (n n' : List 
         faults = omega (arith, kept.faults, on.counts.faults);
         reads = omega (arith, kept.reads, on.counts.reads);
       };
-      told = by_some standing.tree (λ t. ComesBut (comes (said_of_batch (map_in standing t))) before after result) (λ t told.
+      told = by_some standing.tree (λ t. ComesBut (comes (said_of_batch (map_in standing t))) before after result)
+          (λ t told.
           let own : ComesBut (comes (say_changed hash new h.pages t b)) mid after result =
-          at_some standing.tree t (λ t. ComesBut (comes (say_changed hash new h.pages t b)) mid after result) told same.told in
+          at_some standing.tree t (λ t. ComesBut (comes (say_changed hash new h.pages t b)) mid after result)
+              told same.told in
           subst (λ o. ComesBut (comes o) before after result)
           (sym (says_applied hash new h.pages (map_in standing t) b (admissible fine t told)))
           (subst (λ w. Comes (comes (say_changed hash new h.pages t b)) w after result)
@@ -195,7 +201,8 @@ module _ (hash : List ℕ → List ℕ) (map new batch : List ℕ) (n n' : List 
             (IsFewOfCopy h.pages b mid.reads after.reads) mid after result
         same =
             subst (λ (st : Standing). ComesBehind applies_batch st (λ m. comes (say_changed hash new h.pages m.tree b))
-            (IsFewOfCopy h.pages b mid.reads after.reads) mid after result) (keeps_stands n n' h h' before mid f0 f kept)
+            (IsFewOfCopy h.pages b mid.reads after.reads) mid after result)
+                (keeps_stands n n' h h' before mid f0 f kept)
             (subst (λ (x : MapHead). ComesBehind applies_batch (stands_for h' (told_bytes mid.files n'))
             (λ m. comes (say_changed hash new x.pages m.tree b)) (IsFewOfCopy x.pages b mid.reads after.reads) mid after
             result) kept.head on)
@@ -239,13 +246,16 @@ module _ (hash : List ℕ → List ℕ) (map new batch : List ℕ) (s : Standing
       → GivesOrStops (ends BadText (bad_text_line fault)) result
       → ComesBehind applies_text s (λ m. comes (said_of_text m)) (few_of_text before) before before result
   batch_bad fault result are is gives =
-      behind_given applies_text s said_of_text (few_of_text before) before before counts_none few_none (ends BadText (bad_text_line fault))
+      behind_given applies_text s said_of_text (few_of_text before) before before counts_none few_none
+          (ends BadText (bad_text_line fault))
       result refl (λ t told. ap (say_apply_of hash new pages (map_in s t)) is)
       (λ none. inr (inr (inl (text, are, (fault, is, refl))))) refl refl gives
 
-  pub batch_spent : ComesBehind applies_text s (λ m. comes (said_of_text m)) (few_of_text before) before before (Err halts.NoMemory)
+  pub batch_spent : ComesBehind applies_text s (λ m. comes (said_of_text m)) (few_of_text before) before before
+      (Err halts.NoMemory)
   batch_spent =
-      behind_halted applies_text s said_of_text (few_of_text before) before before counts_none few_none halts.NoMemory tt
+      behind_halted applies_text s said_of_text (few_of_text before) before before counts_none few_none
+          halts.NoMemory tt
       (λ t told. stays (said_of_text (map_in s t)).written before.files before.files refl) (λ none. refl)
 
 -- ---- the file of a batch
@@ -265,7 +275,8 @@ module _ (hash : List ℕ → List ℕ) (map batch new : List ℕ) (n n' : List 
   few_of_file after = IsFewOfFile h.pages h.batch before.files batch before.reads after.reads
 
   abbrev behind_file : Shelved → Result Ending Halt → Type 0
-  behind_file after result = ComesBehind applies_file standing_of_file (say_change hash batch new h.pages) (few_of_file after) before after result
+  behind_file after result = ComesBehind applies_file standing_of_file (say_change hash batch new h.pages)
+      (few_of_file after) before after result
 
   -- its text was read
   pub file_read : (text : Vec ℕ) (read : Option (Vec ℕ)) (after : Shelved) (result : Result Ending Halt)
@@ -279,21 +290,26 @@ module _ (hash : List ℕ → List ℕ) (map batch new : List ℕ) (n n' : List 
       faults = omega (arith, is.counts.faults, on.counts.faults);
       reads = omega (arith, is.counts.reads, on.counts.reads);
     };
-    told = by_some standing_of_file.tree (λ t. ComesBut (say_change hash batch new h.pages (map_in standing_of_file t)) before after result)
-        (λ t told. comes_read batch (said_of_file t) (with_reads after.reads before) (with_reads after.reads mid) after text
+    told = by_some standing_of_file.tree (λ t. ComesBut (say_change hash batch new h.pages (map_in standing_of_file t))
+        before after result)
+        (λ t told. comes_read batch (said_of_file t) (with_reads after.reads before) (with_reads after.reads mid)
+            after text
         read result was (reads_both after.reads batch before mid read got)
-        (at_some standing_of_file.tree t (λ t. ComesBut (comes (said_of_file t text.items)) mid after result) told own.told));
+        (at_some standing_of_file.tree t (λ t. ComesBut (comes (said_of_file t text.items)) mid after result)
+            told own.told));
     untold = λ none.
         untold_from applies_file before mid after result is.files is.read.2 (on.untold (is.files ∙ none));
     few_read = by_some standing_of_file.tree (few_of_file after) (λ t told.
         by_files t before.files is.read.0 is.once
-        (at_some standing_of_file.tree t (IsFewOfText h.pages h.batch text.items mid.reads after.reads) told own.few_read));
+        (at_some standing_of_file.tree t (IsFewOfText h.pages h.batch text.items mid.reads after.reads)
+            told own.few_read));
   }
     where
       is : Reads batch before mid (Ok (Some text))
       is = subst (λ r. Reads batch before mid (Ok r)) was got
 
-      own : ComesBehind applies_file standing_of_file (λ m. comes (say_apply_of hash new h.pages m (batch_of_text text.items)))
+      own : ComesBehind applies_file standing_of_file (λ m. comes
+          (say_apply_of hash new h.pages m (batch_of_text text.items)))
           (IsFewOfText h.pages h.batch text.items mid.reads after.reads) mid after result
       own =
           subst (λ (st : Standing). ComesBehind applies_file st
@@ -315,7 +331,8 @@ module _ (hash : List ℕ → List ℕ) (map batch new : List ℕ) (n n' : List 
       )
 
   -- nothing is read behind_file it
-  few_alone : (result : Result (Option (Vec ℕ)) Halt) → Reads batch before mid result → IfSome standing_of_file.tree (few_of_file mid)
+  few_alone : (result : Result (Option (Vec ℕ)) Halt) → Reads batch before mid result
+      → IfSome standing_of_file.tree (few_of_file mid)
   few_alone result got = by_some standing_of_file.tree (few_of_file mid) (λ t told. by_files t before.files got.once)
     where
       by_files : (t : Tree) (o : Option Files) → OnceFrom o batch before.reads mid.reads
@@ -332,7 +349,8 @@ module _ (hash : List ℕ → List ℕ) (map batch new : List ℕ) (n n' : List 
       → Reads batch before mid (Ok read) → Misses batch result → behind_file mid result
   file_missed read result was got misses = record {
     counts = got.counts;
-    told = by_some standing_of_file.tree (λ t. ComesBut (say_change hash batch new h.pages (map_in standing_of_file t)) before mid result)
+    told = by_some standing_of_file.tree (λ t. ComesBut (say_change hash batch new h.pages (map_in standing_of_file t))
+        before mid result)
         (λ t told. comes_missed batch (said_of_file t) (with_reads mid.reads before) mid read result was
         (reads_but batch before mid (Ok read) got) misses);
     untold = λ none. untold_missed none result misses;
@@ -362,7 +380,8 @@ module _ (hash : List ℕ → List ℕ) (map batch new : List ℕ) (n n' : List 
   pub file_unread : (halt : Halt) → Reads batch before mid (Err halt) → behind_file mid (Err halt)
   file_unread halt got = record {
     counts = got.counts;
-    told = by_some standing_of_file.tree (λ t. ComesBut (say_change hash batch new h.pages (map_in standing_of_file t)) before mid (Err halt))
+    told = by_some standing_of_file.tree (λ t. ComesBut (say_change hash batch new h.pages (map_in standing_of_file t))
+        before mid (Err halt))
         (λ t told. comes_unread batch (said_of_file t) (with_reads mid.reads before) mid halt
         (reads_but batch before mid (Err halt) got));
     untold = λ none. (got.read, got.files);
@@ -522,7 +541,8 @@ module _ (hash : List ℕ → List ℕ) (sized : (xs : List ℕ) → length (has
           has.input o.pages in
           let few_are = at_input before.files files old has.bytes ⊥
           (λ bytes. mid.reads ≤ before.reads + pages_in bytes) told has.input o.reads in
-          let own = at_some standing_opened.tree has.tree (IsFewOfFile h.pages h.batch mid.files batch mid.reads end.reads) has.told
+          let own = at_some standing_opened.tree has.tree (IsFewOfFile h.pages h.batch mid.files batch mid.reads
+              end.reads) has.told
           on.few_read in
           few_there before.files files old has.bytes before.reads end.reads
           (λ files bytes n. IsFewApplied hash bytes (file files batch) n) told has.input
@@ -543,12 +563,14 @@ module _ (hash : List ℕ → List ℕ) (sized : (xs : List ℕ) → length (has
               let there : file files old ≡ Some has.bytes =
               subst (λ o. IsInput o old (Some has.bytes)) told has.input in
               let own = at_some standing_opened.tree has.tree
-              (λ t. ComesBut (say_change hash batch new h.pages (map_in standing_opened t)) mid end result) has.told on.told in
+              (λ t. ComesBut (say_change hash batch new h.pages (map_in standing_opened t)) mid end result)
+                  has.told on.told in
               let same : h.pages ≡ pages_there (file files old) = pages_are ∙ sym (ap pages_there there) in
               comes_told applies plan before end files told result all.reads (few_applied files told has)
               (comes_sized hash old (say_change hash batch new) before end files told result
               (subst (λ k. ComesBut (needs_map hash old (say_change hash batch new k)) before end result) same
-              (told_on hash sized old before standing_opened mid o.files o.quiet o.answers (say_change hash batch new h.pages)
+              (told_on hash sized old before standing_opened mid o.files o.quiet o.answers
+                  (say_change hash batch new h.pages)
               (goes h.pages) has end result own)))
 
 -- ---- the tree of an opened map is well formed

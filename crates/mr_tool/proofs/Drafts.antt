@@ -138,7 +138,8 @@ shelf_stopped map edits.NoMemory before after result cause says =
 -- ---- how a command ends behind the map
 
 -- it stopped
-pub halts_but : (said : Outcome) (before after : Shelved) (halt : Halt) → NoneFalls before after → Stops before after halt
+pub halts_but : (said : Outcome) (before after : Shelved) (halt : Halt) → NoneFalls before after
+    → Stops before after halt
     → MayLeave said.written before.files after.files → ComesBut (comes said) before after (Err halt)
 halts_but said before after halt counts stops may = record {
   counts = record { faults = counts.faults; reads = omega arith };

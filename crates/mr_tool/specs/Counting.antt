@@ -94,8 +94,8 @@ IsFewApplied hash bytes batch n = (n ≤ pages_in bytes)
     × (behind : ℕ) × (n ≤ pages_in bytes + pieces_of batch + behind)
     × IsFewOfBatch (pages_in bytes) t held batch behind)
 
--- so many reads of the map, and of the proof for an audit, the script for a bundle, or the batch and
--- the new file for `apply`
+-- so many reads of the map, and of the proof for an audit, the script for a bundle, or the batch
+-- and the new file for `apply`
 abbrev pub AllowsPages : Rereading → Files → ℕ → Type 0
 AllowsPages (proving hash map q proof) files n =
     MatchOption (file files map) (n ≡ 0) (λ bytes. IsFewOf hash q bytes n)

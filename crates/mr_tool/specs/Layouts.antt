@@ -1,5 +1,5 @@
--- Maps after batches, whatever the layout of their files: what they stand for goes by the map and the
--- batches alone. With proof.
+-- Maps after batches, whatever the layout of their files: what they stand for goes by the map and
+-- the batches alone. With proof.
 use Rattle.std.specs.Prelude.{◌≡◌, ℕ, List, [], ◌∷◌}
 use Rattle.std.proofs.Common.{sym, subst}
 use Rattle.mr_tree.specs.declared.tree.Tree.{Tree}

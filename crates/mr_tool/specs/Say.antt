@@ -28,7 +28,9 @@ use Rattle.mr_tool.specs.Lines.{digest_line, bad_words_line, bad_text_line, bad_
 use Rattle.mr_tool.specs.Outcome.{Outcome, File, map_of, changed}
 use Rattle.mr_tool.specs.Plan.{Input, Plan, comes, reads, opens, rereads, judges}
 use Rattle.mr_tool.specs.Rereading.{proving, auditing, serving, applying}
-pub use Rattle.mr_tool.specs.Saying.{ends, prints, says_missing, say_text, say_written, say_finding, say_bundle, held_in, say_serve_of, say_verdicts, say_parts_of}
+pub use Rattle.mr_tool.specs.Saying.{ends, prints, says_missing, say_text, say_written}
+pub use Rattle.mr_tool.specs.Saying.{say_finding, say_bundle, held_in}
+pub use Rattle.mr_tool.specs.Saying.{say_serve_of, say_verdicts, say_parts_of}
 use Rattle.mr_tool.specs.Refusal.{refused_line}
 use Rattle.mr_pages.specs.Opening.{pages_in}
 use Rattle.mr_pages.specs.declared.opening.Opened.{Opened}
@@ -95,8 +97,8 @@ say_list_of tree = prints (text_of (by_number (records tree)))
 abbrev pub say_list : (List ℕ → List ℕ) → List ℕ → Plan
 say_list hash name = needs_map hash name (λ map. comes (say_list_of map.tree))
 
--- the map of the tree after a batch in a file, at the batch's number, and its root. The file is made
--- by changes from one of so many pages.
+-- the map of the tree after a batch in a file, at the batch's number, and its root. The file is
+-- made by changes from one of so many pages.
 abbrev pub say_changed : (List ℕ → List ℕ) → List ℕ → (pages : ℕ) → Tree → Changes → Outcome
 say_changed hash new pages tree batch =
     let after = replay tree (batch ∷ []) in

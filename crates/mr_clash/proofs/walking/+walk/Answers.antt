@@ -101,7 +101,8 @@ walk_all-returns-clause-walked g t c = λ Ps rest fits count is.
 
 -- ---- how many nodes are fetched
 
-pub walk_children-returns-then-from-children-clause-fetched : goal.walk_children-returns-then-from-children-clause-fetched
+pub walk_children-returns-then-from-children-clause-fetched :
+    goal.walk_children-returns-then-from-children-clause-fetched
 walk_children-returns-then-from-children-clause-fetched g t c = λ Ps rest fits is.
     let a = c.byte-tag.ensures inner_tag (count_of Ps ∷ cuts_bytes Ps ++ rest) is in
     let n = c.byte-count.ensures (count_of Ps) (cuts_bytes Ps ++ rest) a.1 in
