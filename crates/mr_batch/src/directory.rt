@@ -40,6 +40,13 @@ impl Directory {
         Ok(directory)
     }
 
+    /// The directory that has these entries.
+    pub fn over(rects: BTreeMap<u64, Rect>) -> Directory
+        ensures { result ≡ rects.entries }
+    {
+        Directory { rects }
+    }
+
     /// How many records there are.
     pub fn len(&self) -> usize
         ensures exact { result ≡ length self.now }
@@ -66,19 +73,6 @@ impl Directory {
     {
         self.rects.insert(number, rect)?;
         Ok(())
-    }
-
-    /// As `put`, and answers whether the number had a rectangle before, with no search of its own.
-    pub fn meet(&mut self, number: u64, rect: Rect) -> Result<bool, AllocError>
-        ensures met { IfOk result (λ before. before ≡ is_some (rect_at self.old number)) }
-        ensures put { OnOk result ((n : ℕ) → rect_at self.new n
-            ≡ (if number == n then Some rect else rect_at self.old n)) }
-        ensures counted { OnOk result (length self.new
-            ≡ length self.old + (if is_some (rect_at self.old number) then 0 else 1)) }
-        ensures unchanged { OnErr result (self.new ≡ self.old) }
-    {
-        let before = self.rects.insert(number, rect)?;
-        Ok(before.is_some())
     }
 
     /// Takes the number out, and gives its rectangle, if it had one.

@@ -1,4 +1,5 @@
 pub mod Listings
+pub mod Gathering
 pub mod Rows
 pub mod Zips
 pub mod Frame

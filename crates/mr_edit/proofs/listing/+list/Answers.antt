@@ -3,7 +3,8 @@ use Rattle.std.proofs.lemmas.List.{take_all}
 use Rattle.std.proofs.lemmas.Result.{err_from_is_err_and}
 use Rattle.mr_tree.specs.Nodes.{Shows}
 use Rattle.mr_tree.specs.declared.tree.Tree.TheOpen.{Leaf, Inner}
-use Rattle.mr_edit.specs.Listing.{ListsAll, CanList}
+use Rattle.mr_store.specs.Copying.{CanCopy}
+use Rattle.mr_edit.specs.Listing.{ListsAll}
 use Rattle.mr_edit.proofs.Listings.{lists_leaf, lists_none, lists_more, lists_inner, refuses_along, twice_refuses, next_can}
 use Rattle.mr_edit.proofs.Results.{if_err, on_ok}
 use Rattle.mr_outside.specs.Faults.{next_count}
@@ -20,13 +21,13 @@ returns-in_err-list-clause-cause g t c =
     let is = c.children-one-items.ensures.inner (subst (λ n. 0 < n) c.level.ensures.value high)
     ∙ ap Inner (sym c.children-one-items.ensures.value) in
     let shows = subst (Shows hash s c.args.child.now) is c.in_ok-look.ensures.shows in
-    rw (p.1, p.2) (refuses_along (λ x. CanList x false c.loop-one.dir c.one-item.result)
-    (CanList s c.args.root c.args.dir.now c.args.child.now) s (g.N.Nodes.stands c.loop-one.nodes)
+    rw (p.1, p.2) (refuses_along (λ x. CanCopy x false c.loop-one.seen c.one-item.result)
+    (CanCopy s c.args.root c.args.seen.now c.args.child.now) s (g.N.Nodes.stands c.loop-one.nodes)
     (g.N.Nodes.faults c.args.nodes.now) (g.N.Nodes.faults c.loop-one.nodes)
     (g.N.Nodes.faults c.list.new.nodes) c.in_err-list.field-0.0 same c.loop-one.invariant.quiet
     (λ told can. next_can hash s c.args.root c.args.child.now c.one-item.result c.children-one-items.result.now
-    c.loop-one.one-index c.args.dir.now c.loop-one.dir told c.requires shows c.loop-one-test.true c.one-item.is
-    c.loop-one.invariant.all can)
+    c.loop-one.one-index c.args.all.now.items c.loop-one.all.items c.args.seen.now c.loop-one.seen told c.requires
+    shows c.loop-one-test.true c.one-item.is c.loop-one.invariant.all can)
     c.in_err-list.ensures.cause)
 
 pub loop-one-preserved : goal.loop-one-preserved
@@ -38,8 +39,8 @@ loop-one-preserved g t c =
           c.list.ensures.kept;
       quiet = c.in_ok-list.ensures.quiet ∙ c.loop-one.invariant.quiet;
       all = lists_more s (g.N.Nodes.stands c.loop-one.nodes) c.children-one-items.result.now c.loop-one.one-index
-          c.one-item.result c.args.dir.now c.loop-one.dir c.list.new.dir same c.loop-one-test.true c.one-item.is
-          c.loop-one.invariant.all c.in_ok-list.ensures.lists;
+          c.one-item.result c.args.all.now.items c.loop-one.all.items c.list.new.all.items
+          c.args.seen.now c.loop-one.seen c.list.new.seen same c.loop-one-test.true c.one-item.is c.loop-one.invariant.all c.in_ok-list.ensures.lists;
       fetched = λ told. fetched_more s (g.N.Nodes.stands c.loop-one.nodes) c.children-one-items.result.now
           c.loop-one.one-index c.one-item.result (next_count (g.N.Nodes.fetches c.args.nodes.now))
           (g.N.Nodes.fetches c.loop-one.nodes) (g.N.Nodes.fetches c.list.new.nodes) same c.one-item.is
@@ -53,7 +54,8 @@ returns-then-level-eq0-clause-lists g t c =
     let is = c.records.ensures.leaf (sym c.level.ensures.value ∙ c.if-level-eq0.true)
     ∙ ap Leaf (sym c.records.ensures.value) in
     on_ok c.list_leaf.result _ _
-    (lists_leaf hash s c.args.child.now c.records.result.now c.args.dir.now c.list_leaf.new.dir c.requires
+    (lists_leaf hash s c.args.child.now c.records.result.now c.args.all.now.items c.list_leaf.new.all.items
+    c.args.seen.now c.list_leaf.new.seen c.requires
     (subst (Shows hash s c.args.child.now) is c.in_ok-look.ensures.shows))
     c.list_leaf.ensures.lists
 
@@ -64,7 +66,7 @@ returns-then-level-eq0-clause-cause g t c =
     let is = c.records.ensures.leaf (sym c.level.ensures.value ∙ c.if-level-eq0.true)
     ∙ ap Leaf (sym c.records.ensures.value) in
     if_err c.list_leaf.result _ _
-    (λ e h. twice_refuses hash s c.args.root c.args.child.now c.records.result.now c.args.dir.now
+    (λ e h. twice_refuses hash s c.args.root c.args.child.now c.records.result.now c.args.seen.now
     (g.N.Nodes.faults c.args.nodes.now) (g.N.Nodes.faults c.look.new.nodes) e c.requires
     (subst (Shows hash s c.args.child.now) is c.in_ok-look.ensures.shows) c.in_ok-look.ensures.quiet h)
     c.list_leaf.ensures.twice
@@ -76,16 +78,17 @@ returns-after-loop-one-clause-lists g t c =
     let high : 0 < c.level.result = omega (arith, c.if-level-eq0.false) in
     let is = c.children-one-items.ensures.inner (subst (λ n. 0 < n) c.level.ensures.value high)
     ∙ ap Inner (sym c.children-one-items.ensures.value) in
-    lists_inner hash s c.args.child.now c.children-one-items.result.now c.args.dir.now c.loop-one.dir c.requires
+    lists_inner hash s c.args.child.now c.children-one-items.result.now c.args.all.now.items c.loop-one.all.items
+    c.args.seen.now c.loop-one.seen c.requires
     (subst (Shows hash s c.args.child.now) is c.in_ok-look.ensures.shows)
-    (subst (λ cs. ListsAll s cs c.args.dir.now c.loop-one.dir)
+    (subst (λ cs. ListsAll s cs c.args.all.now.items c.loop-one.all.items c.args.seen.now c.loop-one.seen)
     (take_all c.loop-one.one-index c.children-one-items.result.now c.loop-one-test.false) c.loop-one.invariant.all)
 
 pub loop-one-init : goal.loop-one-init
 loop-one-init g t c = record {
   kept = c.look.ensures.kept;
   quiet = c.in_ok-look.ensures.quiet;
-  all = lists_none (g.N.Nodes.stands c.args.nodes.now) c.args.dir.now;
+  all = lists_none (g.N.Nodes.stands c.args.nodes.now) c.args.all.now.items c.args.seen.now;
   fetched = λ told. omega (arith, c.look.ensures.counted);
 }
 

@@ -1,6 +1,7 @@
-use Rattle.mr_edit.proofs.Listings.{ListedFirst}
+use Rattle.std.proofs.Common.{◌≡◌, ◌++◌, map, take}
+use Rattle.mr_edit.specs.Listing.{entry_of}
 use Rattle.mr_edit.proofs.listing.list_records.Given as goal
 
 -- the first ones are listed
 abbrev pub invariant-loop-one : goal.invariant-loop-one
-invariant-loop-one l = ListedFirst l.one-index l.records l.initial.dir l.dir
+invariant-loop-one l = l.all.items ≡ l.initial.all.items ++ map entry_of (take l.one-index l.records)
