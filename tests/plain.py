@@ -81,11 +81,14 @@ class Node:
     def level(self):
         return 0 if self.is_leaf else 1 + self.entries[0].level()
 
-    def digest(self):
+    def preimage(self):
         if self.is_leaf:
-            return digest(b"L" + bytes([len(self.entries)]) + b"".join(record_bytes(r) for r in self.entries))
+            return b"L" + bytes([len(self.entries)]) + b"".join(record_bytes(r) for r in self.entries)
         front = b"N" + bytes([self.level(), len(self.entries)])
-        return digest(front + b"".join(struct.pack(">4i", *e.rect) + e.digest() for e in self.entries))
+        return front + b"".join(struct.pack(">4i", *e.rect) + e.digest() for e in self.entries)
+
+    def digest(self):
+        return digest(self.preimage())
 
 
 def record_bytes(record):
@@ -93,11 +96,15 @@ def record_bytes(record):
     return struct.pack(">Q4i", number, *rect) + bytes([len(payload)]) + payload
 
 
-def root(tree, batch):
+def root_preimage(tree, batch):
     if tree is None:
-        return digest(b"E\x01" + struct.pack(">Q", batch)).hex()
+        return b"E\x01" + struct.pack(">Q", batch)
     front = b"R\x01" + struct.pack(">QQ", batch, len(tree.records())) + bytes([tree.level()])
-    return digest(front + struct.pack(">4i", *tree.rect) + tree.digest()).hex()
+    return front + struct.pack(">4i", *tree.rect) + tree.digest()
+
+
+def root(tree, batch):
+    return digest(root_preimage(tree, batch)).hex()
 
 
 def grouped(entries, most):
@@ -160,8 +167,9 @@ def take(node, number, aside):
     node.renew()
 
 
-def deleted(tree, number):
-    aside = []
+def deleted(tree, number, aside=None):
+    """The tree without the record; the records that are set aside are added to a list, if one is given."""
+    aside = [] if aside is None else aside
     take(tree, number, aside)
     if tree.is_leaf and not tree.entries:
         tree = None
