@@ -8,7 +8,8 @@ usage: tests/plain.py RECORDS [BATCH ..]
 Prints the root digest of the map of the record text in the file RECORDS, and then that after each batch in turn, or
 the line on the first batch that may not be applied. It takes texts to be without a fault. `make` prints the text that
 the program's command of that name writes to a file, `demo` what the program's prints. With no words it prints the
-roots in the stories of crates/mr_rows, by their names. The gate does not run it; tests/clients takes its functions.
+roots in the stories of crates/mr_rows, by their names, and those of crates/mr_tests/src/plainly.rt. The gate does not
+run it; tests/clients takes its functions.
 """
 import hashlib
 import math
@@ -355,11 +356,39 @@ STORIES = {
     "a proof of more than 1 MiB": (places(1, 45000), []),
 }
 
+# The batches of crates/mr_tests/src/plainly.rt: how many numbers are taken, whether in steps, and whether records come
+# and go.
+DRAWS = [(900, True, "+"), (300, False, "+-"), (1200, True, "-"), (200, False, "+-"), (2400, True, "+-")]
+
+
+def drawn(draws, count, state):
+    there = set()
+
+    def word():
+        nonlocal state
+        state = (state * 6364136223846793005 + 1442695040888963407) % 2**64
+        return state >> 33
+
+    for batch, (taken, stepped, signs) in enumerate(draws, 1):
+        changes = []
+        for place_ in range(taken):
+            number = place_ * 487 % count if stepped else word() % count
+            if number in there and "-" in signs:
+                there.remove(number)
+                changes.append(number)
+            elif number not in there and "+" in signs:
+                there.add(number)
+                x, y = word() % 20000, word() % 20000
+                changes.append((number, (x, y, x + number % 40, y + number % 7), b""))
+        yield batch, changes
+
+
 if __name__ != "__main__":
     pass  # its functions are taken
 elif len(sys.argv) == 1:
     for name, (records, batches) in STORIES.items():
         print(name, *lines_of(records, batches), sep="\n")
+    print("batches that are drawn", *lines_of([], drawn(DRAWS, 1200, 1)), sep="\n")
     print("two thousand records that are made", root(pack(list(generated(2000, 1))), 0), sep="\n")
     print("a demonstration", *demo_lines(1000, 1), sep="\n")
 elif sys.argv[1:2] == ["make"]:
