@@ -8,7 +8,8 @@ usage: tests/plain.py RECORDS [BATCH ..]
 Prints the root digest of the map of the record text in the file RECORDS, and then that after each batch in turn, or
 the line on the first batch that may not be applied. It takes texts to be without a fault. `make` prints the text that
 the program's command of that name writes to a file, `demo` what the program's prints. With no words it prints the
-roots in the stories of crates/mr_rows, by their names. The gate does not run it; tests/clients takes its functions.
+roots in the stories of crates/mr_rows, by their names, and those of crates/mr_tests/src/plainly.rt. The gate does not
+run it; tests/clients takes its functions.
 """
 import hashlib
 import math
@@ -81,11 +82,14 @@ class Node:
     def level(self):
         return 0 if self.is_leaf else 1 + self.entries[0].level()
 
-    def digest(self):
+    def preimage(self):
         if self.is_leaf:
-            return digest(b"L" + bytes([len(self.entries)]) + b"".join(record_bytes(r) for r in self.entries))
+            return b"L" + bytes([len(self.entries)]) + b"".join(record_bytes(r) for r in self.entries)
         front = b"N" + bytes([self.level(), len(self.entries)])
-        return digest(front + b"".join(struct.pack(">4i", *e.rect) + e.digest() for e in self.entries))
+        return front + b"".join(struct.pack(">4i", *e.rect) + e.digest() for e in self.entries)
+
+    def digest(self):
+        return digest(self.preimage())
 
 
 def record_bytes(record):
@@ -93,11 +97,15 @@ def record_bytes(record):
     return struct.pack(">Q4i", number, *rect) + bytes([len(payload)]) + payload
 
 
-def root(tree, batch):
+def root_preimage(tree, batch):
     if tree is None:
-        return digest(b"E\x01" + struct.pack(">Q", batch)).hex()
+        return b"E\x01" + struct.pack(">Q", batch)
     front = b"R\x01" + struct.pack(">QQ", batch, len(tree.records())) + bytes([tree.level()])
-    return digest(front + struct.pack(">4i", *tree.rect) + tree.digest()).hex()
+    return front + struct.pack(">4i", *tree.rect) + tree.digest()
+
+
+def root(tree, batch):
+    return digest(root_preimage(tree, batch)).hex()
 
 
 def grouped(entries, most):
@@ -160,8 +168,9 @@ def take(node, number, aside):
     node.renew()
 
 
-def deleted(tree, number):
-    aside = []
+def deleted(tree, number, aside=None):
+    """The tree without the record; the records that are set aside are added to a list, if one is given."""
+    aside = [] if aside is None else aside
     take(tree, number, aside)
     if tree.is_leaf and not tree.entries:
         tree = None
@@ -347,11 +356,39 @@ STORIES = {
     "a proof of more than 1 MiB": (places(1, 45000), []),
 }
 
+# The batches of crates/mr_tests/src/plainly.rt: how many numbers are taken, whether in steps, and whether records come
+# and go.
+DRAWS = [(900, True, "+"), (300, False, "+-"), (1200, True, "-"), (200, False, "+-"), (2400, True, "+-")]
+
+
+def drawn(draws, count, state):
+    there = set()
+
+    def word():
+        nonlocal state
+        state = (state * 6364136223846793005 + 1442695040888963407) % 2**64
+        return state >> 33
+
+    for batch, (taken, stepped, signs) in enumerate(draws, 1):
+        changes = []
+        for place_ in range(taken):
+            number = place_ * 487 % count if stepped else word() % count
+            if number in there and "-" in signs:
+                there.remove(number)
+                changes.append(number)
+            elif number not in there and "+" in signs:
+                there.add(number)
+                x, y = word() % 20000, word() % 20000
+                changes.append((number, (x, y, x + number % 40, y + number % 7), b""))
+        yield batch, changes
+
+
 if __name__ != "__main__":
     pass  # its functions are taken
 elif len(sys.argv) == 1:
     for name, (records, batches) in STORIES.items():
         print(name, *lines_of(records, batches), sep="\n")
+    print("batches that are drawn", *lines_of([], drawn(DRAWS, 1200, 1)), sep="\n")
     print("two thousand records that are made", root(pack(list(generated(2000, 1))), 0), sep="\n")
     print("a demonstration", *demo_lines(1000, 1), sep="\n")
 elif sys.argv[1:2] == ["make"]:

@@ -11,6 +11,7 @@ from typing import Callable, List, Optional, Tuple
 
 from bench import TOP, Bench, read, write
 import chances
+import foretold
 import mrtree_check
 import tables
 import trips
@@ -110,22 +111,6 @@ def client_says(bench: Bench, vector: vectors.Vector, where: str) -> None:
 # ---- the tables of the program's own tests
 
 
-def exclusive_or(preimage: bytes) -> bytes:
-    """The hash function of most of these tables: 31 zeros, and the exclusive or of all bytes."""
-    last = 0
-    for byte in preimage:
-        last ^= byte
-    return bytes(31) + bytes([last])
-
-
-def says_under(bench: Bench, words: List[str], hash_: Callable) -> bytes:
-    """What the client prints where this is the hash function."""
-    kept, mrtree_check.digest = mrtree_check.digest, hash_
-    said = bench.client(words)[1]
-    mrtree_check.digest = kept
-    return said
-
-
 def rows_hold(bench: Bench) -> None:
     """The rows and stories of crates/mr_rows: what they print under their hash, and both clients under SHA-256."""
     folder, checks = os.path.join(TOP, "crates", "mr_rows"), 0
@@ -148,7 +133,8 @@ def row_holds(bench: Bench, row: tables.Group) -> int:
     """A row is as it says under one of the two hash functions; both clients agree on its proof. Answers how many."""
     words = row.first("run").words.replace("..", tables.ZEROS).split(" ")
     text = row.text(row.first("prints"))
-    said = [says_under(bench, words, hash_) for hash_ in (exclusive_or, mrtree_check.digest)]
+    hashes = (foretold.exclusive_or, foretold.sha_256)
+    said = [foretold.under(hash_, lambda: bench.client(words)[1]) for hash_ in hashes]
     bench.holds(text in said, "the row '%s': the client says %s" % (row.name(), said))
     found = bench.agree(words, "the row '%s'" % row.name())[1]
     if b" found " in found:
@@ -198,6 +184,7 @@ def main(how: str, program: str) -> int:
         ("the rules that vectors show", each_rule_is_shown),
         ("vectors", lambda bench: vectors_hold(bench, "vectors.tsv")),
         ("the tables of the program's tests", rows_hold),
+        ("the same tables, foretold", foretold.tables_hold),
         ("proofs at random", chances.random_proofs),
         ("from files of publishers and back", trips.trips_hold),
     ]

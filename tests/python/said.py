@@ -3,13 +3,12 @@
 A text or a map that breaks a rule is told by the line that is printed of it. Proofs and bundles are judged by the
 client in clients/python. Slow: for maps of a few thousand records.
 """
-import hashlib
 import re
 import struct
-from typing import Any, Dict, List, NamedTuple, Optional, Set, Tuple
+from typing import Any, Dict, Iterator, List, NamedTuple, Optional, Set, Tuple
 
 from bench import Ended, mrtree_check
-from proofs import honest, plain
+from proofs import Item, Layout, honest, plain
 
 PAGE = 4096
 MOST_RECORDS = 2**20
@@ -200,7 +199,7 @@ class Walk:
             raise told_of_map(page, "Twice")
         self.reached.add(page)
         parts, preimage = self.parts(named)
-        found = hashlib.sha256(preimage).digest()
+        found = plain.digest(preimage)
         if found != named.digest:
             raise told_of_map(page, "Digest", " held %s found %s" % (named.digest.hex(), found.hex()))
         if plain.union([part[1] if named.level == 0 else part.rect for part in parts]) != named.rect:
@@ -366,14 +365,67 @@ def say_prove(words: List[str], files: Files) -> Meant:
     return Meant((0, line("proof %d" % len(made))), made)
 
 
+class Shown(NamedTuple):
+    """What a proof shows of a node: rectangle, digest and preimage (none of a pruned one), and its children."""
+
+    rect: Tuple[int, ...]
+    digest: bytes
+    preimage: bytes
+    children: List["Shown"]
+
+
+def shown(proof: bytes, item: Item) -> Shown:
+    """What an item of an accepted proof shows."""
+    bytes_ = proof[item.start : item.end]
+    if item.tag == ord("P"):
+        return Shown(struct.unpack(">4i", bytes_[1:17]), bytes_[17:], b"", [])
+    children = [shown(proof, child) for child in item.children]
+    rects, at = [child.rect for child in children], 2
+    while item.tag == ord("L") and at < len(bytes_):
+        rects.append(struct.unpack(">4i", bytes_[at + 8 : at + 24]))
+        at += 25 + bytes_[at + 24]
+    if item.tag == ord("N"):
+        parts = [struct.pack(">4i", *child.rect) + child.digest for child in children]
+        bytes_ = b"N" + bytes([item.level, len(parts)]) + b"".join(parts)
+    return Shown(plain.union(rects), plain.digest(bytes_), bytes_, children)
+
+
+def root_preimages(tree: Any, batch: int, proof: bytes) -> Tuple[bytes, bytes]:
+    """The preimages of the roots of a map and of an accepted proof."""
+    layout = Layout(proof)
+    theirs = b"E\x01" + proof[6:14]
+    if layout.root:
+        one = shown(proof, layout.root)
+        theirs = b"R\x01" + proof[6:22] + bytes([layout.root.level]) + struct.pack(">4i", *one.rect) + one.digest
+    return plain.root_preimage(tree, batch), theirs
+
+
+def preimages(node: Any, one: Shown) -> Iterator[Tuple[bytes, bytes]]:
+    """The preimages of a node and those below it, and of what a proof shows in their places, down to a difference."""
+    if one.preimage:
+        yield node.preimage(), one.preimage
+        for child, part in zip([] if node.is_leaf else node.entries, one.children):
+            yield from preimages(child, part)
+
+
+def collision(tree: Any, batch: int, proof: bytes) -> Optional[Tuple[bytes, bytes]]:
+    """The first two preimages that differ, of a map and of an accepted proof."""
+    pairs = [root_preimages(tree, batch, proof)]
+    root = Layout(proof).root
+    if tree is not None and root is not None and pairs[0][0] == pairs[0][1]:
+        pairs = preimages(tree, shown(proof, root))
+    return next((pair for pair in pairs if pair[0] != pair[1]), None)
+
+
 def say_audit(words: List[str], files: Files) -> Meant:
-    """`audit`; that two strings have one SHA-256 is not reckoned with."""
-    query = query_of(words[2])
+    """`audit`."""
+    query_of(words[2])
     tree, batch = read_map(file_of(files, words[1]))
-    file_of(files, words[3])
+    proof = file_of(files, words[3])
     status, text = mrtree_check.run(["check", plain.root(tree, batch), *words[2:]])
-    if status == 0 and file_of(files, words[3]) != honest(tree, batch, query):
-        return Meant((6, b"collision\n"))
+    pair = collision(tree, batch, proof) if status == 0 else None
+    if pair:
+        return Meant((6, b"collision\n%s\n%s\n" % (pair[0].hex().encode(), pair[1].hex().encode())))
     return Meant((status, (b"sound\n" if status == 0 else b"") + text.encode()))
 
 

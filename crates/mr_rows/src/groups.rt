@@ -1,5 +1,5 @@
 //! Whether the groups of a table hold: rows, stories, and command lines that spell no command. Of a
-//! story it is not asked which files are left that it does not speak of.
+//! story it is not asked what is left of a file that it makes or changes and does not speak of.
 
 use crate::lines::{begins, bytes_at, group_at, item, key_at};
 use crate::steps::{Said, is_so, went};
@@ -60,18 +60,64 @@ fn has(group: &[&str], name: &str) -> bool {
     false
 }
 
+// Whether a word is one of these.
+fn is_among(words: &str, word: &str) -> bool {
+    for one in words.split(' ') {
+        if one == word {
+            return true;
+        }
+    }
+    false
+}
+
+// Whether a line of one of these two keys has this word.
+fn has_word(group: &[&str], keys: (&str, &str), word: &str) -> bool {
+    for line in group {
+        let (key, words) = item(line);
+        if (key == keys.0 || key == keys.1) && is_among(words, word) {
+            return true;
+        }
+    }
+    false
+}
+
+// Whether a file of this name was made.
+fn is_made(made: &[String], name: &str) -> bool {
+    for one in made {
+        if one.as_str() == name {
+            return true;
+        }
+    }
+    false
+}
+
+// Whether it is not asked what is left of a file: a story makes or changes it.
+fn is_free(group: &[&str], made: &[String], name: &str) -> bool {
+    key_at(group, 0) == "story"
+        && (is_made(made, name) || has_word(group, ("change", "lay out"), name))
+}
+
+// Whether a group names a file that was made: a story by a command line alone.
+fn names(group: &[&str], name: &str) -> bool {
+    if key_at(group, 0) == "story" {
+        has_word(group, ("run", "do"), name)
+    } else {
+        has(group, name) || tells(group, name)
+    }
+}
+
 // Whether a group names each file that was made.
 fn names_each(group: &[&str], made: &[String]) -> bool {
     for name in made {
-        if !has(group, name.as_str()) && !tells(group, name.as_str()) {
+        if !names(group, name.as_str()) {
             return false;
         }
     }
     true
 }
 
-// Whether all files of a group are as before, but for those of which it says what is left, and no
-// other file was made.
+// Whether all files of a group are as before, but for those of which it says what is left or that
+// a story makes or changes, and no other file was made.
 fn is_left(
     alloc: Global,
     table: &[&str],
@@ -80,7 +126,7 @@ fn is_left(
 ) -> Result<bool, AllocError> {
     for (at, line) in group.iter().enumerate() {
         let (key, name) = item(line);
-        if key == "file" && !tells(group, name) {
+        if key == "file" && !tells(group, name) && !is_free(group, &shelf.made, name) {
             let bytes = bytes_at(alloc, table, group, at, (key, name))?;
             if shelf.shelf.file(name) != bytes.as_deref() {
                 return Ok(false);
@@ -128,6 +174,11 @@ fn done<R: Threads + Sync>(
     }
 }
 
+// Whether an item speaks of a run before there was one.
+fn is_early(key: &str, said: &Said) -> bool {
+    !said.has_run && matches!(key, "status" | "prints" | "prints front" | "reads")
+}
+
 // Whether the item on this line is so.
 fn holds_at(
     alloc: Global,
@@ -139,7 +190,7 @@ fn holds_at(
     shelf: &mut MemShelf,
     said: &Said,
 ) -> Result<bool, AllocError> {
-    if item.0 == "do" && said.status != 0 {
+    if item.0 == "do" && said.status != 0 || is_early(item.0, said) {
         return Ok(false);
     }
     match bytes_at(alloc, table, group, at, item)? {
@@ -189,7 +240,7 @@ fn first_untrue<R: Threads + Sync>(
             return Ok(Some(at));
         }
     }
-    let is_left = key_at(group, 0) == "story" || is_left(alloc, table, group, &shelf)?;
+    let is_left = is_left(alloc, table, group, &shelf)?;
     Ok(if is_left { None } else { Some(group.len()) })
 }
 
@@ -279,6 +330,20 @@ fn is_known(key: &str) -> bool {
     file || run || rest || begins(key)
 }
 
+// Whether an item of this key says something in a group that begins with such a key.
+fn has_meaning(begin: &str, key: &str) -> bool {
+    match begin {
+        "row" | "false row" | "story" => key != "line",
+        "bad words" => matches!(key, "file" | "line"),
+        _ => false,
+    }
+}
+
+// Whether an item has a meaning where it stands, behind the line of this key that began a group.
+fn is_meant(begin: &str, key: &str) -> bool {
+    key.is_empty() || begins(key) || has_meaning(begin, key)
+}
+
 // Whether parts stand below an item of this key.
 fn takes_parts(key: &str) -> bool {
     matches!(
@@ -349,10 +414,15 @@ pub(crate) fn tallied<R: Threads + Sync>(
     };
     let mut is_sha = false;
     let mut takes = false;
+    let mut begin = 0usize;
     for (at, line) in table.iter().enumerate() {
         let (key, words) = item(line);
-        if !is_placed(line, takes) || !is_read(alloc, key, words)? {
+        let is_meant = is_meant(key_at(table, begin), key);
+        if !is_placed(line, takes) || !is_meant || !is_read(alloc, key, words)? {
             note(alloc, &mut tally, at, line, Some(0))?;
+        }
+        if begins(key) {
+            begin = at;
         }
         if !line.starts_with(' ') {
             takes = takes_parts(key);

@@ -1,5 +1,7 @@
 //! Batches that are drawn, on a map that is filled, emptied and filled again: applied to its pages
-//! by the command, and to its tree in memory by the plain calls. The two maps are one.
+//! by the command, and to its tree in memory by the plain calls. The two maps are one: after each
+//! batch `list` prints the same of both files, and `prove` writes the same proofs, which `check`
+//! accepts. The roots are from a program of another language.
 
 ghost use Rattle.std.specs.Prelude.{IfSome};
 ghost use Rattle.mr_tree.specs.WellFormed.{WellFormed};
@@ -8,15 +10,16 @@ use crate::assertions::holds;
 use mr_batch::{apply_plain, read_batch};
 use mr_bench::runs::{file_of, ran_on, shelf_of};
 use mr_outside::{MemShelf, MemSink};
-use mr_pages::open_plain;
+use mr_pages::{open_plain, save_plain};
 use mr_record::write_lines;
 use mr_tool::Status::Done;
-use mr_tree::{Sha, Tree, level_of, records_of, root_of};
+use mr_tree::{Sha, Tree, level_of, records_of};
 use std::alloc::{AllocError, Global};
 use std::thread::Threads;
 
 // A batch: so many numbers are drawn, or taken from all in steps. A record that is not there comes
-// and one that is there goes, where the batch has it so. The level of the map's root then.
+// and one that is there goes, where the batch has it so. The level of the map's root then, and the
+// root digest.
 #[derive(Clone, Copy)]
 struct Draw {
     count: u64,
@@ -24,8 +27,10 @@ struct Draw {
     comes: bool,
     goes: bool,
     level: u8,
+    root: &'static str,
 }
 
+// In the last of them each number is taken twice: the map grows by a level and shrinks again.
 const DRAWS: &[Draw] = &[
     Draw {
         count: 900,
@@ -33,6 +38,7 @@ const DRAWS: &[Draw] = &[
         comes: true,
         goes: false,
         level: 2,
+        root: "32dd056e57e588664e83af6014047538cc078741bd2184a4bb838dc0c83e3080",
     },
     Draw {
         count: 300,
@@ -40,6 +46,7 @@ const DRAWS: &[Draw] = &[
         comes: true,
         goes: true,
         level: 2,
+        root: "b9f1f7ecb03a42e3835d455e2bd3a750342cc719fa69c0d686c1f2db192da2da",
     },
     Draw {
         count: 1200,
@@ -47,6 +54,7 @@ const DRAWS: &[Draw] = &[
         comes: false,
         goes: true,
         level: 0,
+        root: "23912edef75448391ad90c0bf5134c56195c3666328d28278c6d0dbd5dbbd950",
     },
     Draw {
         count: 200,
@@ -54,7 +62,25 @@ const DRAWS: &[Draw] = &[
         comes: true,
         goes: true,
         level: 1,
+        root: "bb346176add7229d7fa376307f6ab9772b38a70e667fe404b87b6fd80449b4b0",
     },
+    Draw {
+        count: 2400,
+        stepped: true,
+        comes: true,
+        goes: true,
+        level: 1,
+        root: "9112846686efa984dfa7ac02cca03b989dff02dfbc22dc187c8cf4f2f0f0e22a",
+    },
+];
+
+// What is asked of the map after each batch: of everything, of a part, and of the nearest where
+// there are so many, or are not.
+const QUERIES: &[&str] = &[
+    "window:0,0,20040,20010",
+    "window:4000,9000,9000,12000",
+    "nearest:10000,10000,10",
+    "nearest:0,20000,1024",
 ];
 
 // How many numbers there are.
@@ -160,56 +186,111 @@ fn lines_of(alloc: Global, tree: &Tree) -> Option<MemSink> {
     }
 }
 
-// The line on a root.
-fn root_line(alloc: Global, tree: &Tree, batch: u64) -> Result<String, AllocError>
-    requires { WellFormed tree.now }
-{
-    let mut line = hex::encode(alloc, &root_of::<Sha>(tree, batch))?;
-    line.push_str("\n")?;
-    Ok(line)
-}
-
 // Whether two trees have the same records in the same leaves' order.
 fn are_alike(alloc: Global, one: &Tree, other: &Tree) -> Option<bool> {
     Some(lines_of(alloc, one)?.bytes() == lines_of(alloc, other)?.bytes())
 }
 
-// Whether the map in a file is of this tree, the root of which was printed.
-fn is_of(
-    alloc: Global,
-    shelf: &mut MemShelf,
-    tree: &Tree,
-    batch: u64,
-    said: &[u8],
-) -> Result<bool, AllocError>
-    requires { WellFormed tree.now }
-{
-    let told = root_line(alloc, tree, batch)?.as_bytes() == said;
+// Whether the map that the command left is of this tree.
+fn is_of(alloc: Global, shelf: &mut MemShelf, tree: &Tree) -> bool {
     match tree_in(alloc, shelf, "n") {
-        Some(found) => Ok(told && are_alike(alloc, &found, tree) == Some(true)),
-        None => Ok(false),
+        Some(found) => are_alike(alloc, &found, tree) == Some(true),
+        None => false,
     }
 }
 
+// Writes a tree's map to file `t`, which knows nothing of the pages of the other one.
+fn is_laid_out(alloc: Global, shelf: &mut MemShelf, tree: &Tree, batch: u64) -> bool
+    requires { WellFormed tree.now }
+{
+    save_plain::<Sha, MemShelf>(alloc, shelf, "t", tree, batch).is_ok()
+}
+
+// Adds what a command line prints, where it was done.
+fn told<R: Threads + Sync>(
+    rt: &R,
+    alloc: Global,
+    line: &str,
+    shelf: MemShelf,
+    shown: &mut Vec<u8>,
+) -> Result<(MemShelf, bool), AllocError> {
+    let (status, left) = ran_on::<Sha, R>(rt, alloc, line, shelf, shown)?;
+    Ok((left, status == Done))
+}
+
+// Adds what `prove` prints of a map and a query, the proof, and what `check` finds in it.
+fn proved<R: Threads + Sync>(
+    rt: &R,
+    alloc: Global,
+    map: &str,
+    query: &str,
+    root: &str,
+    shelf: MemShelf,
+    shown: &mut Vec<u8>,
+) -> Result<(MemShelf, bool), AllocError> {
+    let prove = format!(in alloc; "prove {map} {query} p")?;
+    let (left, is_proved) = told(rt, alloc, prove.as_str(), shelf, shown)?;
+    shown.extend_from_slice(&file_of(alloc, &left, "p")?)?;
+    let check = format!(in alloc; "check {root} {query} p")?;
+    let (left, is_accepted) = told(rt, alloc, check.as_str(), left, shown)?;
+    Ok((left, is_proved && is_accepted))
+}
+
+// All that is shown of a map: its list, and what is asked of it. None where a run was not done.
+fn shown_of<R: Threads + Sync>(
+    rt: &R,
+    alloc: Global,
+    map: &str,
+    root: &str,
+    shelf: MemShelf,
+) -> Result<(MemShelf, Option<Vec<u8>>), AllocError> {
+    let mut shown = Vec::new(alloc);
+    let list = format!(in alloc; "list {map}")?;
+    let (left, is_listed) = told(rt, alloc, list.as_str(), shelf, &mut shown)?;
+    let mut shelf = left;
+    let mut is_done = is_listed;
+    for query in QUERIES {
+        let (left, is_proved) = proved(rt, alloc, map, query, root, shelf, &mut shown)?;
+        shelf = left;
+        is_done = is_done && is_proved;
+    }
+    Ok((shelf, if is_done { Some(shown) } else { None }))
+}
+
+// Whether the same is shown of the map that the command left and of the one that was laid out.
+fn are_shown_alike<R: Threads + Sync>(
+    rt: &R,
+    alloc: Global,
+    root: &str,
+    shelf: MemShelf,
+) -> Result<(MemShelf, bool), AllocError> {
+    let (left, one) = shown_of(rt, alloc, "n", root, shelf)?;
+    let (left, other) = shown_of(rt, alloc, "t", root, left)?;
+    Ok((left, one.is_some() && one == other))
+}
+
 // Applies the batch in file `b` to the map in file `m` both ways, by the command into file `n`: the
-// shelf then, and whether the map there is of the tree, with a root of this level.
+// shelf then, and whether the two maps are one, with this root and a root node of this level.
 fn applied<R: Threads + Sync>(
     rt: &R,
     alloc: Global,
     shelf: MemShelf,
     batch: u64,
     text: &str,
-    level: u8,
+    draw: &Draw,
 ) -> Result<(MemShelf, bool), AllocError> {
     let mut shelf = shelf;
     let Some(tree) = tree_after(alloc, &mut shelf, batch, text) else {
         return Ok((shelf, false));
     };
+    let is_laid = is_laid_out(alloc, &mut shelf, &tree, batch);
     let mut said = Vec::new(alloc);
-    let (status, left) = ran_on::<Sha, R>(rt, alloc, "apply m b n", shelf, &mut said)?;
+    let (left, is_done) = told(rt, alloc, "apply m b n", shelf, &mut said)?;
     let mut left = left;
-    let same = is_of(alloc, &mut left, &tree, batch, &said)?;
-    Ok((left, status == Done && same && level_of(&tree) == level))
+    let same = is_of(alloc, &mut left, &tree) && level_of(&tree) == draw.level;
+    let is_root = said.starts_with(draw.root.as_bytes());
+    let (left, are_alike) = are_shown_alike(rt, alloc, draw.root, left)?;
+    Ok((left, is_laid && is_done && is_root && same && are_alike))
 }
 
 // The same of a batch that is drawn; the map is in file `m` then.
@@ -225,7 +306,7 @@ fn drawn<R: Threads + Sync>(
     let mut shelf = shelf;
     let text = text_of(alloc, batch, draw, there, seed)?;
     shelf.put("b", text.as_bytes())?;
-    let (left, same) = applied(rt, alloc, shelf, batch, text.as_str(), draw.level)?;
+    let (left, same) = applied(rt, alloc, shelf, batch, text.as_str(), draw)?;
     let mut left = left;
     let map = file_of(alloc, &left, "n")?;
     left.put("m", &map)?;

@@ -1,0 +1,456 @@
+"""The rows and stories of crates/mr_rows, foretold: what runs print and leave, and what is left where a call fails.
+
+What comes of a command is that of said.py, by docs/FORMATS.md, under the hash function of the table. Calls that fail
+are foretold from the course of a command's calls, as the rows name them: a text or a proof is asked for its size and
+read by pieces, a map page by page; what a command makes is then made, written and synced, a map's page 0 last. Of what
+is written in a call that fails half is there. Of `apply` the calls between the copy of OLD and the first sync are not
+foretold one by one: whichever they are, a file that they leave is Unsealed, or is of a bad Size just where a page was
+being added, which comes about as often as the file has pages more than OLD.
+"""
+import hashlib
+import os
+import re
+from typing import Any, Callable, Dict, List, NamedTuple, Optional, Set, Tuple
+
+from bench import TOP, Bench, Ended, mrtree_check, write
+from proofs import plain
+import said
+import tables
+
+PIECE = 65536  # bytes of a text that are read by one call, and the most that are printed by one
+ROOM = 512  # bytes for one more line, without which a piece of lines goes out
+KEPT = 256  # nodes of a map that are kept
+WHOSE = ("shelf", "sink")  # whose calls fail
+LEFT = ("leaves", "front", "makes", "absent")  # what is said of a file
+SIZE, UNSEALED = (b"bad map page 0 %s\n" % rule for rule in (b"Size", b"Unsealed"))
+
+
+# ---- which words spell a command
+
+
+def is_name(word: str) -> bool:
+    """Whether it may name a file."""
+    return word != ""
+
+
+def is_count(least: int, most: int) -> Callable[[str], bool]:
+    """What tells whether a word is a canonical decimal in these bounds."""
+    return lambda word: said.number_of(word.encode(), least, most) is not None
+
+
+def is_root(word: str) -> bool:
+    """Whether it is a root digest."""
+    return re.fullmatch("[0-9a-f]{64}", word) is not None
+
+
+def is_query(word: str) -> bool:
+    """Whether it is a query word."""
+    return said.read_query(word.encode()) is not None
+
+
+FORMS: Dict[str, List[Callable[[str], bool]]] = {
+    "root": [is_name],
+    "build": [is_name, is_name],
+    "list": [is_name],
+    "apply": [is_name, is_name, is_name],
+    "prove": [is_name, is_query, is_name],
+    "check": [is_root, is_query, is_name],
+    "audit": [is_name, is_query, is_name],
+    "serve": [is_name, is_name, is_name],
+    "check-all": [is_root, is_name, is_name],
+    "make": [is_count(0, 2**20), is_count(0, 2**64 - 1), is_name],
+    "demo": [is_count(1, 65536), is_count(0, 2**64 - 1)],
+}
+
+
+def is_command(words: List[str]) -> bool:
+    """Whether these words spell a command."""
+    form = FORMS.get(words[0], None)
+    if form is None or len(form) != len(words) - 1 or not all(test(word) for test, word in zip(form, words[1:])):
+        return False
+    names = [word for test, word in zip(form, words[1:]) if test is is_name]
+    return len(set(names)) == len(names)
+
+
+# ---- the calls of a command
+
+
+class Call(NamedTuple):
+    """A call on a file: `asks` its size, `reads`, `makes`, `adds` bytes at its end, `heads` them, or `syncs`.
+
+    Of `apply` also one that `edits` it, and the one behind all of those, at which it `holds` these bytes.
+    """
+
+    kind: str
+    bytes_: bytes = b""
+
+
+def reads_text(bytes_: Optional[bytes]) -> List[Call]:
+    """The calls by which a text, a proof or a bundle is read."""
+    return [Call("asks")] + [Call("reads")] * -(-len(bytes_ or b"") // PIECE)
+
+
+def reads_map(bytes_: Optional[bytes]) -> List[Call]:
+    """The calls by which a map of at most 257 pages is read."""
+    return [Call("asks")] + [Call("reads")] * (len(bytes_ or b"") // said.PAGE)
+
+
+def made_of(words: List[str]) -> str:
+    """The name of the file that a command makes, or none."""
+    if words[0] not in ("build", "make", "prove", "serve", "apply"):
+        return ""
+    return words[1] if words[0] == "build" else words[3]
+
+
+def course(words: List[str], files: said.Files, made: Optional[bytes]) -> List[Call]:
+    """The calls of a run that is done; of `apply` up to the end of the copy."""
+    of = lambda at: files.get(words[at])
+    inputs = {
+        "root": lambda: reads_text(of(1)),
+        "build": lambda: reads_text(of(2)),
+        "list": lambda: reads_map(of(1)),
+        "apply": lambda: reads_map(of(1)) + reads_text(of(2)),
+        "prove": lambda: reads_map(of(1)),
+        "check": lambda: reads_text(of(3)),
+        "audit": lambda: reads_map(of(1)) + reads_text(of(3)),
+        "serve": lambda: reads_map(of(1)) + reads_text(of(2)),
+        "check-all": lambda: reads_text(of(2)) + reads_text(of(3)),
+    }
+    calls = inputs.get(words[0], list)()
+    if made is None:
+        return calls
+    calls.append(Call("makes"))
+    if words[0] == "apply":
+        calls.append(Call("adds", bytes(said.PAGE)))
+        for at in range(said.PAGE, len(of(1)), said.PAGE):
+            calls += [Call("reads"), Call("adds", of(1)[at : at + said.PAGE])]
+    elif words[0] == "build":
+        calls += [Call("adds", bytes(said.PAGE) + made[said.PAGE :]), Call("syncs")]
+        calls += [Call("heads", made[: said.PAGE]), Call("syncs")]
+    else:
+        calls += [Call("adds", made), Call("syncs")]
+    return calls
+
+
+def ending(made: bytes, count: int) -> List[Call]:
+    """The calls of `apply` behind the copy, of which there are so many: all but the last three are not foretold."""
+    unsealed = bytes(said.PAGE) + made[said.PAGE :]
+    return [Call("edits")] * (count - 3) + [Call("holds", unsealed), Call("heads", made[: said.PAGE]), Call("syncs")]
+
+
+def stopped(calls: List[Call], old: Optional[bytes], at: int) -> Optional[bytes]:
+    """The file that these calls leave where the one of this number, from 1 on, fails; None where it is not there."""
+    left = old
+    for number, (kind, bytes_) in enumerate(calls[:at], 1):
+        part = bytes_[: len(bytes_) // 2] if number == at else bytes_
+        if kind == "makes" and number < at:
+            left = b""
+        elif kind == "adds":
+            left += part
+        elif kind == "heads":
+            left = part + left[len(part) :]
+        elif kind == "holds":
+            left = bytes_
+    return left
+
+
+def pieces_of(text: bytes) -> List[bytes]:
+    """The pieces in which lines go out."""
+    pieces, piece = [], b""
+    for line in text.splitlines(keepends=True):
+        if len(piece) > PIECE - ROOM:
+            pieces.append(piece)
+            piece = b""
+        piece += line
+    return [*pieces, piece]
+
+
+# ---- runs
+
+
+def say_make(words: List[str], files: said.Files) -> said.Meant:
+    """`make`."""
+    made = said.record_lines(list(plain.generated(int(words[1]), int(words[2]))))
+    return said.Meant((0, b"made %s\n" % words[1].encode()), made)
+
+
+def say_demo(words: List[str], files: said.Files) -> said.Meant:
+    """`demo`."""
+    return said.Meant((0, "".join(line + "\n" for line in plain.demo_lines(*map(int, words[1:]))).encode()))
+
+
+def say(words: List[str], files: said.Files) -> said.Meant:
+    """What comes of a command line over these files, which stand in the folder too."""
+    if not is_command(words):
+        return said.Meant((1, b"bad words\n"))
+    more = {"make": say_make, "demo": say_demo}
+    return more[words[0]](words, files) if words[0] in more else said.say(words, files)
+
+
+class Course:
+    """A row or a story that is gone through: its files, and how its last run ended.
+
+    `behind` is how many calls `apply` makes behind the copy; `drafts` has the files that are left in between.
+    """
+
+    def __init__(self, group: tables.Group, behind: int) -> None:
+        self.group, self.files, self.behind = group, dict(group.files()), behind
+        self.open: Set[str] = set()
+        self.drafts: Set[str] = set()
+        fails = [item.words.split(" ") for item in group.items if item.key == "fails"]
+        self.fails = {whose: [int(one) for name, *all_ in fails if name == whose for one in all_] for whose in WHOSE}
+        self.calls, self.runs, self.words = 0, 0, [""]
+        self.ended: Ended = (0, b"")
+        self.reads: Tuple[int, int] = (0, 0)
+        self.pages: Dict[str, Tuple[int, int]] = {}
+        for name, bytes_ in self.files.items():
+            write(name, bytes_)
+
+    def run(self, words: List[str], key: str) -> None:
+        """Does a command line."""
+        self.words, meant, made = words, say(words, self.files), made_of(words)
+        self.reads = reads_of(words, self.files, meant) if self.group.has("reads") else (0, 0)
+        calls = course(words, self.files, meant.made) if meant.ended[0] != 1 else []
+        if words[0] == "apply" and meant.made is not None and self.behind:
+            calls += ending(meant.made, self.behind)
+        failing = [at - self.calls for at in self.fails["shelf"] if 0 < at - self.calls <= len(calls)]
+        self.calls += len(calls)
+        sink = self.fails["sink"] if key == "run" and self.runs == 0 else []
+        self.runs += key == "run"
+        if failing:
+            self.ended = 7, b"" if 1 in sink else b"shelf fault\n"
+            self.put(made, stopped(calls, self.files.get(made), failing[0]))
+            self.drafts |= {made} if calls[failing[0] - 1].kind == "edits" else set()
+            return
+        if meant.made is not None:
+            if words[0] == "apply" and self.group.has("pages"):
+                self.pages[made] = pages_of(words, self.files)
+            self.put(made, meant.made)
+            (self.open.add if words[0] == "apply" else self.open.discard)(made)
+        pieces = pieces_of(meant.ended[1]) if words[0] in ("list", "check") else [meant.ended[1]]
+        told = [at for at in sink if at <= len(pieces)]
+        self.ended = (7, b"".join(pieces[: told[0] - 1])) if told else meant.ended
+
+    def put(self, name: str, bytes_: Optional[bytes]) -> None:
+        """Leaves a file, or none."""
+        if bytes_ is not None:
+            self.files[name] = bytes_
+            write(name, bytes_)
+
+    def bend(self, words: str) -> None:
+        """Changes bytes of a file."""
+        name, _, changes = words.partition(" ")
+        bytes_, numbers = bytearray(self.files[name]), tables.numbers_of(changes)
+        for place, value in zip(numbers[::2], [*numbers[1::2], None]):
+            bytes_[place] = bytes_[place] ^ 1 if value is None else value
+        self.put(name, bytes(bytes_))
+
+    def lay_out(self, words: str) -> None:
+        """Writes the map in one file to another."""
+        name, _, other = words.partition(" ")
+        self.put(other, said.map_bytes(*said.read_map(self.files[name])))
+
+    def left(self, item: tables.Item) -> bool:
+        """Whether a file is left as an item has it. The pages of a map after `apply` may be in any order."""
+        name, _, rest = item.words.partition(" ")
+        bytes_ = self.files.get(name)
+        if item.key == "absent" or bytes_ is None:
+            return item.key == "absent" and bytes_ is None
+        if item.key == "makes" or name in self.open:
+            return True
+        given = self.group.table.bytes_of(item)
+        return bytes_ == given if item.key == "leaves" else given.startswith(bytes_) and len(bytes_) == int(rest)
+
+    def is_so(self, item: tables.Item) -> bool:
+        """Whether it is foretold what an item says."""
+        numbers = tables.numbers_of(item.words)
+        if item.key in LEFT:
+            return self.left(item)
+        if item.key == "status":
+            return numbers == [self.ended[0]]
+        if item.key == "prints" and self.words[0] == "list" and self.words[1] in self.drafts:
+            return self.group.text(item) in (SIZE, UNSEALED)
+        if item.key == "prints":
+            return self.group.text(item) == self.ended[1]
+        if item.key == "prints front":
+            whole = self.group.table.bytes_of(item)
+            return whole.startswith(self.ended[1]) and numbers == [len(self.ended[1])]
+        if item.key == "reads":
+            return self.reads[0] <= numbers[0] and numbers[-1] <= self.reads[1]
+        if item.key == "pages":
+            return self.has_pages(item.words.split(" ")[0], *numbers)
+        if item.key == "hashes":
+            name, length, digits = item.words.split(" ")
+            bytes_ = self.files[name]
+            return (len(bytes_), hashlib.sha256(bytes_).hexdigest()) == (int(length), digits)
+        return True
+
+    def has_pages(self, name: str, pages: int, free: int) -> bool:
+        """Whether the file of a map may have so many pages, and so many free ones."""
+        nodes = len(said.map_bytes(*said.read_map(self.files[name]))) // said.PAGE
+        least, most = self.pages.get(name, (nodes, nodes)) if name in self.open else (nodes, nodes)
+        return free == pages - nodes and max(nodes, least) <= pages <= most
+
+    def untold(self) -> Optional[str]:
+        """A file that is another than before, or was made, of which nothing is said."""
+        told = {item.words.split(" ")[0] for item in self.group.items if item.key in LEFT}
+        before = self.group.files()
+        return next((name for name in self.files if name not in told and self.files[name] != before.get(name)), None)
+
+    def untrue(self) -> Optional[tables.Item]:
+        """The first item that is not foretold, if there is one."""
+        for item in self.group.items:
+            if item.key in ("run", "do"):
+                self.run(item.words.replace("..", tables.ZEROS).split(" "), item.key)
+                if item.key == "do" and self.ended[0] != 0:
+                    return item
+            elif item.key == "change":
+                self.bend(item.words)
+            elif item.key == "lay out":
+                self.lay_out(item.words)
+            elif not self.is_so(item):
+                return item
+        return None
+
+
+def nodes_of(tree: Any) -> int:
+    """How many nodes a tree has."""
+    return 0 if tree is None else 1 if tree.is_leaf else 1 + sum(map(nodes_of, tree.entries))
+
+
+def pages_of(words: List[str], files: said.Files) -> Tuple[int, int]:
+    """The fewest and the most pages of the file that `apply` makes: those of OLD, or by the trees on the way."""
+    old, (tree, _) = len(files[words[1]]) // said.PAGE, said.read_map(files[words[1]])
+    most = nodes_of(tree)
+    for change in said.read_batch(files[words[2]])[1]:
+        tree = plain.inserted(tree, change) if isinstance(change, tuple) else plain.deleted(tree, change)
+        most = max(most, nodes_of(tree))
+    return old, max(old, most + 1)
+
+
+def reads_along(tree: Any, changes: List[Any]) -> int:
+    """How many pages the changes of a batch may read, by docs/DEFINITIONS.md."""
+    reads, look = 0, 0
+    for change in changes:
+        if isinstance(change, tuple):
+            reads += 17
+            tree = plain.inserted(tree, change)
+        else:
+            nodes, aside = nodes_of(tree), []
+            reads += 2 * nodes
+            look = max(look, nodes)
+            tree = plain.deleted(tree, change, aside)
+            reads += 17 * len(aside)
+    return reads + look
+
+
+def reads_of(words: List[str], files: said.Files, meant: said.Meant) -> Tuple[int, int]:
+    """The fewest and the most reads of a run; of a map of more than 257 pages nodes that are not kept are read again."""
+    calls = course(words, files, meant.made) if meant.ended[0] in (0, 2) else []
+    count = sum(call.kind == "reads" for call in calls)
+    place = re.match(rb"refused [A-Za-z]+ at ([0-9]+)", meant.ended[1])
+    if words[0] == "check" and place:
+        return (int(place[1]) // PIECE + 1,) * 2
+    pages = len(files.get(words[1], b"")) // said.PAGE if words[0] in ("prove", "serve", "apply") else 0
+    again = pages - 1 if pages > KEPT + 1 else 0
+    most = count + again
+    if words[0] == "apply" and meant.made is not None:
+        along = reads_along(said.read_map(files[words[1]])[0], said.read_batch(files[words[2]])[1])
+        most += 1 + along
+    return count + max(0, again - KEPT), most
+
+
+# ---- the tables
+
+
+def under(hash_: Callable[[bytes], bytes], what: Callable[[], Any]) -> Any:
+    """What comes of it where this is the hash function."""
+    kept = plain.digest, mrtree_check.digest
+    plain.digest = mrtree_check.digest = hash_
+    try:
+        return what()
+    finally:
+        plain.digest, mrtree_check.digest = kept
+
+
+def exclusive_or(preimage: bytes) -> bytes:
+    """The hash function of most of these tables: 31 zeros, and the exclusive or of all bytes."""
+    last = 0
+    for byte in preimage:
+        last ^= byte
+    return bytes(31) + bytes([last])
+
+
+def sha_256(preimage: bytes) -> bytes:
+    """The hash function of the others."""
+    return hashlib.sha256(preimage).digest()
+
+
+def failing_call(group: tables.Group) -> int:
+    """The number of the first call of the shelf that fails in a row of `apply`, 0 where there is none."""
+    if group.kind() != "row" or not group.first("run").words.startswith("apply ") or not group.has("fails"):
+        return 0
+    whose, *numbers = group.first("fails").words.split(" ")
+    return int(numbers[0]) if whose == "shelf" else 0
+
+
+def series(group: tables.Group) -> str:
+    """The front of the name that rows have in common of which one call after another fails."""
+    return group.name().split(":")[0]
+
+
+class Series:
+    """The rows of `apply` of which one call after another fails: how many calls there are, and are behind the copy."""
+
+    def __init__(self, groups: List[tables.Group]) -> None:
+        self.places = [failing_call(group) for group in groups]
+        row = groups[0]
+        self.words, self.files = row.first("run").words.split(" "), row.files()
+        meant = say(self.words, self.files)
+        self.copied = len(course(self.words, self.files, meant.made))
+        self.behind = max(self.places) - 1 - self.copied
+        self.least, self.most = pages_of(self.words, self.files)
+        self.nodes = len(meant.made) // said.PAGE - 1
+        between = [row for row, at in zip(groups, self.places) if self.copied < at <= self.copied + self.behind - 3]
+        self.sizes = sum(any(row.text(one) == SIZE for one in row.items if one.key == "prints") for row in between)
+
+    def holds(self, bench: Bench, name: str) -> None:
+        """Each call fails once; so many of those behind the copy add a page as the file has pages more than OLD."""
+        whole = list(range(1, self.copied + self.behind + 2))
+        bench.holds(sorted(self.places) == whole, "%s: the calls that fail: %s" % (name, self.places))
+        pages = max(self.nodes + 1, self.least)
+        bench.holds(pages == self.most, "%s: from %d to %d pages" % (name, pages, self.most))
+        bench.holds(self.sizes == pages - self.least, "%s: a bad Size %d times" % (name, self.sizes))
+
+
+def is_foretold(group: tables.Group, behind: int) -> Optional[str]:
+    """What a row or a story says and is not foretold, if there is something."""
+    if group.kind() == "bad words":
+        lines = [item.words[1:-1].replace("..", tables.ZEROS) for item in group.items if item.key == "line"]
+        return next((line for line in lines if is_command(line.split(" "))), None)
+    course_ = Course(group, behind)
+    untrue = course_.untrue()
+    if untrue is not None:
+        return "%s: %s, and %s was foretold" % (untrue.key, untrue.words, course_.ended)
+    return None if group.kind() == "story" else course_.untold()
+
+
+def tables_hold(bench: Bench) -> None:
+    """Each row and story is as it is foretold, and no false row is."""
+    groups = list(tables.groups(os.path.join(TOP, "crates", "mr_rows", "data")))
+    named: Dict[str, List[tables.Group]] = {}
+    for group in groups:
+        if failing_call(group):
+            named.setdefault(series(group), []).append(group)
+    behind = {}
+    for name, rows in named.items():
+        one = under(exclusive_or, lambda rows=rows: Series(rows))
+        one.holds(bench, name)
+        behind[name] = one.behind
+    for group in groups:
+        for name in os.listdir("."):
+            os.remove(name)
+        hash_, count = {"xor": exclusive_or, "sha-256": sha_256}[group.hash], behind.get(series(group), 0)
+        found = under(hash_, lambda: is_foretold(group, count))
+        is_so = found is not None if group.kind() == "false row" else found is None
+        bench.holds(is_so, "the %s '%s': %s" % (group.kind(), group.name(), found))
