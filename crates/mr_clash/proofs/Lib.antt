@@ -1,6 +1,7 @@
 pub mod Levels
 pub mod Taking
 pub mod Nodes
+pub mod OwnNodes
 pub mod Walks
 pub mod Rows
 pub mod Roots

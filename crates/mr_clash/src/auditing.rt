@@ -24,7 +24,7 @@ use mr_outside::Items;
 use mr_proof::accepted_is_honest;
 use mr_query::Query;
 use mr_record::Record;
-use mr_tree::{Entry, Hashes, Nodes, Top, root_digest};
+use mr_tree::{Entry, Hashes, NodeView, Nodes, Top, root_digest};
 use std::alloc::{AllocError, Global};
 
 // The root digest of the map.
@@ -104,7 +104,8 @@ fn walk_root<N: Nodes>(
             digests_are_sized::<N::Hash>();
             is_rect(&root.rect);
             if root.level == said.level {
-                return walk(alloc, nodes, &root, from);
+                let mut view = NodeView::new();
+                return walk(alloc, nodes, &root, &mut view, from);
             }
             let alone = pass_root::<N::Hash>(alloc, said.level, from)?;
             Ok(alone)

@@ -28,7 +28,7 @@ pub(crate) struct Clash {
     pub(crate) shown: Vec<u8>,
 }
 
-fn are_same(one: &[u8], other: &[u8]) -> bool
+pub(crate) fn are_same(one: &[u8], other: &[u8]) -> bool
     ensures { result ≡ bytes_eq one.now other.now }
 {
     one == other

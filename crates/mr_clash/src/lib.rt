@@ -7,6 +7,7 @@ mod error;
 mod finding;
 mod items;
 mod leaf;
+mod own;
 mod rest;
 mod root;
 mod strings;

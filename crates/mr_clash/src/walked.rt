@@ -2,6 +2,7 @@
 
 ghost use Rattle.std.specs.Prelude.{◌≡◌, ◌<◌, ◌^◌, ◌++◌, ℕ, List, IfOk, Some, length, option_map};
 ghost use Rattle.mr_record.specs.declared.record.Record as types;
+ghost use Rattle.mr_tree.specs.View.{level_of, preimage_of};
 ghost use Rattle.mr_proof.specs.Clash.{differ};
 ghost use Rattle.mr_proof.specs.Cut.{Leaf};
 ghost use Rattle.mr_proof.specs.Spelling.{FitsCut, cut_bytes};
@@ -10,9 +11,10 @@ ghost use Rattle.mr_clash.specs.Steps.{left, pair_of, Closed, WalkedLeaf};
 use crate::entry::{bounds, digest_of};
 use crate::finding::{Clash, clash_of, first_of};
 use crate::leaf::leaf_rect;
+use crate::own::{are_own, pass_own_leaf};
 use crate::rest::{Rest, passed};
-use crate::strings::inner_string;
-use mr_tree::{Child, Entry, Hashes};
+use crate::strings::{inner_string, owned_string};
+use mr_tree::{Child, Entry, Hashes, NodeView, is_view};
 use std::alloc::{AllocError, Global};
 
 // What is said of an item, and the first pair of it and all below it.
@@ -43,7 +45,7 @@ fn digest_beside<H: Hashes>(clash: &Option<Clash>, held: [u8; 32], shown: &[u8])
 }
 
 // The leaf that stands next beside a leaf of the map, of which this is the string.
-pub(crate) fn walk_leaf<H: Hashes>(
+fn compare_leaf<H: Hashes>(
     alloc: Global,
     child: &Child,
     owned: Vec<u8>,
@@ -66,8 +68,34 @@ pub(crate) fn walk_leaf<H: Hashes>(
     Ok(Walked { entry, clash })
 }
 
+// The leaf that stands next beside this leaf of the map. Where it is the map's own, it is passed
+// over as it stands, and no string is made.
+pub(crate) fn walk_leaf<H: Hashes>(
+    alloc: Global,
+    child: &Child,
+    view: &NodeView,
+    from: &mut Rest<'_>,
+) -> Result<Walked, AllocError>
+    requires { level_of view.now ≡ 0 }
+    ensures { H.of (preimage_of view.now) ≡ child.now.digest → (rs : List types.Record)
+        (rest : List ℕ) → FitsCut 0 (Leaf rs) → left from.old ≡ cut_bytes (Leaf rs) ++ rest
+        → IfOk result (λ w. WalkedLeaf H.of rs rest (preimage_of view.now) w (left from.new)) }
+{
+    is_view(view);
+    if pass_own_leaf(view.records(), from) {
+        let entry = Entry {
+            level: 0,
+            rect: view.rect(),
+            digest: child.digest,
+        };
+        return Ok(Walked { entry, clash: None });
+    }
+    let owned = owned_string(alloc, view)?;
+    compare_leaf::<H>(alloc, child, owned, from)
+}
+
 // An inner node beside one of the map, of which this is the string, by what its children came to.
-pub(crate) fn close_inner<H: Hashes>(
+fn compare_inner<H: Hashes>(
     alloc: Global,
     child: &Child,
     owned: Vec<u8>,
@@ -89,4 +117,33 @@ pub(crate) fn close_inner<H: Hashes>(
         entry,
         clash: first_of(clash, row.clash),
     })
+}
+
+// An inner node beside this one of the map, by what its children came to. Where that is what the
+// map holds of them, no string is made.
+pub(crate) fn close_inner<H: Hashes>(
+    alloc: Global,
+    child: &Child,
+    view: &NodeView,
+    row: Row,
+) -> Result<Walked, AllocError>
+    requires few { length row.entries.items < 2 ^ 8 }
+    requires inner { 0 < level_of view.now }
+    requires level { level_of view.now ≡ child.now.level }
+    ensures { H.of (preimage_of view.now) ≡ child.now.digest
+        → IfOk result (λ w. Closed H.of child.now.level (preimage_of view.now) row w) }
+{
+    if are_own(view.children(), &row.entries) {
+        let entry = Entry {
+            level: child.level,
+            rect: bounds(&row.entries),
+            digest: child.digest,
+        };
+        return Ok(Walked {
+            entry,
+            clash: row.clash,
+        });
+    }
+    let owned = owned_string(alloc, view)?;
+    compare_inner::<H>(alloc, child, owned, row)
 }

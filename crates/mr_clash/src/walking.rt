@@ -2,7 +2,6 @@
 
 ghost use Rattle.std.specs.Prelude.{◌≡◌, ◌+◌, ◌^◌, ◌<◌, ◌≤◌, ℕ, List, length, All, OnOk, IfOk, IfErr};
 ghost use Rattle.mr_tree.specs.Nodes.{MayFetch, Shows, TellsRefusal};
-ghost use Rattle.mr_tree.specs.View.{preimage_of};
 ghost use Rattle.mr_tree.specs.declared.child.Child as types;
 ghost use Rattle.mr_clash.specs.Causes.{AuditCauses, IsHandedOn, of_nodes};
 ghost use Rattle.mr_clash.specs.Steps.{left, FetchesChildren, FetchesItem, FetchesItems, Walks, WalksAll, WalksChildren};
@@ -11,7 +10,6 @@ use crate::AuditErr;
 use crate::finding::first_of;
 use crate::items::{pass_items, pass_pruned};
 use crate::rest::{Rest, byte, is_pruned};
-use crate::strings::owned_string;
 use crate::walked::{Row, Walked, close_inner, walk_leaf};
 use mr_tree::{Child, Hashes, NodeView, Nodes, is_view};
 use std::alloc::{AllocError, Global};
@@ -21,13 +19,8 @@ pub(crate) fn digests_are_sized<H: Hashes>()
     ensures { (bytes : List ℕ) → length (H.of bytes) ≡ 32 }
 {}
 
-// Fetches a node, and gives its string.
-fn fetch<N: Nodes>(
-    alloc: Global,
-    nodes: &mut N,
-    child: &Child,
-    view: &mut NodeView,
-) -> Result<Vec<u8>, AuditErr>
+// Fetches a node, and hands a refusal on as it came.
+fn fetch<N: Nodes>(nodes: &mut N, child: &Child, view: &mut NodeView) -> Result<(), AuditErr>
     requires { MayFetch N.Hash.of (N.stands nodes.old) child.now }
     ensures kept { N.kept nodes.old nodes.new }
     ensures causes { AuditCauses (N.stands nodes.old) (N.faults nodes.old) (N.faults nodes.new)
@@ -35,12 +28,10 @@ fn fetch<N: Nodes>(
     ensures refused { IfErr result (IsHandedOn (N.refusal nodes.new)) }
     ensures answered { TellsRefusal of_nodes (N.refusal nodes.old) (N.refusal nodes.new) result }
     ensures shows { OnOk result (Shows N.Hash.of (N.stands nodes.old) child.now view.new) }
-    ensures owned { IfOk result (λ v. v.items ≡ preimage_of view.new) }
     ensures counted { N.fetches nodes.new ≤ N.fetches nodes.old + 1 }
 {
     nodes.fetch(child, view)?;
-    let owned = owned_string(alloc, view)?;
-    Ok(owned)
+    Ok(())
 }
 
 // The items behind the tag and the count of the inner node of this level that stands next, beside
@@ -104,10 +95,11 @@ fn walk_all<N: Nodes>(
         (N.fetches nodes.old) (N.fetches nodes.new) }
     ensures few { IfOk result (λ row. length row.entries.items ≡ length children.now) }
 {
+    let mut view = NodeView::new();
     let mut entries = Vec::new(alloc);
     let mut clash = None;
     for child in children {
-        let one = walk(alloc, nodes, child, from)?;
+        let one = walk(alloc, nodes, child, &mut view, from)?;
         match entries.push(one.entry) {
             Ok(()) => {}
             Err(error) => return Err(AllocError::from(error).into()),
@@ -118,12 +110,13 @@ fn walk_all<N: Nodes>(
 }
 
 // The item that stands next, beside the node of the map of which the child is the entry. Nothing
-// is fetched for what is pruned.
+// is fetched for what is pruned, and any other node goes into the view.
 #[cycle(walk)]
 pub(crate) fn walk<N: Nodes>(
     alloc: Global,
     nodes: &mut N,
     child: &Child,
+    view: &mut NodeView,
     from: &mut Rest<'_>,
 ) -> Result<Walked, AuditErr>
     requires { MayFetch N.Hash.of (N.stands nodes.old) child.now }
@@ -141,15 +134,14 @@ pub(crate) fn walk<N: Nodes>(
         let entry = pass_pruned(child.level, from);
         return Ok(Walked { entry, clash: None });
     }
-    let mut view = NodeView::new();
-    let owned = fetch(alloc, nodes, child, &mut view)?;
+    fetch(nodes, child, view)?;
     if child.level == 0 {
-        let leaf = walk_leaf::<N::Hash>(alloc, child, owned, from)?;
+        let leaf = walk_leaf::<N::Hash>(alloc, child, view, from)?;
         return Ok(leaf);
     }
-    is_view(&view);
+    is_view(view);
     digests_are_sized::<N::Hash>();
     let row = walk_children(alloc, nodes, child.level, view.children(), from)?;
-    let inner = close_inner::<N::Hash>(alloc, child, owned, row)?;
+    let inner = close_inner::<N::Hash>(alloc, child, view, row)?;
     Ok(inner)
 }

@@ -1,18 +1,14 @@
-use Rattle.std.proofs.Common.{refl, ap, ◌∙◌}
-use Rattle.std.specs.Prelude.{Some}
-use Rattle.mr_proof.specs.Clash.{differ}
+use Rattle.std.proofs.Common.{ap, ◌++◌, ◌∙◌}
 use Rattle.mr_proof.specs.Cut.{Leaf}
 use Rattle.mr_proof.specs.Spelling.{cut_bytes}
-use Rattle.mr_clash.proofs.Nodes.{leaf_said}
+use Rattle.mr_clash.specs.Steps.{left}
+use Rattle.mr_clash.proofs.OwnNodes.{own_leaf}
 use Rattle.mr_clash.proofs.walked.walk_leaf.Goals as goal
 
-pub returns : goal.returns
-returns g c = λ held rs rest fits is.
-    let r = c.leaf_rect-rect.ensures rs rest fits is in
-    let string = c.passed-shown.ensures (cut_bytes (Leaf rs)) rest is r.1 in
-    record {
-      says = leaf_said g.H.Hashes.of rs _ c.passed-shown.result.now refl r.0
-          (c.digest_beside-digest.ensures c.args.owned.items held c.in_ok-clash.ensures) string;
-      behind = r.1;
-      pair = c.in_ok-clash.ensures ∙ ap (λ y. differ c.args.owned.items (Some y)) string;
-    }
+pub returns-then-pass_own_leaf : goal.returns-then-pass_own_leaf
+returns-then-pass_own_leaf g c = λ held rs rest fits is.
+    let after = left c.pass_own_leaf.new.from in
+    own_leaf g.H.Hashes.of c.args.view.now rs rest (left c.args.from.now) after c.args.child.now.digest c.rect.result
+    c.is_view.ensures (c.records.ensures.leaf c.requires) fits is
+    (c.pass_own_leaf.ensures.own c.if-pass_own_leaf.true
+    ∙ ap (λ xs. cut_bytes (Leaf xs) ++ after) c.records.ensures.value) c.rect.ensures held

@@ -1,6 +1,7 @@
-use Rattle.std.proofs.Common.{arith, ap, length, length-append, [], ◌∷◌, ◌++◌, ◌-◌, sym, subst, ◌∙◌}
+use Rattle.std.proofs.Common.{arith, ap, length, length-append, refl, [], ◌∷◌, ◌++◌, ◌-◌, sym, subst, ◌∙◌}
 use Rattle.std.specs.Prelude.{Ok, option_map}
 use Rattle.mr_tree.specs.Nodes.{Standing}
+use Rattle.mr_tree.specs.View.{preimage_of}
 use Rattle.mr_proof.specs.Cut.{count_of}
 use Rattle.mr_proof.specs.Fields.{inner_tag}
 use Rattle.mr_proof.specs.Spelling.{cuts_bytes}
@@ -34,29 +35,27 @@ walk-returns-then-is_pruned-clause-walked g t c = λ P rest fits is.
 
 pub walk-returns-then-child-eq0-clause-walked : goal.walk-returns-then-child-eq0-clause-walked
 walk-returns-then-child-eq0-clause-walked g t c = λ P rest fits is.
-    let shows = c.in_ok-owned.ensures.shows in
-    let owned = c.in_ok-owned.ensures.owned in
+    let shows = c.in_ok-fetch.ensures.shows in
     leaf_walked g.N.Hash.Hashes.of (g.N.Nodes.stands c.args.nodes.now) c.args.child.now c.fetch.new.view shows P rest
-    (left c.args.from.now) _ c.in_ok-owned.owned.items c.in_ok-leaf.leaf fits c.if-child-eq0.true
-    (sym (c.is_pruned.ensures P rest is) ∙ c.if-is_pruned.false) is owned
-    (λ rs fit here. c.in_ok-leaf.ensures (ap g.N.Hash.Hashes.of owned ∙ shows.digest) rs rest fit here)
+    (left c.args.from.now) _ (preimage_of c.fetch.new.view) c.in_ok-leaf.leaf fits c.if-child-eq0.true
+    (sym (c.is_pruned.ensures P rest is) ∙ c.if-is_pruned.false) is refl
+    (λ rs fit here. c.in_ok-leaf.ensures shows.digest rs rest fit here)
 
 pub walk-returns-clause-walked : goal.walk-returns-clause-walked
 walk-returns-clause-walked g t c = λ P rest fits is.
     let hash = g.N.Hash.Hashes.of in
     let s = g.N.Nodes.stands c.args.nodes.now in
-    let shows = c.in_ok-owned.ensures.shows in
-    let owned = c.in_ok-owned.ensures.owned in
+    let shows = c.in_ok-fetch.ensures.shows in
     let above = above_zero _ c.args.child.now.level (sym shows.level) c.if-child-eq0.false in
-    let stands = g.met.N.Nodes.kept_stands c.args.nodes.now c.fetch.new.nodes c.in_ok-owned.ensures.kept in
+    let stands = g.met.N.Nodes.kept_stands c.args.nodes.now c.fetch.new.nodes c.in_ok-fetch.ensures.kept in
     let walked = subst (λ (s : Standing). WalksChildren {E = AuditErr} hash s c.args.child.now.level
     c.children.result.now (left c.args.from.now) (left c.walk_children.new.from) (Ok c.in_ok-row.row)) stands
     c.in_ok-row.ensures.walked in
     inner_walked hash s c.args.child.now c.fetch.new.view shows c.digests_are_sized.ensures P c.children.result.now rest
-    (left c.args.from.now) (left c.walk_children.new.from) c.in_ok-owned.owned.items c.in_ok-row.row c.in_ok-inner.inner
-    fits c.if-child-eq0.false (sym (c.is_pruned.ensures P rest is) ∙ c.if-is_pruned.false) is owned c.is_view.ensures
+    (left c.args.from.now) (left c.walk_children.new.from) (preimage_of c.fetch.new.view) c.in_ok-row.row c.in_ok-inner.inner
+    fits c.if-child-eq0.false (sym (c.is_pruned.ensures P rest is) ∙ c.if-is_pruned.false) is refl c.is_view.ensures
     (c.children.ensures.inner above) c.children.ensures.value c.children.ensures.alike
-    (λ Ps fit here. walked Ps rest fit here) (c.in_ok-inner.ensures (ap hash owned ∙ shows.digest))
+    (λ Ps fit here. walked Ps rest fit here) (c.in_ok-inner.ensures shows.digest)
 
 pub walk_all-loop-child-preserved : goal.walk_all-loop-child-preserved
 walk_all-loop-child-preserved g t c =
@@ -108,40 +107,40 @@ walk_children-returns-then-from-children-clause-fetched g t c = λ Ps rest fits 
     let n = c.byte-count.ensures (count_of Ps) (cuts_bytes Ps ++ rest) a.1 in
     c.walk_all.ensures.fetched Ps rest fits.1 (sym n.0 ∙ sym c.from.ensures ∙ c.if-from-children.true) n.1
 
-pub walk-returns-in_err-owned-clause-fetched : goal.walk-returns-in_err-owned-clause-fetched
-walk-returns-in_err-owned-clause-fetched g t c = λ P rest fits is.
+pub walk-returns-in_err-fetch-clause-fetched : goal.walk-returns-in_err-fetch-clause-fetched
+walk-returns-in_err-fetch-clause-fetched g t c = λ P rest fits is.
     let one = opened_one P (sym (c.is_pruned.ensures P rest is) ∙ c.if-is_pruned.false) in
-    omega (arith, one, c.in_err-owned.ensures.counted)
+    omega (arith, one, c.in_err-fetch.ensures.counted)
 
 pub walk-returns-in_err-leaf-clause-fetched : goal.walk-returns-in_err-leaf-clause-fetched
 walk-returns-in_err-leaf-clause-fetched g t c = λ P rest fits is.
     let one = opened_one P (sym (c.is_pruned.ensures P rest is) ∙ c.if-is_pruned.false) in
-    omega (arith, one, c.in_ok-owned.ensures.counted)
+    omega (arith, one, c.in_ok-fetch.ensures.counted)
 
 pub walk-returns-then-child-eq0-clause-fetched : goal.walk-returns-then-child-eq0-clause-fetched
 walk-returns-then-child-eq0-clause-fetched g t c = λ P rest fits is.
     let one = opened_one P (sym (c.is_pruned.ensures P rest is) ∙ c.if-is_pruned.false) in
-    omega (arith, one, c.in_ok-owned.ensures.counted)
+    omega (arith, one, c.in_ok-fetch.ensures.counted)
 
 pub walk-returns-in_err-row-clause-fetched : goal.walk-returns-in_err-row-clause-fetched
 walk-returns-in_err-row-clause-fetched g t c = λ P rest fits is.
     opened_inner c.args.child.now.level P rest (left c.args.from.now) (g.N.Nodes.fetches c.args.nodes.now)
     (g.N.Nodes.fetches c.fetch.new.nodes) (g.N.Nodes.fetches c.walk_children.new.nodes) c.if-child-eq0.false
-    (sym (c.is_pruned.ensures P rest is) ∙ c.if-is_pruned.false) fits is c.in_ok-owned.ensures.counted
+    (sym (c.is_pruned.ensures P rest is) ∙ c.if-is_pruned.false) fits is c.in_ok-fetch.ensures.counted
     c.in_err-row.ensures.fetched
 
 pub walk-returns-in_err-inner-clause-fetched : goal.walk-returns-in_err-inner-clause-fetched
 walk-returns-in_err-inner-clause-fetched g t c = λ P rest fits is.
     opened_inner c.args.child.now.level P rest (left c.args.from.now) (g.N.Nodes.fetches c.args.nodes.now)
     (g.N.Nodes.fetches c.fetch.new.nodes) (g.N.Nodes.fetches c.walk_children.new.nodes) c.if-child-eq0.false
-    (sym (c.is_pruned.ensures P rest is) ∙ c.if-is_pruned.false) fits is c.in_ok-owned.ensures.counted
+    (sym (c.is_pruned.ensures P rest is) ∙ c.if-is_pruned.false) fits is c.in_ok-fetch.ensures.counted
     c.in_ok-row.ensures.fetched
 
 pub walk-returns-clause-fetched : goal.walk-returns-clause-fetched
 walk-returns-clause-fetched g t c = λ P rest fits is.
     opened_inner c.args.child.now.level P rest (left c.args.from.now) (g.N.Nodes.fetches c.args.nodes.now)
     (g.N.Nodes.fetches c.fetch.new.nodes) (g.N.Nodes.fetches c.walk_children.new.nodes) c.if-child-eq0.false
-    (sym (c.is_pruned.ensures P rest is) ∙ c.if-is_pruned.false) fits is c.in_ok-owned.ensures.counted
+    (sym (c.is_pruned.ensures P rest is) ∙ c.if-is_pruned.false) fits is c.in_ok-fetch.ensures.counted
     c.in_ok-row.ensures.fetched
 
 pub walk_all-returns-in_err-one-clause-fetched : goal.walk_all-returns-in_err-one-clause-fetched

@@ -1,0 +1,115 @@
+//! What a proof shows as the map holds it.
+
+ghost use Rattle.std.specs.Prelude.{◌≡◌, ◌≤◌, ◌++◌, true, false, length, map, Some};
+ghost use Rattle.std.specs.List.{flat_map};
+ghost use Rattle.mr_record.specs.Record.{record_bytes};
+ghost use Rattle.mr_tree.specs.View.{entry_of};
+ghost use Rattle.mr_proof.specs.Cut.{Leaf};
+ghost use Rattle.mr_proof.specs.Spelling.{cut_bytes};
+ghost use Rattle.mr_clash.specs.Steps.{left};
+
+use crate::finding::are_same;
+use crate::rest::Rest;
+use mr_geom::Rect;
+use mr_record::{Record, is_record, rect_bytes};
+use mr_tree::{Child, Entry};
+
+// Passes over these bytes, and tells whether they stood there.
+fn pass_bytes(bytes: &[u8], from: &mut Rest<'_>) -> bool
+    ensures { result ≡ true → left from.old ≡ bytes.now ++ left from.new }
+{
+    if from.bytes.len() < bytes.len() {
+        return false;
+    }
+    let (front, rest) = from.bytes.split_at(bytes.len());
+    from.bytes = rest;
+    are_same(front, bytes)
+}
+
+// Passes over this record, and tells whether it stood there.
+fn pass_own_record(one: &Record, from: &mut Rest<'_>) -> bool
+    ensures { result ≡ true → left from.old ≡ record_bytes one.now ++ left from.new }
+{
+    is_record(one);
+    if !pass_bytes(&one.number.to_be_bytes(), from) {
+        return false;
+    }
+    if !pass_bytes(&rect_bytes(&one.rect), from) {
+        return false;
+    }
+    let payload = one.payload.bytes();
+    if !pass_bytes(&[payload.len() as u8], from) {
+        return false;
+    }
+    pass_bytes(payload, from)
+}
+
+// Passes over these records, and tells whether they stood there.
+fn pass_own_records(records: &[Record], from: &mut Rest<'_>) -> bool
+    ensures { result ≡ true → left from.old ≡ flat_map record_bytes records.now ++ left from.new }
+{
+    for one in records {
+        if !pass_own_record(one, from) {
+            return false;
+        }
+    }
+    true
+}
+
+// Passes over the leaf with these records where it stands next, and else over nothing.
+pub(crate) fn pass_own_leaf(records: &[Record], from: &mut Rest<'_>) -> bool
+    requires { length records.now ≤ 16 }
+    ensures own { result ≡ true → left from.old ≡ cut_bytes (Leaf records.now) ++ left from.new }
+    ensures other { result ≡ false → left from.new ≡ left from.old }
+{
+    let mut ahead = *from;
+    if !pass_bytes(&[b'L', records.len() as u8], &mut ahead) {
+        return false;
+    }
+    if !pass_own_records(records, &mut ahead) {
+        return false;
+    }
+    *from = ahead;
+    true
+}
+
+fn is_rect(rect: &Rect, shown: Option<Rect>) -> bool
+    ensures { result ≡ true → shown ≡ Some rect.now }
+{
+    match shown {
+        Some(shown) => shown == *rect,
+        None => false,
+    }
+}
+
+// Whether this is what the map holds of the child.
+fn is_own(child: &Child, shown: &Entry) -> bool
+    ensures { result ≡ true → shown.now ≡ entry_of child.now }
+{
+    if shown.level != child.level {
+        return false;
+    }
+    if !is_rect(&child.rect, shown.rect) {
+        return false;
+    }
+    are_same(&shown.digest, &child.digest)
+}
+
+// Whether this is what the map holds of the children.
+pub(crate) fn are_own(children: &[Child], shown: &[Entry]) -> bool
+    ensures { result ≡ true → shown.now ≡ map entry_of children.now }
+{
+    let mut rest = shown;
+    for child in children {
+        match rest.split_first() {
+            None => return false,
+            Some((first, others)) => {
+                if !is_own(child, first) {
+                    return false;
+                }
+                rest = others;
+            }
+        }
+    }
+    rest.is_empty()
+}
