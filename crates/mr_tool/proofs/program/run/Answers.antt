@@ -1,0 +1,36 @@
+-- Each clause is that of the same run: written out, so that a body which ends otherwise is refused
+-- at once.
+use Rattle.mr_tool.proofs.program.run.Goals as goal
+
+pub returns-clause-answer : goal.returns-clause-answer
+returns-clause-answer g c = c.answered.ensures.run.answer
+
+pub returns-clause-outside : goal.returns-clause-outside
+returns-clause-outside g c = c.answered.ensures.run.outside
+
+pub returns-clause-counts : goal.returns-clause-counts
+returns-clause-counts g c = c.answered.ensures.run.counts
+
+pub returns-clause-quiet : goal.returns-clause-quiet
+returns-clause-quiet g c = c.answered.ensures.run.quiet
+
+pub returns-clause-reads : goal.returns-clause-reads
+returns-clause-reads g c = c.answered.ensures.run.reads
+
+pub returns-clause-complete : goal.returns-clause-complete
+returns-clause-complete g c = c.answered.ensures.run.complete
+
+pub returns-clause-honest : goal.returns-clause-honest
+returns-clause-honest g c = c.answered.ensures.run.honest
+
+pub returns-clause-worth : goal.returns-clause-worth
+returns-clause-worth g c = c.answered.ensures.run.worth
+
+pub returns-clause-audited : goal.returns-clause-audited
+returns-clause-audited g c = c.answered.ensures.run.audited
+
+pub returns-clause-collides : goal.returns-clause-collides
+returns-clause-collides g c = c.answered.ensures.run.collides
+
+pub returns-clause-alike : goal.returns-clause-alike
+returns-clause-alike g c = c.answered.ensures.run.alike
