@@ -36,6 +36,13 @@ impl Text {
         self.bytes
     }
 
+    /// Gives up what it took so far, and keeps the room of it.
+    pub fn clear(&mut self)
+        ensures { self.new.bytes.items ≡ [] }
+    {
+        self.bytes.clear();
+    }
+
     /// Puts some bytes behind the others.
     pub fn put(&mut self, bytes: &[u8]) -> Result<(), AllocError>
         ensures { OnOk result (self.new.bytes.items ≡ self.old.bytes.items ++ bytes.now) }

@@ -77,8 +77,42 @@ fn write_pruned<W: Sink>(child: &Child, out: &mut W) -> Result<(), ProveErr>
     }
 }
 
+// Writes the part of a node that the region meets: the node, and the parts of its children, each
+// once it is fetched. It is a function of its own, so that a part that is pruned makes no view.
+#[cycle(parts)]
+fn write_met<N: Nodes, W: Sink>(
+    nodes: &mut N,
+    area: &Area,
+    child: &Child,
+    out: &mut W,
+) -> Result<(), ProveErr>
+    requires may { MayFetch N.Hash.of (N.stands nodes.old) child.now }
+    requires met { region_in area.now (seen_at child.now.rect) ≡ true }
+    ensures kept { N.kept nodes.old nodes.new }
+    ensures whole { OnOk result (IsSome (N.stands nodes.old).tree →
+        Takes (W.state out.old) (W.state out.new)
+        (part_under N.Hash.of (region_in area.now) (N.stands nodes.old) child.now)) }
+    ensures front { OnErr result (IsSome (N.stands nodes.old).tree →
+        TakesFront (W.state out.old) (W.state out.new)
+        (part_under N.Hash.of (region_in area.now) (N.stands nodes.old) child.now)) }
+    ensures fetched { IsSome (N.stands nodes.old).tree → N.fetches nodes.new ≤ N.fetches nodes.old +
+        opened_under N.Hash.of (region_in area.now) (N.stands nodes.old) child.now }
+    ensures causes { ProveCauses (N.stands nodes.old) (N.faults nodes.old) (N.faults nodes.new)
+        (W.state out.old) (W.state out.new) result }
+    ensures refused { IfErr result (IsHandedOn (N.refusal nodes.new)) }
+    ensures answered { TellsRefusal of_nodes (N.refusal nodes.old) (N.refusal nodes.new) result }
+{
+    let mut view = NodeView::new();
+    open_node(nodes, child, &mut view, out)?;
+    for next in view.children() {
+        write_part(nodes, area, next, out)?;
+    }
+    Ok(())
+}
+
 // Writes the part of the node of which the child is the entry: where the region misses it what is
-// shown of it, and else the node and the parts of its children, each once it is fetched.
+// shown of it, and else the node and the parts of its children.
+#[cycle(parts)]
 pub(crate) fn write_part<N: Nodes, W: Sink>(
     nodes: &mut N,
     area: &Area,
@@ -103,10 +137,5 @@ pub(crate) fn write_part<N: Nodes, W: Sink>(
     if !area.meets(&child.rect) {
         return write_pruned(child, out);
     }
-    let mut view = NodeView::new();
-    open_node(nodes, child, &mut view, out)?;
-    for next in view.children() {
-        write_part(nodes, area, next, out)?;
-    }
-    Ok(())
+    write_met(nodes, area, child, out)
 }

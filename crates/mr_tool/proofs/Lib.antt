@@ -17,6 +17,7 @@ pub mod Verdicts
 pub mod Audits
 pub mod Served
 pub mod Bundles
+pub mod Piecewise
 pub mod Drafts
 pub mod Applied
 pub mod Promises

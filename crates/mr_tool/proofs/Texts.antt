@@ -41,7 +41,7 @@ miss_rose (Some files) name n m there miss =
     absurd (subst (λ o. MatchOption o ⊥ (λ bytes. ⊤)) miss there)
 
 -- a call that was refused once the file stood there
-stops_there : (name held : List ℕ) (before made after : Shelved) (error : ShelfErr)
+pub stops_there : (name held : List ℕ) (before made after : Shelved) (error : ShelfErr)
     → IsChanged (with_file name) held before.files made.files → made.faults ≡ before.faults
     → ShelfCauses {A = Unit} name made after (Err error) → Stops before after (halt_of error)
 stops_there name held before made after error put quiet c =

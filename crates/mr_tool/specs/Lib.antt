@@ -18,6 +18,7 @@ pub mod Layouts
 pub mod Promises
 pub mod Run
 pub mod Ending
+pub mod Bundled
 pub mod Listing
 pub mod Taking
 pub mod Applying

@@ -4,6 +4,7 @@
 mod applying;
 mod auditing;
 mod building;
+mod bundling;
 mod checking;
 mod checking_all;
 mod demonstrating;

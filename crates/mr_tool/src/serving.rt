@@ -1,39 +1,26 @@
 //! The command `serve`.
 
-ghost use Rattle.std.specs.Prelude.{◌≡◌, All, IfOk, Ok};
-ghost use Rattle.mr_query.specs.Script.{queries_of_text};
+ghost use Rattle.std.specs.Prelude.{◌≤◌, length, All, Ok};
+ghost use Rattle.mr_query.specs.Script.{queries_of_text, script_limit};
 ghost use Rattle.mr_query.specs.Word.{IsAskable};
-ghost use Rattle.mr_bundle.specs.Bundle.{IsShort, bundle_of};
 ghost use Rattle.mr_tool.specs.Ending.{Comes};
 ghost use Rattle.mr_tool.specs.Plan.{comes};
 ghost use Rattle.mr_tool.specs.Say.{held_in, say_script, say_serve, say_serve_of};
 
+use crate::bundling::{bundle_size, save_proofs};
 use crate::ending::{Ending, Halt};
 use crate::fetching::unfetched;
 use crate::input::{bad_text, missing, queries_in, read};
 use crate::lines::served_line;
 use crate::opening::unopened;
-use crate::saving::save_text;
-use mr_bundle::{Proof, Text, prove_all, put_part};
+use mr_bundle::prove_all;
 use mr_outside::{Gate, Shelf};
 use mr_query::Query;
 use mr_record::TextErr;
 use mr_store::Paged;
 use mr_tree::{Hash32, Snapshot};
-use std::alloc::{AllocError, Global};
+use std::alloc::Global;
 use std::thread::Threads;
-
-// The bundle of some proofs, each of which is given up once its bytes are in it.
-fn bundled(alloc: Global, list: Vec<Proof>) -> Result<Text, AllocError>
-    requires { All IsShort list.items }
-    ensures { IfOk result (λ t. t.bytes.items ≡ bundle_of list.items) }
-{
-    let mut out = Text::new(alloc);
-    for proof in list {
-        put_part(&mut out, proof.as_slice())?;
-    }
-    Ok(out)
-}
 
 // The bundle for some queries on a map in memory, in a file, and the line on it.
 fn serve_queries<H: Hash32, S: Shelf, G: Gate, R: Threads + Sync>(
@@ -45,15 +32,15 @@ fn serve_queries<H: Hash32, S: Shelf, G: Gate, R: Threads + Sync>(
     shelf: &mut S,
     gate: &G,
 ) -> Result<Ending, Halt>
-    requires { All IsAskable queries.now }
+    requires askable { All IsAskable queries.now }
+    requires few { length queries.now ≤ script_limit }
     ensures { let map = held_in nodes.now.nodes.items nodes.now.top in
         Comes (comes (say_serve_of H.of bundle.now map (Ok queries.now))) (S.state shelf.old)
         (S.state shelf.new) result }
 {
     let list = prove_all::<H, G, R>(rt, alloc, nodes, queries, gate)?;
-    let text = bundled(alloc, list)?;
-    let line = served_line(alloc, queries.len(), text.bytes().len())?;
-    save_text(alloc, line, bundle, text.bytes(), shelf)
+    let line = served_line(alloc, queries.len(), bundle_size(&list))?;
+    save_proofs(alloc, line, bundle, &list, shelf)
 }
 
 // The same for the queries of a text, or its fault.

@@ -10,10 +10,10 @@ use Rattle.mr_proof.specs.Cut.{pruned_cut}
 use Rattle.mr_proof.specs.Spelling.{cut_bytes}
 use Rattle.mr_prove.proofs.Whole.{ok_through}
 use Rattle.mr_prove.proofs.Steps.{on_err, written_more, fetched_more, pruned_whole, pruned_front, met_whole, met_front, one_fetch, some_fetches}
-use Rattle.mr_prove.proofs.part.+write_part.Goals as goal
+use Rattle.mr_prove.proofs.part.+parts.Goals as goal
 
-pub returns-then-not-meets-clause-whole : goal.returns-then-not-meets-clause-whole
-returns-then-not-meets-clause-whole g t c =
+pub write_part-returns-then-not-meets-clause-whole : goal.write_part-returns-then-not-meets-clause-whole
+write_part-returns-then-not-meets-clause-whole g t c =
     let s = g.N.Nodes.stands c.args.nodes.now in
     let region = region_in c.args.area.now in
     let from = g.W.Sink.state c.args.out.now in
@@ -24,8 +24,8 @@ returns-then-not-meets-clause-whole g t c =
     (sym c.meets.ensures ∙ c.if-not-meets.true) taken)
     c.write_pruned.ensures.whole
 
-pub returns-then-not-meets-clause-front : goal.returns-then-not-meets-clause-front
-returns-then-not-meets-clause-front g t c =
+pub write_part-returns-then-not-meets-clause-front : goal.write_part-returns-then-not-meets-clause-front
+write_part-returns-then-not-meets-clause-front g t c =
     let s = g.N.Nodes.stands c.args.nodes.now in
     let region = region_in c.args.area.now in
     let from = g.W.Sink.state c.args.out.now in
@@ -35,24 +35,24 @@ returns-then-not-meets-clause-front g t c =
     (λ told. pruned_front g.N.Hash.Hashes.of region s c.args.child.now c.requires told from to
     (sym c.meets.ensures ∙ c.if-not-meets.true) c.write_pruned.ensures.front)
 
-pub returns-then-not-meets-clause-causes : goal.returns-then-not-meets-clause-causes
-returns-then-not-meets-clause-causes g t c =
+pub write_part-returns-then-not-meets-clause-causes : goal.write_part-returns-then-not-meets-clause-causes
+write_part-returns-then-not-meets-clause-causes g t c =
     c.write_pruned.ensures.causes (g.N.Nodes.stands c.args.nodes.now) (g.N.Nodes.faults c.args.nodes.now)
 
-pub returns-then-not-meets-clause-refused : goal.returns-then-not-meets-clause-refused
-returns-then-not-meets-clause-refused g t c = c.write_pruned.ensures.refused (g.N.Nodes.refusal c.args.nodes.now)
+pub write_part-returns-then-not-meets-clause-refused : goal.write_part-returns-then-not-meets-clause-refused
+write_part-returns-then-not-meets-clause-refused g t c = c.write_pruned.ensures.refused (g.N.Nodes.refusal c.args.nodes.now)
 
-pub returns-then-not-meets-clause-answered : goal.returns-then-not-meets-clause-answered
-returns-then-not-meets-clause-answered g t c = c.write_pruned.ensures.answered (g.N.Nodes.refusal c.args.nodes.now)
+pub write_part-returns-then-not-meets-clause-answered : goal.write_part-returns-then-not-meets-clause-answered
+write_part-returns-then-not-meets-clause-answered g t c = c.write_pruned.ensures.answered (g.N.Nodes.refusal c.args.nodes.now)
 
-pub returns-in_err-open_node-clause-fetched : goal.returns-in_err-open_node-clause-fetched
-returns-in_err-open_node-clause-fetched g t c =
+pub write_met-returns-in_err-open_node-clause-fetched : goal.write_met-returns-in_err-open_node-clause-fetched
+write_met-returns-in_err-open_node-clause-fetched g t c =
     λ told. one_fetch g.N.Hash.Hashes.of (region_in c.args.area.now) (g.N.Nodes.stands c.args.nodes.now)
-    c.args.child.now c.requires told (g.N.Nodes.fetches c.args.nodes.now) (g.N.Nodes.fetches c.open_node.new.nodes)
-    (sym c.meets.ensures ∙ c.if-not-meets.false) c.open_node.ensures.counted
+    c.args.child.now c.requires.may told (g.N.Nodes.fetches c.args.nodes.now) (g.N.Nodes.fetches c.open_node.new.nodes)
+    c.requires.met c.open_node.ensures.counted
 
-pub returns-in_err-write_part-clause-front : goal.returns-in_err-write_part-clause-front
-returns-in_err-write_part-clause-front g t c =
+pub write_met-returns-in_err-write_part-clause-front : goal.write_met-returns-in_err-write_part-clause-front
+write_met-returns-in_err-write_part-clause-front g t c =
     let s = g.N.Nodes.stands c.args.nodes.now in
     let hash = g.N.Hash.Hashes.of in
     let region = region_in c.args.area.now in
@@ -62,15 +62,15 @@ returns-in_err-write_part-clause-front g t c =
     c.in_err-write_part.ensures.front in
     on_err c.from_residual-in_err-write_part.result (IsSome s.tree → TakesFront (g.W.Sink.state c.args.out.now)
     (g.W.Sink.state c.write_part.new.out) (part_at (by s.version hash) region (s.node c.args.child.now.id)))
-    (λ told. met_front hash region s c.args.child.now c.requires told c.open_node.new.view
+    (λ told. met_front hash region s c.args.child.now c.requires.may told c.open_node.new.view
     c.children-next-items.result.now c.loop-next.next-index c.next-item.result (g.W.Sink.state c.args.out.now)
     (g.W.Sink.state c.open_node.new.out) (g.W.Sink.state c.loop-next.out) (g.W.Sink.state c.write_part.new.out)
-    c.children-next-items.ensures.value c.in_ok-open_node.ensures.shows (sym c.meets.ensures ∙ c.if-not-meets.false)
+    c.children-next-items.ensures.value c.in_ok-open_node.ensures.shows c.requires.met
     c.next-item.is c.loop-next-test.true c.in_ok-open_node.ensures.whole (c.loop-next.invariant.whole told)
     (next told))
 
-pub returns-in_err-write_part-clause-fetched : goal.returns-in_err-write_part-clause-fetched
-returns-in_err-write_part-clause-fetched g t c =
+pub write_met-returns-in_err-write_part-clause-fetched : goal.write_met-returns-in_err-write_part-clause-fetched
+write_met-returns-in_err-write_part-clause-fetched g t c =
     let s = g.N.Nodes.stands c.args.nodes.now in
     let hash = g.N.Hash.Hashes.of in
     let region = region_in c.args.area.now in
@@ -78,18 +78,18 @@ returns-in_err-write_part-clause-fetched g t c =
     let next = subst (λ (s : Standing). IsSome s.tree → g.N.Nodes.fetches c.write_part.new.nodes ≤ g.N.Nodes.fetches
     c.loop-next.nodes + opened_at (by s.version hash) region (s.node c.next-item.result.id)) same
     c.write_part.ensures.fetched in
-    λ told. some_fetches hash region s c.args.child.now c.requires told c.open_node.new.view
+    λ told. some_fetches hash region s c.args.child.now c.requires.may told c.open_node.new.view
     c.children-next-items.result.now (c.loop-next.next-index + 1) (g.N.Nodes.fetches c.args.nodes.now)
     (g.N.Nodes.fetches c.open_node.new.nodes) (g.N.Nodes.fetches c.write_part.new.nodes)
-    c.children-next-items.ensures.value c.in_ok-open_node.ensures.shows (sym c.meets.ensures ∙ c.if-not-meets.false)
+    c.children-next-items.ensures.value c.in_ok-open_node.ensures.shows c.requires.met
     c.open_node.ensures.counted
     (fetched_more (λ (d : Child). opened_at (by s.version hash) region (s.node d.id)) c.children-next-items.result.now
     c.loop-next.next-index c.next-item.result (g.N.Nodes.fetches c.open_node.new.nodes)
     (g.N.Nodes.fetches c.loop-next.nodes) (g.N.Nodes.fetches c.write_part.new.nodes) c.next-item.is
     c.loop-next-test.true (c.loop-next.invariant.fetched told) (next told))
 
-pub loop-next-preserved : goal.loop-next-preserved
-loop-next-preserved g t c =
+pub write_met-loop-next-preserved : goal.write_met-loop-next-preserved
+write_met-loop-next-preserved g t c =
     let s = g.N.Nodes.stands c.args.nodes.now in
     let hash = g.N.Hash.Hashes.of in
     let region = region_in c.args.area.now in
@@ -117,18 +117,18 @@ loop-next-preserved g t c =
       quiet = c.in_ok-write_part.ensures.causes.quiet ∙ c.loop-next.invariant.quiet;
     }
 
-pub returns-clause-whole : goal.returns-clause-whole
-returns-clause-whole g t c =
+pub write_met-returns-clause-whole : goal.write_met-returns-clause-whole
+write_met-returns-clause-whole g t c =
     λ told. met_whole g.N.Hash.Hashes.of (region_in c.args.area.now) (g.N.Nodes.stands c.args.nodes.now)
-    c.args.child.now c.requires told c.open_node.new.view c.children-next-items.result.now c.loop-next.next-index
+    c.args.child.now c.requires.may told c.open_node.new.view c.children-next-items.result.now c.loop-next.next-index
     (g.W.Sink.state c.args.out.now) (g.W.Sink.state c.open_node.new.out) (g.W.Sink.state c.loop-next.out)
-    c.children-next-items.ensures.value c.in_ok-open_node.ensures.shows (sym c.meets.ensures ∙ c.if-not-meets.false)
+    c.children-next-items.ensures.value c.in_ok-open_node.ensures.shows c.requires.met
     (omega arith) c.in_ok-open_node.ensures.whole (c.loop-next.invariant.whole told)
 
-pub returns-clause-fetched : goal.returns-clause-fetched
-returns-clause-fetched g t c =
+pub write_met-returns-clause-fetched : goal.write_met-returns-clause-fetched
+write_met-returns-clause-fetched g t c =
     λ told. some_fetches g.N.Hash.Hashes.of (region_in c.args.area.now) (g.N.Nodes.stands c.args.nodes.now)
-    c.args.child.now c.requires told c.open_node.new.view c.children-next-items.result.now c.loop-next.next-index
+    c.args.child.now c.requires.may told c.open_node.new.view c.children-next-items.result.now c.loop-next.next-index
     (g.N.Nodes.fetches c.args.nodes.now) (g.N.Nodes.fetches c.open_node.new.nodes)
     (g.N.Nodes.fetches c.loop-next.nodes) c.children-next-items.ensures.value c.in_ok-open_node.ensures.shows
-    (sym c.meets.ensures ∙ c.if-not-meets.false) c.open_node.ensures.counted (c.loop-next.invariant.fetched told)
+    c.requires.met c.open_node.ensures.counted (c.loop-next.invariant.fetched told)

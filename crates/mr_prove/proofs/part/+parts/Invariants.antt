@@ -1,15 +1,18 @@
-use Rattle.std.proofs.Common.{◌≡◌, ◌+◌, ◌≤◌, take}
+use Rattle.std.proofs.Common.{◌≡◌, ◌+◌, ◌*◌, ◌≤◌, take}
 use Rattle.std.specs.Prelude.{IsSome}
 use Rattle.mr_outside.specs.Told.{Takes}
 use Rattle.mr_tree.specs.Digest.{by}
 use Rattle.mr_prove.specs.Parts.{region_in, parts_of, opened_in}
-use Rattle.mr_prove.proofs.part.+write_part.Given as goal
+use Rattle.mr_prove.proofs.part.+parts.Given as goal
 
 abbrev pub decreases-write_part : goal.decreases-write_part
-decreases-write_part g l = l.child.now.level
+decreases-write_part g l = 2 * l.child.now.level + 1
 
-abbrev pub invariant-loop-next : goal.invariant-loop-next
-invariant-loop-next g l = record {
+abbrev pub decreases-write_met : goal.decreases-write_met
+decreases-write_met g l = 2 * l.child.now.level
+
+abbrev pub invariant-write_met-loop-next : goal.invariant-write_met-loop-next
+invariant-write_met-loop-next g l = record {
   kept : g.N.Nodes.kept l.fn.nodes l.nodes;
   whole : IsSome (g.N.Nodes.stands l.fn.nodes).tree →
       Takes (g.W.Sink.state l.initial.out) (g.W.Sink.state l.out)
