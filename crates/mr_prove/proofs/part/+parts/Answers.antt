@@ -40,10 +40,12 @@ write_part-returns-then-not-meets-clause-causes g t c =
     c.write_pruned.ensures.causes (g.N.Nodes.stands c.args.nodes.now) (g.N.Nodes.faults c.args.nodes.now)
 
 pub write_part-returns-then-not-meets-clause-refused : goal.write_part-returns-then-not-meets-clause-refused
-write_part-returns-then-not-meets-clause-refused g t c = c.write_pruned.ensures.refused (g.N.Nodes.refusal c.args.nodes.now)
+write_part-returns-then-not-meets-clause-refused g t c = c.write_pruned.ensures.refused
+    (g.N.Nodes.refusal c.args.nodes.now)
 
 pub write_part-returns-then-not-meets-clause-answered : goal.write_part-returns-then-not-meets-clause-answered
-write_part-returns-then-not-meets-clause-answered g t c = c.write_pruned.ensures.answered (g.N.Nodes.refusal c.args.nodes.now)
+write_part-returns-then-not-meets-clause-answered g t c = c.write_pruned.ensures.answered
+    (g.N.Nodes.refusal c.args.nodes.now)
 
 pub write_met-returns-in_err-open_node-clause-fetched : goal.write_met-returns-in_err-open_node-clause-fetched
 write_met-returns-in_err-open_node-clause-fetched g t c =
