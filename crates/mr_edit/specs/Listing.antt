@@ -76,6 +76,11 @@ Refuses s before after known (errors.Page page) = IsId s page × (after ≡ befo
     × (IsSome s.tree → known → ⊥)
 Refuses s before after known e = HasSomeCause s before after e
 
+-- a page is blamed which is this one
+abbrev pub Blames : (page : ℕ) → NodesErr → Type 0
+Blames page (errors.Page p) = p ≡ page
+Blames page e = ⊤
+
 -- a record's number was met before
 abbrev pub IsTwice : (page : ℕ) → Seen → List Record → NodesErr → Type 0
 IsTwice page before rs (errors.Page p) = (p ≡ page)

@@ -1,6 +1,6 @@
 //! The directory of a map whose nodes are fetched one by one.
 
-ghost use Rattle.std.specs.Prelude.{◌≡◌, ◌+◌, ◌≤◌, ◌++◌, [], map, length, IfOk, IfErr, OnOk, IfSome, IsSome};
+ghost use Rattle.std.specs.Prelude.{◌≡◌, ◌≢◌, true, OnErr, ◌+◌, ◌≤◌, ◌++◌, [], map, length, IfOk, IfErr, OnOk, IfSome, IsSome};
 ghost use Rattle.std.specs.BTreeMap.{IsFromIterResult};
 ghost use Rattle.std.specs.Ordering.{nat_cmp};
 ghost use Rattle.mr_tree.specs.Tree.{records as records_in};
@@ -8,8 +8,9 @@ ghost use Rattle.mr_tree.specs.declared.nodes.NodesErr.TheVariants as errors;
 ghost use Rattle.mr_tree.specs.Nodes.{MayFetch, Shows, HasSomeCause, subtrees};
 ghost use Rattle.mr_batch.specs.Directory.{IsDirectoryOf};
 ghost use Rattle.mr_outside.specs.Faults.{next_count};
-ghost use Rattle.mr_store.specs.Copying.{CanCopy, IsFull, nodes_at};
-ghost use Rattle.mr_edit.specs.Listing.{entry_of, Lists, Gathers, ListsBelow, ListsAt, HasAt, HasSeenNone, CanList, CanListAll, Refuses, IsTwice};
+ghost use Rattle.mr_pages.specs.Judging.{Fills};
+ghost use Rattle.mr_store.specs.Copying.{CanCopy, IsFull, is_round, nodes_at};
+ghost use Rattle.mr_edit.specs.Listing.{entry_of, Lists, Gathers, ListsBelow, ListsAt, HasAt, HasSeenNone, Blames, CanList, CanListAll, Refuses, IsTwice};
 
 use mr_batch::Directory;
 use mr_geom::Rect;
@@ -29,6 +30,9 @@ fn look<N: Nodes>(
     requires { MayFetch N.Hash.of (N.stands nodes.old) child.now }
     ensures kept { N.kept nodes.old nodes.new }
     ensures shows { OnOk result (Shows N.Hash.of (N.stands nodes.old) child.now view.new) }
+    ensures round { OnOk result (is_round child.now view.new ≡ true) }
+    ensures full { OnOk result (Fills root view.new ≡ true) }
+    ensures blames { IfErr result (Blames child.now.id) }
     ensures counted { N.fetches nodes.new ≡ next_count (N.fetches nodes.old) }
     ensures quiet { OnOk result (N.faults nodes.new ≡ N.faults nodes.old) }
     ensures cause { IfErr result (Refuses (N.stands nodes.old) (N.faults nodes.old)
@@ -167,6 +171,18 @@ fn gathered(alloc: Global, all: Vec<(u64, Rect)>) -> Result<Directory, NodesErr>
     }
 }
 
+// Refuses the root, where other than so many records were listed.
+fn fits(root: &Child, listed: u64, count: u64) -> Result<(), NodesErr>
+    ensures fits { OnOk result (listed ≡ count) }
+    ensures other { OnErr result (listed ≢ count) }
+    ensures blames { IfErr result (λ e. e ≡ errors.Page root.now.id) }
+{
+    if listed != count {
+        return Err(NodesErr::Page { page: root.id });
+    }
+    Ok(())
+}
+
 // The directory of a map with this root, of which there are to be so many records.
 fn list_all<N: Nodes>(
     alloc: Global,
@@ -184,9 +200,7 @@ fn list_all<N: Nodes>(
         (N.faults nodes.new) (CanListAll (N.stands nodes.old) root.now count)) }
 {
     let all = walk(alloc, nodes, root, count)?;
-    if all.len() as u64 != count {
-        return Err(NodesErr::Page { page: root.id });
-    }
+    fits(root, all.len() as u64, count)?;
     gathered(alloc, all)
 }
 

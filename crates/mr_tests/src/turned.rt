@@ -238,6 +238,13 @@ const LISTED: &[Case<'static>] = &[
         says: "bad map page 3 Page\n",
     },
     Case {
+        name: "another rectangle where nothing changes",
+        edits: &[(16_397, b"\x0f"), (16_405, b"\x0f")],
+        gone: "none",
+        status: BadMap,
+        says: "bad map page 4 Page\n",
+    },
+    Case {
         name: "five records of fifteen",
         edits: &[
             (12_289, b"\x05\x01"),
