@@ -345,7 +345,7 @@ def reads_along(tree: Any, changes: List[Any]) -> int:
 
 
 def reads_of(words: List[str], files: said.Files, meant: said.Meant) -> Tuple[int, int]:
-    """The fewest and the most reads of a run; of a map of more than 257 pages nodes that are not kept are read again."""
+    """The fewest and the most reads of a run; of a map of more than 257 pages what is not kept is read again."""
     calls = course(words, files, meant.made) if meant.ended[0] in (0, 2) else []
     count = sum(call.kind == "reads" for call in calls)
     place = re.match(rb"refused [A-Za-z]+ at ([0-9]+)", meant.ended[1])

@@ -157,7 +157,7 @@ module _ (scheme : Scheme) (told told1 : Option Book) (free free1 : ℕ) (c : Ch
           HaveRect n rect (records (tree_of P)) → IsOnce n (records (tree_of P)) → Read a chain P others
       read a chain P others is names linked owned all once =
           let j = rejoined scheme told told1 told2 free free1 free2 c n rect at cs (option_to_list l.entry)
-              l.aside.items
+          l.aside.items
           d
           same same_free reads within is_d removes a chain P others is names linked owned all once in
           let Ps = j.parts in

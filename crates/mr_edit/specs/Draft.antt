@@ -78,7 +78,7 @@ abbrev pub IsTop : (count : ℕ) → Option Child → Type 0
 IsTop count None = count ≡ 0
 IsTop count (Some c) = (0 < count) × (count ≤ count_limit)
 
--- it may not, and its root's page is blamed
+-- it may not, and a page is blamed for it
 abbrev pub IsOff : (count : ℕ) → Option Child → EditErr → Type 0
 IsOff count root (errors.Map fault) = (fault.rule ≡ rule.Page) × (IsTop count root → ⊥)
 IsOff count root e = ⊥

@@ -1,10 +1,13 @@
+//! Why pages were not changed.
+
 use mr_pages::MapFault;
 use std::alloc::AllocError;
 
 /// Why pages were not changed.
 #[derive(Clone, Copy)]
 pub enum EditErr {
-    /// A page that was read is not what its parent says.
+    /// A page that was read is not what its parent says, a page that is written or freed lies
+    /// outside the file, or the root is one that no map of so many records has.
     Map(MapFault),
     Missing,
     Fault,

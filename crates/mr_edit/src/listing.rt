@@ -225,7 +225,7 @@ pub fn directory<N: Nodes>(alloc: Global, nodes: &mut N) -> Result<Directory, No
     ensures kept { N.kept nodes.old nodes.new }
     ensures lists { IfOk result (λ d. IfSome (N.stands nodes.old).tree
         (λ t. IsDirectoryOf d (records_in t))) }
-    // Each node is fetched once at most.
+    // There are no more fetches than nodes.
     ensures fetched { IfSome (N.stands nodes.old).tree (λ t. N.fetches nodes.new
         ≤ N.fetches nodes.old + length (subtrees t)) }
     ensures quiet { OnOk result (N.faults nodes.new ≡ N.faults nodes.old) }

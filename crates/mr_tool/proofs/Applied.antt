@@ -117,7 +117,7 @@ module _ (hash : List ℕ → List ℕ) (map new batch : List ℕ) (n n' : List 
 
   module _ (well : (t : Tree) → standing.tree ≡ Some t → WellFormed t) (dir : Entries)
       (lists : IfSome standing.tree (λ t. IsDirectoryOf dir (records t))) (quiet : mid.faults ≡ before.faults)
-          (held : ℕ)
+      (held : ℕ)
       (held_is : held ≡ standing.batch) where
     numbers : (t : Tree) → standing.tree ≡ Some t → HaveNumbers dir (records t)
     numbers t told =
@@ -132,7 +132,7 @@ module _ (hash : List ℕ → List ℕ) (map new batch : List ℕ) (n n' : List 
         → ComesBehind applies_batch standing (λ m. comes (said_of_batch m)) (few_of_batch mid) before mid result
     unadmitted text fault result are is some exact gives =
         behind_given applies_batch standing said_of_batch (few_of_batch mid) before mid counts_listed few_listed
-            (ends BadBatch (bad_batch_line fault)) result
+        (ends BadBatch (bad_batch_line fault)) result
         refl
         (λ t told. ap (say_admitted hash new h.pages t b)
         (subst (λ n. batch_fault (records t) n b ≡ Some fault) held_is (exact (records t) (numbers t told))))
@@ -176,7 +176,7 @@ module _ (hash : List ℕ → List ℕ) (map new batch : List ℕ) (n n' : List 
           (λ t told.
           let own : ComesBut (comes (say_changed hash new h.pages t b)) mid after result =
           at_some standing.tree t (λ t. ComesBut (comes (say_changed hash new h.pages t b)) mid after result)
-              told same.told in
+          told same.told in
           subst (λ o. ComesBut (comes o) before after result)
           (sym (says_applied hash new h.pages (map_in standing t) b (admissible fine t told)))
           (subst (λ w. Comes (comes (say_changed hash new h.pages t b)) w after result)
@@ -202,7 +202,7 @@ module _ (hash : List ℕ → List ℕ) (map new batch : List ℕ) (n n' : List 
         same =
             subst (λ (st : Standing). ComesBehind applies_batch st (λ m. comes (say_changed hash new h.pages m.tree b))
             (IsFewOfCopy h.pages b mid.reads after.reads) mid after result)
-                (keeps_stands n n' h h' before mid f0 f kept)
+            (keeps_stands n n' h h' before mid f0 f kept)
             (subst (λ (x : MapHead). ComesBehind applies_batch (stands_for h' (told_bytes mid.files n'))
             (λ m. comes (say_changed hash new x.pages m.tree b)) (IsFewOfCopy x.pages b mid.reads after.reads) mid after
             result) kept.head on)
@@ -247,7 +247,7 @@ module _ (hash : List ℕ → List ℕ) (map new batch : List ℕ) (s : Standing
       → ComesBehind applies_text s (λ m. comes (said_of_text m)) (few_of_text before) before before result
   batch_bad fault result are is gives =
       behind_given applies_text s said_of_text (few_of_text before) before before counts_none few_none
-          (ends BadText (bad_text_line fault))
+      (ends BadText (bad_text_line fault))
       result refl (λ t told. ap (say_apply_of hash new pages (map_in s t)) is)
       (λ none. inr (inr (inl (text, are, (fault, is, refl))))) refl refl gives
 
@@ -255,7 +255,7 @@ module _ (hash : List ℕ → List ℕ) (map new batch : List ℕ) (s : Standing
       (Err halts.NoMemory)
   batch_spent =
       behind_halted applies_text s said_of_text (few_of_text before) before before counts_none few_none
-          halts.NoMemory tt
+      halts.NoMemory tt
       (λ t told. stays (said_of_text (map_in s t)).written before.files before.files refl) (λ none. refl)
 
 -- ---- the file of a batch
@@ -293,16 +293,16 @@ module _ (hash : List ℕ → List ℕ) (map batch new : List ℕ) (n n' : List 
     told = by_some standing_of_file.tree (λ t. ComesBut (say_change hash batch new h.pages (map_in standing_of_file t))
         before after result)
         (λ t told. comes_read batch (said_of_file t) (with_reads after.reads before) (with_reads after.reads mid)
-            after text
+        after text
         read result was (reads_both after.reads batch before mid read got)
         (at_some standing_of_file.tree t (λ t. ComesBut (comes (said_of_file t text.items)) mid after result)
-            told own.told));
+        told own.told));
     untold = λ none.
         untold_from applies_file before mid after result is.files is.read.2 (on.untold (is.files ∙ none));
     few_read = by_some standing_of_file.tree (few_of_file after) (λ t told.
         by_files t before.files is.read.0 is.once
         (at_some standing_of_file.tree t (IsFewOfText h.pages h.batch text.items mid.reads after.reads)
-            told own.few_read));
+        told own.few_read));
   }
     where
       is : Reads batch before mid (Ok (Some text))
@@ -542,7 +542,7 @@ module _ (hash : List ℕ → List ℕ) (sized : (xs : List ℕ) → length (has
           let few_are = at_input before.files files old has.bytes ⊥
           (λ bytes. mid.reads ≤ before.reads + pages_in bytes) told has.input o.reads in
           let own = at_some standing_opened.tree has.tree (IsFewOfFile h.pages h.batch mid.files batch mid.reads
-              end.reads) has.told
+          end.reads) has.told
           on.few_read in
           few_there before.files files old has.bytes before.reads end.reads
           (λ files bytes n. IsFewApplied hash bytes (file files batch) n) told has.input
@@ -564,13 +564,13 @@ module _ (hash : List ℕ → List ℕ) (sized : (xs : List ℕ) → length (has
               subst (λ o. IsInput o old (Some has.bytes)) told has.input in
               let own = at_some standing_opened.tree has.tree
               (λ t. ComesBut (say_change hash batch new h.pages (map_in standing_opened t)) mid end result)
-                  has.told on.told in
+              has.told on.told in
               let same : h.pages ≡ pages_there (file files old) = pages_are ∙ sym (ap pages_there there) in
               comes_told applies plan before end files told result all.reads (few_applied files told has)
               (comes_sized hash old (say_change hash batch new) before end files told result
               (subst (λ k. ComesBut (needs_map hash old (say_change hash batch new k)) before end result) same
               (told_on hash sized old before standing_opened mid o.files o.quiet o.answers
-                  (say_change hash batch new h.pages)
+              (say_change hash batch new h.pages)
               (goes h.pages) has end result own)))
 
 -- ---- the tree of an opened map is well formed

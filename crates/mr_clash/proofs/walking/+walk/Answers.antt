@@ -53,7 +53,7 @@ walk-returns-clause-walked g t c = λ P rest fits is.
     c.in_ok-row.ensures.walked in
     inner_walked hash s c.args.child.now c.fetch.new.view shows c.digests_are_sized.ensures P c.children.result.now rest
     (left c.args.from.now) (left c.walk_children.new.from) (preimage_of c.fetch.new.view) c.in_ok-row.row
-        c.in_ok-inner.inner
+    c.in_ok-inner.inner
     fits c.if-child-eq0.false (sym (c.is_pruned.ensures P rest is) ∙ c.if-is_pruned.false) is refl c.is_view.ensures
     (c.children.ensures.inner above) c.children.ensures.value c.children.ensures.alike
     (λ Ps fit here. walked Ps rest fit here) (c.in_ok-inner.ensures shows.digest)

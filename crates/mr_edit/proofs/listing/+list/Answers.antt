@@ -41,7 +41,7 @@ loop-one-preserved g t c =
       all = lists_more s (g.N.Nodes.stands c.loop-one.nodes) c.children-one-items.result.now c.loop-one.one-index
           c.one-item.result c.args.all.now.items c.loop-one.all.items c.list.new.all.items
           c.args.seen.now c.loop-one.seen c.list.new.seen same c.loop-one-test.true c.one-item.is
-              c.loop-one.invariant.all c.in_ok-list.ensures.lists;
+          c.loop-one.invariant.all c.in_ok-list.ensures.lists;
       fetched = λ told. fetched_more s (g.N.Nodes.stands c.loop-one.nodes) c.children-one-items.result.now
           c.loop-one.one-index c.one-item.result (next_count (g.N.Nodes.fetches c.args.nodes.now))
           (g.N.Nodes.fetches c.loop-one.nodes) (g.N.Nodes.fetches c.list.new.nodes) same c.one-item.is

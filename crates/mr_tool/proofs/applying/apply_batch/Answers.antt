@@ -20,7 +20,7 @@ returns-in-Err g c = λ name.
     (stands_for paged.head (told_bytes before.files (string_bytes paged.name)))
     (λ m. comes (say_batch hash c.args.new.now paged.head.pages m c.args.batch.now))
     (IsFewOfChanges paged.head.pages paged.head.batch c.args.batch.now before.reads w.reads) before w
-        c.unfetched.result)
+    c.unfetched.result)
     (sym (ap g.S.Shelf.state c.close.ensures))
     (unlisted hash c.args.map.now c.args.new.now name (string_bytes paged.name) (string_bytes later.name) paged.head
     later.head paged.fetches later.fetches c.args.batch.now before (g.S.Shelf.state later.shelf) c.in-Err.ensures.kept
@@ -57,7 +57,7 @@ returns-in-Err-admit g c = λ name.
     (stands_for paged.head (told_bytes before.files (string_bytes paged.name)))
     (λ m. comes (say_batch hash c.args.new.now paged.head.pages m c.args.batch.now))
     (IsFewOfChanges paged.head.pages paged.head.batch c.args.batch.now before.reads w.reads) before w
-        c.bad_batch.result)
+    c.bad_batch.result)
     (sym (ap g.S.Shelf.state c.close-in-Err-admit.ensures))
     (unadmitted hash c.args.map.now c.args.new.now name (string_bytes paged.name) (string_bytes later.name)
     paged.head later.head paged.fetches later.fetches c.args.batch.now before mid is.kept

@@ -52,5 +52,5 @@ returns g c = λ name.
     sealed hash c.args.map.now c.args.new.now name (string_bytes paged.name) paged.head c.args.batch.now
     (g.S.Shelf.state paged.shelf) c.args.dir c.requires.may d c.in-Ok.ensures e is.kept is.within c.apply_batch.new.dir
     is.applies is.batch is.quiet (g.S.Shelf.state c.seal-shelf.result.0) c.seal-shelf.ensures.reads
-        c.seal-shelf.result.1
+    c.seal-shelf.result.1
     c.say_sealed.result c.seal-shelf.ensures.sealed c.say_sealed.ensures

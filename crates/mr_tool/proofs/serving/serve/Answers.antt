@@ -44,7 +44,7 @@ returns-in-Err-snapshot g c =
     (unserved hash (sized g) c.args.map.now c.args.script.now c.args.bundle.now (string_bytes paged.name)
     (string_bytes later.name) before mid end (stands_for paged.head (told_bytes mid.files (string_bytes paged.name)))
     paged.head later.head paged.fetches later.fetches o.files o.quiet o.more o.answers o.pages o.reads e.kept o.none
-        e.fetched
+    e.fetched
     c.in-Err-snapshot.error c.unfetched.result e.cause c.unfetched.ensures)
 
 pub returns-in-Ok-snapshot : goal.returns-in-Ok-snapshot
@@ -62,7 +62,7 @@ returns-in-Ok-snapshot g c =
     served hash (sized g) c.args.map.now c.args.script.now c.args.bundle.now (string_bytes paged.name)
     (string_bytes later.name) before mid end (stands_for paged.head (told_bytes mid.files (string_bytes paged.name)))
     paged.head later.head paged.fetches later.fetches o.files o.quiet o.more o.answers o.pages o.reads e.kept o.none
-        e.fetched
+    e.fetched
     nodes.nodes.items nodes.top after c.serve_script-came.result e.stands nodes.well_formed e.quiet
     (subst (λ w. Comes (say_script hash c.args.script.now c.args.bundle.now (held_in nodes.nodes.items nodes.top)) w
     after c.serve_script-came.result) (ap g.S.Shelf.state c.close-shelf.ensures) c.serve_script-came.ensures)
