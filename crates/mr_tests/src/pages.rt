@@ -1,11 +1,11 @@
-//! What `prove` and `audit` say of a map that changes while it is read.
+//! What `prove`, `audit` and `serve` say of a map that changes while it is read.
 
 ghost use Rattle.std.specs.Prelude.{◌≡◌};
 
 use crate::assertions::all_hold;
 use mr_bench::runs::{file_of, ran, ran_on, shelf_of};
 use mr_outside::{MemShelf, NoGate, Shelf, ShelfErr};
-use mr_tool::Status::{self, BadMap, Done, Outside};
+use mr_tool::Status::{self, BadMap, BadText, Done, Outside};
 use mr_tree::XorHash;
 use std::alloc::{AllocError, Global};
 use std::thread::Threads;
@@ -27,6 +27,9 @@ fn left_by<R: Threads + Sync>(
 const WHOLE: &str = "prove m window:-1000000,-1000000,1000063,1000063 p";
 
 const WHOLE_AUDIT: &str = "audit m window:-1000000,-1000000,1000063,1000063 p";
+
+// What stands in the proof's file is no script, which is read behind the map.
+const SERVED: &str = "serve m p b";
 
 // Tells nothing, and gives the bytes of a map and of a proof. After so many reads one byte of the
 // map is another, or nothing is left of it, or it is gone.
@@ -199,6 +202,48 @@ const ROWS: &[Row] = &[
     Row {
         name: "an audit on a map with a child behind its end",
         words: WHOLE_AUDIT,
+        turn: Turn::Byte(532_483, 0xff),
+        status: BadMap,
+        text: "bad map page 4278190211 Outside\n",
+    },
+    Row {
+        name: "many proofs of a map that stays",
+        words: SERVED,
+        turn: Turn::No,
+        status: BadText,
+        text: "bad text line 1 ",
+    },
+    Row {
+        name: "many proofs of a map with another record",
+        words: SERVED,
+        turn: Turn::Byte(12_297, 0xff),
+        status: BadMap,
+        text: "bad map page 3 Changed held ",
+    },
+    Row {
+        name: "many proofs of a map with a page that is no node",
+        words: SERVED,
+        turn: Turn::Byte(12_288, 0xff),
+        status: BadMap,
+        text: "bad map page 3 Page\n",
+    },
+    Row {
+        name: "many proofs of a map that is cut off",
+        words: SERVED,
+        turn: Turn::Cut,
+        status: BadMap,
+        text: "bad map page 3 Page\n",
+    },
+    Row {
+        name: "many proofs of a map that is gone",
+        words: SERVED,
+        turn: Turn::Gone,
+        status: Outside,
+        text: "missing m\n",
+    },
+    Row {
+        name: "many proofs of a map with a child behind its end",
+        words: SERVED,
         turn: Turn::Byte(532_483, 0xff),
         status: BadMap,
         text: "bad map page 4278190211 Outside\n",
