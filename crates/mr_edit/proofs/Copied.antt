@@ -12,6 +12,7 @@ use Rattle.mr_outside.specs.Writing.{IsChanged, IsChangedPartly}
 use Rattle.mr_outside.specs.declared.shelf.ShelfErr.{ShelfErr}
 use Rattle.mr_outside.specs.declared.shelf.ShelfErr.TheVariants as shelf
 use Rattle.mr_outside.proofs.Changes.{IsChanged-grown, file-with_file, file-with_other}
+use Rattle.mr_pages.specs.PageBytes.{page_size}
 use Rattle.mr_pages.specs.Source.{told_bytes}
 use Rattle.mr_edit.specs.Sheets.{zeros, IsMade, WasRead, HasCopied, CopyStops, IsFiled}
 use Rattle.mr_edit.specs.Shelves.{HasShelfCause, Refuses, RefusesMade}
@@ -122,7 +123,7 @@ create_stops {A = A} new pages s b e r never files reads c is = record {
     at shelf.Fault c never is = subst (HasShelfCause s.faults b.faults) (sym is) (c.fault refl)
     at shelf.NoMemory c never is = subst (HasShelfCause s.faults b.faults) (sym is) tt
 
-module _ (new : List ℕ) (pages : ℕ) (page : List ℕ) (zero_page : page ≡ zeros 4096) (s a b : Shelved)
+module _ (new : List ℕ) (pages : ℕ) (page : List ℕ) (zero_page : page ≡ zeros page_size) (s a b : Shelved)
     (made : IsMade new s a) (same : b.reads ≡ a.reads) where
   pub first_copied : (old : List ℕ) → b.faults ≡ a.faults → IsChanged (grown new) page a.files b.files →
       HasCopied old new pages 1 s b
@@ -130,7 +131,7 @@ module _ (new : List ℕ) (pages : ℕ) (page : List ℕ) (zero_page : page ≡ 
     some = omega arith;
     nodes = [];
     files = subst (λ bytes. IsChanged (with_file new) bytes s.files b.files)
-        (zero_page ∙ sym (append-nil (zeros 4096))) (IsChanged-grown new [] page s.files a.files b.files made.files
+        (zero_page ∙ sym (append-nil (zeros page_size))) (IsChanged-grown new [] page s.files a.files b.files made.files
         put);
     so_far = λ bytes told whole. refl;
     quiet = quiet ∙ made.quiet;
@@ -143,7 +144,7 @@ module _ (new : List ℕ) (pages : ℕ) (page : List ℕ) (zero_page : page ≡ 
   first_stops e r p c is = record {
     left = inr (
       p.front,
-      ([], p.rest, append-nil (zeros 4096) ∙ sym zero_page ∙ p.whole),
+      ([], p.rest, append-nil (zeros page_size) ∙ sym zero_page ∙ p.whole),
       IsChanged-grown new [] p.front s.files a.files b.files made.files p.changed,
     );
     cause = subst (λ n. HasShelfCause n b.faults r) made.quiet
@@ -161,10 +162,10 @@ read_few a b e = (omega (arith, e), omega (arith, e))
 
 module _ (old new : List ℕ) (pages page count : ℕ) (s a : Shelved) (differ : old ≢ new) (within : page + count ≤ pages)
     (h : HasCopied old new pages page s a) where
-  pub was_read : {A : Type 0} (x : A) (b : Shelved) (piece : List ℕ) → length piece ≡ count * 4096 → b.files ≡ a.files →
+  pub was_read : {A : Type 0} (x : A) (b : Shelved) (piece : List ℕ) → length piece ≡ count * page_size → b.files ≡ a.files →
       b.faults ≡ a.faults → CountsRead a b (Ok x) →
-      OfFile a.files old ⊥ (λ file. page * 4096 + count * 4096 ≤ length file →
-      piece ≡ take (count * 4096) (drop (page * 4096) file)) → WasRead old new pages page piece s b
+      OfFile a.files old ⊥ (λ file. page * page_size + count * page_size ≤ length file →
+      piece ≡ take (count * page_size) (drop (page * page_size) file)) → WasRead old new pages page piece s b
   was_read x b piece size files quiet reads filled =
       let one = read_few a.reads b.reads reads.answered in
       record {
@@ -173,17 +174,17 @@ module _ (old new : List ℕ) (pages page count : ℕ) (s a : Shelved) (differ :
         files = files ∙ h.files;
         so_far = λ bytes told whole.
             let there : told_bytes a.files old ≡ Some bytes =
-            other_bytes old new (zeros 4096 ++ h.nodes) s.files a.files differ h.files ∙ told in
-            let part : piece ≡ take (count * 4096) (drop (page * 4096) bytes) =
-            of_bytes a.files old bytes (λ file. page * 4096 + count * 4096 ≤ length file →
-            piece ≡ take (count * 4096) (drop (page * 4096) file)) there filled (omega (arith, whole, within)) in
-            let n : ℕ = (page - 1) * 4096 in
-            let at : 4096 + n ≡ page * 4096 = omega (arith, h.some) in
+            other_bytes old new (zeros page_size ++ h.nodes) s.files a.files differ h.files ∙ told in
+            let part : piece ≡ take (count * page_size) (drop (page * page_size) bytes) =
+            of_bytes a.files old bytes (λ file. page * page_size + count * page_size ≤ length file →
+            piece ≡ take (count * page_size) (drop (page * page_size) file)) there filled (omega (arith, whole, within)) in
+            let n : ℕ = (page - 1) * page_size in
+            let at : page_size + n ≡ page * page_size = omega (arith, h.some) in
             (λ i. h.so_far bytes told whole i ++ part i)
-            ∙ ap (λ k. take n (drop 4096 bytes) ++ take (count * 4096) (drop k bytes)) (sym at)
-            ∙ ap (λ xs. take n (drop 4096 bytes) ++ take (count * 4096) xs) (sym (drop-drop n 4096 bytes))
-            ∙ sym (take-add n (count * 4096) (drop 4096 bytes))
-            ∙ ap (λ m. take (n + m) (drop 4096 bytes)) (sym size);
+            ∙ ap (λ k. take n (drop page_size bytes) ++ take (count * page_size) (drop k bytes)) (sym at)
+            ∙ ap (λ xs. take n (drop page_size bytes) ++ take (count * page_size) xs) (sym (drop-drop n page_size bytes))
+            ∙ sym (take-add n (count * page_size) (drop page_size bytes))
+            ∙ ap (λ m. take (n + m) (drop page_size bytes)) (sym size);
         quiet = quiet ∙ h.quiet;
         more = omega (arith, h.more, one.0);
         few = omega (arith, h.few, one.1);
@@ -193,15 +194,15 @@ module _ (old new : List ℕ) (pages page count : ℕ) (s a : Shelved) (differ :
       CountsRead {A = A} a b (Err e) → ShelfCauses {A = A} old a b (Err e) → Refuses e r → CopyStops new pages s b r
   read_stops b e r there files reads c is = record {
     left = inr (
-      zeros 4096 ++ h.nodes,
-      (h.nodes, [], sym (append-nil (zeros 4096 ++ h.nodes))),
+      zeros page_size ++ h.nodes,
+      (h.nodes, [], sym (append-nil (zeros page_size ++ h.nodes))),
       files ∙ h.files,
     );
     cause = subst (λ n. HasShelfCause n b.faults r) h.quiet
-        (shelf_cause old a b e r (other_there old new (zeros 4096 ++ h.nodes) s.files a.files differ h.files there)
+        (shelf_cause old a b e r (other_there old new (zeros page_size ++ h.nodes) s.files a.files differ h.files there)
         c is);
-    untold = λ missing. none_before new (zeros 4096 ++ h.nodes) s.files a.files h.files
-        (not_told old a b e r (other_there old new (zeros 4096 ++ h.nodes) s.files a.files differ h.files there) c is
+    untold = λ missing. none_before new (zeros page_size ++ h.nodes) s.files a.files h.files
+        (not_told old a b e r (other_there old new (zeros page_size ++ h.nodes) s.files a.files differ h.files there) c is
         missing);
     later = omega (arith, c.faults, h.quiet);
     more = omega (arith, h.more, reads.refused);
@@ -209,7 +210,7 @@ module _ (old new : List ℕ) (pages page count : ℕ) (s a : Shelved) (differ :
   }
 
 module _ (old new : List ℕ) (pages page count : ℕ) (piece : List ℕ) (s a b : Shelved)
-    (size : length piece ≡ count * 4096)
+    (size : length piece ≡ count * page_size)
     (within : page + count ≤ pages) (some : 1 ≤ count) (w : WasRead old new pages page piece s a)
     (same : b.reads ≡ a.reads)
   where
@@ -218,11 +219,11 @@ module _ (old new : List ℕ) (pages page count : ℕ) (piece : List ℕ) (s a b
     piece_copied quiet put = record {
       some = omega (arith, w.some);
       nodes = w.nodes ++ piece;
-      files = subst (λ bytes. IsChanged (with_file new) bytes s.files b.files) (append_assoc (zeros 4096) w.nodes piece)
-          (IsChanged-grown new (zeros 4096 ++ w.nodes) piece s.files a.files b.files w.files put);
+      files = subst (λ bytes. IsChanged (with_file new) bytes s.files b.files) (append_assoc (zeros page_size) w.nodes piece)
+          (IsChanged-grown new (zeros page_size ++ w.nodes) piece s.files a.files b.files w.files put);
       so_far = λ bytes told whole. w.so_far bytes told whole
-          ∙ ap (λ n. take n (drop 4096 bytes))
-          (let n : (page - 1) * 4096 + length piece ≡ (page + count - 1) * 4096 = omega (arith, size, w.some) in n);
+          ∙ ap (λ n. take n (drop page_size bytes))
+          (let n : (page - 1) * page_size + length piece ≡ (page + count - 1) * page_size = omega (arith, size, w.some) in n);
       quiet = quiet ∙ w.quiet;
       more = omega (arith, w.more, same);
       few = omega (arith, w.few, same, some);
@@ -232,17 +233,17 @@ module _ (old new : List ℕ) (pages page count : ℕ) (piece : List ℕ) (s a b
         ShelfCauses {A = A} new a b (Err e) → RefusesMade e r → CopyStops new pages s b r
     piece_stops e r p c is = record {
       left = inr (
-        (zeros 4096 ++ w.nodes) ++ p.front,
+        (zeros page_size ++ w.nodes) ++ p.front,
         (
           w.nodes ++ p.front,
           [],
-          sym (append_assoc (zeros 4096) w.nodes p.front)
-              ∙ sym (append-nil ((zeros 4096 ++ w.nodes) ++ p.front)),
+          sym (append_assoc (zeros page_size) w.nodes p.front)
+              ∙ sym (append-nil ((zeros page_size ++ w.nodes) ++ p.front)),
         ),
-        IsChanged-grown new (zeros 4096 ++ w.nodes) p.front s.files a.files b.files w.files p.changed,
+        IsChanged-grown new (zeros page_size ++ w.nodes) p.front s.files a.files b.files w.files p.changed,
       );
       cause = subst (λ n. HasShelfCause n b.faults r) w.quiet
-          (made_cause new a b e r (set_there new (zeros 4096 ++ w.nodes) s.files a.files w.files) c is);
+          (made_cause new a b e r (set_there new (zeros page_size ++ w.nodes) s.files a.files w.files) c is);
       untold = λ missing. absurd (not_missing e r is missing);
       later = omega (arith, c.faults, w.quiet);
       more = omega (arith, w.more, same);

@@ -14,7 +14,7 @@ use Rattle.mr_outside.specs.Writing.{IsChanged}
 use Rattle.mr_outside.proofs.Changes.{file-with_file}
 use Rattle.mr_tree.specs.Digest.{by}
 use Rattle.mr_pages.specs.Page.{page_limit}
-use Rattle.mr_pages.specs.PageBytes.{first_form}
+use Rattle.mr_pages.specs.PageBytes.{page_size, first_form}
 use Rattle.mr_pages.specs.File.{file_of, page_at}
 use Rattle.mr_pages.specs.Source.{told_bytes}
 use Rattle.mr_pages.specs.Stands.{Placed, IsWritten, IsChain, AreAllPages, pages_of, whole_tree, whole_pages}
@@ -49,29 +49,29 @@ sheet_free page = refl
 abbrev pub pages_in : ℕ → List ℕ → Book
 pages_in pages bytes = record { size = pages; sheet = λ p. sheet_of (page_at first_form bytes p) }
 
-pub book_whole : (pages : ℕ) (bytes : List ℕ) → length bytes ≡ pages * 4096 →
+pub book_whole : (pages : ℕ) (bytes : List ℕ) → length bytes ≡ pages * page_size →
     book_in pages bytes ≡ Some (pages_in pages bytes)
 book_whole pages bytes whole =
-    ap (λ b. if b then Some (pages_in pages bytes) else None) (eq-eqb (length bytes) (pages * 4096) whole)
+    ap (λ b. if b then Some (pages_in pages bytes) else None) (eq-eqb (length bytes) (pages * page_size) whole)
 
 -- ---- the bytes of a copy
 
 abbrev copy_of : List ℕ → List ℕ
-copy_of bytes = zeros 4096 ++ drop 4096 bytes
+copy_of bytes = zeros page_size ++ drop page_size bytes
 
 copy_page : (bytes : List ℕ) (q : ℕ) → q ≢ 0 → page_at first_form (copy_of bytes) q ≡ page_at first_form bytes q
 copy_page bytes q some =
-    let more : ℕ = q * 4096 - 4096 in
-    let at : q * 4096 ≡ length (zeros 4096) + more = omega (arith, some, length_zeros 4096) in
-    let there : 4096 + more ≡ q * 4096 = omega (arith, some) in
-    ap (λ k. take 4096 (drop k (copy_of bytes))) at
-    ∙ ap (take 4096) (drop-append-add (zeros 4096) (drop 4096 bytes) more)
-    ∙ ap (take 4096) (drop-drop more 4096 bytes)
-    ∙ ap (λ k. take 4096 (drop k bytes)) there
+    let more : ℕ = q * page_size - page_size in
+    let at : q * page_size ≡ length (zeros page_size) + more = omega (arith, some, length_zeros page_size) in
+    let there : page_size + more ≡ q * page_size = omega (arith, some) in
+    ap (λ k. take page_size (drop k (copy_of bytes))) at
+    ∙ ap (take page_size) (drop-append-add (zeros page_size) (drop page_size bytes) more)
+    ∙ ap (take page_size) (drop-drop more page_size bytes)
+    ∙ ap (λ k. take page_size (drop k bytes)) there
 
 module _ (hash : List ℕ → List ℕ) (h : MapHead) (es : Entries) (bytes : List ℕ) (op : IsOpen hash h es bytes) where
   record Spans : Type 0 where
-    whole : length bytes ≡ h.pages * 4096
+    whole : length bytes ≡ h.pages * page_size
     some : 1 ≤ h.pages
     few : h.pages ≤ page_limit
 
@@ -85,31 +85,31 @@ module _ (hash : List ℕ → List ℕ) (h : MapHead) (es : Entries) (bytes : Li
         few = omega (arith, head.whole.few, head.same);
       }
 
-  length_copy : length (copy_of bytes) ≡ h.pages * 4096
+  length_copy : length (copy_of bytes) ≡ h.pages * page_size
   length_copy = omega (
     arith,
     spans.whole,
     spans.some,
-    length-append (zeros 4096) (drop 4096 bytes),
-    length_zeros 4096,
-    length-drop 4096 bytes,
+    length-append (zeros page_size) (drop page_size bytes),
+    length_zeros page_size,
+    length-drop page_size bytes,
   )
 
   pub has_copy : HasPages h.pages (copy_of bytes)
   has_copy = record {
     some = spans.some;
     few = spans.few;
-    are = All-append (λ b. b < 2 ^ 8) (zeros 4096) (drop 4096 bytes) (bytes_zeros 4096)
-        (All-drop (λ b. b < 2 ^ 8) 4096 bytes op.are);
+    are = All-append (λ b. b < 2 ^ 8) (zeros page_size) (drop page_size bytes) (bytes_zeros page_size)
+        (All-drop (λ b. b < 2 ^ 8) page_size bytes op.are);
     long = omega (arith, length_copy);
-    blank = take_at (zeros 4096) (drop 4096 bytes) 4096 (length_zeros 4096);
+    blank = take_at (zeros page_size) (drop page_size bytes) page_size (length_zeros page_size);
   }
 
-  pub whole_copy : (nodes : List ℕ) → nodes ≡ take ((max 1 h.pages - 1) * 4096) (drop 4096 bytes) →
-      zeros 4096 ++ nodes ≡ copy_of bytes
-  whole_copy nodes e = ap (λ xs. zeros 4096 ++ xs)
-      (e ∙ take_all ((max 1 h.pages - 1) * 4096) (drop 4096 bytes)
-      (omega (arith, spans.whole, spans.some, length-drop 4096 bytes)))
+  pub whole_copy : (nodes : List ℕ) → nodes ≡ take ((max 1 h.pages - 1) * page_size) (drop page_size bytes) →
+      zeros page_size ++ nodes ≡ copy_of bytes
+  whole_copy nodes e = ap (λ xs. zeros page_size ++ xs)
+      (e ∙ take_all ((max 1 h.pages - 1) * page_size) (drop page_size bytes)
+      (omega (arith, spans.whole, spans.some, length-drop page_size bytes)))
 
   -- ---- the draft over it
 
@@ -188,7 +188,7 @@ module _ (hash : List ℕ → List ℕ) (h : MapHead) (es : Entries) (cap : ℕ)
   told_at : (files : Files) → before.files ≡ Some files → (bytes : List ℕ) → told_bytes before.files old ≡ Some bytes →
       IsOpen hash h es bytes → Told bytes
   told_at files is bytes found op = record {
-    there = set_bytes name (zeros 4096 ++ c.nodes) before.files after.files files is c.files
+    there = set_bytes name (zeros page_size ++ c.nodes) before.files after.files files is c.files
         ∙ ap Some (whole_copy hash h es bytes op c.nodes (c.so_far bytes found (spans hash h es bytes op).whole));
   }
 
@@ -196,7 +196,7 @@ module _ (hash : List ℕ → List ℕ) (h : MapHead) (es : Entries) (cap : ℕ)
       IfSome o (IsOpen hash h es) → IsFiled files old → IfSome (told_bytes after.files name) (HasPages h.pages)
   have_at None is o found op there =
       subst (λ x. IfSome x (HasPages h.pages))
-      (sym (ap (λ x. told_bytes x name) (c.files ∙ ap (option_map (with_file name (zeros 4096 ++ c.nodes))) is))) tt
+      (sym (ap (λ x. told_bytes x name) (c.files ∙ ap (option_map (with_file name (zeros page_size ++ c.nodes))) is))) tt
   have_at (Some files) is None found op there =
       let none : IsSome {T = List ℕ} None =
       subst (IsSome {T = List ℕ}) (ap (λ x. told_bytes x old) (sym is) ∙ found) there in absurd cc
@@ -206,7 +206,7 @@ module _ (hash : List ℕ → List ℕ) (h : MapHead) (es : Entries) (cap : ℕ)
 
   pub copy_pages : ArePages after.files name h.pages
   copy_pages = record {
-    there = set_there name (zeros 4096 ++ c.nodes) before.files after.files c.files;
+    there = set_there name (zeros page_size ++ c.nodes) before.files after.files c.files;
     have = have_at before.files refl (told_bytes before.files old) refl store.open_ store.there;
   }
 

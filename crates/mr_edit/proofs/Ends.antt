@@ -6,7 +6,7 @@ use Rattle.mr_outside.specs.Files.{Files, with_file}
 use Rattle.mr_outside.specs.State.{Shelved}
 use Rattle.mr_outside.specs.Writing.{IsChanged}
 use Rattle.mr_outside.proofs.Changes.{file-with_file}
-use Rattle.mr_pages.specs.PageBytes.{first_form}
+use Rattle.mr_pages.specs.PageBytes.{page_size, first_form}
 use Rattle.mr_pages.specs.Saved.{IsUnsealed, Leaves}
 use Rattle.mr_pages.specs.Source.{told_bytes}
 use Rattle.mr_pages.specs.declared.head.MapHead.{MapHead}
@@ -58,8 +58,8 @@ module _ (hash : List ℕ → List ℕ) (h : MapHead) (es : Entries) (cap : ℕ)
     root = refl;
     free = refl;
     count = refl;
-    bytes = zeros 4096 ++ c.nodes;
-    unsealed = unsealed_front hash (zeros 4096 ++ c.nodes) (c.nodes, [], sym (append-nil (zeros 4096 ++ c.nodes)));
+    bytes = zeros page_size ++ c.nodes;
+    unsealed = unsealed_front hash (zeros page_size ++ c.nodes) (c.nodes, [], sym (append-nil (zeros page_size ++ c.nodes)));
     files = c.files;
     quiet = c.quiet;
     more = c.more;

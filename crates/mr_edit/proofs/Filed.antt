@@ -11,6 +11,7 @@ use Rattle.mr_outside.specs.Causes.{ShelfCauses}
 use Rattle.mr_outside.specs.declared.shelf.ShelfErr.{ShelfErr}
 use Rattle.mr_outside.specs.declared.shelf.ShelfErr.TheVariants as shelf
 use Rattle.mr_outside.proofs.Changes.{with_change-found, file-with_file}
+use Rattle.mr_pages.specs.PageBytes.{page_size}
 use Rattle.mr_pages.specs.Page.{page_limit}
 use Rattle.mr_pages.specs.Saved.{Leaves}
 use Rattle.mr_pages.specs.Source.{told_bytes}
@@ -88,10 +89,10 @@ changed change name (Some files) after there e = at (file files name) refl there
 -- ---- a page is written
 
 module _ (told after : Option Files) (name : List ℕ) (pages page : ℕ) (front : List ℕ) (are : ArePages told name pages)
-    (low : 1 ≤ page) (within : page < pages) (new : AreBytes front) (short : length front ≤ 4096)
-    (put : after ≡ option_map (overwritten name (page * 4096) front) told) where
-  made : Changed (replaced (page * 4096) front) name told after
-  made = changed (replaced (page * 4096) front) name told after are.there put
+    (low : 1 ≤ page) (within : page < pages) (new : AreBytes front) (short : length front ≤ page_size)
+    (put : after ≡ option_map (overwritten name (page * page_size) front) told) where
+  made : Changed (replaced (page * page_size) front) name told after
+  made = changed (replaced (page * page_size) front) name told after are.there put
 
   pub put_pages : ArePages after name pages
   put_pages = record {
@@ -100,7 +101,7 @@ module _ (told after : Option Files) (name : List ℕ) (pages page : ℕ) (front
   }
     where
       at : (o : Option (List ℕ)) → IfSome o (HasPages pages) →
-          IfSome (option_map (replaced (page * 4096) front) o) (HasPages pages)
+          IfSome (option_map (replaced (page * page_size) front) o) (HasPages pages)
       at None have = tt
       at (Some held) have = has_replaced pages page held front have low within short new
 
@@ -110,16 +111,16 @@ module _ (told after : Option Files) (name : List ℕ) (pages page : ℕ) (front
       (at (told_bytes told name) are.have)
     where
       at : (o : Option (List ℕ)) → IfSome o (HasPages pages) → ChangesPage page (option_and_then (book_in pages) o)
-          (option_and_then (book_in pages) (option_map (replaced (page * 4096) front) o))
+          (option_and_then (book_in pages) (option_map (replaced (page * page_size) front) o))
       at None have = tt
       at (Some held) have = book_others pages page held front have low within short
 
-  pub put_whole : length front ≡ 4096 →
+  pub put_whole : length front ≡ page_size →
       book_on after name pages ≡ option_map (with_sheet page (sheet_of front)) (book_on told name pages)
   put_whole whole = ap (option_and_then (book_in pages)) made.bytes ∙ at (told_bytes told name) are.have
     where
       at : (o : Option (List ℕ)) → IfSome o (HasPages pages) →
-          option_and_then (book_in pages) (option_map (replaced (page * 4096) front) o)
+          option_and_then (book_in pages) (option_map (replaced (page * page_size) front) o)
           ≡ option_map (with_sheet page (sheet_of front)) (option_and_then (book_in pages) o)
       at None have = refl
       at (Some held) have = book_put pages page held front have low within short whole
@@ -155,7 +156,7 @@ module _ (told after : Option Files) (name : List ℕ) (pages : ℕ) (front : Li
       at None have = inl refl
       at (Some held) have = book_loses held pages front have.long
 
-  pub add_more : pages < page_limit → front ≡ zeros 4096 → ArePages after name (pages + 1)
+  pub add_more : pages < page_limit → front ≡ zeros page_size → ArePages after name (pages + 1)
   add_more few whole = record {
     there = longer_.there;
     have = subst (λ o. IfSome o (HasPages (pages + 1))) (sym longer_.bytes) (at (told_bytes told name) are.have);
@@ -167,7 +168,7 @@ module _ (told after : Option Files) (name : List ℕ) (pages : ℕ) (front : Li
       at (Some held) have =
           subst (λ xs. HasPages (pages + 1) (held ++ xs)) (sym whole) (has_more held pages have few)
 
-  pub add_longer : front ≡ zeros 4096 →
+  pub add_longer : front ≡ zeros page_size →
       book_on after name (pages + 1) ≡ option_map longer (book_on told name pages)
   add_longer whole = ap (option_and_then (book_in (pages + 1))) longer_.bytes ∙ at (told_bytes told name)
     where

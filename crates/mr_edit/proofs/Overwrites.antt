@@ -7,7 +7,7 @@ use Rattle.std.proofs.lemmas.List.Elements.{All-append, All-take, All-drop}
 use Rattle.std.proofs.Math.Seq.{drop-append-add}
 use Rattle.mr_record.specs.Bytes.{AreBytes}
 use Rattle.mr_outside.specs.Files.{replaced}
-use Rattle.mr_pages.specs.PageBytes.{first_form}
+use Rattle.mr_pages.specs.PageBytes.{page_size, first_form}
 use Rattle.mr_pages.specs.File.{page_at}
 use Rattle.mr_edit.specs.Book.{Book, with_sheet}
 use Rattle.mr_edit.specs.Sheets.{sheet_of, book_in, zeros, HasPages, ChangesPage}
@@ -75,49 +75,49 @@ bytes_replaced n front held new old =
 -- ---- a page is written
 
 module _ (pages page : ℕ) (held front : List ℕ) (have : HasPages pages held) (low : 1 ≤ page) (within : page < pages)
-    (short : length front ≤ 4096) where
+    (short : length front ≤ page_size) where
   abbrev after : List ℕ
-  after = replaced (page * 4096) front held
+  after = replaced (page * page_size) front held
 
-  room : page * 4096 + length front ≤ length held
+  room : page * page_size + length front ≤ length held
   room = omega (arith, have.long, within, short)
 
-  start : page * 4096 ≤ length held
+  start : page * page_size ≤ length held
   start = omega (arith, room)
 
   same_length : length after ≡ length held
-  same_length = length_replaced (page * 4096) front held room
+  same_length = length_replaced (page * page_size) front held room
 
   pub other_page : (q : ℕ) → q ≢ page → page_at first_form after q ≡ page_at first_form held q
   other_page q other = elim (cases_lt q page) [
     | inl before ↦
-        ap (λ xs. take 4096 (drop (q * 4096) xs))
-        (append_assoc (take (page * 4096) held) front (drop (page * 4096 + length front) held))
-        ∙ piece_before 4096 held (q * 4096) (page * 4096) (front ++ drop (page * 4096 + length front) held)
+        ap (λ xs. take page_size (drop (q * page_size) xs))
+        (append_assoc (take (page * page_size) held) front (drop (page * page_size + length front) held))
+        ∙ piece_before page_size held (q * page_size) (page * page_size) (front ++ drop (page * page_size + length front) held)
         (omega (arith, before)) start
     | inr past ↦
         let behind : page < q = omega (arith, past, other) in
-        ap (take 4096) (piece_behind held front (q * 4096) (page * 4096) (omega (arith, behind, short)) start)
+        ap (take page_size) (piece_behind held front (q * page_size) (page * page_size) (omega (arith, behind, short)) start)
   ]
 
   pub has_replaced : AreBytes front → HasPages pages after
   has_replaced new = record {
     some = have.some;
     few = have.few;
-    are = bytes_replaced (page * 4096) front held new have.are;
+    are = bytes_replaced (page * page_size) front held new have.are;
     long = omega (arith, have.long, same_length);
     blank = other_page 0 (λ e. omega (arith, e, low)) ∙ have.blank;
   }
 
-  pub this_page : length front ≡ 4096 → page_at first_form after page ≡ front
+  pub this_page : length front ≡ page_size → page_at first_form after page ≡ front
   this_page whole =
-      ap (λ n. take n (drop (page * 4096) after)) (sym whole)
-      ∙ piece_here held front (drop (page * 4096 + length front) held) (page * 4096) start
+      ap (λ n. take n (drop (page * page_size) after)) (sym whole)
+      ∙ piece_here held front (drop (page * page_size + length front) held) (page * page_size) start
 
-  same_test : (length after == pages * 4096) ≡ (length held == pages * 4096)
-  same_test = ap (λ n. n == pages * 4096) same_length
+  same_test : (length after == pages * page_size) ≡ (length held == pages * page_size)
+  same_test = ap (λ n. n == pages * page_size) same_length
 
-  sheet_after : length front ≡ 4096 → (q : ℕ) → sheet_of (page_at first_form after q)
+  sheet_after : length front ≡ page_size → (q : ℕ) → sheet_of (page_at first_form after q)
       ≡ (if q == page then sheet_of front else sheet_of (page_at first_form held q))
   sheet_after whole q = at (q == page) refl
     where
@@ -130,10 +130,10 @@ module _ (pages page : ℕ) (held front : List ℕ) (have : HasPages pages held)
           no h = cc
 
   -- the pages as they are read then
-  pub book_put : length front ≡ 4096 →
+  pub book_put : length front ≡ page_size →
       book_in pages after ≡ option_map (with_sheet page (sheet_of front)) (book_in pages held)
   book_put whole =
-      ap (λ b. if b then Some (told_book after) else None) same_test ∙ at (length held == pages * 4096)
+      ap (λ b. if b then Some (told_book after) else None) same_test ∙ at (length held == pages * page_size)
     where
       told_book : List ℕ → Book
       told_book bytes = record { size = pages; sheet = λ p. sheet_of (page_at first_form bytes p) }
@@ -145,12 +145,12 @@ module _ (pages page : ℕ) (held front : List ℕ) (have : HasPages pages held)
 
   -- and whatever was written of it
   pub book_others : ChangesPage page (book_in pages held) (book_in pages after)
-  book_others = at (length held == pages * 4096) same_test
+  book_others = at (length held == pages * page_size) same_test
     where
       told_book : List ℕ → Book
       told_book bytes = record { size = pages; sheet = λ p. sheet_of (page_at first_form bytes p) }
 
-      at : (b : Bool) → (length after == pages * 4096) ≡ b →
+      at : (b : Bool) → (length after == pages * page_size) ≡ b →
           ChangesPage page (if b then Some (told_book held) else None) (book_in pages after)
       at true e = subst (λ t. ChangesPage page (Some (told_book held)) (if t then Some (told_book after) else None))
           (sym e) (told_book held, refl, λ q other. ap sheet_of (other_page q other))
@@ -163,9 +163,9 @@ front_bytes whole front rest is all =
     subst AreBytes (ap (take (length front)) is ∙ take_at front rest (length front) refl)
     (All-take (λ b. b < 2 ^ 8) (length front) whole all)
 
-pub front_short : (whole front rest : List ℕ) → whole ≡ front ++ rest → length whole ≡ 4096 → length front ≤ 4096
+pub front_short : (whole front rest : List ℕ) → whole ≡ front ++ rest → length whole ≡ page_size → length front ≤ page_size
 front_short whole front rest is size = omega (arith, size, ap length is, length-append front rest)
 
-pub front_zeros : (whole front rest : List ℕ) → whole ≡ front ++ rest → whole ≡ zeros 4096 → AreBytes front
+pub front_zeros : (whole front rest : List ℕ) → whole ≡ front ++ rest → whole ≡ zeros page_size → AreBytes front
 front_zeros whole front rest is zero_page =
-    front_bytes whole front rest is (subst AreBytes (sym zero_page) (bytes_zeros 4096))
+    front_bytes whole front rest is (subst AreBytes (sym zero_page) (bytes_zeros page_size))

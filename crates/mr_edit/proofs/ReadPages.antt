@@ -6,7 +6,7 @@ use Rattle.std.proofs.lemmas.Bool.{eqb-true}
 use Rattle.mr_outside.specs.Files.{Files}
 use Rattle.mr_outside.specs.Told.{OfFile}
 use Rattle.mr_pages.specs.Page.{Node}
-use Rattle.mr_pages.specs.PageBytes.{first_form}
+use Rattle.mr_pages.specs.PageBytes.{page_size, first_form}
 use Rattle.mr_pages.specs.Source.{TellsPage, told_bytes}
 use Rattle.mr_edit.specs.Book.{Sheet, Book, HasNode, HasFree}
 use Rattle.mr_edit.specs.Sheets.{sheet_of, book_in, book_on, HasPages, ArePages}
@@ -15,15 +15,15 @@ use Rattle.mr_edit.proofs.ZeroPages.{no_sheet, sheet_behind}
 
 -- so many pages, where they are told
 pub record IsBook (pages : ℕ) (bytes : List ℕ) (b : Book) : Type 0 where
-  pub whole : length bytes ≡ pages * 4096
+  pub whole : length bytes ≡ pages * page_size
   pub is : pages_in pages bytes ≡ b
 
 pub is_book : (pages : ℕ) (bytes : List ℕ) (b : Book) → book_in pages bytes ≡ Some b → IsBook pages bytes b
-is_book pages bytes b e = at (length bytes == pages * 4096) refl e
+is_book pages bytes b e = at (length bytes == pages * page_size) refl e
   where
-    at : (t : Bool) → (length bytes == pages * 4096) ≡ t → (if t then Some (pages_in pages bytes) else None) ≡ Some b →
+    at : (t : Bool) → (length bytes == pages * page_size) ≡ t → (if t then Some (pages_in pages bytes) else None) ≡ Some b →
         IsBook pages bytes b
-    at true test e = record { whole = eqb-true (length bytes) (pages * 4096) test; is = cc }
+    at true test e = record { whole = eqb-true (length bytes) (pages * page_size) test; is = cc }
     at false test e = absurd cc
 
 module _ (told : Option Files) (name : List ℕ) (pages : ℕ) where

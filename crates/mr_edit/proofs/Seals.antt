@@ -21,7 +21,7 @@ use Rattle.mr_tree.proofs.Equations.{records-Empty}
 use Rattle.mr_pages.specs.declared.layout.Layout.{Layout}
 use Rattle.mr_pages.specs.Law.{IsMap}
 use Rattle.mr_pages.specs.Page.{Link, Node, Head}
-use Rattle.mr_pages.specs.PageBytes.{first_form, first_layout, form_of, IsLayout}
+use Rattle.mr_pages.specs.PageBytes.{page_size, first_form, first_layout, form_of, IsLayout}
 use Rattle.mr_pages.specs.File.{page_at}
 use Rattle.mr_pages.specs.Saved.{IsUnsealed}
 use Rattle.mr_pages.specs.Source.{told_bytes}
@@ -60,25 +60,25 @@ pub unsealed_front : (hash : List ℕ → List ℕ) (bytes : List ℕ) → IsFro
 unsealed_front hash bytes f = front_of first_layout first_layout_is hash bytes f.1 f.0 f.2
 
 pub unsealed_none : (hash : List ℕ → List ℕ) → IsUnsealed first_form hash []
-unsealed_none hash = unsealed_front hash [] ([], zeros 4096 ++ [], refl)
+unsealed_none hash = unsealed_front hash [] ([], zeros page_size ++ [], refl)
 
-zero_front : (pages : ℕ) (held : List ℕ) → HasPages pages held → held ≡ zeros 4096 ++ drop 4096 held
-zero_front pages held have = sym (take-append-drop 4096 held) ∙ ap (λ xs. xs ++ drop 4096 held) have.blank
+zero_front : (pages : ℕ) (held : List ℕ) → HasPages pages held → held ≡ zeros page_size ++ drop page_size held
+zero_front pages held have = sym (take-append-drop page_size held) ∙ ap (λ xs. xs ++ drop page_size held) have.blank
 
 pub unsealed_pages : (hash : List ℕ → List ℕ) (pages : ℕ) (held : List ℕ) → HasPages pages held →
     IsUnsealed first_form hash held
 unsealed_pages hash pages held have =
-    unsealed_front hash held (drop 4096 held, [], sym (zero_front pages held have) ∙ sym (append-nil held))
+    unsealed_front hash held (drop page_size held, [], sym (zero_front pages held have) ∙ sym (append-nil held))
 
 -- ---- the pages are those of a map
 
 book_is : (pages : ℕ) (held : List ℕ) (b : Book) → book_in pages held ≡ Some b →
-    (length held ≡ pages * 4096) × (pages_in pages held ≡ b)
-book_is pages held b e = at (length held == pages * 4096) refl e
+    (length held ≡ pages * page_size) × (pages_in pages held ≡ b)
+book_is pages held b e = at (length held == pages * page_size) refl e
   where
-    at : (t : Bool) → (length held == pages * 4096) ≡ t → (if t then Some (pages_in pages held) else None) ≡ Some b →
-        (length held ≡ pages * 4096) × (pages_in pages held ≡ b)
-    at true test e = (eqb-true (length held) (pages * 4096) test, cc)
+    at : (t : Bool) → (length held == pages * page_size) ≡ t → (if t then Some (pages_in pages held) else None) ≡ Some b →
+        (length held ≡ pages * page_size) × (pages_in pages held ≡ b)
+    at true test e = (eqb-true (length held) (pages * page_size) test, cc)
     at false test e = absurd cc
 
 module _ (hash : List ℕ → List ℕ) (pages free : ℕ) (top : Option Child) (count batch : ℕ) (t : Tree)
@@ -93,21 +93,21 @@ module _ (hash : List ℕ → List ℕ) (pages free : ℕ) (top : Option Child) 
     free = free;
   }
 
-  module _ (is : page ≡ first_form.head_page head) (size : length page ≡ 4096) where
+  module _ (is : page ≡ first_form.head_page head) (size : length page ≡ page_size) where
     abbrev after : List ℕ
     after = replaced 0 page held
 
-    whole : length held ≡ pages * 4096
+    whole : length held ≡ pages * page_size
     whole = (book_is pages held d.book d.is).0
 
     book : pages_in pages held ≡ d.book
     book = (book_is pages held d.book d.is).1
 
-    size_after : length after ≡ pages * 4096
+    size_after : length after ≡ pages * page_size
     size_after = length_replaced 0 page held (omega (arith, size, whole, have.some)) ∙ whole
 
     page_after : (q : ℕ) → q ≢ 0 → page_at first_form after q ≡ page_at first_form held q
-    page_after q some = ap (take 4096) (piece_behind held page (q * 4096) 0 (omega (arith, size, some)) (omega arith))
+    page_after q some = ap (take page_size) (piece_behind held page (q * page_size) 0 (omega (arith, size, some)) (omega arith))
 
     node_held : (p : ℕ) (n : Node) → HasNode d.book p n → first_form.node_in (page_at first_form held p) ≡ Some n
     node_held p n e =
@@ -118,8 +118,8 @@ module _ (hash : List ℕ → List ℕ) (pages free : ℕ) (top : Option Child) 
         sym (sheet_free (page_at first_form held p)) ∙ ap (λ (b : Book). (b.sheet p).free) book ∙ e
 
     bytes_of : (p : ℕ) → AreBytes (page_at first_form held p)
-    bytes_of p = All-take (λ b. b < 2 ^ 8) 4096 (drop (p * 4096) held) (All-drop (λ b. b < 2 ^ 8)
-        (p * 4096) held have.are)
+    bytes_of p = All-take (λ b. b < 2 ^ 8) page_size (drop (p * page_size) held) (All-drop (λ b. b < 2 ^ 8)
+        (p * page_size) held have.are)
 
     -- no node stands on page 0
     no_first : (n : Node) → HasNode d.book 0 n → ⊥
@@ -129,9 +129,9 @@ module _ (hash : List ℕ → List ℕ) (pages free : ℕ) (top : Option Child) 
         sym (ap (λ (s : Sheet). s.node) none) ∙ ap (λ (b : Book). (b.sheet 0).node) book ∙ e in
         absurd cc
       where
-        zero_sheet : sheet_of (zeros 4096) ≡ no_sheet
-        zero_sheet = ap sheet_of (sym (take_at (zeros 4096) [] 4096 (length_zeros 4096))
-            ∙ ap (take 4096) (append-nil (zeros 4096))) ∙ sheet_in_zeros 4096 0 4096
+        zero_sheet : sheet_of (zeros page_size) ≡ no_sheet
+        zero_sheet = ap sheet_of (sym (take_at (zeros page_size) [] page_size (length_zeros page_size))
+            ∙ ap (take page_size) (append-nil (zeros page_size))) ∙ sheet_in_zeros page_size 0 page_size
 
     node_as : (p : ℕ) (n : Node) → HasNode d.book p n → stands.HasNode first_form after p n
     node_as zero n e = absurd (no_first n e)
@@ -176,7 +176,7 @@ module _ (hash : List ℕ → List ℕ) (pages free : ℕ) (top : Option Child) 
     pub sealed_map : IsMap first_form hash after t batch
     sealed_map = record { well = well; stands = sealed_stands }
 
-    pub sealed_size : length after ≡ pages * 4096
+    pub sealed_size : length after ≡ pages * page_size
     sealed_size = size_after
 
 -- ---- the root digest
@@ -231,7 +231,7 @@ first_put (Some files) after name front there put = at (file files name) refl th
     }
 
 module _ (hash : List ℕ → List ℕ) (d : Drawn) (page : List ℕ) (low : d.batch < 2 ^ 64)
-    (is : page ≡ first_form.head_page (head_in_draft d)) (size : length page ≡ 4096)
+    (is : page ≡ first_form.head_page (head_in_draft d)) (size : length page ≡ page_size)
     (are : ArePages d.shelf.files d.name d.pages) where
   pages_told : (xs : List ℕ) → told_bytes d.shelf.files d.name ≡ Some xs → HasPages d.pages xs
   pages_told xs e = subst (λ o. IfSome o (HasPages d.pages)) e are.have
@@ -282,10 +282,10 @@ module _ (hash : List ℕ → List ℕ) (d : Drawn) (page : List ℕ) (low : d.b
       (told_bytes d.shelf.files d.name ≡ None → bytes ≡ []) → MayBeSealed hash d bytes
   may_be front rest whole None e bytes held none =
       inl (subst (IsUnsealed first_form hash) (sym (none e)) (unsealed_none hash))
-  may_be front rest whole (Some xs) e bytes held none = elim (cases_lt (length front) 4096) [
+  may_be front rest whole (Some xs) e bytes held none = elim (cases_lt (length front) page_size) [
     | inl short ↦
         inl (subst (IsUnsealed first_form hash) (sym (held xs e))
-        (part_of first_layout first_layout_is hash front xs (drop 4096 xs)
+        (part_of first_layout first_layout_is hash front xs (drop page_size xs)
         (zero_front d.pages xs (pages_told xs e)) short))
     | inr long ↦
         let all : page ≡ front = whole_front front rest whole (omega (

@@ -9,7 +9,7 @@ use Rattle.mr_record.specs.Bytes.{AreBytes}
 use Rattle.mr_tree.specs.declared.tree.Tree.TheOpen.{Empty, Leaf, Inner}
 use Rattle.mr_pages.specs.declared.layout.Layout.{Layout}
 use Rattle.mr_pages.specs.Page.{Node, IsNode, page_limit}
-use Rattle.mr_pages.specs.PageBytes.{first_form, first_layout, node_in, node_page, free_in, free_page}
+use Rattle.mr_pages.specs.PageBytes.{page_size, first_form, first_layout, node_in, node_page, free_in, free_page}
 use Rattle.mr_pages.specs.File.{page_at}
 use Rattle.mr_pages.proofs.HeadLaws.{free_again}
 use Rattle.mr_pages.proofs.PageLaws.{node_again}
@@ -48,24 +48,24 @@ free_of_node size layout (Inner links) is = refl
 
 sheet_of_zeros : (n : ℕ) → sheet_of (replicate n 0) ≡ no_sheet
 unfolding sheet_of
-sheet_of_zeros zero = λ i. record { node = node_of_none first_layout i; free = free_of_none 4096 i }
+sheet_of_zeros zero = λ i. record { node = node_of_none first_layout i; free = free_of_none page_size i }
 sheet_of_zeros (suc n) = λ i. record {
   node = node_of_zero first_layout (replicate n 0) i;
-  free = free_of_zero 4096 (replicate n 0) i;
+  free = free_of_zero page_size (replicate n 0) i;
 }
 
 pub sheet_of_node : (n : Node) → IsNode n → sheet_of (first_form.node_page n) ≡ node_sheet n
 unfolding sheet_of
 sheet_of_node n is = λ i. record {
   node = node_again first_layout n (omega arith) is i;
-  free = free_of_node 4096 first_layout n is i;
+  free = free_of_node page_size first_layout n is i;
 }
 
 pub sheet_of_free : (next : ℕ) → next < 2 ^ 32 → sheet_of (first_form.free_page next) ≡ free_sheet next
 unfolding sheet_of
 sheet_of_free next low = λ i. record {
-  node = node_of_free first_layout 4096 next i;
-  free = free_again 4096 next low i;
+  node = node_of_free first_layout page_size next i;
+  free = free_again page_size next low i;
 }
 
 -- ---- a piece of zeros is zeros
@@ -110,26 +110,26 @@ bytes_zeros n = replicated n
 
 module _ (held : List ℕ) (pages : ℕ) where
   -- a page of the front stays
-  pub page_of_front : (more : List ℕ) (q : ℕ) → q * 4096 + 4096 ≤ length held →
+  pub page_of_front : (more : List ℕ) (q : ℕ) → q * page_size + page_size ≤ length held →
       page_at first_form (held ++ more) q ≡ page_at first_form held q
   page_of_front more q within =
-      ap (take 4096) (drop-append-le (q * 4096) held more (omega (arith, within)))
-      ∙ take-append-le 4096 (drop (q * 4096) held) more (omega (arith, within, length-drop (q * 4096) held))
+      ap (take page_size) (drop-append-le (q * page_size) held more (omega (arith, within)))
+      ∙ take-append-le page_size (drop (q * page_size) held) more (omega (arith, within, length-drop (q * page_size) held))
 
-  pub sheet_behind : length held ≡ pages * 4096 → (q : ℕ) → pages ≤ q → sheet_of (page_at first_form held q) ≡ no_sheet
+  pub sheet_behind : length held ≡ pages * page_size → (q : ℕ) → pages ≤ q → sheet_of (page_at first_form held q) ≡ no_sheet
   sheet_behind exact q past =
-      ap (λ xs. sheet_of (take 4096 xs)) (drop_all (q * 4096) held (omega (arith, exact, past))) ∙ sheet_none
+      ap (λ xs. sheet_of (take page_size xs)) (drop_all (q * page_size) held (omega (arith, exact, past))) ∙ sheet_none
 
-  sheet_more : length held ≡ pages * 4096 → (q : ℕ) → sheet_of (page_at first_form (held ++ zeros 4096) q)
+  sheet_more : length held ≡ pages * page_size → (q : ℕ) → sheet_of (page_at first_form (held ++ zeros page_size) q)
       ≡ sheet_of (page_at first_form held q)
   sheet_more exact q = elim (cases_lt q pages) [
-    | inl within ↦ ap sheet_of (page_of_front (zeros 4096) q (omega (arith, exact, within)))
+    | inl within ↦ ap sheet_of (page_of_front (zeros page_size) q (omega (arith, exact, within)))
     | inr past ↦
-        let more : ℕ = q * 4096 - length held in
-        let at : q * 4096 ≡ length held + more = omega (arith, exact, past) in
-        ap (λ k. sheet_of (take 4096 (drop k (held ++ zeros 4096)))) at
-        ∙ ap (λ xs. sheet_of (take 4096 xs)) (drop-append-add held (zeros 4096) more)
-        ∙ sheet_in_zeros 4096 more 4096 ∙ sym (sheet_behind exact q past)
+        let more : ℕ = q * page_size - length held in
+        let at : q * page_size ≡ length held + more = omega (arith, exact, past) in
+        ap (λ k. sheet_of (take page_size (drop k (held ++ zeros page_size)))) at
+        ∙ ap (λ xs. sheet_of (take page_size xs)) (drop-append-add held (zeros page_size) more)
+        ∙ sheet_in_zeros page_size more page_size ∙ sym (sheet_behind exact q past)
   ]
 
   module _ (have : HasPages pages held) where
@@ -142,65 +142,65 @@ module _ (held : List ℕ) (pages : ℕ) where
       blank = page_of_front front 0 (omega (arith, have.long, have.some)) ∙ have.blank;
     }
 
-    pub has_more : pages < page_limit → HasPages (pages + 1) (held ++ zeros 4096)
+    pub has_more : pages < page_limit → HasPages (pages + 1) (held ++ zeros page_size)
     has_more few = record {
       some = omega arith;
       few = omega (arith, few);
-      are = All-append (λ b. b < 2 ^ 8) held (zeros 4096) have.are (bytes_zeros 4096);
-      long = omega (arith, have.long, length-append held (zeros 4096), length_zeros 4096);
-      blank = page_of_front (zeros 4096) 0 (omega (arith, have.long, have.some)) ∙ have.blank;
+      are = All-append (λ b. b < 2 ^ 8) held (zeros page_size) have.are (bytes_zeros page_size);
+      long = omega (arith, have.long, length-append held (zeros page_size), length_zeros page_size);
+      blank = page_of_front (zeros page_size) 0 (omega (arith, have.long, have.some)) ∙ have.blank;
     }
 
-  same_test : (length (held ++ zeros 4096) == (pages + 1) * 4096) ≡ (length held == pages * 4096)
-  same_test = at (length held == pages * 4096) refl
+  same_test : (length (held ++ zeros page_size) == (pages + 1) * page_size) ≡ (length held == pages * page_size)
+  same_test = at (length held == pages * page_size) refl
     where
-      at : (b : Bool) → (length held == pages * 4096) ≡ b → (length (held ++ zeros 4096) == (pages + 1) * 4096) ≡ b
+      at : (b : Bool) → (length held == pages * page_size) ≡ b → (length (held ++ zeros page_size) == (pages + 1) * page_size) ≡ b
       at true e =
-          let exact : length held ≡ pages * 4096 = eqb-true (length held) (pages * 4096) e in
-          eq-eqb (length (held ++ zeros 4096)) ((pages + 1) * 4096)
-          (omega (arith, exact, length-append held (zeros 4096), length_zeros 4096))
-      at false e = ne_eqb (length (held ++ zeros 4096)) ((pages + 1) * 4096) (λ same.
-          no (sym e ∙ eq-eqb (length held) (pages * 4096)
-          (omega (arith, same, length-append held (zeros 4096), length_zeros 4096))))
+          let exact : length held ≡ pages * page_size = eqb-true (length held) (pages * page_size) e in
+          eq-eqb (length (held ++ zeros page_size)) ((pages + 1) * page_size)
+          (omega (arith, exact, length-append held (zeros page_size), length_zeros page_size))
+      at false e = ne_eqb (length (held ++ zeros page_size)) ((pages + 1) * page_size) (λ same.
+          no (sym e ∙ eq-eqb (length held) (pages * page_size)
+          (omega (arith, same, length-append held (zeros page_size), length_zeros page_size))))
         where
           no : false ≡ true → ⊥
           no h = cc
 
-  pub book_more : book_in (pages + 1) (held ++ zeros 4096) ≡ option_map longer (book_in pages held)
+  pub book_more : book_in (pages + 1) (held ++ zeros page_size) ≡ option_map longer (book_in pages held)
   book_more =
       ap (λ b. if b then Some (record {
         size = pages + 1;
-        sheet = λ p. sheet_of (page_at first_form (held ++ zeros 4096) p);
+        sheet = λ p. sheet_of (page_at first_form (held ++ zeros page_size) p);
       }) else None) same_test
-      ∙ at (length held == pages * 4096) refl
+      ∙ at (length held == pages * page_size) refl
     where
-      at : (b : Bool) → (length held == pages * 4096) ≡ b →
+      at : (b : Bool) → (length held == pages * page_size) ≡ b →
           ◌≡◌ {A = Option Book}
           (if b then Some (record {
             size = pages + 1;
-            sheet = λ p. sheet_of (page_at first_form (held ++ zeros 4096) p);
+            sheet = λ p. sheet_of (page_at first_form (held ++ zeros page_size) p);
           }) else None)
           (option_map longer (if b then Some (record {
             size = pages;
             sheet = λ p. sheet_of (page_at first_form held p);
           }) else None))
       at true e =
-          let exact : length held ≡ pages * 4096 = eqb-true (length held) (pages * 4096) e in
+          let exact : length held ≡ pages * page_size = eqb-true (length held) (pages * page_size) e in
           λ i. Some (record { size = add-one pages i; sheet = λ q. sheet_more exact q i })
       at false e = refl
 
-  pub book_loses : (front : List ℕ) → pages * 4096 ≤ length held →
+  pub book_loses : (front : List ℕ) → pages * page_size ≤ length held →
       LosesPages (book_in pages held) (book_in pages (held ++ front))
-  book_loses front long = at (length (held ++ front) == pages * 4096) refl
+  book_loses front long = at (length (held ++ front) == pages * page_size) refl
     where
       none : (xs : List ℕ) → length xs ≡ 0 → xs ≡ []
       none [] e = refl
       none (x ∷ xs) e = absurd (omega (arith, e))
 
-      at : (b : Bool) → (length (held ++ front) == pages * 4096) ≡ b →
+      at : (b : Bool) → (length (held ++ front) == pages * page_size) ≡ b →
           LosesPages (book_in pages held) (book_in pages (held ++ front))
       at true e =
-          let exact : length (held ++ front) ≡ pages * 4096 = eqb-true (length (held ++ front)) (pages * 4096) e in
+          let exact : length (held ++ front) ≡ pages * page_size = eqb-true (length (held ++ front)) (pages * page_size) e in
           let empty : front ≡ [] = none front (omega (arith, exact, long, length-append held front)) in
           inr (ap (λ xs. book_in pages (held ++ xs)) empty ∙ ap (book_in pages) (append-nil held))
       at false e = inl (ap (λ b. if b then Some (record {

@@ -14,7 +14,7 @@ use Rattle.mr_tree.specs.declared.entry.Entry.{Entry}
 use Rattle.mr_tree.specs.declared.tree.Tree.{Tree}
 use Rattle.mr_pages.specs.Law.{IsMap}
 use Rattle.mr_pages.specs.Page.{Head}
-use Rattle.mr_pages.specs.PageBytes.{first_form}
+use Rattle.mr_pages.specs.PageBytes.{page_size, first_form}
 use Rattle.mr_pages.specs.Saved.{IsUnsealed, Leaves}
 use Rattle.mr_pages.specs.Source.{told_bytes}
 use Rattle.mr_pages.specs.Walking.{child_link}
@@ -156,7 +156,7 @@ pub record KeepsDraft (hash : List ℕ → List ℕ) (before after : Drawn) : Ty
 -- the file of these bytes stands for the draft's tree at its batch, and has as many pages
 pub record IsSealed (hash : List ℕ → List ℕ) (d : Drawn) (t : Tree) (bytes : List ℕ) : Type 0 where
   pub map : IsMap first_form hash bytes t d.batch
-  pub size : length bytes ≡ d.pages * 4096
+  pub size : length bytes ≡ d.pages * page_size
 
 -- The file now stands for whatever tree the draft was of, and this is the map's root digest.
 pub record Seals (hash : List ℕ → List ℕ) (d : Drawn) (digest : List ℕ) (after : Shelved)

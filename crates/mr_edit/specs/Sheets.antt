@@ -8,7 +8,7 @@ use Rattle.mr_outside.specs.Writing.{IsChanged}
 use Rattle.mr_tree.specs.View.{level_of, preimage_of}
 use Rattle.mr_tree.specs.Snapshot.{HasShape}
 use Rattle.mr_pages.specs.Page.{page_limit}
-use Rattle.mr_pages.specs.PageBytes.{first_form}
+use Rattle.mr_pages.specs.PageBytes.{page_size, first_form}
 use Rattle.mr_pages.specs.File.{page_at}
 use Rattle.mr_pages.specs.Saved.{Leaves}
 use Rattle.mr_pages.specs.Source.{told_bytes}
@@ -30,7 +30,7 @@ sheet_of page = record { node = first_form.node_in page; free = first_form.free_
 -- so many pages, if the file has just these
 abbrev pub book_in : (pages : ℕ) → List ℕ → Option Book
 book_in pages bytes =
-    if length bytes == pages * 4096
+    if length bytes == pages * page_size
     then Some (record { size = pages; sheet = λ p. sheet_of (page_at first_form bytes p) })
     else None
 
@@ -47,8 +47,8 @@ pub record HasPages (pages : ℕ) (bytes : List ℕ) : Type 0 where
   pub some : 1 ≤ pages
   pub few : pages ≤ page_limit
   pub are : AreBytes bytes
-  pub long : pages * 4096 ≤ length bytes
-  pub blank : page_at first_form bytes 0 ≡ zeros 4096
+  pub long : pages * page_size ≤ length bytes
+  pub blank : page_at first_form bytes 0 ≡ zeros page_size
 
 -- a file that is told is there, and has such bytes
 pub record ArePages (told : Option Files) (name : List ℕ) (pages : ℕ) : Type 0 where
@@ -116,9 +116,9 @@ pub record IsMade (new : List ℕ) (before after : Shelved) : Type 0 where
 pub record HasCopied (old new : List ℕ) (pages page : ℕ) (before after : Shelved) : Type 0 where
   pub some : 1 ≤ page
   pub nodes : List ℕ
-  pub files : IsChanged (with_file new) (zeros 4096 ++ nodes) before.files after.files
+  pub files : IsChanged (with_file new) (zeros page_size ++ nodes) before.files after.files
   pub so_far : (bytes : List ℕ) → told_bytes before.files old ≡ Some bytes →
-      length bytes ≡ pages * 4096 → nodes ≡ take ((page - 1) * 4096) (drop 4096 bytes)
+      length bytes ≡ pages * page_size → nodes ≡ take ((page - 1) * page_size) (drop page_size bytes)
   pub quiet : after.faults ≡ before.faults
   pub more : before.reads ≤ after.reads
   pub few : after.reads + 1 ≤ before.reads + page
@@ -128,10 +128,10 @@ pub record WasRead (old new : List ℕ) (pages page : ℕ) (piece : List ℕ) (b
     : Type 0 where
   pub some : 1 ≤ page
   pub nodes : List ℕ
-  pub files : IsChanged (with_file new) (zeros 4096 ++ nodes) before.files after.files
+  pub files : IsChanged (with_file new) (zeros page_size ++ nodes) before.files after.files
   pub so_far : (bytes : List ℕ) → told_bytes before.files old ≡ Some bytes →
-      length bytes ≡ pages * 4096 →
-      nodes ++ piece ≡ take ((page - 1) * 4096 + length piece) (drop 4096 bytes)
+      length bytes ≡ pages * page_size →
+      nodes ++ piece ≡ take ((page - 1) * page_size + length piece) (drop page_size bytes)
   pub quiet : after.faults ≡ before.faults
   pub more : before.reads ≤ after.reads
   pub few : after.reads ≤ before.reads + page
@@ -139,7 +139,7 @@ pub record WasRead (old new : List ℕ) (pages page : ℕ) (piece : List ℕ) (b
 -- a front of a page of zeros and what is behind it
 abbrev pub IsFront : (bytes : List ℕ) → Type 0
 IsFront bytes =
-    (nodes : List ℕ) × (rest : List ℕ) × (zeros 4096 ++ nodes ≡ bytes ++ rest)
+    (nodes : List ℕ) × (rest : List ℕ) × (zeros page_size ++ nodes ≡ bytes ++ rest)
 
 -- it was not copied; that a file is missing comes only where none is told
 pub record CopyStops (new : List ℕ) (pages : ℕ) (before after : Shelved) (e : EditErr) : Type 0

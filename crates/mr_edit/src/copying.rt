@@ -2,13 +2,14 @@
 
 ghost use Rattle.std.specs.Prelude.{◌≡◌, ◌≢◌, ◌+◌, ◌-◌, ◌*◌, ◌≤◌, ◌<◌, max, min, length, IfOk, MatchResult, ℕ, List};
 ghost use Rattle.mr_outside.specs.State.{Shelved};
+ghost use Rattle.mr_pages.specs.PageBytes.{page_size};
 ghost use Rattle.mr_edit.specs.Sheets.{zeros, IsMade, WasRead, HasCopied, CopyStops, IsFiled};
 ghost use Rattle.mr_edit.specs.Shelves.{RefusesMade};
 
 use crate::EditErr;
 use crate::pages::{clear, refusal};
 use mr_outside::{Shelf, ShelfErr};
-use mr_pages::read_filled;
+use mr_pages::{PAGE_SIZE, read_filled};
 use std::alloc::{AllocError, Global};
 
 /// How many pages are copied at once.
@@ -34,7 +35,7 @@ fn refusal_of_made(error: ShelfErr) -> EditErr
 
 // Appends page 0 to a file that was made.
 fn append_first<S: Shelf>(shelf: &mut S, new: &str, page: &[u8]) -> Result<(), EditErr>
-    requires { page.now ≡ zeros 4096 }
+    requires { page.now ≡ zeros page_size }
     ensures { (s : Shelved) (old : List ℕ) (pages : ℕ) → IsMade new.now s (S.state shelf.old) →
         MatchResult result (λ done. HasCopied old new.now pages 1 s (S.state shelf.new))
         (CopyStops new.now pages s (S.state shelf.new)) }
@@ -51,7 +52,7 @@ fn begin<S: Shelf>(shelf: &mut S, new: &str) -> Result<(), EditErr>
         (λ done. HasCopied old new.now pages 1 (S.state shelf.old) (S.state shelf.new))
         (CopyStops new.now pages (S.state shelf.old) (S.state shelf.new)) }
 {
-    let mut page = [1; 4096];
+    let mut page = [1; PAGE_SIZE];
     clear(&mut page);
     match shelf.create(new) {
         Ok(()) => append_first(shelf, new, &page),
@@ -68,7 +69,7 @@ fn append_piece<S: Shelf>(
     count: u32,
     piece: &[u8],
 ) -> Result<(), EditErr>
-    requires size { length piece.now ≡ count * 4096 }
+    requires size { length piece.now ≡ count * page_size }
     requires within { page + count ≤ pages }
     requires some { 1 ≤ count }
     ensures { (s : Shelved) (old : List ℕ) →
@@ -94,7 +95,7 @@ fn copy_piece<S: Shelf>(
     piece: &mut [u8],
 ) -> Result<(), EditErr>
     requires differ { old.now ≢ new.now }
-    requires size { length piece.old ≡ count * 4096 }
+    requires size { length piece.old ≡ count * page_size }
     requires within { page + count ≤ pages }
     requires some { 1 ≤ count }
     ensures { (s : Shelved) → IsFiled s.files old.now →
@@ -103,7 +104,7 @@ fn copy_piece<S: Shelf>(
         (λ done. HasCopied old.now new.now pages (page + count) s (S.state shelf.new))
         (CopyStops new.now pages s (S.state shelf.new)) }
 {
-    match read_filled(shelf, old, page as u64 * 4096, piece) {
+    match read_filled(shelf, old, page as u64 * PAGE_SIZE as u64, piece) {
         Ok(_) => append_piece(shelf, new, pages, page, count, piece),
         Err(error) => Err(refusal(error)),
     }
@@ -138,7 +139,7 @@ fn copy_pages<S: Shelf>(
     let mut page = 1;
     while page < pages {
         let count = next_count(pages - page);
-        let (piece, _) = room.split_at_mut(count as usize * 4096);
+        let (piece, _) = room.split_at_mut(count as usize * PAGE_SIZE);
         copy_piece(shelf, old, new, pages, page, count, piece)?;
         page += count;
     }

@@ -15,7 +15,7 @@ use crate::EditErr;
 use crate::pages::{put_page, read_bytes};
 use lru::LruCache;
 use mr_outside::Shelf;
-use mr_pages::{MapFault, MapRule, write_free_page, write_page};
+use mr_pages::{MapFault, MapRule, PAGE_SIZE, write_free_page, write_page};
 use mr_store::{Kept, judge, recall, remember};
 use mr_tree::{Child, Hashes, NodeView, NodesErr, is_view};
 use std::alloc::Global;
@@ -192,7 +192,7 @@ pub(crate) fn write_node<H: Hashes, S: Shelf>(
 {
     is_view(view);
     forget(cache, child.id);
-    let mut page = [0; 4096];
+    let mut page = [0; PAGE_SIZE];
     write_page(view, &mut page);
     put_page(shelf, name, pages, child.id, &page)?;
     remember(alloc, cache, child, view)?;
@@ -226,7 +226,7 @@ pub(crate) fn free_page<H: Hashes, S: Shelf>(
         (S.state shelf.new).faults) }
 {
     forget(cache, page);
-    let mut bytes = [0; 4096];
+    let mut bytes = [0; PAGE_SIZE];
     write_free_page(next, &mut bytes);
     put_page(shelf, name, pages, page, &bytes)
 }

@@ -3,6 +3,7 @@
 ghost use Rattle.std.specs.Prelude.{◌≡◌, ◌+◌, ◌<◌, ◌≤◌, length, replicate, option_map, IfOk, IfErr, OnOk, OnErr, IfSome, IsSomeAnd, ℕ};
 ghost use Rattle.mr_record.specs.Bytes.{AreBytes};
 ghost use Rattle.mr_pages.specs.Page.{page_limit};
+ghost use Rattle.mr_pages.specs.PageBytes.{page_size};
 ghost use Rattle.mr_edit.specs.Book.{HasFree, with_sheet, longer};
 ghost use Rattle.mr_edit.specs.Causes.{HasEditCause};
 ghost use Rattle.mr_edit.specs.Outcome.{NeverMap, CanWrite};
@@ -11,7 +12,7 @@ ghost use Rattle.mr_edit.specs.Shelves.{HasShelfCause, Refuses};
 
 use crate::EditErr;
 use mr_outside::{Shelf, ShelfErr};
-use mr_pages::{MapFault, MapRule, page_bytes, read_free_page};
+use mr_pages::{MapFault, MapRule, PAGE_SIZE, page_bytes, read_free_page};
 
 /// The most pages of a file.
 const PAGE_LIMIT: u32 = 1 << 20;
@@ -36,8 +37,8 @@ fn clear_all(bytes: &mut [u8])
 
 /// Makes all bytes of a page zeros.
 pub(crate) fn clear(page: &mut [u8])
-    requires { length page.old ≡ 4096 }
-    ensures { page.new ≡ zeros 4096 }
+    requires { length page.old ≡ page_size }
+    ensures { page.new ≡ zeros page_size }
 {
     clear_all(page);
 }
@@ -55,7 +56,7 @@ fn write_at<S: Shelf>(
     page: u32,
     bytes: &[u8],
 ) -> Result<(), EditErr>
-    requires size { length bytes.now ≡ 4096 }
+    requires size { length bytes.now ≡ page_size }
     requires low { 1 ≤ page }
     requires within { page < pages }
     requires pages { ArePages (S.state shelf.old).files name.now pages }
@@ -73,7 +74,7 @@ fn write_at<S: Shelf>(
         (S.state shelf.new).faults) }
 {
     are_bytes(bytes);
-    match shelf.write_at(name, page as u64 * 4096, bytes) {
+    match shelf.write_at(name, page as u64 * PAGE_SIZE as u64, bytes) {
         Ok(()) => Ok(()),
         Err(error) => Err(refusal(error)),
     }
@@ -87,7 +88,7 @@ pub(crate) fn put_page<S: Shelf>(
     page: u32,
     bytes: &[u8],
 ) -> Result<(), EditErr>
-    requires size { length bytes.now ≡ 4096 }
+    requires size { length bytes.now ≡ page_size }
     requires low { 1 ≤ page }
     requires pages { ArePages (S.state shelf.old).files name.now pages }
     ensures pages { ArePages (S.state shelf.new).files name.now pages }
@@ -131,7 +132,7 @@ fn append_page<S: Shelf>(shelf: &mut S, name: &str, pages: u32) -> Result<(), Ed
     ensures cause { IfErr result (HasShelfCause (S.state shelf.old).faults
         (S.state shelf.new).faults) }
 {
-    let mut page = [1; 4096];
+    let mut page = [1; PAGE_SIZE];
     clear(&mut page);
     match shelf.append(name, &page) {
         Ok(()) => Ok(()),
@@ -181,7 +182,7 @@ pub(crate) fn read_bytes<S: Shelf>(
     name: &str,
     pages: u32,
     page: u32,
-) -> Result<[u8; 4096], EditErr>
+) -> Result<[u8; PAGE_SIZE], EditErr>
     requires within { page < pages }
     requires pages { ArePages (S.state shelf.old).files name.now pages }
     ensures sheet { IfOk result (λ p. IfSome (book_on (S.state shelf.old).files name.now pages)

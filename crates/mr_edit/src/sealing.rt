@@ -6,7 +6,7 @@ ghost use Rattle.mr_record.specs.declared.version.Version.TheVariants.{One};
 ghost use Rattle.mr_tree.specs.Digest.{root_preimage};
 ghost use Rattle.mr_outside.specs.Files.{overwritten};
 ghost use Rattle.mr_outside.specs.Writing.{IsChanged, IsChangedPartly};
-ghost use Rattle.mr_pages.specs.PageBytes.{root_level};
+ghost use Rattle.mr_pages.specs.PageBytes.{page_size, root_level};
 ghost use Rattle.mr_pages.specs.Walking.{child_link};
 ghost use Rattle.mr_edit.specs.Draft.{drawn, entry_of_root, Seals, SealFails};
 ghost use Rattle.mr_edit.specs.Sheets.{ArePages, IsFiled};
@@ -16,7 +16,7 @@ use crate::draft::Draft;
 use crate::pages::refusal;
 use crate::{Desk, EditErr};
 use mr_outside::Shelf;
-use mr_pages::{MapHead, level_of_root, write_head_page};
+use mr_pages::{MapHead, PAGE_SIZE, level_of_root, write_head_page};
 use mr_record::Version;
 use mr_tree::{Child, Entry, Hashes, root_digest};
 
@@ -38,7 +38,7 @@ fn sync<S: Shelf>(shelf: &mut S, name: &str) -> Result<(), EditErr>
 
 // Writes page 0.
 fn put_first<S: Shelf>(shelf: &mut S, name: &str, pages: u32, page: &[u8]) -> Result<(), EditErr>
-    requires size { length page.now ≡ 4096 }
+    requires size { length page.now ≡ page_size }
     requires pages { ArePages (S.state shelf.old).files name.now pages }
     ensures filed { IsFiled (S.state shelf.new).files name.now }
     ensures whole { OnOk result (IsChanged (overwritten name.now 0) page.now
@@ -59,7 +59,7 @@ fn put_first<S: Shelf>(shelf: &mut S, name: &str, pages: u32, page: &[u8]) -> Re
 
 // Writes page 0 between two syncs.
 fn write_first<S: Shelf>(shelf: &mut S, name: &str, pages: u32, page: &[u8]) -> Result<(), EditErr>
-    requires size { length page.now ≡ 4096 }
+    requires size { length page.now ≡ page_size }
     requires pages { ArePages (S.state shelf.old).files name.now pages }
     ensures whole { OnOk result (IsChanged (overwritten name.now 0) page.now
         (S.state shelf.old).files (S.state shelf.new).files) }
@@ -125,7 +125,7 @@ fn seal_file<S: Shelf, H: Hashes>(
     ensures reads { (S.state shelf.new).reads ≡ (S.state shelf.old).reads }
 {
     is_word(head.batch);
-    let mut page = [0; 4096];
+    let mut page = [0; PAGE_SIZE];
     write_head_page(head, &mut page);
     write_first(shelf, name, head.pages, &page)?;
     Ok(digest_of::<H>(head))

@@ -28,7 +28,7 @@ use Rattle.mr_pages.specs.Faults.{file_faults, first_of, mapfault}
 use Rattle.mr_pages.specs.Law.{IsOnlyMap, Agrees}
 use Rattle.mr_pages.specs.Walking.{Opens, child_link, head_of}
 use Rattle.mr_pages.specs.declared.checking.Checked.{Checked}
-use Rattle.mr_pages.specs.PageBytes.{first_form}
+use Rattle.mr_pages.specs.PageBytes.{page_size, first_form}
 use Rattle.mr_pages.specs.Opening.{of_shelf, pages_in, Fails, OrFails, Answers, SomeBytes, Tells, MapCauses}
 use Rattle.mr_pages.specs.Source.{Settles, GivesFile, CheckedWhole, Checks, MakesTree, HasPages, IsPaged, on_shelf, told_bytes}
 use Rattle.mr_pages.proofs.HeadLaws.{first_form_is}
@@ -286,10 +286,10 @@ module _ (hash : List ℕ → List ℕ) (name : List ℕ) (lent pages : ℕ) (s 
 
   -- of the bytes that were read, told or not
   module _ (some : 1 ≤ pages) (few : pages ≤ page_limit) where
-    as_file : (bytes : List ℕ) → length bytes ≡ pages * 4096 →
+    as_file : (bytes : List ℕ) → length bytes ≡ pages * page_size →
         pages_of first_form pages bytes ≡ file_of first_form bytes
     as_file bytes size = same_file first_form pages bytes (omega (arith, size))
-        (are_whole_pages 4096 (length bytes) pages (omega arith) size some few)
+        (are_whole_pages page_size (length bytes) pages (omega arith) size some few)
 
     pub some_err : (e : MapErr) → ((xs : List ℕ) → length (hash xs) ≡ 32) →
         Settles {A = Checked Tree} (Err e) (GivesFile (on_shelf first_form lent pages s name)
@@ -313,7 +313,7 @@ module _ (hash : List ℕ → List ℕ) (name : List ℕ) (lent pages : ℕ) (s 
 -- ---- behind the file's size
 
 pub paged_of : (told : Option Files) (name : List ℕ) (size pages : ℕ) → OfFile told name ⊤ AreBytes →
-    OfFile told name ⊥ (λ bytes. size ≡ length bytes) → is_odd_size 4096 size ≡ false → pages ≡ size / 4096 →
+    OfFile told name ⊥ (λ bytes. size ≡ length bytes) → is_odd_size page_size size ≡ false → pages ≡ size / page_size →
     IsPaged first_form pages told name
 paged_of None name size pages all long even count = record { there = tt; file_ = tt }
 paged_of (Some files) name size pages all long even count = at (file files name) refl all long
@@ -325,8 +325,8 @@ paged_of (Some files) name size pages all long even count = at (file files name)
       there = subst (IsSome {T = List ℕ}) (sym e) refl;
       file_ = subst (λ o. IfSome o (HasPages first_form pages)) (sym e) (record {
         are = all;
-        even = subst (λ n. is_odd_size 4096 n ≡ false) long even;
-        count = count ∙ ap (λ n. n / 4096) long;
+        even = subst (λ n. is_odd_size page_size n ≡ false) long even;
+        count = count ∙ ap (λ n. n / page_size) long;
       });
     }
 

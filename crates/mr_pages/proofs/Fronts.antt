@@ -6,7 +6,7 @@ use Rattle.mr_record.specs.Record.{record_bytes}
 use Rattle.mr_record.specs.declared.record.Record.{Record}
 use Rattle.mr_tree.specs.declared.tree.Tree.TheOpen.{Leaf}
 use Rattle.mr_tree.specs.View as view
-use Rattle.mr_pages.specs.PageBytes.{first_form, node_bytes}
+use Rattle.mr_pages.specs.PageBytes.{page_size, first_form, node_bytes}
 use Rattle.mr_pages.specs.Walking.{page_node}
 
 pub front_of_leaf : (page front : List ℕ) (n : view.Node) (rs : List Record) (width : ℕ) →
@@ -15,7 +15,7 @@ pub front_of_leaf : (page front : List ℕ) (n : view.Node) (rs : List Record) (
 front_of_leaf page front n rs width is same wide cut =
     let long : length (node_bytes (Leaf rs)) ≡ 2 + width = omega (arith, wide) in
     cut ∙ ap (take (2 + width)) (is ∙ ap (λ (m : view.Node). first_form.node_page (page_node m)) same)
-    ∙ take_at (node_bytes (Leaf rs)) (replicate (4096 - length (node_bytes (Leaf rs))) 0) (2 + width) long
+    ∙ take_at (node_bytes (Leaf rs)) (replicate (page_size - length (node_bytes (Leaf rs))) 0) (2 + width) long
     ∙ sym (ap view.preimage_of same)
 
 -- one record more

@@ -5,7 +5,7 @@ use Rattle.mr_outside.specs.Files.{Files, file}
 use Rattle.mr_outside.specs.State.{Shelved}
 use Rattle.mr_outside.specs.Told.{OfFile}
 use Rattle.mr_pages.specs.declared.rule.MapRule.TheVariants as rule
-use Rattle.mr_pages.specs.PageBytes.{first_form}
+use Rattle.mr_pages.specs.PageBytes.{page_size, first_form}
 use Rattle.mr_pages.specs.File.{File, page_at, file_of}
 use Rattle.mr_pages.specs.Source.{told_bytes, on_shelf, HasPages, IsPaged, IsPage, HasPage, GivesPage, GivesHead, TellsPage}
 use Rattle.mr_pages.proofs.Agreement.{whole_pages_are}
@@ -13,18 +13,18 @@ use Rattle.mr_pages.proofs.Filled.{IsPiece}
 
 -- ---- a page is there where the file goes so far
 
-told_page : (page : ℕ) (before after bytes : List ℕ) → length before ≡ 4096 →
-    IsPiece (page * 4096) before after bytes → TellsPage page after bytes
+told_page : (page : ℕ) (before after bytes : List ℕ) → length before ≡ page_size →
+    IsPiece (page * page_size) before after bytes → TellsPage page after bytes
 told_page page before after bytes long piece = λ k whole within.
-    let room : (page + 1) * 4096 ≤ k * 4096 = grind arith in
-    piece (omega (arith, long, whole, room)) ∙ ap (λ n. take n (drop (page * 4096) bytes)) long
+    let room : (page + 1) * page_size ≤ k * page_size = grind arith in
+    piece (omega (arith, long, whole, room)) ∙ ap (λ n. take n (drop (page * page_size) bytes)) long
 
-pub page_told : (told : Option Files) (name : List ℕ) (page : ℕ) (before after : List ℕ) → length before ≡ 4096 →
-    OfFile told name ⊥ (IsPiece (page * 4096) before after) → OfFile told name ⊥ (TellsPage page after)
+pub page_told : (told : Option Files) (name : List ℕ) (page : ℕ) (before after : List ℕ) → length before ≡ page_size →
+    OfFile told name ⊥ (IsPiece (page * page_size) before after) → OfFile told name ⊥ (TellsPage page after)
 page_told None name page before after long g = tt
 page_told (Some files) name page before after long g = here (file files name) g
   where
-    here : (o : Option (List ℕ)) → MatchOption o ⊥ (IsPiece (page * 4096) before after) →
+    here : (o : Option (List ℕ)) → MatchOption o ⊥ (IsPiece (page * page_size) before after) →
         MatchOption o ⊥ (TellsPage page after)
     here None g = g
     here (Some bytes) g = told_page page before after bytes long g
@@ -32,9 +32,9 @@ page_told (Some files) name page before after long g = here (file files name) g
 -- ---- what is told of the file, or of what was read
 
 module _ (name : List ℕ) (lent pages page : ℕ) (p : List ℕ) where
-  whole_of : (bytes : List ℕ) → HasPages first_form pages bytes → length bytes ≡ pages * 4096
+  whole_of : (bytes : List ℕ) → HasPages first_form pages bytes → length bytes ≡ pages * page_size
   whole_of bytes h =
-      (whole_pages_are 4096 (length bytes) (omega arith) h.even).whole ∙ ap (λ n. n * 4096) (sym h.count)
+      (whole_pages_are page_size (length bytes) (omega arith) h.even).whole ∙ ap (λ n. n * page_size) (sym h.count)
 
   -- the file that is told has what is read, whatever that is
   file_told : (P : File → Type 0) → ((bytes : List ℕ) → HasPages first_form pages bytes →
@@ -75,7 +75,7 @@ shelf_gives_head name lent pages p s Q paged some tells is q = record {
   is = is;
   so = λ f given. q f (elim given [
     | inl told ↦ file_told name lent pages 0 p (λ g. g.head ≡ first_form.head_in pages p) (λ bytes h e.
-        ap (λ b. if b then Err rule.Size else first_form.head_in (length bytes / 4096) (page_at first_form bytes 0))
+        ap (λ b. if b then Err rule.Size else first_form.head_in (length bytes / page_size) (page_at first_form bytes 0))
         h.even ∙ (λ i. first_form.head_in (sym h.count i) (sym e i))) some s.files paged tells f told
     | inr read ↦ read
   ]);

@@ -7,6 +7,7 @@ use Rattle.mr_outside.specs.State.{Shelved}
 use Rattle.mr_outside.specs.Told.{MayMiss}
 use Rattle.mr_outside.specs.declared.shelf.ShelfErr.{ShelfErr}
 use Rattle.mr_outside.specs.declared.shelf.ShelfErr.TheVariants as shelf
+use Rattle.mr_pages.specs.PageBytes.{page_size}
 use Rattle.mr_pages.specs.declared.rule.MapFault.{MapFault}
 use Rattle.mr_pages.specs.declared.opening.Opened.{Opened}
 use Rattle.mr_pages.specs.declared.error.MapErr.{MapErr}
@@ -29,7 +30,7 @@ opened (Err e) = Err e
 
 -- how many pages a file of these bytes has
 abbrev pub pages_in : List ℕ → ℕ
-pages_in bytes = length bytes / 4096
+pages_in bytes = length bytes / page_size
 
 -- ---- whether something was found out
 

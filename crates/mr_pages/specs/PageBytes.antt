@@ -22,9 +22,12 @@ use Rattle.mr_pages.specs.Page.{Link, Node, level_of, IsNode, Head, FitsHead, Fo
 
 -- ---- what differs from one version of the format to the next
 
--- version 1
+-- version 1: how many bytes a page has, here alone
+abbrev pub page_size : ℕ
+page_size = 4096
+
 abbrev pub first_layout : Layout
-first_layout = record { size = 4096; version = One }
+first_layout = record { size = page_size; version = One }
 
 -- ---- how pages are spelled
 

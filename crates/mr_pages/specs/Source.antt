@@ -19,7 +19,7 @@ use Rattle.mr_pages.specs.declared.rule.MapRule.TheVariants as rule
 use Rattle.mr_pages.specs.declared.seen.Seen.{Seen}
 use Rattle.mr_pages.specs.Page.{Link, Node, Form, IsHead}
 use Rattle.mr_pages.specs.File.{File, page_at, pages_of, file_of, is_odd_size}
-use Rattle.mr_pages.specs.PageBytes.{first_form}
+use Rattle.mr_pages.specs.PageBytes.{page_size, first_form}
 use Rattle.mr_pages.specs.Stands.{tree_of, whole_tree}
 use Rattle.mr_pages.specs.Spelled.{place, placed_at}
 use Rattle.mr_pages.specs.Faults.{has, Visit, visits, reached, all_records, numbers_of, node_faults, found, walk_faults, walk, chain, chain_faults, mapfault, first_of}
@@ -76,7 +76,7 @@ pub record IsPaged (form : Form) (pages : ℕ) (told : Option Files) (name : Lis
 -- these are the bytes of a page of a file of these bytes, if it is one of so many whole pages
 abbrev pub TellsPage : (page : ℕ) → (p bytes : List ℕ) → Type 0
 TellsPage page p bytes =
-    (pages : ℕ) → length bytes ≡ pages * 4096 → page < pages → p ≡ page_at first_form bytes page
+    (pages : ℕ) → length bytes ≡ pages * page_size → page < pages → p ≡ page_at first_form bytes page
 
 -- ---- what pages are read as, told or not
 

@@ -3,7 +3,7 @@
 ghost use Rattle.std.specs.Prelude.{◌≡◌, ◌+◌, ◌-◌, ◌≤◌, length, take, drop, replicate, IfOk, OnOk};
 ghost use Rattle.mr_outside.specs.Told.{OfFile};
 ghost use Rattle.mr_outside.specs.Causes.{ShelfCauses, CountsRead};
-ghost use Rattle.mr_pages.specs.PageBytes.{first_form};
+ghost use Rattle.mr_pages.specs.PageBytes.{page_size, first_form};
 ghost use Rattle.mr_pages.specs.Source.{IsPage, TellsPage};
 
 use crate::layout::PAGE_SIZE;
@@ -49,7 +49,7 @@ pub fn page_bytes<S: Shelf>(
 
 // What the type tells of its values.
 fn is_page(_bytes: &[u8])
-    requires { length _bytes.now ≡ 4096 }
+    requires { length _bytes.now ≡ page_size }
     ensures { IsPage first_form _bytes.now }
 {}
 

@@ -9,7 +9,7 @@ use Rattle.mr_tree.specs.declared.tree.Tree.{Tree}
 use Rattle.mr_pages.specs.declared.head.MapHead.{MapHead}
 use Rattle.mr_pages.specs.declared.checking.Checked.{Checked}
 use Rattle.mr_pages.specs.Page.{IsRoot, page_limit}
-use Rattle.mr_pages.specs.PageBytes.{first_form}
+use Rattle.mr_pages.specs.PageBytes.{page_size, first_form}
 use Rattle.mr_pages.specs.File.{File, file_of, is_odd_size, pages_of}
 use Rattle.mr_pages.specs.Faults.{has, mapfault}
 use Rattle.mr_pages.specs.Stands.{whole_pages}
@@ -126,9 +126,9 @@ fails_some hash errors.NoMemory fails = ([], All-nil (λ b. b < 2 ^ 8), tt)
 -- of the bytes that were read, told or not
 module _ (hash : List ℕ → List ℕ) (pages : ℕ) (s : Shelved) (name : List ℕ) (some : 1 ≤ pages)
     (few : pages ≤ page_limit) where
-  as_file : (bytes : List ℕ) → length bytes ≡ pages * 4096 → pages_of first_form pages bytes ≡ file_of first_form bytes
+  as_file : (bytes : List ℕ) → length bytes ≡ pages * page_size → pages_of first_form pages bytes ≡ file_of first_form bytes
   as_file bytes size = same_file first_form pages bytes (omega (arith, size))
-      (are_whole_pages 4096 (length bytes) pages (omega arith) size some few)
+      (are_whole_pages page_size (length bytes) pages (omega arith) size some few)
 
   pub some_fault : (e : MapErr) → Settles {A = Checked (Unit {0})} (Err e) (GivesFile (sourced pages s name)
       (CheckedWhole hash (λ (m : Unit {0}) (t : Tree). ⊤) pages (Err e))) → SomeBytes first_form hash (Err e)
@@ -184,7 +184,7 @@ quiet_or A errors.NoMemory P s = inr tt
 
 -- whole pages, and so many
 pub pages_are : (told : Option Files) (name : List ℕ) (size pages : ℕ) → OfFile told name ⊤ AreBytes →
-    OfFile told name ⊥ (λ bytes. size ≡ length bytes) → is_odd_size 4096 size ≡ false → pages ≡ size / 4096 →
+    OfFile told name ⊥ (λ bytes. size ≡ length bytes) → is_odd_size page_size size ≡ false → pages ≡ size / page_size →
     OfFile told name ⊥ (HasPages pages)
 pages_are None name size pages are long even count = tt
 pages_are (Some files) name size pages are long even count = here (file files name) are long
@@ -194,14 +194,14 @@ pages_are (Some files) name size pages are long even count = here (file files na
     here None are long = long
     here (Some bytes) are long = record {
       are = are;
-      even = subst (λ n. is_odd_size 4096 n ≡ false) long even;
-      count = subst (λ n. pages ≡ n / 4096) long count;
+      even = subst (λ n. is_odd_size page_size n ≡ false) long even;
+      count = subst (λ n. pages ≡ n / page_size) long count;
     }
 
 -- a file that is odd breaks the first rule
 pub odd_refuses : (hash : List ℕ → List ℕ) → ((xs : List ℕ) → length (hash xs) ≡ 32) → (name : List ℕ)
     (before after : Shelved) (size : ℕ) →
-    OfFile before.files name ⊥ (λ bytes. size ≡ length bytes) → is_odd_size 4096 size ≡ true →
+    OfFile before.files name ⊥ (λ bytes. size ≡ length bytes) → is_odd_size page_size size ≡ true →
     after.faults ≡ before.faults →
     Refused hash name before after (errors.Map (record { page = 0; rule = rule.Size }))
 odd_refuses hash sized name before after size long odd quiet = record {
@@ -214,7 +214,7 @@ odd_refuses hash sized name before after size long odd quiet = record {
         (λ bytes. mapfault hash (file_of first_form bytes) ≡ Some (record { page = 0; rule = rule.Size }))
     by_bytes None long = long
     by_bytes (Some bytes) long =
-        odd_fault first_form hash bytes (subst (λ n. is_odd_size 4096 n ≡ true) long odd)
+        odd_fault first_form hash bytes (subst (λ n. is_odd_size page_size n ≡ true) long odd)
 
     by_files : (o : Option Files) → OfFile o name ⊥ (λ bytes. size ≡ length bytes) → OfFile o name ⊥
         (λ bytes. mapfault hash (file_of first_form bytes) ≡ Some (record { page = 0; rule = rule.Size }))
@@ -301,16 +301,16 @@ module _ (hash : List ℕ → List ℕ) (name : List ℕ) (pages : ℕ) (before 
 
 -- where nothing was read
 pub none_read : (before after : Shelved) (name : List ℕ) → after.reads ≡ before.reads →
-    OfFile before.files name (after.reads ≡ before.reads) (λ bytes. after.reads ≤ before.reads + length bytes / 4096)
+    OfFile before.files name (after.reads ≡ before.reads) (λ bytes. after.reads ≤ before.reads + length bytes / page_size)
 none_read before after name same = by_files before.files
   where
     by_bytes : (o : Option (List ℕ)) →
-        MatchOption o (after.reads ≡ before.reads) (λ bytes. after.reads ≤ before.reads + length bytes / 4096)
+        MatchOption o (after.reads ≡ before.reads) (λ bytes. after.reads ≤ before.reads + length bytes / page_size)
     by_bytes None = same
     by_bytes (Some bytes) = omega (arith, same)
 
     by_files : (o : Option Files) →
-        OfFile o name (after.reads ≡ before.reads) (λ bytes. after.reads ≤ before.reads + length bytes / 4096)
+        OfFile o name (after.reads ≡ before.reads) (λ bytes. after.reads ≤ before.reads + length bytes / page_size)
     by_files None = tt
     by_files (Some files) = by_bytes (file files name)
 

@@ -14,7 +14,7 @@ use Rattle.mr_tree.specs.declared.nodes.NodesErr.TheVariants as errors
 use Rattle.mr_record.specs.declared.version.Version.TheVariants.{One}
 use Rattle.mr_tree.specs.Digest.{by}
 use Rattle.mr_pages.specs.Page.{Node, level_of, entry_of}
-use Rattle.mr_pages.specs.PageBytes.{first_form}
+use Rattle.mr_pages.specs.PageBytes.{page_size, first_form}
 use Rattle.mr_pages.specs.File.{file_of}
 use Rattle.mr_pages.specs.Walking.{page_node}
 use Rattle.mr_store.specs.Kept.{AreInside}
@@ -51,7 +51,7 @@ TellsNode m (Err errors.NoMemory) n = ⊤
 abbrev pub TellsAgain : {A : Type 0} → (List ℕ → List ℕ) → ℕ → Child → Result A NodesErr →
     view.Node → List ℕ → Type 0
 TellsAgain hash pages c result n bytes =
-    length bytes ≡ pages * 4096 → c.id < pages → (m : Node) →
+    length bytes ≡ pages * page_size → c.id < pages → (m : Node) →
     (file_of first_form bytes).node c.id ≡ Some m → IsSaid hash pages c m → TellsNode m result n
 
 -- why the page of the child is refused

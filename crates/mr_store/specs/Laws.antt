@@ -8,7 +8,7 @@ use Rattle.mr_outside.specs.State.{Shelved}
 use Rattle.mr_tree.specs.WellFormed.{WellFormed}
 use Rattle.mr_tree.specs.Nodes.{HasIds}
 use Rattle.mr_pages.specs.declared.head.MapHead.{MapHead}
-use Rattle.mr_pages.specs.PageBytes.{first_form}
+use Rattle.mr_pages.specs.PageBytes.{page_size, first_form}
 use Rattle.mr_pages.specs.File.{file_of}
 use Rattle.mr_pages.specs.Stands.{AreAllPages, whole_pages}
 use Rattle.mr_pages.specs.Walking.{head_of}
@@ -23,7 +23,7 @@ use Rattle.mr_store.specs.Ids.{ArePages, are_pages, ids}
 -- ---- a map that is told
 
 pub record Opened (hash : List ℕ → List ℕ) (h : MapHead) (bytes : List ℕ) : Type 0 where
-  pub whole : length bytes ≡ h.pages * 4096
+  pub whole : length bytes ≡ h.pages * page_size
   pub reads : ReadsAt hash (file_of first_form bytes) (head_of h) (placed h bytes)
   pub pages : ArePages h.pages (whole_parts (placed h bytes))
 
@@ -34,9 +34,9 @@ opened hash h es bytes o =
     let good = is_file first_form first_form_is bytes o.are in
     let head = head_read first_form first_form_is bytes o.are (head_of h) o.head in
     let r = reads_there hash (file_of first_form bytes) good o.fault (head_of h) o.head in
-    let same : h.pages ≡ length bytes / 4096 = head.same in
+    let same : h.pages ≡ length bytes / page_size = head.same in
     record {
-      whole = head.whole.whole ∙ ap (λ n. n * 4096) (sym same);
+      whole = head.whole.whole ∙ ap (λ n. n * page_size) (sym same);
       reads = r;
       pages = are_pages h.pages (placed h bytes) r.lies.chain
           (subst (λ n. AreAllPages n (whole_pages (placed h bytes) ++ r.lies.chain)) (sym same)

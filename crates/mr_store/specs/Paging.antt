@@ -5,7 +5,7 @@ use Rattle.mr_outside.specs.Files.{Files, file}
 use Rattle.mr_outside.specs.State.{Shelved}
 use Rattle.mr_record.specs.Bytes.{AreBytes}
 use Rattle.mr_pages.specs.Page.{page_limit}
-use Rattle.mr_pages.specs.PageBytes.{first_form}
+use Rattle.mr_pages.specs.PageBytes.{page_size, first_form}
 use Rattle.mr_pages.specs.File.{file_of, is_odd_size}
 use Rattle.mr_pages.specs.Source.{Sourced, on_shelf}
 use Rattle.mr_pages.specs.Walking.{page_node}
@@ -31,8 +31,8 @@ pub record IsGoodEntry (hash : List ℕ → List ℕ) (pages : ℕ) (e : ℕ × 
 -- kept of it
 pub record IsFileOf (pages : ℕ) (es : Entries) (bytes : List ℕ) : Type 0 where
   pub are : AreBytes bytes
-  pub even : is_odd_size 4096 (length bytes) ≡ false
-  pub count : pages ≡ length bytes / 4096
+  pub even : is_odd_size page_size (length bytes) ≡ false
+  pub count : pages ≡ length bytes / page_size
   pub same : (e : ℕ × Kept) → Contains es e →
       (file_of first_form bytes).node e.0 ≡ Some (page_node (node_of e.1.node))
 

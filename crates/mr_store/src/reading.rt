@@ -34,7 +34,7 @@ fn outside(view: &NodeView, pages: u32) -> Option<u32>
 
 /// The node that a page of a file of so many pages spells, if it is what is said of the child.
 pub fn judge<H: Hashes>(
-    page: &[u8; 4096],
+    page: &[u8; PAGE_SIZE],
     pages: u32,
     child: &Child,
     into: &mut NodeView,

@@ -4,7 +4,7 @@ ghost use Rattle.std.specs.Prelude.{◌≡◌, ◌*◌, ◌≤◌, length};
 ghost use Rattle.std.specs.List.{flat_map};
 ghost use Rattle.mr_record.specs.Record.{record_bytes};
 ghost use Rattle.mr_tree.specs.View.{level_of, preimage_of};
-ghost use Rattle.mr_pages.specs.PageBytes.{first_form};
+ghost use Rattle.mr_pages.specs.PageBytes.{page_size, first_form};
 ghost use Rattle.mr_pages.specs.Walking.{page_node};
 
 use crate::layout::PAGE_SIZE;
@@ -44,7 +44,7 @@ fn digest_of<H: Hashes>(bytes: &[u8]) -> [u8; 32]
 // The bytes that the digest of a leaf is of: they stand at the front of its page.
 fn leaf_front<'a>(page: &'a [u8], view: &NodeView) -> &'a [u8]
     requires page { page.now ≡ first_form.node_page (page_node view.now) }
-    requires size { length page.now ≡ 4096 }
+    requires size { length page.now ≡ page_size }
     requires leaf { level_of view.now ≡ 0 }
     ensures { result.now ≡ preimage_of view.now }
 {
@@ -54,7 +54,7 @@ fn leaf_front<'a>(page: &'a [u8], view: &NodeView) -> &'a [u8]
 
 // What the type tells of its values.
 fn is_page(_page: &[u8; PAGE_SIZE])
-    ensures { length _page.now ≡ 4096 }
+    ensures { length _page.now ≡ page_size }
 {}
 
 /// The digest of the node that a page spells. That of a leaf is of the page's front as it stands.

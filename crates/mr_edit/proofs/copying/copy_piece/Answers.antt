@@ -2,6 +2,7 @@ use Rattle.std.proofs.Common.{◌≡◌, ◌+◌, ◌*◌, ◌≤◌, length, ta
 use Rattle.mr_outside.specs.Told.{OfFile}
 use Rattle.mr_edit.proofs.Copied.{was_read, read_stops}
 use Rattle.mr_edit.proofs.copying.copy_piece.Goals as goal
+use Rattle.mr_pages.specs.PageBytes.{page_size}
 
 pub returns-in-Ok : goal.returns-in-Ok
 returns-in-Ok g c = λ s there h.
@@ -11,8 +12,8 @@ returns-in-Ok g c = λ s there h.
     c.read_filled.new.into (c.read_filled.auto.into ∙ c.requires.size) c.read_filled.ensures.files
     c.in-Ok.ensures.causes.quiet c.in-Ok.ensures.reads
     (subst (λ n. OfFile (g.S.Shelf.state c.args.shelf.now).files c.args.old.now ⊥
-    (λ file. c.args.page * 4096 + n ≤ length file →
-    c.read_filled.new.into ≡ take n (drop (c.args.page * 4096) file))) c.requires.size c.in-Ok.ensures.bytes))
+    (λ file. c.args.page * page_size + n ≤ length file →
+    c.read_filled.new.into ≡ take n (drop (c.args.page * page_size) file))) c.requires.size c.in-Ok.ensures.bytes))
 
 pub returns-in-Err : goal.returns-in-Err
 returns-in-Err g c = λ s there h.

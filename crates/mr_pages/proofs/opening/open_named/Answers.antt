@@ -4,7 +4,7 @@ use Rattle.std.proofs.lemmas.Result.{err_from_is_err_and}
 use Rattle.mr_outside.specs.Told.{OfFile}
 use Rattle.mr_pages.specs.Opening.{of_shelf, Answers}
 use Rattle.mr_pages.specs.Page.{page_limit}
-use Rattle.mr_pages.specs.PageBytes.{first_form}
+use Rattle.mr_pages.specs.PageBytes.{page_size, first_form}
 use Rattle.mr_pages.specs.Source.{IsPaged}
 use Rattle.mr_pages.proofs.HeadLaws.{first_form_is}
 use Rattle.mr_pages.proofs.Agreement.{agrees, whole_pages_are}
@@ -43,7 +43,7 @@ returns-in-None g c = record {
 
 pub open_pages-requires : goal.open_pages-requires
 open_pages-requires g c =
-    let whole = whole_pages_are 4096 c.in_ok-size.size (omega arith) c.in-Some.ensures.0 in
+    let whole = whole_pages_are page_size c.in_ok-size.size (omega arith) c.in-Some.ensures.0 in
     record {
       paged = subst (λ told. IsPaged first_form c.in-Some.pages told c.args.name.now)
           (sym c.in_ok-size.ensures.files)
