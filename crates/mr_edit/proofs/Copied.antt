@@ -162,7 +162,8 @@ read_few a b e = (omega (arith, e), omega (arith, e))
 
 module _ (old new : List ℕ) (pages page count : ℕ) (s a : Shelved) (differ : old ≢ new) (within : page + count ≤ pages)
     (h : HasCopied old new pages page s a) where
-  pub was_read : {A : Type 0} (x : A) (b : Shelved) (piece : List ℕ) → length piece ≡ count * page_size → b.files ≡ a.files →
+  pub was_read : {A : Type 0} (x : A) (b : Shelved) (piece : List ℕ) → length piece ≡ count * page_size →
+      b.files ≡ a.files →
       b.faults ≡ a.faults → CountsRead a b (Ok x) →
       OfFile a.files old ⊥ (λ file. page * page_size + count * page_size ≤ length file →
       piece ≡ take (count * page_size) (drop (page * page_size) file)) → WasRead old new pages page piece s b
@@ -177,12 +178,14 @@ module _ (old new : List ℕ) (pages page count : ℕ) (s a : Shelved) (differ :
             other_bytes old new (zeros page_size ++ h.nodes) s.files a.files differ h.files ∙ told in
             let part : piece ≡ take (count * page_size) (drop (page * page_size) bytes) =
             of_bytes a.files old bytes (λ file. page * page_size + count * page_size ≤ length file →
-            piece ≡ take (count * page_size) (drop (page * page_size) file)) there filled (omega (arith, whole, within)) in
+            piece ≡ take (count * page_size) (drop (page * page_size) file)) there filled
+            (omega (arith, whole, within)) in
             let n : ℕ = (page - 1) * page_size in
             let at : page_size + n ≡ page * page_size = omega (arith, h.some) in
             (λ i. h.so_far bytes told whole i ++ part i)
             ∙ ap (λ k. take n (drop page_size bytes) ++ take (count * page_size) (drop k bytes)) (sym at)
-            ∙ ap (λ xs. take n (drop page_size bytes) ++ take (count * page_size) xs) (sym (drop-drop n page_size bytes))
+            ∙ ap (λ xs. take n (drop page_size bytes) ++ take (count * page_size) xs)
+            (sym (drop-drop n page_size bytes))
             ∙ sym (take-add n (count * page_size) (drop page_size bytes))
             ∙ ap (λ m. take (n + m) (drop page_size bytes)) (sym size);
         quiet = quiet ∙ h.quiet;
@@ -202,7 +205,8 @@ module _ (old new : List ℕ) (pages page count : ℕ) (s a : Shelved) (differ :
         (shelf_cause old a b e r (other_there old new (zeros page_size ++ h.nodes) s.files a.files differ h.files there)
         c is);
     untold = λ missing. none_before new (zeros page_size ++ h.nodes) s.files a.files h.files
-        (not_told old a b e r (other_there old new (zeros page_size ++ h.nodes) s.files a.files differ h.files there) c is
+        (not_told old a b e r
+        (other_there old new (zeros page_size ++ h.nodes) s.files a.files differ h.files there) c is
         missing);
     later = omega (arith, c.faults, h.quiet);
     more = omega (arith, h.more, reads.refused);
@@ -219,11 +223,13 @@ module _ (old new : List ℕ) (pages page count : ℕ) (piece : List ℕ) (s a b
     piece_copied quiet put = record {
       some = omega (arith, w.some);
       nodes = w.nodes ++ piece;
-      files = subst (λ bytes. IsChanged (with_file new) bytes s.files b.files) (append_assoc (zeros page_size) w.nodes piece)
+      files = subst (λ bytes. IsChanged (with_file new) bytes s.files b.files)
+          (append_assoc (zeros page_size) w.nodes piece)
           (IsChanged-grown new (zeros page_size ++ w.nodes) piece s.files a.files b.files w.files put);
       so_far = λ bytes told whole. w.so_far bytes told whole
           ∙ ap (λ n. take n (drop page_size bytes))
-          (let n : (page - 1) * page_size + length piece ≡ (page + count - 1) * page_size = omega (arith, size, w.some) in n);
+          (let n : (page - 1) * page_size + length piece ≡ (page + count - 1) * page_size =
+          omega (arith, size, w.some) in n);
       quiet = quiet ∙ w.quiet;
       more = omega (arith, w.more, same);
       few = omega (arith, w.few, same, some);

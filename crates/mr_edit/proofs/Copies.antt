@@ -196,7 +196,8 @@ module _ (hash : List ℕ → List ℕ) (h : MapHead) (es : Entries) (cap : ℕ)
       IfSome o (IsOpen hash h es) → IsFiled files old → IfSome (told_bytes after.files name) (HasPages h.pages)
   have_at None is o found op there =
       subst (λ x. IfSome x (HasPages h.pages))
-      (sym (ap (λ x. told_bytes x name) (c.files ∙ ap (option_map (with_file name (zeros page_size ++ c.nodes))) is))) tt
+      (sym (ap (λ x. told_bytes x name)
+      (c.files ∙ ap (option_map (with_file name (zeros page_size ++ c.nodes))) is))) tt
   have_at (Some files) is None found op there =
       let none : IsSome {T = List ℕ} None =
       subst (IsSome {T = List ℕ}) (ap (λ x. told_bytes x old) (sym is) ∙ found) there in absurd cc

@@ -59,7 +59,8 @@ module _ (hash : List ℕ → List ℕ) (h : MapHead) (es : Entries) (cap : ℕ)
     free = refl;
     count = refl;
     bytes = zeros page_size ++ c.nodes;
-    unsealed = unsealed_front hash (zeros page_size ++ c.nodes) (c.nodes, [], sym (append-nil (zeros page_size ++ c.nodes)));
+    unsealed = unsealed_front hash (zeros page_size ++ c.nodes)
+        (c.nodes, [], sym (append-nil (zeros page_size ++ c.nodes)));
     files = c.files;
     quiet = c.quiet;
     more = c.more;

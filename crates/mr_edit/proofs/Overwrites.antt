@@ -93,11 +93,13 @@ module _ (pages page : ℕ) (held front : List ℕ) (have : HasPages pages held)
     | inl before ↦
         ap (λ xs. take page_size (drop (q * page_size) xs))
         (append_assoc (take (page * page_size) held) front (drop (page * page_size + length front) held))
-        ∙ piece_before page_size held (q * page_size) (page * page_size) (front ++ drop (page * page_size + length front) held)
+        ∙ piece_before page_size held (q * page_size) (page * page_size)
+        (front ++ drop (page * page_size + length front) held)
         (omega (arith, before)) start
     | inr past ↦
         let behind : page < q = omega (arith, past, other) in
-        ap (take page_size) (piece_behind held front (q * page_size) (page * page_size) (omega (arith, behind, short)) start)
+        ap (take page_size)
+        (piece_behind held front (q * page_size) (page * page_size) (omega (arith, behind, short)) start)
   ]
 
   pub has_replaced : AreBytes front → HasPages pages after
@@ -163,7 +165,8 @@ front_bytes whole front rest is all =
     subst AreBytes (ap (take (length front)) is ∙ take_at front rest (length front) refl)
     (All-take (λ b. b < 2 ^ 8) (length front) whole all)
 
-pub front_short : (whole front rest : List ℕ) → whole ≡ front ++ rest → length whole ≡ page_size → length front ≤ page_size
+pub front_short : (whole front rest : List ℕ) → whole ≡ front ++ rest → length whole ≡ page_size →
+    length front ≤ page_size
 front_short whole front rest is size = omega (arith, size, ap length is, length-append front rest)
 
 pub front_zeros : (whole front rest : List ℕ) → whole ≡ front ++ rest → whole ≡ zeros page_size → AreBytes front

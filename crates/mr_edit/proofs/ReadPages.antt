@@ -21,7 +21,8 @@ pub record IsBook (pages : ℕ) (bytes : List ℕ) (b : Book) : Type 0 where
 pub is_book : (pages : ℕ) (bytes : List ℕ) (b : Book) → book_in pages bytes ≡ Some b → IsBook pages bytes b
 is_book pages bytes b e = at (length bytes == pages * page_size) refl e
   where
-    at : (t : Bool) → (length bytes == pages * page_size) ≡ t → (if t then Some (pages_in pages bytes) else None) ≡ Some b →
+    at : (t : Bool) → (length bytes == pages * page_size) ≡ t →
+        (if t then Some (pages_in pages bytes) else None) ≡ Some b →
         IsBook pages bytes b
     at true test e = record { whole = eqb-true (length bytes) (pages * page_size) test; is = cc }
     at false test e = absurd cc

@@ -12,6 +12,7 @@ use Rattle.mr_outside.specs.State.{Shelved}
 use Rattle.mr_outside.specs.Writing.{IsChanged, IsChangedPartly}
 use Rattle.mr_outside.proofs.Changes.{with_change-found, overwritten-none}
 use Rattle.mr_tree.specs.Digest.{by, entry, root, root_preimage, no_entry}
+use Rattle.mr_tree.specs.Nodes.{root_entry}
 use Rattle.mr_tree.specs.Tree.{records}
 use Rattle.mr_tree.specs.View.{entry_of}
 use Rattle.mr_tree.specs.WellFormed.{WellFormed}
@@ -32,7 +33,7 @@ use Rattle.mr_pages.proofs.Agreement.{written_as, chain_as}
 use Rattle.mr_pages.proofs.HeadLaws.{first_form_is, first_layout_is}
 use Rattle.mr_pages.proofs.Imaged.{front_unsealed, part_unsealed}
 use Rattle.mr_edit.specs.Book.{Sheet, Book, HasNode, HasFree, Owned}
-use Rattle.mr_edit.specs.Draft.{Drawn, DraftOf, head_in_draft, IsSealed, Seals, MayBeSealed, SealFails, entry_of_root}
+use Rattle.mr_edit.specs.Draft.{Drawn, DraftOf, head_in_draft, IsSealed, Seals, MayBeSealed, SealFails}
 use Rattle.mr_edit.specs.Drafted.{Drafted}
 use Rattle.mr_edit.specs.Shelves.{HasShelfCause}
 use Rattle.mr_edit.specs.Sheets.{sheet_of, book_in, zeros, HasPages, ArePages, IsFront}
@@ -76,7 +77,8 @@ book_is : (pages : ℕ) (held : List ℕ) (b : Book) → book_in pages held ≡ 
     (length held ≡ pages * page_size) × (pages_in pages held ≡ b)
 book_is pages held b e = at (length held == pages * page_size) refl e
   where
-    at : (t : Bool) → (length held == pages * page_size) ≡ t → (if t then Some (pages_in pages held) else None) ≡ Some b →
+    at : (t : Bool) → (length held == pages * page_size) ≡ t →
+        (if t then Some (pages_in pages held) else None) ≡ Some b →
         (length held ≡ pages * page_size) × (pages_in pages held ≡ b)
     at true test e = (eqb-true (length held) (pages * page_size) test, cc)
     at false test e = absurd cc
@@ -107,7 +109,8 @@ module _ (hash : List ℕ → List ℕ) (pages free : ℕ) (top : Option Child) 
     size_after = length_replaced 0 page held (omega (arith, size, whole, have.some)) ∙ whole
 
     page_after : (q : ℕ) → q ≢ 0 → page_at first_form after q ≡ page_at first_form held q
-    page_after q some = ap (take page_size) (piece_behind held page (q * page_size) 0 (omega (arith, size, some)) (omega arith))
+    page_after q some = ap (take page_size)
+        (piece_behind held page (q * page_size) 0 (omega (arith, size, some)) (omega arith))
 
     node_held : (p : ℕ) (n : Node) → HasNode d.book p n → first_form.node_in (page_at first_form held p) ≡ Some n
     node_held p n e =
@@ -187,7 +190,7 @@ some_link c l e = cc
 root_said : (hash : List ℕ → List ℕ) (top : Option Child) (po : Option Placed) (t : Tree) (count batch : ℕ) →
     option_map child_link top ≡ option_map (link_of (by One hash)) po → whole_tree po ≡ t →
     count ≡ length (records t) →
-    hash (root_preimage One batch count (entry_of_root top)) ≡ root (by One hash) t batch
+    hash (root_preimage One batch count (root_entry top)) ≡ root (by One hash) t batch
 root_said hash None None t count batch said same counted =
     let none : length (records t) ≡ 0 = ap (λ u. length (records u)) (sym same) ∙ ap length records-Empty in
     ap (λ n. hash (root_preimage One batch n no_entry)) (counted ∙ none)
@@ -263,7 +266,7 @@ module _ (hash : List ℕ → List ℕ) (d : Drawn) (page : List ℕ) (low : d.b
       subst (IsSealed hash d t) (sym (held xs e)) (sealed_at xs e t of)
 
   pub seals : (digest : List ℕ) (after : Shelved) → IsChanged (overwritten d.name 0) page d.shelf.files after.files →
-      after.faults ≡ d.shelf.faults → digest ≡ hash (root_preimage One d.batch d.count (entry_of_root d.root)) →
+      after.faults ≡ d.shelf.faults → digest ≡ hash (root_preimage One d.batch d.count (root_entry d.root)) →
       Seals hash d digest after
   seals digest after put quiet said =
       let f = first_put d.shelf.files after.files d.name page are.there put in

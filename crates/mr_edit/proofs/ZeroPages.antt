@@ -114,9 +114,11 @@ module _ (held : List ℕ) (pages : ℕ) where
       page_at first_form (held ++ more) q ≡ page_at first_form held q
   page_of_front more q within =
       ap (take page_size) (drop-append-le (q * page_size) held more (omega (arith, within)))
-      ∙ take-append-le page_size (drop (q * page_size) held) more (omega (arith, within, length-drop (q * page_size) held))
+      ∙ take-append-le page_size (drop (q * page_size) held) more
+      (omega (arith, within, length-drop (q * page_size) held))
 
-  pub sheet_behind : length held ≡ pages * page_size → (q : ℕ) → pages ≤ q → sheet_of (page_at first_form held q) ≡ no_sheet
+  pub sheet_behind : length held ≡ pages * page_size → (q : ℕ) → pages ≤ q →
+      sheet_of (page_at first_form held q) ≡ no_sheet
   sheet_behind exact q past =
       ap (λ xs. sheet_of (take page_size xs)) (drop_all (q * page_size) held (omega (arith, exact, past))) ∙ sheet_none
 
@@ -154,7 +156,8 @@ module _ (held : List ℕ) (pages : ℕ) where
   same_test : (length (held ++ zeros page_size) == (pages + 1) * page_size) ≡ (length held == pages * page_size)
   same_test = at (length held == pages * page_size) refl
     where
-      at : (b : Bool) → (length held == pages * page_size) ≡ b → (length (held ++ zeros page_size) == (pages + 1) * page_size) ≡ b
+      at : (b : Bool) → (length held == pages * page_size) ≡ b →
+          (length (held ++ zeros page_size) == (pages + 1) * page_size) ≡ b
       at true e =
           let exact : length held ≡ pages * page_size = eqb-true (length held) (pages * page_size) e in
           eq-eqb (length (held ++ zeros page_size)) ((pages + 1) * page_size)
@@ -200,7 +203,8 @@ module _ (held : List ℕ) (pages : ℕ) where
       at : (b : Bool) → (length (held ++ front) == pages * page_size) ≡ b →
           LosesPages (book_in pages held) (book_in pages (held ++ front))
       at true e =
-          let exact : length (held ++ front) ≡ pages * page_size = eqb-true (length (held ++ front)) (pages * page_size) e in
+          let exact : length (held ++ front) ≡ pages * page_size =
+          eqb-true (length (held ++ front)) (pages * page_size) e in
           let empty : front ≡ [] = none front (omega (arith, exact, long, length-append held front)) in
           inr (ap (λ xs. book_in pages (held ++ xs)) empty ∙ ap (book_in pages) (append-nil held))
       at false e = inl (ap (λ b. if b then Some (record {

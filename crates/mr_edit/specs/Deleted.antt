@@ -14,8 +14,7 @@ use Rattle.mr_edit.specs.Drafted.{Drafted}
 use Rattle.mr_edit.specs.Removal.{HaveRect, IsOnce}
 
 -- The draft stands for this tree. Its file has no fewer pages than so many, and no more than
--- `size`,
--- or the most nodes so far and page 0, whichever is more.
+-- `size`, or the most nodes so far and page 0, whichever is more.
 pub record Reaches (scheme : Scheme) (told : Option Book) (free : ℕ) (root : Option Child)
     (t : Tree) (least size most : ℕ) : Type 0 where
   pub draft : Drafted scheme told free root t

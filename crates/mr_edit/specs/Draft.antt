@@ -4,13 +4,11 @@ use Rattle.mr_record.specs.declared.version.Version.TheVariants.{One}
 use Rattle.mr_outside.specs.Files.{with_file}
 use Rattle.mr_outside.specs.State.{Shelved}
 use Rattle.mr_outside.specs.Writing.{IsChanged}
-use Rattle.mr_tree.specs.Digest.{by, root, no_entry}
+use Rattle.mr_tree.specs.Digest.{by, root}
 use Rattle.mr_tree.specs.Limits.{count_limit}
 use Rattle.mr_tree.specs.Tree.{records}
 use Rattle.mr_tree.specs.WellFormed.{WellFormed}
-use Rattle.mr_tree.specs.View.{entry_of}
 use Rattle.mr_tree.specs.declared.child.Child.{Child}
-use Rattle.mr_tree.specs.declared.entry.Entry.{Entry}
 use Rattle.mr_tree.specs.declared.tree.Tree.{Tree}
 use Rattle.mr_pages.specs.Law.{IsMap}
 use Rattle.mr_pages.specs.Page.{Head}
@@ -82,11 +80,6 @@ IsTop count (Some c) = (0 < count) × (count ≤ count_limit)
 abbrev pub IsOff : (count : ℕ) → Option Child → EditErr → Type 0
 IsOff count root (errors.Map fault) = (fault.rule ≡ rule.Page) × (IsTop count root → ⊥)
 IsOff count root e = ⊥
-
--- what is said of the root node
-abbrev pub entry_of_root : Option Child → Entry
-entry_of_root None = no_entry
-entry_of_root (Some c) = entry_of c
 
 -- ---- a map is copied
 

@@ -24,8 +24,7 @@ pub record Drafted (scheme : Scheme) (told : Option Book) (free : ℕ) (root : O
   pub owned : Owned book.size (0 ∷ (whole_pages placed ++ chain))
 
 -- an insertion: whatever the draft stood for, it then stands for that with the record, and pages
--- were
--- used as they may be
+-- were used as they may be
 abbrev pub Inserts : Scheme → (told : Option Book) → (free : ℕ) → Option Child →
     (told' : Option Book) → (free' : ℕ) → Child → Record → Type 0
 Inserts scheme told free root told' free' c one =

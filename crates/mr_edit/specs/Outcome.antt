@@ -78,8 +78,7 @@ pub record IsBetween (least most n : ℕ) : Type 0 where
   pub most_is : n ≤ most
 
 -- A list is dealt out to two by the sides of these rectangles, at least so many to each, and no
--- more
--- than a node has.
+-- more than a node has.
 pub record Halves {A : Type 0} (least most : ℕ) (rects : List Rectangle) (all first second : List A)
     : Type 0 where
   pub first_is : first ≡ first_part (sides rects least) all

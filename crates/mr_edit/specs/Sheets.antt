@@ -118,7 +118,8 @@ pub record HasCopied (old new : List ℕ) (pages page : ℕ) (before after : She
   pub nodes : List ℕ
   pub files : IsChanged (with_file new) (zeros page_size ++ nodes) before.files after.files
   pub so_far : (bytes : List ℕ) → told_bytes before.files old ≡ Some bytes →
-      length bytes ≡ pages * page_size → nodes ≡ take ((page - 1) * page_size) (drop page_size bytes)
+      length bytes ≡ pages * page_size →
+      nodes ≡ take ((page - 1) * page_size) (drop page_size bytes)
   pub quiet : after.faults ≡ before.faults
   pub more : before.reads ≤ after.reads
   pub few : after.reads + 1 ≤ before.reads + page

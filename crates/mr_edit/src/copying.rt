@@ -12,7 +12,7 @@ use mr_outside::{Shelf, ShelfErr};
 use mr_pages::{PAGE_SIZE, read_filled};
 use std::alloc::{AllocError, Global};
 
-/// How many pages are copied at once.
+// How many pages are copied at once.
 const PIECE: u32 = 16;
 
 // Room for so many bytes.
@@ -129,7 +129,7 @@ fn copy_pages<S: Shelf>(
     room: &mut [u8],
 ) -> Result<(), EditErr>
     requires differ { old.now ≢ new.now }
-    requires size { length room.old ≡ 65536 }
+    requires size { length room.old ≡ 16 * page_size }
     ensures { (s : Shelved) → IsFiled s.files old.now →
         HasCopied old.now new.now pages 1 s (S.state shelf.old) →
         MatchResult result
@@ -146,7 +146,7 @@ fn copy_pages<S: Shelf>(
     Ok(())
 }
 
-/// Copies a file of so many pages, all but page 0, which is zeros in the copy.
+// Copies a file of so many pages, all but page 0, which is zeros in the copy.
 pub(crate) fn copy_file<S: Shelf>(
     alloc: Global,
     shelf: &mut S,
@@ -160,7 +160,7 @@ pub(crate) fn copy_file<S: Shelf>(
         (S.state shelf.new))
         (CopyStops new.now pages (S.state shelf.old) (S.state shelf.new)) }
 {
-    let mut room = bytes_of(alloc, 65536)?;
+    let mut room = bytes_of(alloc, PIECE as usize * PAGE_SIZE)?;
     begin(shelf, new)?;
     copy_pages(shelf, old, new, pages, room.as_mut_slice())
 }

@@ -31,7 +31,7 @@ pub struct Draft<S: Shelf, H: Hashes> {
     pub(crate) batch: u64,
 }
 
-/// What is made before the file is.
+// What is made before the file is.
 #[derive(Drop)]
 struct Ready {
     name: String,

@@ -6,16 +6,16 @@ use mr_tree::Child;
 use std::alloc::{AllocError, Global};
 use std::collections::BTreeMap;
 
-/// The most levels of a map.
+// The most levels of a map.
 const LEVELS: usize = 8;
 
-/// How many nodes each search may look at, and how many more all together, before hints are kept.
+// How many nodes each search may look at, and how many more all together, before hints are kept.
 const EACH: u32 = 64;
 
 const MORE: u32 = 4096;
 
-/// The leaf's page of a record's number, and the page above a page, as they were last seen. They
-/// are kept once searches were long.
+// The leaf's page of a record's number, and the page above a page, as they were last seen. They
+// are kept once searches were long.
 #[derive(Drop)]
 pub(crate) struct Hints {
     leaves: BTreeMap<u64, u32>,
@@ -24,20 +24,20 @@ pub(crate) struct Hints {
     looks: u32,
 }
 
-/// The pages on which a record may be found, from its leaf's up, by level; 0 for none.
+// The pages on which a record may be found, from its leaf's up, by level; 0 for none.
 #[derive(Clone, Copy)]
 pub(crate) struct Way {
     pages: [u32; LEVELS],
 }
 
 impl Way {
-    /// A way that is not known.
+    // A way that is not known.
     pub(crate) fn unknown() -> Way {
         Way { pages: [0; LEVELS] }
     }
 
-    /// Which of the children of a node of this level stands on the page to which the way leads
-    /// below it; their number, if none does.
+    // Which of the children of a node of this level stands on the page to which the way leads
+    // below it; their number, if none does.
     pub(crate) fn turn(&self, level: u8, children: &[Child]) -> usize {
         let page = self.page_below(level as usize);
         for at in 0..children.len() {
@@ -58,7 +58,7 @@ impl Way {
 }
 
 impl Hints {
-    /// No hints.
+    // No hints.
     pub(crate) fn new(alloc: Global) -> Hints {
         Hints {
             leaves: BTreeMap::new(alloc),
@@ -68,27 +68,27 @@ impl Hints {
         }
     }
 
-    /// Begins a search.
+    // Begins a search.
     pub(crate) fn search(&mut self) {
         self.looks = self.looks.saturating_sub(EACH);
     }
 
-    /// Counts a node that a search looks at.
+    // Counts a node that a search looks at.
     pub(crate) fn count(&mut self) {
         self.looks = self.looks.saturating_add(1);
     }
 
-    /// Whether searches were long and no hints are kept yet.
+    // Whether searches were long and no hints are kept yet.
     pub(crate) fn are_wanted(&self) -> bool {
         !self.known && self.looks > MORE
     }
 
-    /// Keeps hints from now on.
+    // Keeps hints from now on.
     pub(crate) fn keep(&mut self) {
         self.known = true;
     }
 
-    /// Notes the records of a leaf on this page.
+    // Notes the records of a leaf on this page.
     pub(crate) fn saw_leaf(&mut self, page: u32, records: &[Record]) -> Result<(), AllocError> {
         if !self.known {
             return Ok(());
@@ -99,7 +99,7 @@ impl Hints {
         Ok(())
     }
 
-    /// Notes the children of a node on this page.
+    // Notes the children of a node on this page.
     pub(crate) fn saw_children(&mut self, page: u32, children: &[Child]) -> Result<(), AllocError> {
         if !self.known {
             return Ok(());
@@ -110,7 +110,7 @@ impl Hints {
         Ok(())
     }
 
-    /// The way to the record with this number.
+    // The way to the record with this number.
     pub(crate) fn way(&self, number: u64) -> Way {
         let mut way = Way::unknown();
         let mut next = self.leaves.get(&number).copied();

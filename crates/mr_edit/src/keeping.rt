@@ -20,7 +20,7 @@ use mr_store::{Kept, judge, recall, remember};
 use mr_tree::{Child, Hashes, NodeView, NodesErr, is_view};
 use std::alloc::Global;
 
-/// Keeps nothing of a page any more.
+// Keeps nothing of a page any more.
 pub(crate) fn forget(cache: &mut LruCache<u32, Kept>, page: u32)
     ensures forgets { Forgets page cache.old.entries cache.new.entries }
     ensures cap { cache.new.cap ≡ cache.old.cap }
@@ -122,8 +122,8 @@ fn show_inside<H: Hashes, S: Shelf>(
     Ok(())
 }
 
-/// Shows the node of the child: from the cache, where its page is kept, or else by a read of its
-/// page, which is then kept.
+// Shows the node of the child: from the cache, where its page is kept, or else by a read of its
+// page, which is then kept.
 pub(crate) fn show_node<H: Hashes, S: Shelf>(
     alloc: Global,
     shelf: &mut S,
@@ -161,7 +161,7 @@ pub(crate) fn show_node<H: Hashes, S: Shelf>(
     show_inside::<H, S>(alloc, shelf, name, pages, cache, child, into)
 }
 
-/// Writes a node on the page of its entry, and keeps it.
+// Writes a node on the page of its entry, and keeps it.
 pub(crate) fn write_node<H: Hashes, S: Shelf>(
     alloc: Global,
     shelf: &mut S,
@@ -199,7 +199,7 @@ pub(crate) fn write_node<H: Hashes, S: Shelf>(
     Ok(())
 }
 
-/// Makes a page a free one.
+// Makes a page a free one.
 pub(crate) fn free_page<H: Hashes, S: Shelf>(
     shelf: &mut S,
     name: &str,

@@ -37,8 +37,8 @@ fn learn<F: PageFile>(desk: &mut Desk<F>, child: &Child, root: bool) -> Result<(
     }
 }
 
-/// Notes where all records of a map with this root stand, once searches were long, unless that was
-/// done before.
+// Notes where all records of a map with this root stand, once searches were long, unless that was
+// done before.
 pub(crate) fn learn_once<F: PageFile>(
     desk: &mut Desk<F>,
     root: &Option<Child>,

@@ -12,12 +12,9 @@ ghost use Rattle.mr_edit.specs.Shelves.{HasShelfCause, Refuses};
 
 use crate::EditErr;
 use mr_outside::{Shelf, ShelfErr};
-use mr_pages::{MapFault, MapRule, PAGE_SIZE, page_bytes, read_free_page};
+use mr_pages::{MapFault, MapRule, PAGE_LIMIT, PAGE_SIZE, page_bytes, read_free_page};
 
-/// The most pages of a file.
-const PAGE_LIMIT: u32 = 1 << 20;
-
-/// The same cause in a change's own words.
+// The same cause in a change's own words.
 pub(crate) fn refusal(error: ShelfErr) -> EditErr
     ensures { Refuses error result }
 {
@@ -35,7 +32,7 @@ fn clear_all(bytes: &mut [u8])
     bytes.fill(0);
 }
 
-/// Makes all bytes of a page zeros.
+// Makes all bytes of a page zeros.
 pub(crate) fn clear(page: &mut [u8])
     requires { length page.old ≡ page_size }
     ensures { page.new ≡ zeros page_size }
@@ -80,7 +77,7 @@ fn write_at<S: Shelf>(
     }
 }
 
-/// Writes a page but page 0.
+// Writes a page but page 0.
 pub(crate) fn put_page<S: Shelf>(
     shelf: &mut S,
     name: &str,
@@ -140,7 +137,7 @@ fn append_page<S: Shelf>(shelf: &mut S, name: &str, pages: u32) -> Result<(), Ed
     }
 }
 
-/// Adds a page at the end.
+// Adds a page at the end.
 pub(crate) fn add_page<S: Shelf>(shelf: &mut S, name: &str, pages: u32) -> Result<(), EditErr>
     requires { ArePages (S.state shelf.old).files name.now pages }
     ensures some { OnOk result (1 ≤ pages) }
@@ -176,7 +173,7 @@ pub(crate) fn add_page<S: Shelf>(shelf: &mut S, name: &str, pages: u32) -> Resul
     append_page::<S>(shelf, name, pages)
 }
 
-/// Reads a page.
+// Reads a page.
 pub(crate) fn read_bytes<S: Shelf>(
     shelf: &mut S,
     name: &str,
@@ -201,7 +198,7 @@ pub(crate) fn read_bytes<S: Shelf>(
     }
 }
 
-/// The page that a free page names.
+// The page that a free page names.
 pub(crate) fn next_free<S: Shelf>(
     shelf: &mut S,
     name: &str,

@@ -4,11 +4,12 @@ ghost use Rattle.std.specs.Prelude.{◌≡◌, ◌<◌, ◌≤◌, ◌^◌, leng
 ghost use Rattle.std.specs.String.{string_bytes};
 ghost use Rattle.mr_record.specs.declared.version.Version.TheVariants.{One};
 ghost use Rattle.mr_tree.specs.Digest.{root_preimage};
+ghost use Rattle.mr_tree.specs.Nodes.{root_entry};
 ghost use Rattle.mr_outside.specs.Files.{overwritten};
 ghost use Rattle.mr_outside.specs.Writing.{IsChanged, IsChangedPartly};
 ghost use Rattle.mr_pages.specs.PageBytes.{page_size, root_level};
 ghost use Rattle.mr_pages.specs.Walking.{child_link};
-ghost use Rattle.mr_edit.specs.Draft.{drawn, entry_of_root, Seals, SealFails};
+ghost use Rattle.mr_edit.specs.Draft.{drawn, Seals, SealFails};
 ghost use Rattle.mr_edit.specs.Sheets.{ArePages, IsFiled};
 ghost use Rattle.mr_edit.specs.Shelves.{HasShelfCause};
 
@@ -16,9 +17,8 @@ use crate::draft::Draft;
 use crate::pages::refusal;
 use crate::{Desk, EditErr};
 use mr_outside::Shelf;
-use mr_pages::{MapHead, PAGE_SIZE, level_of_root, write_head_page};
-use mr_record::Version;
-use mr_tree::{Child, Entry, Hashes, root_digest};
+use mr_pages::{FIRST, MapHead, PAGE_SIZE, level_of_root, write_head_page};
+use mr_tree::{Hashes, Top, root_digest};
 
 // Waits until the file stands as it was written.
 fn sync<S: Shelf>(shelf: &mut S, name: &str) -> Result<(), EditErr>
@@ -82,31 +82,17 @@ fn is_word(_n: u64)
     ensures { _n < 2 ^ 64 }
 {}
 
-// What is said of the root node.
-fn root_entry(root: &Option<Child>) -> Entry
-    ensures { result ≡ entry_of_root root.now }
-{
-    match root {
-        None => Entry {
-            level: 0,
-            rect: None,
-            digest: [0; 32],
-        },
-        Some(child) => child.entry(),
-    }
-}
-
 // The root digest of the map whose page 0 says this.
 fn digest_of<H: Hashes>(head: &MapHead) -> [u8; 32]
     ensures { result ≡ H.of (root_preimage One head.now.batch head.now.count
-        (entry_of_root head.now.root)) }
+        (root_entry head.now.root)) }
 {
-    root_digest::<H>(
-        Version::One,
-        head.batch,
-        head.count,
-        &root_entry(&head.root),
-    )
+    let top = Top {
+        batch: head.batch,
+        count: head.count,
+        root: head.root,
+    };
+    root_digest::<H>(FIRST.version, top.batch, top.count, &top.root_entry())
 }
 
 // Writes page 0, which says this of the map, and answers the root digest.

@@ -96,7 +96,7 @@ impl<S: Shelf, H: Hashes> PageFile for Sheets<S, H> {
 }
 
 impl<S: Shelf, H: Hashes> Sheets<S, H> {
-    /// The shelf, the file's name on it, and how many pages it has.
+    // The shelf, the file's name on it, and how many pages it has.
     pub(crate) fn into_parts(self) -> (S, String, u32)
         ensures shelf { result.0 ≡ self.shelf }
         ensures name { result.1 ≡ self.name }
@@ -115,7 +115,7 @@ impl<S: Shelf, H: Hashes> Sheets<S, H> {
         (shelf, name, pages)
     }
 
-    /// The shelf, as it stands.
+    // The shelf, as it stands.
     pub(crate) fn close(self) -> S
         ensures { result ≡ self.shelf }
     {

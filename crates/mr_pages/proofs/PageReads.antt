@@ -75,7 +75,8 @@ shelf_gives_head name lent pages p s Q paged some tells is q = record {
   is = is;
   so = λ f given. q f (elim given [
     | inl told ↦ file_told name lent pages 0 p (λ g. g.head ≡ first_form.head_in pages p) (λ bytes h e.
-        ap (λ b. if b then Err rule.Size else first_form.head_in (length bytes / page_size) (page_at first_form bytes 0))
+        ap (λ b. if b then Err rule.Size else
+        first_form.head_in (length bytes / page_size) (page_at first_form bytes 0))
         h.even ∙ (λ i. first_form.head_in (sym h.count i) (sym e i))) some s.files paged tells f told
     | inr read ↦ read
   ]);

@@ -76,7 +76,8 @@ pub record IsPaged (form : Form) (pages : ℕ) (told : Option Files) (name : Lis
 -- these are the bytes of a page of a file of these bytes, if it is one of so many whole pages
 abbrev pub TellsPage : (page : ℕ) → (p bytes : List ℕ) → Type 0
 TellsPage page p bytes =
-    (pages : ℕ) → length bytes ≡ pages * page_size → page < pages → p ≡ page_at first_form bytes page
+    (pages : ℕ) → length bytes ≡ pages * page_size → page < pages →
+    p ≡ page_at first_form bytes page
 
 -- ---- what pages are read as, told or not
 

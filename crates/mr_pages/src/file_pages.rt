@@ -9,7 +9,7 @@ ghost use Rattle.mr_pages.specs.Page.{page_limit};
 ghost use Rattle.mr_pages.specs.Source.{AreMade, IsPaged, Stay, on_shelf, tree_over};
 
 use crate::head::MapHead;
-use crate::layout::{Layout, PAGE_SIZE};
+use crate::layout::{Layout, PAGE_LIMIT, PAGE_SIZE};
 use crate::node::Node;
 use crate::page::{read_free_page, read_head, read_page};
 use crate::reading::{page_bytes, page_into};
@@ -20,9 +20,6 @@ use mr_tree::{Child, Hashes, NodeView, Tree};
 use std::alloc::AllocError;
 use std::marker::PhantomData;
 
-/// The most pages of a file.
-const PAGE_LIMIT: u64 = 1 << 20;
-
 /// How many pages a file of this size has, if it is one of whole pages.
 pub fn page_count(layout: Layout, size: u64) -> Option<u32>
     requires { IsLayout layout }
@@ -30,7 +27,7 @@ pub fn page_count(layout: Layout, size: u64) -> Option<u32>
         (λ n. (is_odd_size layout.size size ≡ false) × (n ≡ size / layout.size)) }
 {
     let page_size = layout.size as u64;
-    if size == 0 || size % page_size != 0 || size > PAGE_LIMIT * page_size {
+    if size == 0 || size % page_size != 0 || size > PAGE_LIMIT as u64 * page_size {
         return None;
     }
     Some((size / page_size) as u32)

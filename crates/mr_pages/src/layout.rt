@@ -5,6 +5,9 @@ use mr_record::Version;
 /// The size of a page in bytes.
 pub const PAGE_SIZE: usize = 4096;
 
+/// The most pages of a file.
+pub const PAGE_LIMIT: u32 = 1 << 20;
+
 /// How many bytes a page holds of a child.
 pub const LINK_SIZE: usize = 52;
 

@@ -26,7 +26,7 @@ pub use error::MapErr;
 pub use file_pages::page_count;
 pub use head::MapHead;
 pub use judging::{is_full, is_said};
-pub use layout::{FIRST, Layout, PAGE_SIZE};
+pub use layout::{FIRST, Layout, PAGE_LIMIT, PAGE_SIZE};
 pub use node::Node;
 pub use numbers::Numbers;
 pub use opening::{Opened, open_plain};

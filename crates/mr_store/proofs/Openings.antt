@@ -126,7 +126,8 @@ fails_some hash errors.NoMemory fails = ([], All-nil (λ b. b < 2 ^ 8), tt)
 -- of the bytes that were read, told or not
 module _ (hash : List ℕ → List ℕ) (pages : ℕ) (s : Shelved) (name : List ℕ) (some : 1 ≤ pages)
     (few : pages ≤ page_limit) where
-  as_file : (bytes : List ℕ) → length bytes ≡ pages * page_size → pages_of first_form pages bytes ≡ file_of first_form bytes
+  as_file : (bytes : List ℕ) → length bytes ≡ pages * page_size →
+      pages_of first_form pages bytes ≡ file_of first_form bytes
   as_file bytes size = same_file first_form pages bytes (omega (arith, size))
       (are_whole_pages page_size (length bytes) pages (omega arith) size some few)
 
@@ -301,7 +302,8 @@ module _ (hash : List ℕ → List ℕ) (name : List ℕ) (pages : ℕ) (before 
 
 -- where nothing was read
 pub none_read : (before after : Shelved) (name : List ℕ) → after.reads ≡ before.reads →
-    OfFile before.files name (after.reads ≡ before.reads) (λ bytes. after.reads ≤ before.reads + length bytes / page_size)
+    OfFile before.files name (after.reads ≡ before.reads)
+    (λ bytes. after.reads ≤ before.reads + length bytes / page_size)
 none_read before after name same = by_files before.files
   where
     by_bytes : (o : Option (List ℕ)) →

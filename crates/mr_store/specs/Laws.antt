@@ -1,6 +1,5 @@
 -- Proof of what holds of every opened map: its tree is well formed, each of its nodes has an id,
--- and what a call
--- leaves, the next one leaves too.
+-- and what a call leaves, the next one leaves too.
 use Rattle.std.proofs.Common.{◌≡◌, ℕ, ◌+◌, ◌*◌, ◌/◌, ◌≤◌, List, ◌++◌, length, inl, inr, refl, sym, ap, subst, ◌∙◌, arith}
 use Rattle.std.specs.Prelude.{Option, Some, None, IfSome, IsSome}
 use Rattle.mr_outside.specs.Files.{Files}

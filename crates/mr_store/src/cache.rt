@@ -48,8 +48,8 @@ pub fn recall(cache: &mut LruCache<u32, Kept>, child: &Child, into: &mut NodeVie
     true
 }
 
-/// Keeps the node of the child. Where the cache is full, what was not used for the longest time is
-/// dropped.
+// Keeps the node of the child. Where the cache is full, what was not used for the longest time is
+// dropped.
 pub(crate) fn put(
     cache: &mut LruCache<u32, Kept>,
     child: &Child,

@@ -172,8 +172,8 @@ fn copied_from<N: Nodes>(
     ))
 }
 
-/// A copy of the whole map, which says this of itself, of a store of so many pages, made as its
-/// nodes are fetched.
+// A copy of the whole map, which says this of itself, of a store of so many pages, made as its
+// nodes are fetched.
 pub(crate) fn copied<N: Nodes>(
     alloc: Global,
     nodes: &mut N,

@@ -20,10 +20,10 @@ use std::alloc::{AllocError, Global};
 use std::marker::PhantomData;
 use std::num::NonZeroUsize;
 
-/// The node pages that are kept.
+// The node pages that are kept.
 const ROOM: usize = 256;
 
-/// What is made before pages are read.
+// What is made before pages are read.
 #[derive(Drop)]
 struct Ready {
     name: String,

@@ -12,7 +12,7 @@ use mr_outside::{Shelf, ShelfErr};
 use mr_pages::{PAGE_SIZE, digest_on, page_into, read_page};
 use mr_tree::{Child, Hashes, NodeView, NodesErr, is_view};
 
-/// Whether two digests are the same.
+// Whether two digests are the same.
 pub(crate) fn are_same(a: &[u8; 32], b: &[u8; 32]) -> bool
     ensures { result ≡ bytes_eq a.now b.now }
 {
@@ -74,7 +74,7 @@ fn refusal(error: ShelfErr) -> NodesErr
     }
 }
 
-/// Reads the page of the child, and shows its node if it is what is said of the child.
+// Reads the page of the child, and shows its node if it is what is said of the child.
 pub(crate) fn read_again<H: Hashes, S: Shelf>(
     shelf: &mut S,
     name: &str,

@@ -33,7 +33,7 @@ impl<T: Drop> From<AllocFailed<T>> for Stop {
     }
 }
 
-/// The same cause in a fetch's own words.
+// The same cause in a fetch's own words.
 pub(crate) fn refusal(stop: Stop) -> NodesErr
     ensures { IsRefusal stop result }
 {

@@ -11,8 +11,8 @@ use mr_record::Record;
 use mr_tree::{Child, NodeView, XorHash};
 use std::alloc::Global;
 
-/// Pages of which nothing is told. Each has as many entries as there may be, all at one place; none
-/// is free, and so many can be added.
+// Pages of which nothing is told. Each has as many entries as there may be, all at one place; none
+// is free, and so many can be added.
 #[derive(Drop)]
 struct Full {
     room: u32,

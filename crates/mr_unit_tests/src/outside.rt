@@ -18,7 +18,7 @@ use std::path::PathBuf;
 use std::test::Fail;
 use std::{env, fs, io, process, rt};
 
-/// Bytes that differ from place to place and from piece to piece.
+// Bytes that differ from place to place and from piece to piece.
 fn many_bytes(alloc: Global, count: u32) -> Result<Vec<u8>, AllocError> {
     let mut bytes = Vec::new(alloc);
     for k in 0..count {
@@ -35,12 +35,12 @@ fn is_missing<T>(answer: &Result<T, ShelfErr>) -> bool {
     matches!(answer, Err(ShelfErr::Missing))
 }
 
-/// A whole file, without what is known of it.
+// A whole file, without what is known of it.
 fn whole<S: Shelf>(alloc: Global, shelf: &mut S, name: &str) -> Result<Vec<u8>, ShelfErr> {
     read_all(alloc, shelf, name)
 }
 
-/// Whether the whole file is read, and has these bytes.
+// Whether the whole file is read, and has these bytes.
 fn reads<S: Shelf>(alloc: Global, shelf: &mut S, name: &str, bytes: &[u8]) -> bool {
     match whole(alloc, shelf, name) {
         Ok(held) => held.as_slice() == bytes,
@@ -48,7 +48,7 @@ fn reads<S: Shelf>(alloc: Global, shelf: &mut S, name: &str, bytes: &[u8]) -> bo
     }
 }
 
-/// How many bytes are read from this place on.
+// How many bytes are read from this place on.
 fn count<S: Shelf>(shelf: &mut S, name: &str, at: u64, into: &mut [u8]) -> Option<usize> {
     match shelf.read_at(name, at, into) {
         Ok(count) => Some(count),
@@ -56,14 +56,14 @@ fn count<S: Shelf>(shelf: &mut S, name: &str, at: u64, into: &mut [u8]) -> Optio
     }
 }
 
-/// A shelf with one file, of which this call fails.
+// A shelf with one file, of which this call fails.
 fn shelf_with(alloc: Global, bytes: &[u8], failing: u64) -> Result<MemShelf, AllocError> {
     let mut shelf = MemShelf::new(alloc, vec![in alloc; failing]?);
     shelf.put("map", bytes)?;
     Ok(shelf)
 }
 
-/// Whether the shelf holds a file of these bytes.
+// Whether the shelf holds a file of these bytes.
 fn has(shelf: &MemShelf, name: &str, bytes: &[u8]) -> bool {
     match shelf.file(name) {
         Some(held) => held == bytes,
@@ -71,7 +71,7 @@ fn has(shelf: &MemShelf, name: &str, bytes: &[u8]) -> bool {
     }
 }
 
-/// Whether a file of these bytes is read at the second time only, where this call fails.
+// Whether a file of these bytes is read at the second time only, where this call fails.
 fn reads_past(alloc: Global, bytes: &[u8], failing: u64) -> Result<bool, AllocError> {
     let mut shelf = shelf_with(alloc, bytes, failing)?;
     let first = is_fault(&whole(alloc, &mut shelf, "map"));
@@ -113,7 +113,7 @@ fn reads_in_four_calls(alloc: Global) -> Result<bool, AllocError> {
     Ok(reads(alloc, &mut shelf, "map", &bytes) && size_fails(&mut shelf, "map"))
 }
 
-/// It makes four calls, so a fifth that would fail is not reached.
+// It makes four calls, so a fifth that would fail is not reached.
 #[test]
 fn reads_a_file_of_three_pieces_in_four_calls(rt: HostRuntime) {
     holds_in_memory(&rt, "four calls", reads_in_four_calls(rt.alloc()));
@@ -135,7 +135,7 @@ fn tells_an_absent_file_from_an_empty_one(rt: HostRuntime) {
     holds_in_memory(&rt, "absent, then empty", absent_then_empty(rt.alloc()));
 }
 
-/// Two files, of which the first was another before.
+// Two files, of which the first was another before.
 fn two_files(alloc: Global) -> Result<MemShelf, AllocError> {
     let mut shelf = MemShelf::new(alloc, Vec::new(alloc));
     shelf.put("a", b"one")?;
@@ -173,7 +173,7 @@ fn reads_up_to_the_end_of_a_file(rt: HostRuntime) {
     holds_in_memory(&rt, "two bytes, then none", reads_up_to_the_end(rt.alloc()));
 }
 
-/// Whether a file that is there has room for so many bytes.
+// Whether a file that is there has room for so many bytes.
 fn is_as_long(shelf: &MemShelf, name: &str, long: usize) -> bool
     ensures { IsTrue result
         → OfFile (Some shelf.now.files) name.now ⊤ (λ held. long ≤ length held) }
@@ -184,7 +184,7 @@ fn is_as_long(shelf: &MemShelf, name: &str, long: usize) -> bool
     }
 }
 
-/// Five calls that write, up to the first that is refused.
+// Five calls that write, up to the first that is refused.
 fn write_a_file(shelf: &mut MemShelf) -> Result<(), ShelfErr> {
     shelf.create("map")?;
     shelf.append("map", b"abcdef")?;
@@ -195,7 +195,7 @@ fn write_a_file(shelf: &mut MemShelf) -> Result<(), ShelfErr> {
     shelf.sync("map")
 }
 
-/// The call that fails, the file that is left, and whether all calls were answered.
+// The call that fails, the file that is left, and whether all calls were answered.
 #[derive(Clone, Copy)]
 struct Left<'a> {
     name: &'a str,
@@ -251,7 +251,7 @@ fn is_answered(answer: &Result<(), ShelfErr>, done: bool) -> bool {
     }
 }
 
-/// Whether five calls that write leave these bytes, and another file as it was.
+// Whether five calls that write leave these bytes, and another file as it was.
 fn leaves(alloc: Global, row: &Left<'_>) -> Result<bool, AllocError> {
     let mut shelf = shelf_with(alloc, b"as it was", row.failing)?;
     shelf.put("other", b"other")?;
@@ -295,7 +295,7 @@ fn a_file_that_is_absent_is_not_written(rt: HostRuntime) {
     holds(&rt, "not written", is_not_written(rt.alloc()));
 }
 
-/// Takes at most 7 bytes a call.
+// Takes at most 7 bytes a call.
 #[derive(Drop)]
 struct Narrow(MemSink);
 
@@ -309,7 +309,7 @@ impl Sink for Narrow {
     }
 }
 
-/// Writes all, of which nothing is known.
+// Writes all, of which nothing is known.
 fn put<W: Sink>(out: &mut W, bytes: &[u8]) -> Result<(), SinkErr> {
     write_all(out, bytes)
 }
@@ -357,7 +357,7 @@ fn writes_in_no_more_calls_than_it_needs(rt: HostRuntime) {
 
 const ALL: &[u8] = b"0123456789abcdefghijklmnopqrst";
 
-/// The first read gives four bytes, and the others all.
+// The first read gives four bytes, and the others all.
 fn short_then_whole(alloc: Global) -> Result<bool, AllocError> {
     let mut shelf = Untold::new(30, ALL.to_vec(alloc)?);
     shelf.first = 4;
@@ -370,7 +370,7 @@ fn a_short_read_ends_the_file(rt: HostRuntime) {
     holds_in_memory(&rt, "four bytes, then all", short_then_whole(rt.alloc()));
 }
 
-/// A new folder and the names of two files in it.
+// A new folder and the names of two files in it.
 #[derive(Drop)]
 struct Room {
     folder: PathBuf,
@@ -395,7 +395,7 @@ fn new_room(rt: &HostRuntime, word: &str) -> io::Result<Room> {
     })
 }
 
-/// Whether two bytes are read at the end of a file of 70,000, and none past it.
+// Whether two bytes are read at the end of a file of 70,000, and none past it.
 fn ends<S: Shelf>(shelf: &mut S, name: &str) -> bool {
     let mut into = [9; 4];
     let two = count(shelf, name, 69_998, &mut into) == Some(2);
@@ -422,9 +422,9 @@ fn is_gone<R: rt::Files>(rt: &R, alloc: Global, path: &str) -> bool {
     is_missing(&StdShelf::new(rt, alloc).size(path))
 }
 
-/// The name of a file of 70,000 bytes goes to another file between two calls: whether its size was
-/// told and a folder refused before, all of it read and its end known from then on, and the other
-/// file read by another shelf.
+// The name of a file of 70,000 bytes goes to another file between two calls: whether its size was
+// told and a folder refused before, all of it read and its end known from then on, and the other
+// file read by another shelf.
 fn reads_what_it_opened<R: rt::Files>(
     rt: &R,
     alloc: Global,
@@ -447,7 +447,7 @@ fn write_two<R: rt::Files>(rt: &R, room: &Room, one: &[u8], other: &[u8]) -> io:
     Ok(())
 }
 
-/// And whether the file is missed once it was removed.
+// And whether the file is missed once it was removed.
 fn reads_and_misses(rt: &HostRuntime, alloc: Global) -> io::Result<([bool; 5], bool)> {
     let room = new_room(rt, "reads")?;
     let bytes = many_bytes(alloc, 70_000)?;
@@ -459,7 +459,7 @@ fn reads_and_misses(rt: &HostRuntime, alloc: Global) -> io::Result<([bool; 5], b
     Ok((seen, gone))
 }
 
-/// The name of the first of these that does not hold.
+// The name of the first of these that does not hold.
 fn first_false(names: &[&'static str], seen: &[bool]) -> Option<&'static str> {
     for (name, it) in names.iter().zip(seen) {
         if !*it {
@@ -489,8 +489,8 @@ fn reads_the_real_file_system(rt: HostRuntime) -> Result<(), Fail> {
     Ok(())
 }
 
-/// Whether a folder is neither read nor made, a file that is absent is missed, and one without a
-/// name is a fault.
+// Whether a folder is neither read nor made, a file that is absent is missed, and one without a
+// name is a fault.
 fn are_no_files<R: rt::Files>(rt: &R, alloc: Global, room: &Room) -> [bool; 4] {
     let mut shelf = StdShelf::new(rt, alloc);
     let on_folder = is_unread(&mut shelf, room.folder.as_str());
@@ -521,7 +521,7 @@ fn a_folder_and_what_is_absent_are_no_files(rt: HostRuntime) -> Result<(), Fail>
     Ok(())
 }
 
-/// Whether the first file is not there, and the second is read.
+// Whether the first file is not there, and the second is read.
 fn reads_one_of_two<R: rt::Files>(
     alloc: Global,
     shelf: &mut StdShelf<'_, R>,
@@ -534,7 +534,7 @@ fn reads_one_of_two<R: rt::Files>(
     ]
 }
 
-/// Whether a file is made, written, synced and read.
+// Whether a file is made, written, synced and read.
 fn writes_a_file<R: rt::Files>(
     alloc: Global,
     shelf: &mut StdShelf<'_, R>,
@@ -550,8 +550,8 @@ fn writes_a_file<R: rt::Files>(
     ]
 }
 
-/// Whether a file that was read and is written is read as it is then, and one that was written and
-/// is made again is empty.
+// Whether a file that was read and is written is read as it is then, and one that was written and
+// is made again is empty.
 fn writes_what_it_read<R: rt::Files>(
     alloc: Global,
     shelf: &mut StdShelf<'_, R>,
@@ -566,8 +566,8 @@ fn writes_what_it_read<R: rt::Files>(
     ]
 }
 
-/// What was seen of two files: what was read before, what was written, whether that stands in the
-/// file, and what was read and written again.
+// What was seen of two files: what was read before, what was written, whether that stands in the
+// file, and what was read and written again.
 #[derive(Clone, Copy)]
 struct Seen {
     read: [bool; 2],
@@ -638,7 +638,7 @@ fn writes_the_real_file_system(rt: HostRuntime) -> Result<(), Fail> {
     Ok(())
 }
 
-/// The file system, of which no file may be opened.
+// The file system, of which no file may be opened.
 #[derive(Drop)]
 struct Locked<'a, R>(&'a R);
 
@@ -706,7 +706,7 @@ fn writes_the_real_standard_output(rt: HostRuntime) {
     );
 }
 
-/// An output that takes at most so many bytes a call.
+// An output that takes at most so many bytes a call.
 #[derive(Drop)]
 struct Trickle {
     most: usize,

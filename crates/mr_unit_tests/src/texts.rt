@@ -246,7 +246,7 @@ fn one_line_more_is_too_many(alloc: Global) -> Result<bool, AllocError> {
     Ok(read && is_past_the_limit(alloc, text.as_str()))
 }
 
-/// A line past the limit has the rule before all others, and a million lines are read at once.
+// A line past the limit has the rule before all others, and a million lines are read at once.
 #[test]
 fn a_line_past_the_limit(rt: HostRuntime) {
     holds_in_memory(&rt, "2^20 lines", one_line_more_is_too_many(rt.alloc()));
