@@ -3,6 +3,7 @@
 
 ghost use Rattle.mr_query.specs.Word.{IsAskable};
 
+use crate::assertions::all_hold;
 use crate::client::{INNER, OPENED, digest, sha_root};
 use mr_check::{CheckErr, Fed, Judge, check};
 use mr_outside::MemSink;
@@ -59,10 +60,11 @@ const DEEPER: &[u8] = b"MRVO\x01W\0\0\0\0\0\0\0\0\0\0\0\0\0\0\0\x02\x02N\x01N\x0
     \0\0\0\0\0\0\0\0\0\0\0\0\0\0\0\0\0\0\0\0\0\0\0\0\0\0\0\0\0\0\0\x11\
     L\x01\0\0\0\0\0\0\0\x07\0\0\0\0\0\0\0\0\0\0\0\0\0\0\0\0\0";
 
-// A proof for the query of a word; the last byte of a held root digest under the exclusive or; the
-// records that are handed out, as lines of a text; and the rule that is broken and its place, if
+// A proof for the query of a word, by its name; the last byte of a held root digest under the
+// exclusive or; the records that are handed out, as lines of a text; and the rule that is broken and its place, if
 // any is.
 struct Row {
+    name: &'static str,
     word: &'static str,
     proof: &'static [u8],
     root: u8,
@@ -88,6 +90,7 @@ const FIRST_THREE: &str = "1 1 0 1 0 -\n3 3 0 3 0 -\n2 0 2 0 2 -\n";
 
 const ROWS: &[Row] = &[
     Row {
+        name: "one record",
         word: HERE,
         proof: OPENED,
         root: 0x18,
@@ -95,6 +98,7 @@ const ROWS: &[Row] = &[
         broken: None,
     },
     Row {
+        name: "a pruned part",
         word: AWAY,
         proof: PRUNED,
         root: 0x18,
@@ -102,6 +106,7 @@ const ROWS: &[Row] = &[
         broken: None,
     },
     Row {
+        name: "a byte behind the end",
         word: HERE,
         proof: TRAILING,
         root: 0x18,
@@ -109,6 +114,7 @@ const ROWS: &[Row] = &[
         broken: Some((Rule::Trailing, 50)),
     },
     Row {
+        name: "an opened leaf outside the window",
         word: AWAY,
         proof: OPENED,
         root: 0x18,
@@ -116,6 +122,7 @@ const ROWS: &[Row] = &[
         broken: Some((Rule::Needless, 49)),
     },
     Row {
+        name: "a pruned part in the window",
         word: HERE,
         proof: PRUNED,
         root: 0x18,
@@ -123,6 +130,7 @@ const ROWS: &[Row] = &[
         broken: Some((Rule::Hidden, 24)),
     },
     Row {
+        name: "a proof of another kind",
         word: NEAREST,
         proof: OPENED,
         root: 0x18,
@@ -130,6 +138,7 @@ const ROWS: &[Row] = &[
         broken: Some((Rule::WrongKind, 5)),
     },
     Row {
+        name: "another root",
         word: HERE,
         proof: OPENED,
         root: 0x19,
@@ -137,6 +146,7 @@ const ROWS: &[Row] = &[
         broken: Some((Rule::WrongRoot { found: HELD }, 50)),
     },
     Row {
+        name: "the nearer of two",
         word: NEAREST,
         proof: CIRCLE,
         root: 0x1c,
@@ -144,6 +154,7 @@ const ROWS: &[Row] = &[
         broken: None,
     },
     Row {
+        name: "a pruned part on the circle",
         word: NEAREST,
         proof: HIDDEN,
         root: 0,
@@ -151,6 +162,7 @@ const ROWS: &[Row] = &[
         broken: Some((Rule::Hidden, 70)),
     },
     Row {
+        name: "fewer than were asked for",
         word: "nearest:0,0,5",
         proof: FEWER,
         root: 0x1e,
@@ -158,6 +170,7 @@ const ROWS: &[Row] = &[
         broken: None,
     },
     Row {
+        name: "a radius where there are fewer",
         word: "nearest:0,0,5",
         proof: TOO_MANY,
         root: 0x1e,
@@ -165,6 +178,7 @@ const ROWS: &[Row] = &[
         broken: Some((Rule::WrongRadius, 117)),
     },
     Row {
+        name: "the farthest record",
         word: "nearest:-2147483648,-2147483648,1",
         proof: FARTHEST,
         root: 0x1e,
@@ -172,6 +186,7 @@ const ROWS: &[Row] = &[
         broken: None,
     },
     Row {
+        name: "an inner node above a leaf",
         word: HERE,
         proof: INNER,
         root: 0x46,
@@ -179,6 +194,7 @@ const ROWS: &[Row] = &[
         broken: None,
     },
     Row {
+        name: "two inner nodes above a leaf",
         word: HERE,
         proof: DEEPER,
         root: 0x08,
@@ -296,7 +312,7 @@ fn is_judged<H: Hash32>(
 }
 
 // Whether the row holds, and under SHA-256 the verdict in pieces is that of the whole.
-fn holds(alloc: Global, row: &Row) -> bool {
+fn is_so(alloc: Global, row: &Row) -> bool {
     let Ok(q) = read_query(row.word) else {
         return false;
     };
@@ -317,9 +333,19 @@ fn holds(alloc: Global, row: &Row) -> bool {
     ) && is_judged::<Sha>(alloc, &root, &q, row.proof, &by_sha)
 }
 
+// The name of the first row that does not hold.
+fn first_unjudged(alloc: Global) -> Option<&'static str> {
+    for row in ROWS {
+        if !is_so(alloc, row) {
+            return Some(row.name);
+        }
+    }
+    None
+}
+
 #[test]
 fn proofs_are_judged_however_they_are_cut(rt: HostRuntime) {
-    assert!(rt; ROWS.iter().all(|row| holds(rt.alloc(), row)));
+    all_hold(&rt, first_unjudged(rt.alloc()));
 }
 
 // A judge that is fed this, if memory serves.
@@ -375,18 +401,31 @@ fn hidden_at_its_last_byte<H: Hash32>(alloc: Global) -> Option<bool> {
     Some(found && more && hides && judge.end() == Err(Fault { rule, at }))
 }
 
-// All of these, under one hash function.
-fn pieces_are_answered<H: Hash32>(alloc: Global, root: &[u8; 32]) -> bool {
-    one_record::<H>(alloc, root) == Some(true)
-        && one_byte_more::<H>(alloc, root) == Some(true)
-        && is_short::<H>(alloc, 49, 49) == Some(true)
-        && is_short::<H>(alloc, 10, 6) == Some(true)
-        && is_short::<H>(alloc, 0, 0) == Some(true)
-        && hidden_at_its_last_byte::<H>(alloc) == Some(true)
+// The name of the first of these that is not so, under one hash function.
+fn first_unanswered<H: Hash32>(alloc: Global, root: &[u8; 32]) -> Option<&'static str> {
+    if one_record::<H>(alloc, root) != Some(true) {
+        return Some("one record, and its proof ends");
+    }
+    if one_byte_more::<H>(alloc, root) != Some(true) {
+        return Some("a byte behind it");
+    }
+    if is_short::<H>(alloc, 49, 49) != Some(true) {
+        return Some("a byte too few");
+    }
+    if is_short::<H>(alloc, 10, 6) != Some(true) {
+        return Some("cut in the batch");
+    }
+    if is_short::<H>(alloc, 0, 0) != Some(true) {
+        return Some("no bytes");
+    }
+    if hidden_at_its_last_byte::<H>(alloc) != Some(true) {
+        return Some("a part that lies on the circle");
+    }
+    None
 }
 
 #[test]
 fn pieces_have_their_answers(rt: HostRuntime) {
-    assert!(rt; pieces_are_answered::<XorHash>(rt.alloc(), &HELD));
-    assert!(rt; pieces_are_answered::<Sha>(rt.alloc(), &sha_root()));
+    all_hold(&rt, first_unanswered::<XorHash>(rt.alloc(), &HELD));
+    all_hold(&rt, first_unanswered::<Sha>(rt.alloc(), &sha_root()));
 }

@@ -4,7 +4,7 @@
 ghost use Rattle.std.specs.Prelude.{◌≡◌, ◌≤◌};
 ghost use Rattle.mr_query.specs.Word.{IsAskable};
 
-use crate::assertions::holds;
+use crate::assertions::{all_hold, all_hold_in_memory, holds};
 use crate::client::window;
 use mr_batch::generate;
 use mr_geom::{Point, Rect};
@@ -64,9 +64,10 @@ fn shelf_with(alloc: Global, bytes: &[u8]) -> Result<MemShelf, AllocError> {
 
 // ---- faults
 
-// A map file of 17 records that is changed: its length, and what stands from some places on; the
-// fault that it has then.
+// A map file of 17 records that is changed, by a name: its length, and what stands from some places
+// on; the fault that it has then.
 struct Row {
+    name: &'static str,
     page: u32,
     rule: &'static str,
     size: usize,
@@ -87,84 +88,98 @@ const FOUR: &[u8] = b"L\x04\
 
 const ROWS: &[Row] = &[
     Row {
+        name: "a byte too few",
         page: 0,
         rule: "Size",
         size: 16_383,
         edits: &[],
     },
     Row {
+        name: "no bytes",
         page: 0,
         rule: "Size",
         size: 0,
         edits: &[],
     },
     Row {
+        name: "no seal",
         page: 0,
         rule: "Unsealed",
         size: 16_384,
         edits: &[(4095, b"K")],
     },
     Row {
+        name: "another magic",
         page: 0,
         rule: "Header",
         size: 16_384,
         edits: &[(0, b"m")],
     },
     Row {
+        name: "no tag of a node",
         page: 2,
         rule: "Page",
         size: 16_384,
         edits: &[(8192, b"X")],
     },
     Row {
+        name: "a root past the last page",
         page: 9,
         rule: "Outside",
         size: 16_384,
         edits: &[(29, b"\x09")],
     },
     Row {
+        name: "one page for two children",
         page: 2,
         rule: "Twice",
         size: 16_384,
         edits: &[(4154, b"\x02")],
     },
     Row {
+        name: "another digest",
         page: 1,
         rule: "Digest",
         size: 16_384,
         edits: &[(77, b"\0")],
     },
     Row {
+        name: "another rectangle",
         page: 1,
         rule: "Rect",
         size: 16_384,
         edits: &[(41, b"\x12")],
     },
     Row {
+        name: "too few records",
         page: 3,
         rule: "Fill",
         size: 16_384,
         edits: &[(12_288, FOUR)],
     },
     Row {
+        name: "a number that stands twice",
         page: 3,
         rule: "Number",
         size: 16_384,
         edits: &[(12_297, b"\x01"), (12_322, b"\x02")],
     },
     Row {
+        name: "another count",
         page: 0,
         rule: "Count",
         size: 16_384,
         edits: &[(21, b"\x12")],
     },
     Row {
+        name: "the free page is a node's",
         page: 3,
         rule: "Free",
         size: 16_384,
         edits: &[(81, b"\x03")],
     },
     Row {
+        name: "a page that nothing leads to",
         page: 4,
         rule: "Free",
         size: 20_480,
@@ -215,14 +230,14 @@ fn pages_say(alloc: Global, bytes: &[u8], row: &Row) -> Result<bool, AllocError>
 }
 
 // The first row of which one of the two ways to open a map says something else.
-fn first_other(alloc: Global, map: &[u8]) -> Result<Option<usize>, AllocError> {
-    for (k, row) in ROWS.iter().enumerate() {
+fn first_other(alloc: Global, map: &[u8]) -> Result<Option<&'static str>, AllocError> {
+    for row in ROWS {
         let bytes = changed(alloc, map, row)?;
         if !whole_says(alloc, &bytes, row)? {
-            return Ok(Some(k));
+            return Ok(Some(row.name));
         }
         if !pages_say(alloc, &bytes, row)? {
-            return Ok(Some(k));
+            return Ok(Some(row.name));
         }
     }
     Ok(None)
@@ -232,7 +247,7 @@ fn first_other(alloc: Global, map: &[u8]) -> Result<Option<usize>, AllocError> {
 fn a_map_has_one_fault_opened_whole_or_page_by_page(rt: HostRuntime) -> Result<(), Fail> {
     let alloc = rt.alloc();
     let map = map_of(alloc, line(alloc, 17)?)?;
-    assert_eq!(rt; first_other(alloc, &map)?, None);
+    all_hold_in_memory(&rt, first_other(alloc, &map));
     Ok(())
 }
 
@@ -413,6 +428,7 @@ fn a_map_of_few_pages_is_read_once(rt: HostRuntime) -> Result<(), Fail> {
 // What is read of a map after a proof was made, and what the next one says of it.
 #[derive(Clone, Copy)]
 struct Turn {
+    name: &'static str,
     gone: bool,
     cut: bool,
     at: usize,
@@ -432,6 +448,7 @@ enum Says {
 
 const TURNS: &[Turn] = &[
     Turn {
+        name: "as it was",
         gone: false,
         cut: false,
         at: 0,
@@ -441,6 +458,7 @@ const TURNS: &[Turn] = &[
         says: None,
     },
     Turn {
+        name: "another record",
         gone: false,
         cut: false,
         at: 12_297,
@@ -450,6 +468,7 @@ const TURNS: &[Turn] = &[
         says: Some(Says::Changed(3)),
     },
     Turn {
+        name: "no tag of a node",
         gone: false,
         cut: false,
         at: 12_288,
@@ -459,6 +478,7 @@ const TURNS: &[Turn] = &[
         says: Some(Says::Page(3)),
     },
     Turn {
+        name: "a child past the last page",
         gone: false,
         cut: false,
         at: 4100,
@@ -468,6 +488,7 @@ const TURNS: &[Turn] = &[
         says: Some(Says::Outside(65_538)),
     },
     Turn {
+        name: "cut off",
         gone: false,
         cut: true,
         at: 0,
@@ -477,6 +498,7 @@ const TURNS: &[Turn] = &[
         says: Some(Says::Page(1)),
     },
     Turn {
+        name: "gone",
         gone: true,
         cut: false,
         at: 0,
@@ -501,13 +523,18 @@ fn is_turned(says: Option<Says>, refusal: &Option<NodesErr>) -> bool {
 }
 
 // The first turn after which the second proof says something else.
-fn first_unturned(alloc: Global, map: &[u8], after: u64, q: &Query) -> Result<Option<usize>, Fail>
+fn first_unturned(
+    alloc: Global,
+    map: &[u8],
+    after: u64,
+    q: &Query,
+) -> Result<Option<&'static str>, Fail>
     requires { IsAskable q.now }
 {
-    for (k, turn) in TURNS.iter().enumerate() {
+    for turn in TURNS {
         let came = proved(alloc, that_turns(alloc, map, after, turn)?, 2, q)?;
         if !is_turned(turn.says, &came.refusal) {
-            return Ok(Some(k));
+            return Ok(Some(turn.name));
         }
     }
     Ok(None)
@@ -522,7 +549,7 @@ fn a_page_that_is_read_again_is_checked(rt: HostRuntime) -> Result<(), Fail> {
     assert_eq!(rt; reads_of(alloc, &map, 0, &all)?, 320);
     let after = reads_of(alloc, &map, 1, &all)?;
     assert!(rt; after > 320 && after <= 639, "{after}");
-    assert_eq!(rt; first_unturned(alloc, &map, after, &all)?, None);
+    all_hold(&rt, first_unturned(alloc, &map, after, &all)?);
     Ok(())
 }
 
@@ -599,6 +626,7 @@ fn taken(alloc: Global, shelf: Turning) -> Result<Option<NodesErr>, Fail> {
 // The first record of page 3 lies elsewhere, with the same digest: two bytes change alike.
 fn moved(map: &[u8]) -> Turn {
     let mut turn = Turn {
+        name: "a record that lies elsewhere",
         gone: false,
         cut: false,
         at: usize::MAX,
@@ -618,6 +646,7 @@ fn moved(map: &[u8]) -> Turn {
 
 const COPIES: &[Turn] = &[
     Turn {
+        name: "as it was",
         gone: false,
         cut: false,
         at: usize::MAX,
@@ -627,6 +656,7 @@ const COPIES: &[Turn] = &[
         says: None,
     },
     Turn {
+        name: "another record",
         gone: false,
         cut: false,
         at: 12_297,
@@ -636,6 +666,7 @@ const COPIES: &[Turn] = &[
         says: Some(Says::Changed(3)),
     },
     Turn {
+        name: "cut off",
         gone: false,
         cut: true,
         at: usize::MAX,
@@ -645,6 +676,7 @@ const COPIES: &[Turn] = &[
         says: Some(Says::Page(3)),
     },
     Turn {
+        name: "gone",
         gone: true,
         cut: false,
         at: usize::MAX,
@@ -656,11 +688,11 @@ const COPIES: &[Turn] = &[
 ];
 
 // The first turn of which a copy says something else.
-fn first_copied(alloc: Global, map: &[u8]) -> Result<Option<usize>, Fail> {
-    for (k, turn) in COPIES.iter().enumerate() {
+fn first_copied(alloc: Global, map: &[u8]) -> Result<Option<&'static str>, Fail> {
+    for turn in COPIES {
         let refusal = taken(alloc, that_turns(alloc, map, 320, turn)?)?;
         if !is_turned(turn.says, &refusal) {
-            return Ok(Some(k));
+            return Ok(Some(turn.name));
         }
     }
     Ok(None)
@@ -671,11 +703,8 @@ fn a_map_that_turns_is_not_taken_into_memory(rt: HostRuntime) -> Result<(), Fail
     let alloc = rt.alloc();
     let map = map_of(alloc, generate(alloc, 5000, 3)?)?;
     let turn = moved(&map);
-    assert_eq!(rt; first_copied(alloc, &map)?, None);
+    all_hold(&rt, first_copied(alloc, &map)?);
     let refusal = taken(alloc, that_turns(alloc, &map, 320, &turn)?)?;
-    assert!(rt;
-        is_turned(turn.says, &refusal),
-        "a record that lies elsewhere"
-    );
+    holds(&rt, turn.name, is_turned(turn.says, &refusal));
     Ok(())
 }
