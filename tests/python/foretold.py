@@ -5,7 +5,9 @@ are foretold from the course of a command's calls, as the rows name them: a text
 read by pieces, a map page by page; what a command makes is then made, written and synced, a map's page 0 last. Of what
 is written in a call that fails half is there. Of `apply` the calls between the copy of OLD and the first sync are not
 foretold one by one: whichever they are, a file that they leave is Unsealed, or is of a bad Size just where a page was
-being added, which comes about as often as the file has pages more than OLD.
+being added, which comes about as often as the file has pages more than OLD. Where each call on real files fails in
+turn, what the whole run says and leaves is foretold, and about how many calls it makes; what may be left where one
+fails is a rule of the program that goes through the rows.
 """
 import hashlib
 import os
@@ -19,6 +21,7 @@ import tables
 
 PIECE = 65536  # bytes of a text that are read by one call, and the most that are printed by one
 ROOM = 512  # bytes for one more line, without which a piece of lines goes out
+MOST = 7  # bytes that the output takes at once where each call fails in turn
 KEPT = 256  # nodes of a map that are kept
 WHOSE = ("shelf", "sink")  # whose calls fail
 LEFT = ("leaves", "front", "makes", "absent")  # what is said of a file
@@ -256,9 +259,11 @@ class Course:
         bytes_ = self.files.get(name)
         if item.key == "absent" or bytes_ is None:
             return item.key == "absent" and bytes_ is None
+        given = self.group.table.bytes_of(item)
+        if item.key == "leaves" and name in self.open:
+            return said.map_bytes(*said.read_map(given)) == bytes_
         if item.key == "makes" or name in self.open:
             return True
-        given = self.group.table.bytes_of(item)
         return bytes_ == given if item.key == "leaves" else given.startswith(bytes_) and len(bytes_) == int(rest)
 
     def is_so(self, item: tables.Item) -> bool:
@@ -277,6 +282,8 @@ class Course:
             return whole.startswith(self.ended[1]) and numbers == [len(self.ended[1])]
         if item.key == "reads":
             return self.reads[0] <= numbers[0] and numbers[-1] <= self.reads[1]
+        if item.key == "each call fails":
+            return self.makes_calls(*numbers)
         if item.key == "pages":
             return self.has_pages(item.words.split(" ")[0], *numbers)
         if item.key == "hashes":
@@ -284,6 +291,15 @@ class Course:
             bytes_ = self.files[name]
             return (len(bytes_), hashlib.sha256(bytes_).hexdigest()) == (int(length), digits)
         return True
+
+    def makes_calls(self, least: int) -> bool:
+        """Whether a row's one run is done, and so many calls on files and on an output of 7 bytes a call are asked for.
+
+        A call of the shelf is one to four calls on files.
+        """
+        is_one = [item.key for item in self.group.items if item.key in ("run", "do")] == ["run"]
+        printed = -(-len(self.ended[1]) // MOST)
+        return is_one and self.ended[0] == 0 and self.calls + printed <= least <= 4 * self.calls + printed
 
     def has_pages(self, name: str, pages: int, free: int) -> bool:
         """Whether the file of a map may have so many pages, and so many free ones."""

@@ -1,12 +1,17 @@
 //! Whether the groups of a table hold: rows, stories, and command lines that spell no command. Of a
 //! story it is not asked what is left of a file that it makes or changes and does not speak of.
+//!
+//! By an item `each call fails: at least N` a row is run over real files too, with each call on
+//! files and on the output failing in turn, of which its one run makes so many.
 
+use crate::each_call::holds;
 use crate::lines::{begins, bytes_at, group_at, item, key_at};
 use crate::steps::{Said, is_so, went};
 use mr_bench::listed::Listed;
 use mr_bench::parts::{numbers, small};
 use mr_outside::MemShelf;
 use std::alloc::{AllocError, Global};
+use std::rt::Files;
 use std::thread::Threads;
 
 // The calls of the shelf, or those of the sink, that fail.
@@ -199,6 +204,21 @@ fn holds_at(
     }
 }
 
+// Whether a row is so where each call fails in turn.
+fn holds_cut<R: Threads + Files + Sync>(
+    rt: &R,
+    alloc: Global,
+    is_sha: bool,
+    table: &[&str],
+    group: &[&str],
+    least: &str,
+) -> Result<bool, AllocError> {
+    match shelf_of(alloc, table, group)? {
+        Some(files) => holds(rt, alloc, is_sha, table, group, files, least),
+        None => Ok(false),
+    }
+}
+
 fn nothing_said(alloc: Global) -> Said {
     Said {
         status: 0,
@@ -211,7 +231,7 @@ fn nothing_said(alloc: Global) -> Said {
 
 // Goes through a group over its shelf: the place of the first line that does not hold, or the one
 // behind the last where other files are left than it says.
-fn first_untrue<R: Threads + Sync>(
+fn first_untrue<R: Threads + Files + Sync>(
     rt: &R,
     alloc: Global,
     is_sha: bool,
@@ -224,6 +244,9 @@ fn first_untrue<R: Threads + Sync>(
     let mut said = nothing_said(alloc);
     for (at, line) in group.iter().enumerate() {
         let this = item(line);
+        if this.0 == "each call fails" && !holds_cut(rt, alloc, is_sha, table, group, this.1)? {
+            return Ok(Some(at));
+        }
         let (told, left) = done(rt, alloc, is_sha, this, shelf, said, &fail)?;
         shelf = left;
         said = told;
@@ -245,7 +268,7 @@ fn first_untrue<R: Threads + Sync>(
 }
 
 // The place of the first line of a row or a story that does not hold.
-fn first_broken<R: Threads + Sync>(
+fn first_broken<R: Threads + Files + Sync>(
     rt: &R,
     alloc: Global,
     is_sha: bool,
@@ -298,7 +321,7 @@ fn first_good<R: Threads + Sync>(
 
 // The place of the first line of a group that does not hold. A false row is one of which something
 // behind its first line does not hold.
-fn first_wrong<R: Threads + Sync>(
+fn first_wrong<R: Threads + Files + Sync>(
     rt: &R,
     alloc: Global,
     is_sha: bool,
@@ -322,7 +345,10 @@ fn first_wrong<R: Threads + Sync>(
 // The keys of the items that there are.
 fn is_known(key: &str) -> bool {
     let file = matches!(key, "file" | "leaves" | "front" | "makes" | "absent");
-    let run = matches!(key, "fails" | "run" | "do" | "status" | "prints");
+    let run = matches!(
+        key,
+        "fails" | "each call fails" | "run" | "do" | "status" | "prints"
+    );
     let rest = matches!(
         key,
         "" | "prints front" | "reads" | "line" | "change" | "hashes" | "pages" | "lay out"
@@ -333,7 +359,8 @@ fn is_known(key: &str) -> bool {
 // Whether an item of this key says something in a group that begins with such a key.
 fn has_meaning(begin: &str, key: &str) -> bool {
     match begin {
-        "row" | "false row" | "story" => key != "line",
+        "row" | "false row" => key != "line",
+        "story" => !matches!(key, "line" | "each call fails"),
         "bad words" => matches!(key, "file" | "line"),
         _ => false,
     }
@@ -402,7 +429,7 @@ fn note(
 }
 
 /// Goes through a table.
-pub(crate) fn tallied<R: Threads + Sync>(
+pub(crate) fn tallied<R: Threads + Files + Sync>(
     rt: &R,
     alloc: Global,
     table: &[&str],

@@ -2,6 +2,8 @@
 //! how many rows of each hold, and each one that does not.
 #![tactic(auto)]
 
+mod each_call;
+mod failing;
 mod groups;
 mod lines;
 mod steps;

@@ -1,0 +1,353 @@
+//! Runs over real files, of which each call on files and on the output fails in turn: what they
+//! say, and what they leave. The files of a row stand in the current folder meanwhile.
+
+use crate::failing::{Calls, Failing};
+use crate::lines::{bytes_at, item};
+use crate::steps::went;
+use mr_bench::listed::Listed;
+use mr_bench::parts::numbers;
+use mr_bench::runs::{shelf_with, words};
+use mr_outside::{NoGate, Shelf, Sink, StdShelf, StdSink};
+use mr_tool::{Status, run};
+use mr_tree::{Hash32, Sha, XorHash};
+use std::alloc::{AllocError, Global};
+use std::cell::{Cell, RefCell};
+use std::fs::{self, File};
+use std::io::Read;
+use std::rt::Files;
+use std::thread::Threads;
+
+// A row: its files and their names, its command line, and what that prints and makes where no call
+// fails.
+#[derive(Drop)]
+struct Case {
+    is_sha: bool,
+    files: Listed,
+    names: Vec<String>,
+    words: Vec<String>,
+    text: Vec<u8>,
+    // The name of the file that is made, empty where none is; and whether it is a map.
+    name: String,
+    is_map: bool,
+    made: Vec<u8>,
+}
+
+// How a run ended, what it printed, how many calls it made, and whether the output failed.
+#[derive(Drop)]
+struct Ended {
+    status: u8,
+    printed: Vec<u8>,
+    calls: u64,
+    is_cut: bool,
+}
+
+// The program, of which nothing is known but that it ends.
+fn carried_out<H: Hash32, S: Shelf + Drop, W: Sink, R: Threads + Sync>(
+    rt: &R,
+    alloc: Global,
+    words: &[String],
+    shelf: S,
+    out: &mut W,
+) -> (Status, S) {
+    run::<H, _, _, _, _>(rt, alloc, words, shelf, out, &NoGate)
+}
+
+// Runs a command line over files and an output of which a call fails: its status.
+fn status_of<H: Hash32, R: Threads + Files + Sync>(
+    rt: &R,
+    alloc: Global,
+    words: &[String],
+    failing: &Failing<'_, R>,
+) -> u8 {
+    let shelf = StdShelf::new(failing, alloc);
+    let mut out = StdSink::new(failing);
+    let (status, _left) = carried_out::<H, _, _, R>(rt, alloc, words, shelf, &mut out);
+    status.code()
+}
+
+fn ended_by<'a, H: Hash32, R: Threads + Files + Sync>(
+    rt: &'a R,
+    alloc: Global,
+    words: &[String],
+    calls: &'a Calls,
+) -> Ended {
+    let failing = Failing {
+        rt,
+        calls,
+        taken: RefCell::new(Vec::new(alloc)),
+        is_cut: Cell::new(false),
+    };
+    let status = status_of::<H, R>(rt, alloc, words, &failing);
+    Ended {
+        status,
+        calls: calls.made.get(),
+        is_cut: failing.is_cut.get(),
+        printed: failing.taken.into_inner(),
+    }
+}
+
+// Runs the command line of a row, of which this call fails.
+fn run_of<R: Threads + Files + Sync>(
+    rt: &R,
+    alloc: Global,
+    case: &Case,
+    failing: u64,
+    writes_half: bool,
+) -> Ended {
+    let calls = Calls {
+        failing,
+        writes_half,
+        made: Cell::new(0),
+    };
+    if case.is_sha {
+        ended_by::<Sha, R>(rt, alloc, &case.words, &calls)
+    } else {
+        ended_by::<XorHash, R>(rt, alloc, &case.words, &calls)
+    }
+}
+
+// Takes the files of a row away.
+fn clear<R: Files>(rt: &R, case: &Case) {
+    for name in &case.names {
+        let _ = fs::remove_file(rt, name.as_str());
+    }
+    let _ = fs::remove_file(rt, case.name.as_str());
+}
+
+// Lays out the files of a row. Whether all of them could be written.
+fn are_laid<R: Files>(rt: &R, case: &Case) -> bool {
+    clear(rt, case);
+    for name in &case.names {
+        let bytes = case.files.shelf.file(name.as_str()).unwrap_or(b"");
+        if fs::write(rt, name.as_str(), bytes).is_err() {
+            return false;
+        }
+    }
+    true
+}
+
+// The bytes of a file, none where it cannot be read.
+fn held<R: Files>(rt: &R, alloc: Global, name: &str) -> Option<Vec<u8>> {
+    let Ok(mut file) = File::open(rt, name) else {
+        return None;
+    };
+    let mut bytes = Vec::new(alloc);
+    match file.read_to_end(&mut bytes) {
+        Ok(_) => Some(bytes),
+        Err(_) => None,
+    }
+}
+
+// How many files there are in the current folder.
+fn count_files<R: Files>(rt: &R, alloc: Global) -> u64 {
+    let mut names = Vec::new(alloc);
+    if let Ok(mut folder) = rt.open_dir("./") {
+        let _ = folder.read_to_end(&mut names);
+    }
+    let mut count = 0u64;
+    for byte in &names {
+        if *byte == 0 {
+            count = count.wrapping_add(1);
+        }
+    }
+    count
+}
+
+// Whether all files of a row are as before, but for the one that is made, and no other is there.
+fn are_kept<R: Files>(rt: &R, alloc: Global, case: &Case, count: u64) -> bool {
+    for name in &case.names {
+        let is_made = name.as_str() == case.name.as_str();
+        let before = case.files.shelf.file(name.as_str());
+        let now = held(rt, alloc, name.as_str());
+        if !is_made && now.as_deref() != before {
+            return false;
+        }
+    }
+    let was_there = case.files.shelf.file(case.name.as_str()).is_some();
+    let is_there = held(rt, alloc, case.name.as_str()).is_some();
+    let more = u64::from(is_there && !was_there);
+    count_files(rt, alloc) == count.wrapping_add(more)
+}
+
+// Whether `list` says of a file that it is no whole map.
+fn is_unfinished<R: Threads + Sync>(
+    rt: &R,
+    alloc: Global,
+    is_sha: bool,
+    bytes: &[u8],
+) -> Result<bool, AllocError> {
+    let shelf = Listed::new(alloc, shelf_with(alloc, "m", bytes)?);
+    let (said, _left) = went(rt, alloc, is_sha, "list m", shelf, &[])?;
+    let printed = said.printed.as_slice();
+    let is_size = printed == b"bad map page 0 Size\n".as_slice();
+    let is_unsealed = printed == b"bad map page 0 Unsealed\n".as_slice();
+    Ok(said.status == 4 && (is_size || is_unsealed))
+}
+
+// Whether the file that is made is as before, or whole, or what may stand there for a part of it:
+// of a map what `list` refuses, else a front.
+fn is_left<R: Threads + Files + Sync>(
+    rt: &R,
+    alloc: Global,
+    case: &Case,
+) -> Result<bool, AllocError> {
+    let before = case.files.shelf.file(case.name.as_str());
+    let Some(bytes) = held(rt, alloc, case.name.as_str()) else {
+        return Ok(before.is_none());
+    };
+    if before == Some(bytes.as_slice()) || bytes.as_slice() == case.made.as_slice() {
+        return Ok(true);
+    }
+    if case.is_map {
+        is_unfinished(rt, alloc, case.is_sha, &bytes)
+    } else {
+        Ok(case.made.as_slice().starts_with(&bytes))
+    }
+}
+
+// Whether the file that is made is whole, if one is made.
+fn is_made<R: Files>(rt: &R, alloc: Global, case: &Case) -> bool {
+    match held(rt, alloc, case.name.as_str()) {
+        Some(bytes) => bytes.as_slice() == case.made.as_slice(),
+        None => case.name.as_str().is_empty(),
+    }
+}
+
+// Whether status and text are those of a run that a call cut short.
+fn is_told(case: &Case, ended: &Ended) -> bool {
+    let printed = ended.printed.as_slice();
+    let is_text = if ended.is_cut {
+        case.text.as_slice().starts_with(printed)
+    } else {
+        printed == b"shelf fault\n".as_slice()
+    };
+    ended.status == 7 && is_text
+}
+
+// Whether a run is as it may be of which this call fails, or no call where it makes fewer.
+fn is_right<R: Threads + Files + Sync>(
+    rt: &R,
+    alloc: Global,
+    case: &Case,
+    ended: &Ended,
+    failing: u64,
+) -> Result<bool, AllocError> {
+    if ended.calls >= failing {
+        Ok(is_told(case, ended) && is_left(rt, alloc, case)?)
+    } else {
+        let is_text = ended.printed.as_slice() == case.text.as_slice();
+        Ok(ended.status == 0 && is_text && is_made(rt, alloc, case))
+    }
+}
+
+// More calls than a run makes.
+const MANY: u64 = 10_000;
+
+// Runs a row with each call failing in turn, and then once more: how many calls that run makes;
+// none where a run is not as it may be.
+fn count_calls<R: Threads + Files + Sync>(
+    rt: &R,
+    alloc: Global,
+    case: &Case,
+    writes_half: bool,
+) -> Result<Option<u64>, AllocError> {
+    for failing in 1..MANY {
+        let is_laid = are_laid(rt, case);
+        let count = count_files(rt, alloc);
+        let ended = run_of(rt, alloc, case, failing, writes_half);
+        let is_kept = is_laid && are_kept(rt, alloc, case, count);
+        if !is_kept || !is_right(rt, alloc, case, &ended, failing)? {
+            return Ok(None);
+        }
+        if ended.calls < failing {
+            return Ok(Some(ended.calls));
+        }
+    }
+    Ok(None)
+}
+
+// The words of the first item of this key.
+fn words_of<'a>(group: &[&'a str], key: &str) -> &'a str {
+    for line in group {
+        if item(line).0 == key {
+            return item(line).1;
+        }
+    }
+    ""
+}
+
+// The bytes of the first item of this key.
+fn bytes_of(
+    alloc: Global,
+    table: &[&str],
+    group: &[&str],
+    key: &str,
+) -> Result<Vec<u8>, AllocError> {
+    for (at, line) in group.iter().enumerate() {
+        let this = item(line);
+        if this.0 == key {
+            if let Some(bytes) = bytes_at(alloc, table, group, at, this)? {
+                return Ok(bytes);
+            }
+        }
+    }
+    Ok(Vec::new(alloc))
+}
+
+// The names of the files of a row.
+fn names_of(alloc: Global, group: &[&str]) -> Result<Vec<String>, AllocError> {
+    let mut names = Vec::new(alloc);
+    for line in group {
+        let (key, name) = item(line);
+        if key == "file" {
+            names.push(String::from_str(alloc, name)?)?;
+        }
+    }
+    Ok(names)
+}
+
+// Whether there are so many calls at least.
+fn are_enough(calls: Option<u64>, least: &[i128]) -> bool {
+    match (calls, least) {
+        (Some(calls), [least]) => i128::from(calls) >= *least,
+        _ => false,
+    }
+}
+
+/// Whether a row over these files is so where each call of its run fails in turn, and the run makes
+/// so many calls at least.
+pub(crate) fn holds<R: Threads + Files + Sync>(
+    rt: &R,
+    alloc: Global,
+    is_sha: bool,
+    table: &[&str],
+    group: &[&str],
+    files: Listed,
+    least: &str,
+) -> Result<bool, AllocError> {
+    let line = words_of(group, "run");
+    let words = words(alloc, line)?;
+    let names = names_of(alloc, group)?;
+    let name = String::from_str(alloc, words_of(group, "leaves"))?;
+    let text = bytes_of(alloc, table, group, "prints")?;
+    let made = bytes_of(alloc, table, group, "leaves")?;
+    let case = Case {
+        is_sha,
+        files,
+        names,
+        words,
+        text,
+        name,
+        is_map: line.starts_with("build ") || line.starts_with("apply "),
+        made,
+    };
+    let least = numbers(alloc, least)?;
+    for writes_half in [false, true] {
+        let calls = count_calls(rt, alloc, &case, writes_half)?;
+        clear(rt, &case);
+        if !are_enough(calls, &least) {
+            return Ok(false);
+        }
+    }
+    Ok(true)
+}
