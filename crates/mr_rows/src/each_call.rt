@@ -314,8 +314,8 @@ fn are_enough(calls: Option<u64>, least: &[i128]) -> bool {
     }
 }
 
-/// Whether a row over these files is so where each call of its run fails in turn, and the run makes
-/// so many calls at least.
+// Whether a row over these files is so where each call of its run fails in turn, and the run makes
+// so many calls at least.
 pub(crate) fn holds<R: Threads + Files + Sync>(
     rt: &R,
     alloc: Global,

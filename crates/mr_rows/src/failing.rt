@@ -10,12 +10,12 @@ use std::rt;
 // The most bytes that the output takes in a call.
 const MOST: usize = 7;
 
-/// Calls on files and on the output, numbered from 1.
+// Calls on files and on the output, numbered from 1.
 #[derive(Drop)]
 pub(crate) struct Calls {
-    /// The number of the one that fails.
+    // The number of the one that fails.
     pub(crate) failing: u64,
-    /// Whether a call that fails to write to a file has written the front half.
+    // Whether a call that fails to write to a file has written the front half.
     pub(crate) writes_half: bool,
     pub(crate) made: Cell<u64>,
 }
@@ -33,7 +33,7 @@ impl Calls {
     }
 }
 
-/// An open file.
+// An open file.
 #[derive(Drop)]
 pub(crate) struct FailingFile<'a, F> {
     file: F,
@@ -96,15 +96,15 @@ impl<F: OpenFile> OpenFile for FailingFile<'_, F> {
     }
 }
 
-/// The file system and an output that takes few bytes a call. No call is counted that the program
-/// does not make.
+// The file system and an output that takes few bytes a call. No call is counted that the program
+// does not make.
 #[derive(Drop)]
 pub(crate) struct Failing<'a, R> {
     pub(crate) rt: &'a R,
     pub(crate) calls: &'a Calls,
-    /// What the output took.
+    // What the output took.
     pub(crate) taken: RefCell<Vec<u8>>,
-    /// Whether the output failed.
+    // Whether the output failed.
     pub(crate) is_cut: Cell<bool>,
 }
 

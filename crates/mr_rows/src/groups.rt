@@ -400,7 +400,7 @@ fn is_placed(line: &str, takes: bool) -> bool {
     !line.starts_with(' ') || (line.starts_with("  ") && takes)
 }
 
-/// How many groups of a table hold, how many do not, and a line on each of those.
+// How many groups of a table hold, how many do not, and a line on each of those.
 #[derive(Drop)]
 pub(crate) struct Tally {
     pub(crate) passed: u64,
@@ -428,7 +428,7 @@ fn note(
     Ok(())
 }
 
-/// Goes through a table.
+// Goes through a table.
 pub(crate) fn tallied<R: Threads + Files + Sync>(
     rt: &R,
     alloc: Global,

@@ -5,7 +5,7 @@
 use mr_bench::parts::{put_line, put_part};
 use std::alloc::{AllocError, Global};
 
-/// The key and the words of an item; the key is empty where a line is none.
+// The key and the words of an item; the key is empty where a line is none.
 pub(crate) fn item(line: &str) -> (&str, &str) {
     if line.is_empty() || line.starts_with(' ') || line.starts_with('#') {
         return ("", "");
@@ -16,7 +16,7 @@ pub(crate) fn item(line: &str) -> (&str, &str) {
     }
 }
 
-/// The key of the item on this line.
+// The key of the item on this line.
 pub(crate) fn key_at<'a>(lines: &[&'a str], at: usize) -> &'a str {
     match lines.get(at) {
         Some(line) => item(line).0,
@@ -24,7 +24,7 @@ pub(crate) fn key_at<'a>(lines: &[&'a str], at: usize) -> &'a str {
     }
 }
 
-/// Whether an item of this key begins a group.
+// Whether an item of this key begins a group.
 pub(crate) fn begins(key: &str) -> bool {
     matches!(
         key,
@@ -41,7 +41,7 @@ fn behind<'a, 'b>(lines: &'b [&'a str], at: usize) -> &'b [&'a str] {
     }
 }
 
-/// The group that begins on this line.
+// The group that begins on this line.
 pub(crate) fn group_at<'a, 'b>(lines: &'b [&'a str], at: usize) -> &'b [&'a str] {
     let mut count = 0usize;
     for line in behind(lines, at) {
@@ -100,8 +100,8 @@ fn put(bytes: &mut Vec<u8>, alloc: Global, table: &[&str], part: &str) -> Result
     }
 }
 
-/// The bytes of the parts below the item on this line, or the words of one that tells what is
-/// printed, as a line of a text; none where a part spells nothing.
+// The bytes of the parts below the item on this line, or the words of one that tells what is
+// printed, as a line of a text; none where a part spells nothing.
 pub(crate) fn bytes_at(
     alloc: Global,
     table: &[&str],

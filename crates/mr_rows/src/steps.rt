@@ -10,15 +10,15 @@ use mr_tree::{Hash32, Sha, XorHash};
 use std::alloc::{AllocError, Global};
 use std::thread::Threads;
 
-/// How the last command line ended, what it printed and how many reads it took; and whether the
-/// client, in small pieces, found the same, if it judged a proof.
+// How the last command line ended, what it printed and how many reads it took; and whether the
+// client, in small pieces, found the same, if it judged a proof.
 #[derive(Drop)]
 pub(crate) struct Said {
     pub(crate) status: u8,
     pub(crate) printed: Vec<u8>,
     pub(crate) reads: u64,
     pub(crate) agrees: bool,
-    /// Whether a line before it was a `run`, or it was one.
+    // Whether a line before it was a `run`, or it was one.
     pub(crate) has_run: bool,
 }
 
@@ -42,8 +42,8 @@ fn ran_by<H: Hash32, R: Threads + Sync>(
     Ok((said, left))
 }
 
-/// Runs a command line over a shelf, by SHA-256 or by the exclusive or of all bytes; these calls of
-/// the sink fail.
+// Runs a command line over a shelf, by SHA-256 or by the exclusive or of all bytes; these calls of
+// the sink fail.
 pub(crate) fn went<R: Threads + Sync>(
     rt: &R,
     alloc: Global,
@@ -196,7 +196,7 @@ fn laid_out(
     }
 }
 
-/// Whether an item is so. What it does to a file is done.
+// Whether an item is so. What it does to a file is done.
 pub(crate) fn is_so(
     alloc: Global,
     is_sha: bool,
