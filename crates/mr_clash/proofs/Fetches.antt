@@ -1,5 +1,5 @@
 -- How many nodes of the map are fetched beside the items of a proof.
-use Rattle.std.proofs.Common.{◌≡◌, ℕ, suc, ◌+◌, ◌≤◌, ◌<◌, true, false, List, [], ◌++◌, append_assoc, append-nil, refl, sym, ap, subst, ◌∙◌, arith}
+use Rattle.std.proofs.Common.{◌≡◌, ℕ, suc, ◌+◌, ◌≤◌, ◌<◌, false, List, [], ◌++◌, append_assoc, append-nil, refl, sym, ap, subst, ◌∙◌, arith}
 use Rattle.std.specs.Prelude.{Option, Some, None, IfSome, Ok}
 use Rattle.mr_record.specs.declared.record.Record.{Record}
 use Rattle.mr_tree.specs.Digest.{by}
@@ -13,7 +13,7 @@ use Rattle.mr_proof.specs.Spelling.{cut_bytes, cuts_bytes, part_bytes, FitsCut, 
 use Rattle.mr_proof.specs.Honest.{opened_of}
 use Rattle.mr_proof.specs.Reading.{verdict}
 use Rattle.mr_proof.proofs.Pairs.{pair_found}
-use Rattle.mr_clash.specs.Finding.{opened_said, opened_in, opened_by, opened_accepted, root_at}
+use Rattle.mr_clash.specs.Finding.{opened_said, opened_by, opened_accepted, root_at}
 use Rattle.mr_clash.specs.Steps.{is_pruned, FetchesItem, FetchesChildren}
 use Rattle.mr_clash.proofs.Taking.{drop_cuts, next_cut}
 use Rattle.mr_clash.proofs.Whole.{verdict_is}

@@ -4,11 +4,10 @@ use Rattle.std.specs.Prelude.{Option, Some, None, option_map, true, ◌&&◌}
 use Rattle.std.specs.Ordering.{int_eq}
 use Rattle.std.proofs.lemmas.Bool.{and_parts}
 use Rattle.std.proofs.lemmas.Bool.Decides.{Decides-int_eq}
-use Rattle.std.specs.Int.{w64, to_be_bytes}
 use Rattle.std.specs.List.{flat_map, AllByRecursion}
 use Rattle.std.proofs.lemmas.List.Elements.{recursion_from_All}
 use Rattle.mr_geom.specs.Rectangle.{Rectangle}
-use Rattle.mr_record.specs.Record.{IsRecord, record_bytes, rectangle_bytes}
+use Rattle.mr_record.specs.Record.{IsRecord, record_bytes}
 use Rattle.mr_record.specs.declared.record.Record.{Record}
 use Rattle.mr_tree.specs.Tree.{union_of, rect_step}
 use Rattle.mr_tree.specs.View.{Node, IsView, children_in, records_in, entry_of, level_of, preimage_of, rect_of}
@@ -23,18 +22,8 @@ use Rattle.mr_proof.proofs.Values.{bytes_same}
 use Rattle.mr_clash.specs.Steps.{pair_of, string_over, Closed, WalkedLeaf}
 use Rattle.mr_clash.specs.declared.walked.Row.{Row}
 use Rattle.mr_clash.proofs.Nodes.{leaf_said, owned_inner}
-use Rattle.mr_clash.proofs.Taking.{record_fields}
 
 -- ---- records
-
--- a record was passed over, field by field
-pub record_passed : (r : Record) (number rect payload a b c d e : List ℕ) → number ≡ to_be_bytes w64 r.number
-    → rect ≡ rectangle_bytes r.rect → payload ≡ r.payload → a ≡ number ++ b → b ≡ rect ++ c
-    → c ≡ length payload ∷ d → d ≡ payload ++ e → a ≡ record_bytes r ++ e
-record_passed r number rect payload a b c d e own_number own_rect own_payload first second third last =
-    let size : c ≡ length r.payload ∷ (r.payload ++ e) =
-    third ∙ (λ i. length (own_payload i) ∷ (last ∙ ap (λ x. x ++ e) own_payload) i) in
-    first ∙ (λ i. own_number i ++ (second ∙ (λ j. own_rect j ++ size j)) i) ∙ sym (record_fields r e)
 
 record SameFront (rs ss : List Record) (x y : List ℕ) : Type 0 where
   all : rs ≡ ss

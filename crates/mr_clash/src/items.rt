@@ -8,10 +8,9 @@ ghost use Rattle.mr_proof.specs.declared.shown.Shown as shown;
 ghost use Rattle.mr_record.specs.declared.record.Record as types;
 ghost use Rattle.mr_clash.specs.Steps.{left, Passes, PassesAll, Passed};
 
-use crate::entry::{bounds, digest_of};
+use crate::entry::{digest_of, inner_entry};
 use crate::leaf::leaf_rect;
 use crate::rest::{Rest, byte, digest, is_pruned, passed, rect};
-use crate::strings::inner_string;
 use mr_tree::{Entry, Hashes};
 use std::alloc::{AllocError, Global};
 
@@ -58,12 +57,7 @@ fn pass_inner<H: Hashes>(alloc: Global, level: u8, from: &mut Rest<'_>) -> Resul
     let _tag = byte(from);
     let count = byte(from);
     let children = pass_items::<H>(alloc, level - 1, count, from)?;
-    let string = inner_string(alloc, level, &children)?;
-    Ok(Entry {
-        level,
-        rect: bounds(&children),
-        digest: digest_of::<H>(&string),
-    })
+    Ok(inner_entry::<H>(level, &children))
 }
 
 // So many items of this level, side by side.

@@ -11,7 +11,7 @@ ghost use Rattle.mr_clash.specs.Steps.{left};
 use crate::finding::are_same;
 use crate::rest::Rest;
 use mr_geom::Rect;
-use mr_record::{Record, is_record, rect_bytes};
+use mr_record::{Record, encoded};
 use mr_tree::{Child, Entry};
 
 // Passes over these bytes, and tells whether they stood there.
@@ -30,18 +30,7 @@ fn pass_bytes(bytes: &[u8], from: &mut Rest<'_>) -> bool
 fn pass_own_record(one: &Record, from: &mut Rest<'_>) -> bool
     ensures { result ≡ true → left from.old ≡ record_bytes one.now ++ left from.new }
 {
-    is_record(one);
-    if !pass_bytes(&one.number.to_be_bytes(), from) {
-        return false;
-    }
-    if !pass_bytes(&rect_bytes(&one.rect), from) {
-        return false;
-    }
-    let payload = one.payload.bytes();
-    if !pass_bytes(&[payload.len() as u8], from) {
-        return false;
-    }
-    pass_bytes(payload, from)
+    pass_bytes(encoded(one).as_slice(), from)
 }
 
 // Passes over these records, and tells whether they stood there.

@@ -1,10 +1,7 @@
-use Rattle.std.proofs.Common.{arith, ap, length, length-append, refl, map, [], ◌∷◌, ◌++◌, ◌-◌, sym, ◌∙◌}
-use Rattle.mr_tree.specs.Tree.{union_of}
-use Rattle.mr_tree.specs.declared.entry.Entry.{Entry}
+use Rattle.std.proofs.Common.{arith, ap, length, length-append, [], ◌∷◌, ◌++◌, ◌-◌, sym, ◌∙◌}
 use Rattle.mr_proof.specs.Cut.{count_of}
 use Rattle.mr_proof.specs.Fields.{inner_tag}
 use Rattle.mr_proof.specs.Spelling.{cuts_bytes}
-use Rattle.mr_clash.specs.Steps.{string_over}
 use Rattle.mr_clash.proofs.Taking.{next_item, passed_more, all_passed}
 use Rattle.mr_clash.proofs.Nodes.{inner_passed, item_pruned, item_leaf, item_inner}
 use Rattle.mr_clash.proofs.items.+items.Goals as goal
@@ -15,10 +12,8 @@ pass_inner-returns g t c = λ Ps rest fits is.
     let n = c.byte-count.ensures (count_of Ps) (cuts_bytes Ps ++ rest) a.1 in
     let p = c.in_ok-children.ensures.passed Ps rest fits.1 (sym n.0) n.1 in
     inner_passed g.H.Hashes.of (c.args.level - 1) c.args.level Ps rest c.in_ok-children.children.items
-    c.in_ok-children.children.items _ _ (omega (arith, c.requires)) fits.0.some fits.1 p.say refl refl
-    (c.bounds.ensures ∙ ap (λ xs. union_of (map (λ (e : Entry). e.rect) xs)) c.deref-2.ensures.value)
-    (c.digest_of.ensures ∙ ap g.H.Hashes.of (c.deref-3.ensures.value ∙ c.in_ok-string.ensures
-    ∙ ap (string_over c.args.level) c.deref.ensures.value)) p.behind
+    c.deref.result.now _ _ (omega (arith, c.requires)) fits.0.some fits.1 p.say c.deref.ensures.value
+    c.inner_entry.ensures.level c.inner_entry.ensures.rect c.inner_entry.ensures.digest p.behind
 
 pub pass_item-returns-then-is_pruned : goal.pass_item-returns-then-is_pruned
 pass_item-returns-then-is_pruned g t c = λ P rest fits is.
