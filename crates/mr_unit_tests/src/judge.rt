@@ -61,8 +61,8 @@ const DEEPER: &[u8] = b"MRVO\x01W\0\0\0\0\0\0\0\0\0\0\0\0\0\0\0\x02\x02N\x01N\x0
     L\x01\0\0\0\0\0\0\0\x07\0\0\0\0\0\0\0\0\0\0\0\0\0\0\0\0\0";
 
 // A proof for the query of a word, by its name; the last byte of a held root digest under the
-// exclusive or; the records that are handed out, as lines of a text; and the rule that is broken and its place, if
-// any is.
+// exclusive or; the records that are handed out, as lines of a text; and the rule that is broken
+// and its place, if any is.
 struct Row {
     name: &'static str,
     word: &'static str,
