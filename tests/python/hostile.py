@@ -4,6 +4,7 @@ tests/hostile calls it: hostile.py short|long SEED PROGRAM.
 """
 import os
 import random
+import re
 import subprocess
 import sys
 import tempfile
@@ -12,6 +13,7 @@ from typing import Callable, Dict, List, Optional, Tuple
 
 from bench import Bench, Ended, read, write
 import bends
+import broken
 import calls
 import memory
 import proofs
@@ -36,10 +38,13 @@ def ran(bench: Bench, words: List[str]) -> Ended:
 
 
 class Case:
-    """A command line, its files, and the name of the one that it makes, if it makes any."""
+    """A command line, its files, and the name of the one that it makes, if it makes any.
 
-    def __init__(self, words: List[str], files: Dict[str, bytes], made: str = "") -> None:
-        self.words, self.files, self.made = words, files, made
+    Of a map file also the rule that it is to break, if that is known.
+    """
+
+    def __init__(self, words: List[str], files: Dict[str, bytes], made: str = "", rule: str = "") -> None:
+        self.words, self.files, self.made, self.rule = words, files, made, rule
 
 
 def is_made(case: Case, meant: Optional[bytes], before: Optional[bytes]) -> bool:
@@ -58,8 +63,8 @@ def is_made(case: Case, meant: Optional[bytes], before: Optional[bytes]) -> bool
     return said.map_bytes(tree, batch) == meant
 
 
-def judge(bench: Bench, case: Case, what: str) -> int:
-    """The program says, twice, what is to be said, makes what is to be made and leaves all else. Answers the status."""
+def judge(bench: Bench, case: Case, what: str) -> Ended:
+    """The program says, twice, what is to be said, makes what is to be made and leaves all else. Answers what."""
     for name in os.listdir("."):
         os.remove(name)
     for name, bytes_ in case.files.items():
@@ -82,7 +87,15 @@ def judge(bench: Bench, case: Case, what: str) -> int:
         bench.holds(name == case.made or read(name) == bytes_, "%s: the file %s is another" % (what, name))
     others = set(os.listdir(".")) - set(case.files) - {case.made}
     bench.holds(not others, "%s: the files %s are made besides" % (what, sorted(others)))
-    return meant.ended[0]
+    is_so = not case.rule or rule_of(meant.ended) == case.rule
+    bench.holds(is_so, "%s: meant is %s, and the file was made to break %s" % (what, meant.ended, case.rule))
+    return meant.ended
+
+
+def rule_of(ended: Ended) -> str:
+    """The rule of a map file that is told, or none."""
+    told = re.match(rb"bad map page [0-9]+ ([A-Z][a-z]+)", ended[1])
+    return told[1].decode() if told and ended[0] == 4 else ""
 
 
 def keep(bench: Bench, case: Case) -> None:
@@ -139,17 +152,22 @@ def maps(chance: random.Random) -> Case:
     bytes_, held = bends.map_file(chance, given)
     if chance.random() < 0.05:
         bytes_ = bends.some_bytes(chance, 3 * bends.PAGE)
+    return over(bytes_, chance, given, held)
+
+
+def over(bytes_: bytes, chance: random.Random, given: List[Tuple], held: int, rule: str = "") -> Case:
+    """A command that reads this map file, which was made of these records at this batch."""
     query = proofs.word_of(bends.query(chance))
     way = chance.randrange(6)
     if way < 2:
-        return Case(["list", "m"], {"m": bytes_})
+        return Case(["list", "m"], {"m": bytes_}, "", rule)
     if way == 2:
-        return Case(["prove", "m", query, "p"], {"m": bytes_}, "p")
+        return Case(["prove", "m", query, "p"], {"m": bytes_}, "p", rule)
     if way == 3:
-        return Case(["apply", "m", "b", "n"], {"m": bytes_, "b": bends.batch_text(chance, given, held)}, "n")
+        return Case(["apply", "m", "b", "n"], {"m": bytes_, "b": bends.batch_text(chance, given, held)}, "n", rule)
     if way == 4:
-        return Case(["audit", "m", query, "p"], {"m": bytes_, "p": proof_of(chance, given, held)[2]})
-    return Case(["serve", "m", "s", "u"], {"m": bytes_, "s": bends.script_text(chance)}, "u")
+        return Case(["audit", "m", query, "p"], {"m": bytes_, "p": proof_of(chance, given, held)[2]}, "", rule)
+    return Case(["serve", "m", "s", "u"], {"m": bytes_, "s": bends.script_text(chance)}, "u", rule)
 
 
 def proof_of(chance: random.Random, given: List[Tuple], batch: int) -> Tuple[str, Tuple, bytes]:
@@ -213,11 +231,29 @@ def bent_files(bench: Bench, seed: int) -> None:
     for kind, make, share in KINDS:
         for number in range(share * (1000 if bench.is_long else 30)):
             case = make(random.Random("%d %s %d" % (seed, kind, number)))
-            status = judge(bench, case, "%s %d of the seed %d" % (kind, number, seed))
+            status, _ = judge(bench, case, "%s %d of the seed %d" % (kind, number, seed))
             ended[status] = ended.get(status, 0) + 1
     told = ", ".join("%d with %d" % (ended[status], status) for status in sorted(ended))
     print("tests/hostile: runs by status: " + told)
     bench.holds(set(range(8)) - {1, 6} <= set(ended), "some status did not come: " + told)
+
+
+def broken_maps(bench: Bench, seed: int) -> None:
+    """Map files that break each rule, of each level and with free pages: laid out anew, and as `apply` left them."""
+    left, told = broken.all_left(bench, seed), dict.fromkeys(broken.ALL, 0)
+    for number in range(40 if bench.is_long else 1):
+        for rule, level in broken.ALL:
+            for source in ("laid out", "left by apply"):
+                what = "%d: a map of level %d, %s, that breaks %s" % (number, level, source, rule)
+                chance = random.Random("%d %s" % (seed, what))
+                whole = left[level] if source == "left by apply" else broken.laid_out(level, chance)
+                case = over(broken.broken(whole, rule, chance), chance, [], 0, rule)
+                ended = judge(bench, case, "%s, of the seed %d" % (what, seed))
+                told[rule_of(ended), level] = told.get((rule_of(ended), level), 0) + 1
+    for level in broken.LEVELS:
+        counts = ", ".join("%s %d" % (rule, told[rule, other]) for rule, other in broken.ALL if other == level)
+        print("tests/hostile: rules that were told of maps of level %d: %s" % (level, counts))
+    bench.holds(all(told[one] for one in broken.ALL), "some rule did not come")
 
 
 def main(how: str, seed: int, program: str) -> int:
@@ -226,6 +262,7 @@ def main(how: str, seed: int, program: str) -> int:
     print("tests/hostile: the seed is %d" % seed)
     parts: List[Tuple[str, Callable[[Bench, int], None]]] = [
         ("random bytes and bent files", bent_files),
+        ("map files that break each rule", broken_maps),
         ("runs that are stopped", stops.stopped),
         ("allocations that are refused", memory.refused),
         ("calls on files that fail", calls.failing),
