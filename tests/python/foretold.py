@@ -193,12 +193,15 @@ def say(words: List[str], files: said.Files) -> said.Meant:
 class Course:
     """A row or a story that is gone through: its files, and how its last run ended.
 
-    `behind` is how many calls `apply` makes behind the copy; `drafts` has the files that are left in between.
+    `behind` is how many calls `apply` makes behind the copy; `drafts` has the files that are left in between. Maps of
+    which the layout is not foretold are `open`; of those `placed` has the ones of which it is, but for the order of the
+    chain of free pages.
     """
 
     def __init__(self, group: tables.Group, behind: int) -> None:
         self.group, self.files, self.behind = group, dict(group.files()), behind
         self.open: Set[str] = set()
+        self.placed: Set[str] = set()
         self.drafts: Set[str] = set()
         fails = [item.words.split(" ") for item in group.items if item.key == "fails"]
         self.fails = {whose: [int(one) for name, *all_ in fails if name == whose for one in all_] for whose in WHOSE}
@@ -228,7 +231,9 @@ class Course:
         if meant.made is not None:
             if words[0] == "apply" and self.group.has("pages"):
                 self.pages[made] = pages_of(words, self.files)
-            self.put(made, meant.made)
+            placed = in_place(words, self.files) if words[0] == "apply" and self.group.has("change") else None
+            (self.placed.discard if placed is None else self.placed.add)(made)
+            self.put(made, placed or meant.made)
             (self.open.add if words[0] == "apply" else self.open.discard)(made)
         pieces = pieces_of(meant.ended[1]) if words[0] in ("list", "check") else [meant.ended[1]]
         told = [at for at in sink if at <= len(pieces)]
@@ -321,6 +326,8 @@ class Course:
                 if item.key == "do" and self.ended[0] != 0:
                     return item
             elif item.key == "change":
+                if item.words.split(" ")[0] in self.open - self.placed:
+                    return item
                 self.bend(item.words)
             elif item.key == "lay out":
                 self.lay_out(item.words)
@@ -342,6 +349,35 @@ def pages_of(words: List[str], files: said.Files) -> Tuple[int, int]:
         tree = plain.inserted(tree, change) if isinstance(change, tuple) else plain.deleted(tree, change)
         most = max(most, nodes_of(tree))
     return old, max(old, most + 1)
+
+
+def in_place(words: List[str], files: said.Files) -> Optional[bytes]:
+    """The file that `apply` makes where all nodes are those of before: each on its page, and all others are free.
+
+    Where a node is another, or comes in the course of the batch, its page is not foretold, and nothing is answered.
+    """
+    old, (batch, changes) = files[words[1]], said.read_batch(files[words[2]])
+    tree, _ = said.read_map(old)
+    for change in changes:
+        before = nodes_of(tree)
+        tree = plain.inserted(tree, change) if isinstance(change, tuple) else plain.deleted(tree, change)
+        if nodes_of(tree) > before:
+            return None
+    pages = [b""] * (len(old) // said.PAGE)
+
+    def put(node: Any) -> bool:
+        page, children = getattr(node, "page", 0), [] if node.is_leaf else node.entries
+        pages[page] = said.page_of(node, [getattr(child, "page", 0) for child in children])
+        return page > 0 and all(map(put, children))
+
+    if tree is None or not put(tree):
+        return None
+    behind = 0
+    for page in range(1, len(pages)):
+        if not pages[page]:
+            pages[page], behind = (b"F" + behind.to_bytes(4, "big")).ljust(said.PAGE, b"\0"), page
+    pages[0] = said.page_0(tree, batch, len(pages), tree.page, behind)
+    return b"".join(pages)
 
 
 def reads_along(tree: Any, changes: List[Any]) -> int:

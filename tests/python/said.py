@@ -206,13 +206,13 @@ class Walk:
             raise told_of_map(page, "Rect")
         if len(parts) < ((1 if named.level == 0 else 2) if is_root else (6 if named.level == 0 else 24)):
             raise told_of_map(page, "Fill")
-        if named.level:
-            return plain.Node(False, [self.node(part, False) for part in parts])
-        for record in parts:
+        for record in [] if named.level else parts:
             if record[0] in self.numbers:
                 raise told_of_map(page, "Number")
             self.numbers.add(record[0])
-        return plain.Node(True, parts)
+        node = plain.Node(not named.level, [self.node(part, False) for part in parts] if named.level else parts)
+        node.page = page
+        return node
 
     def parts(self, named: Named) -> Tuple[List[Any], bytes]:
         """The records or the named children of a node's page, and the preimage."""
@@ -270,8 +270,26 @@ class Walk:
 
 
 def read_map(bytes_: bytes) -> Tuple[Any, int]:
-    """The tree and the batch that a file stands for."""
+    """The tree and the batch that a file stands for; each node has its page."""
     return Walk(bytes_).read()
+
+
+def page_of(node: Any, children: List[int]) -> bytes:
+    """The page of a node whose children are on these pages."""
+    if node.is_leaf:
+        front, parts = b"L" + bytes([len(node.entries)]), b"".join(map(plain.record_bytes, node.entries))
+    else:
+        front, named = b"N" + bytes([node.level(), len(node.entries)]), zip(children, node.entries)
+        parts = b"".join(struct.pack(">I4i", page, *child.rect) + child.digest() for page, child in named)
+    return (front + parts).ljust(PAGE, b"\0")
+
+
+def page_0(tree: Any, batch: int, pages: int, root: int, free: int) -> bytes:
+    """Page 0 of a file of so many pages, with the root node and the first free page there."""
+    named = struct.pack(">4i", *tree.rect) + tree.digest() if tree else bytes(48)
+    count, level = (len(tree.records()), tree.level()) if tree else (0, 0)
+    head = b"MRMP\x01" + bytes([level]) + struct.pack(">QQII", batch, count, pages, root) + named
+    return (head + struct.pack(">I", free)).ljust(PAGE - 4, b"\0") + b"SEAL"
 
 
 def map_bytes(tree: Any, batch: int) -> bytes:
@@ -281,21 +299,11 @@ def map_bytes(tree: Any, batch: int) -> bytes:
     def put(node: Any) -> int:
         at = len(pages)
         pages.append(b"")
-        if node.is_leaf:
-            parts = b"".join(map(plain.record_bytes, node.entries))
-            front = b"L" + bytes([len(node.entries)])
-        else:
-            front = b"N" + bytes([node.level(), len(node.entries)])
-            named = [(put(child), child) for child in node.entries]
-            parts = b"".join(struct.pack(">I4i", page, *child.rect) + child.digest() for page, child in named)
-        pages[at] = (front + parts).ljust(PAGE, b"\0")
+        pages[at] = page_of(node, [] if node.is_leaf else [put(child) for child in node.entries])
         return at + 1
 
     root = put(tree) if tree else 0
-    named = struct.pack(">4i", *tree.rect) + tree.digest() if tree else bytes(48)
-    count, level = (len(tree.records()), tree.level()) if tree else (0, 0)
-    head = b"MRMP\x01" + bytes([level]) + struct.pack(">QQII", batch, count, len(pages) + 1, root) + named
-    return head.ljust(PAGE - 4, b"\0") + b"SEAL" + b"".join(pages)
+    return page_0(tree, batch, len(pages) + 1, root, 0) + b"".join(pages)
 
 
 # ---- commands
