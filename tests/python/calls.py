@@ -49,11 +49,12 @@ class Tracer:
 
 
 def places(count: int, most: int) -> List[int]:
-    """Which of so many calls are tried: all, or the first and the last ones and some between."""
+    """Which of so many calls are tried: all; or this many at most, the first and the last ones and some between."""
     if count <= most:
         return list(range(1, count + 1))
-    step = count / most
-    return sorted({1, 2, count - 1, count} | {1 + int(at * step) for at in range(most)})
+    ends = [1, count, 2, count - 1][: max(2, min(4, most - 2))]
+    between = most - len(ends)
+    return sorted({*ends, *(1 + (count - 1) * place // (between + 1) for place in range(1, between + 1))})
 
 
 def is_told(one: Job, call: str, ended: Ended) -> bool:
@@ -95,7 +96,7 @@ def failing(bench: Bench, seed: int) -> None:
             print("tests/hostile: SKIPPED: calls that fail, which take strace and leave to trace")
             return
         fails, stops = Tally(), Tally()
-        for one in few(bench)[:4] + jobs(bench, seed % 2**64, 200 if bench.is_long else 40, 15, 2):
+        for one in few(bench)[: None if bench.is_long else 4] + jobs(bench, seed % 2**64, 200 if bench.is_long else 40, 15, 2):
             begin(one, b"old")
             counts = tracer.counts(one)
             bench.holds(counts != {}, "%s: no call is seen" % one.words[0])

@@ -10,13 +10,14 @@ WINDOW = "window:-1000000,-1000000,200000,200000"
 
 
 class Job(NamedTuple):
-    """A command line, its input files, the file that it makes (or ""), and what a whole run prints and makes."""
+    """A command line, its input files, the file that it makes (or ""), and how a whole run ends, prints and makes."""
 
     words: List[str]
     inputs: Dict[str, bytes]
     made: str
     text: bytes
     whole: bytes
+    status: int
 
 
 def clear() -> None:
@@ -25,14 +26,14 @@ def clear() -> None:
         os.remove(name)
 
 
-def job(bench: Bench, words: str, inputs: Dict[str, bytes], made: str) -> Job:
+def job(bench: Bench, words: str, inputs: Dict[str, bytes], made: str, meant: int = 0) -> Job:
     """The job of a command line, done once as a whole."""
     clear()
     for name, bytes_ in inputs.items():
         write(name, bytes_)
     status, text = bench.program(words.split(" "))
-    bench.holds(status == 0, "%s: a whole run ends with %d: %s" % (words, status, text[:200]))
-    return Job(words.split(" "), inputs, made, text, read(made) if made else b"")
+    bench.holds(status == meant, "%s: a whole run ends with %d: %s" % (words, status, text[:200]))
+    return Job(words.split(" "), inputs, made, text, read(made) if made else b"", meant)
 
 
 def text_of(records: Iterable[Tuple]) -> bytes:
@@ -68,18 +69,28 @@ def jobs(bench: Bench, seed: int, count: int, changes: int, queries: int) -> Lis
 
 
 def few(bench: Bench) -> List[Job]:
-    """The same of very few records: two leaves are built, a leaf is split, two queries are answered on one record."""
+    """The same of very few records; the first four make a file of each kind.
+
+    Two leaves are built, or one, or a leaf is split; a window of two leaves is proved; two queries are answered on one
+    record, and checked, also where the second proof is cut off.
+    """
     row = [(number, (number, 0, number, 0), b"") for number in range(1, 18)]
-    sixteen = job(bench, "build m r", {"r": text_of(row[:16])}, "m").whole
+    sixteen = job(bench, "build m r", {"r": text_of(row[:16])}, "m")
+    seventeen = job(bench, "build m r", {"r": text_of(row)}, "m")
     one = job(bench, "build m r", {"r": b"7 0 0 0 0 -\n"}, "m")
     script = b"window:0,0,0,0\nwindow:1,1,2,2\n"
     serve = job(bench, "serve m s u", {"m": one.whole, "s": script}, "u")
+    check = "check-all %s s u" % one.text.decode().strip()
+    batch = b"batch 1\n+ 17 100 100 100 100 -\n"
     return [
-        job(bench, "build m r", {"r": text_of(row)}, "m"),
-        job(bench, "apply m b n", {"m": sixteen, "b": b"batch 1\n+ 17 100 100 100 100 -\n"}, "n"),
-        job(bench, "prove m window:0,0,0,0 p", {"m": one.whole}, "p"),
+        seventeen,
+        job(bench, "apply m b n", {"m": sixteen.whole, "b": batch}, "n"),
+        job(bench, "prove m window:2,0,3,0 p", {"m": seventeen.whole}, "p"),
         serve,
-        job(bench, "check-all %s s u" % one.text.decode().strip(), {"s": script, "u": serve.whole}, ""),
+        sixteen,
+        job(bench, "prove m window:0,0,0,0 p", {"m": one.whole}, "p"),
+        job(bench, check, {"s": script, "u": serve.whole}, ""),
+        job(bench, check, {"s": script, "u": serve.whole[:-1]}, "", 2),
     ]
 
 
@@ -117,7 +128,7 @@ def left_of(bench: Bench, one: Job, old: Optional[bytes]) -> str:
 
 def is_done_again(bench: Bench, one: Job) -> bool:
     """Whether the same command line, called again, does all."""
-    return bench.program(one.words) == (0, one.text) and (not one.made or read(one.made) == one.whole)
+    return bench.program(one.words) == (one.status, one.text) and (not one.made or read(one.made) == one.whole)
 
 
 class Tally:

@@ -10,6 +10,8 @@ from jobs import Job, Tally, begin, few, is_done_again, jobs, left_of
 
 SOURCE = os.path.join(HERE, "..", "refuse.c")
 MOST = 20000  # allocations of a run that are refused in turn
+# What these do is done in halves, by threads where those can be begun: they can do without the memory of a thread.
+IN_HALVES = ("root", "build", "serve", "check-all", "demo")
 
 
 def library(folder: str) -> Optional[str]:
@@ -44,16 +46,19 @@ def each_refused(bench: Bench, one: Job, path: str, has_rest: bool, tally: Tally
         (status, said), came = run(bench, one.words, path, number, has_rest)
         what = "%s, allocation %d%s refused" % (one.words[0], number, " and all behind it" if has_rest else "")
         if not came:
-            bench.holds((status, said) == (0, one.text), "%s: past the last one it ends with %d" % (what, status))
+            is_so = (status, said) == (one.status, one.text)
+            bench.holds(is_so, "%s: past the last one it ends with %d" % (what, status))
             return number - 1
         left = left_of(bench, one, old)
         tally.add(one, "with status %d, %s" % (status, left))
-        bench.holds(status in (0, 8), "%s: status %d and %s" % (what, status, said[:200]))
-        is_so = said == one.text and left in ("whole", "no output") if status == 0 else one.text.startswith(said)
+        is_whole = status == one.status and one.words[0] in IN_HALVES
+        bench.holds(status == 8 or is_whole, "%s: status %d and %s" % (what, status, said[:200]))
+        is_so = said == one.text and left in ("whole", "no output") if is_whole else one.text.startswith(said)
         bench.holds(is_so, "%s: status %d, and it says %s" % (what, status, said[:200]))
         bench.holds(not left.startswith("WRONG"), "%s: %s" % (what, left))
         if number % 20 == 1:
             bench.holds(is_done_again(bench, one), "%s does not do all after a refusal" % one.words[0])
+    bench.holds(False, "%s: it has more than %d allocations" % (one.words[0], MOST - 1))
     return MOST
 
 

@@ -8,6 +8,8 @@ from typing import Optional
 from bench import Bench
 from jobs import Job, Tally, begin, is_done_again, jobs, left_of
 
+MOST = 20  # runs that are begun for each that is to be stopped
+
 
 def seconds_of(bench: Bench, one: Job) -> float:
     """How long a whole run takes, the shortest of three."""
@@ -29,22 +31,29 @@ def stop(bench: Bench, one: Job, after: float) -> Optional[int]:
 
 
 def stopped(bench: Bench, seed: int) -> None:
-    """`build`, `apply`, `prove` and `serve`, each stopped as often: two hundred times in the long run."""
+    """`build`, `apply`, `prove` and `serve`, each stopped as often: together two hundred times in the long run.
+
+    A run that ended before it was to be stopped does not count, and another one is begun.
+    """
     chance, tally = random.Random(seed), Tally()
     size, often = (30000, 50) if bench.is_long else (4000, 4)
     ended = 0
     for one in jobs(bench, seed % 2**64, size, 100, 50)[:4]:
-        seconds = seconds_of(bench, one)
+        seconds, stops, runs = seconds_of(bench, one), 0, 0
         other = one.whole[: len(one.whole) // 4096 // 2 * 4096] + b"x"
-        for turn in range(often):
-            old = other if turn % 2 else None
+        while stops < often and runs < MOST * often:
+            old = other if runs % 2 else None
             begin(one, old)
             # half of them late, when the output is written
-            after = seconds * (chance.uniform(0, 1.1) if turn % 4 < 2 else chance.uniform(0.6, 1.1))
-            ended += stop(bench, one, after) == 0
+            after = seconds * (chance.uniform(0, 1.1) if runs % 4 < 2 else chance.uniform(0.6, 1.1))
+            is_stopped = stop(bench, one, after) == -signal.SIGKILL
+            stops, runs = stops + is_stopped, runs + 1
             left = left_of(bench, one, old)
-            tally.add(one, left)
+            if is_stopped:
+                tally.add(one, left)
             bench.holds(not left.startswith("WRONG"), "%s, stopped after %.4f s: %s" % (one.words[0], after, left))
             bench.holds(is_done_again(bench, one), "%s does not do all after a stop" % one.words[0])
-    print("tests/hostile: %d runs, of which %d ended before they were stopped; what they left:" % (4 * often, ended))
+        ended += runs - stops
+        bench.holds(stops == often, "%s: of %d runs %d were stopped" % (one.words[0], runs, stops))
+    print("tests/hostile: %d runs were stopped, and %d ended before; what the stopped ones left:" % (4 * often, ended))
     tally.show()
