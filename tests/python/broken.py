@@ -230,8 +230,8 @@ def left_by_apply(bench: Bench, level: int, seed: int) -> bytes:
         status, text = bench.program(words.split(" "))
         bench.holds(status == 0, "%s ends with %d: %s" % (words, status, text[:200]))
     made = read("n")
-    is_so = made[5] == level and any(made[78:82])
-    bench.holds(is_so, "`apply` leaves a map of level %d, or without a free page, and level %d was meant" % (made[5], level))
+    is_so = made[5:6] == bytes([level]) and any(made[78:82])
+    bench.holds(is_so, "`apply` leaves no map of level %d with free pages" % level)
     return made
 
 

@@ -96,7 +96,8 @@ def failing(bench: Bench, seed: int) -> None:
             print("tests/hostile: SKIPPED: calls that fail, which take strace and leave to trace")
             return
         fails, stops = Tally(), Tally()
-        for one in few(bench)[: None if bench.is_long else 4] + jobs(bench, seed % 2**64, 200 if bench.is_long else 40, 15, 2):
+        least, count = few(bench), 200 if bench.is_long else 40
+        for one in (least if bench.is_long else least[:4]) + jobs(bench, seed % 2**64, count, 15, 2):
             begin(one, b"old")
             counts = tracer.counts(one)
             bench.holds(counts != {}, "%s: no call is seen" % one.words[0])

@@ -10,7 +10,7 @@ from jobs import Job, Tally, begin, few, is_done_again, jobs, left_of
 
 SOURCE = os.path.join(HERE, "..", "refuse.c")
 MOST = 20000  # allocations of a run that are refused in turn
-# What these do is done in halves, by threads where those can be begun: they can do without the memory of a thread.
+# These do their work in halves, by threads where those can be begun: they can do without the memory of a thread.
 IN_HALVES = ("root", "build", "serve", "check-all", "demo")
 
 
@@ -38,6 +38,18 @@ def run(bench: Bench, words: List[str], path: str, number: int, has_rest: bool) 
     return (ran.returncode, ran.stdout), came
 
 
+def may_do_without(bench: Bench, one: Job, path: str, number: int, has_rest: bool) -> bool:
+    """Whether a command may end as a whole run does where this allocation is refused.
+
+    All commands ask for room by guesses at the length of a list, and where that is refused for less: so they end with
+    status 8 where all behind it is refused too. Those that work in halves may begin no thread.
+    """
+    if one.words[0] in IN_HALVES:
+        return True
+    begin(one, None)
+    return not has_rest and run(bench, one.words, path, number, True)[0][0] == 8
+
+
 def each_refused(bench: Bench, one: Job, path: str, has_rest: bool, tally: Tally) -> int:
     """Refuses each allocation of a job in turn; answers how many there are."""
     for number in range(1, MOST):
@@ -51,8 +63,9 @@ def each_refused(bench: Bench, one: Job, path: str, has_rest: bool, tally: Tally
             return number - 1
         left = left_of(bench, one, old)
         tally.add(one, "with status %d, %s" % (status, left))
-        is_whole = status == one.status and one.words[0] in IN_HALVES
-        bench.holds(status == 8 or is_whole, "%s: status %d and %s" % (what, status, said[:200]))
+        is_whole = status == one.status
+        is_right = status == 8 or (is_whole and may_do_without(bench, one, path, number, has_rest))
+        bench.holds(is_right, "%s: status %d and %s" % (what, status, said[:200]))
         is_so = said == one.text and left in ("whole", "no output") if is_whole else one.text.startswith(said)
         bench.holds(is_so, "%s: status %d, and it says %s" % (what, status, said[:200]))
         bench.holds(not left.startswith("WRONG"), "%s: %s" % (what, left))
