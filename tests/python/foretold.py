@@ -298,13 +298,14 @@ class Course:
         return True
 
     def makes_calls(self, least: int) -> bool:
-        """Whether a row's one run is done, and so many calls on files and on an output of 7 bytes a call are asked for.
+        """Whether a row has one run, and so many calls on files and on an output of 7 bytes a call are asked for.
 
-        A call of the shelf is one to four calls on files.
+        A call of the shelf is one to four calls on files. How many `apply` makes for its changes is not foretold.
         """
         is_one = [item.key for item in self.group.items if item.key in ("run", "do")] == ["run"]
         printed = -(-len(self.ended[1]) // MOST)
-        return is_one and self.ended[0] == 0 and self.calls + printed <= least <= 4 * self.calls + printed
+        is_within = self.words[0] == "apply" or least <= 4 * self.calls + printed
+        return is_one and self.calls + printed <= least and is_within
 
     def has_pages(self, name: str, pages: int, free: int) -> bool:
         """Whether the file of a map may have so many pages, and so many free ones."""

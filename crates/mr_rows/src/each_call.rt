@@ -1,11 +1,11 @@
 //! Runs over real files, of which each call on files and on the output fails in turn: what they
 //! say, and what they leave. The files of a row stand in the current folder meanwhile.
 
-use crate::failing::{Calls, Failing};
+use crate::failing::{Calls, Failing, Written};
 use crate::lines::{bytes_at, item};
 use crate::steps::went;
 use mr_bench::listed::Listed;
-use mr_bench::parts::numbers;
+use mr_bench::parts::{number, numbers};
 use mr_bench::runs::{shelf_with, words};
 use mr_outside::{NoGate, Shelf, Sink, StdShelf, StdSink};
 use mr_tool::{Status, run};
@@ -17,14 +17,15 @@ use std::io::Read;
 use std::rt::Files;
 use std::thread::Threads;
 
-// A row: its files and their names, its command line, and what that prints and makes where no call
-// fails.
+// A row: its files and their names, its command line, and how that ends, what it prints and what
+// it makes where no call fails.
 #[derive(Drop)]
 struct Case {
     is_sha: bool,
     files: Listed,
     names: Vec<String>,
     words: Vec<String>,
+    status: i128,
     text: Vec<u8>,
     // The name of the file that is made, empty where none is; and whether it is a map.
     name: String,
@@ -38,7 +39,7 @@ struct Ended {
     status: u8,
     printed: Vec<u8>,
     calls: u64,
-    is_cut: bool,
+    output_failed: bool,
 }
 
 // The program, of which nothing is known but that it ends.
@@ -75,13 +76,13 @@ fn ended_by<'a, H: Hash32, R: Threads + Files + Sync>(
         rt,
         calls,
         taken: RefCell::new(Vec::new(alloc)),
-        is_cut: Cell::new(false),
+        output_failed: Cell::new(false),
     };
     let status = status_of::<H, R>(rt, alloc, words, &failing);
     Ended {
         status,
         calls: calls.made.get(),
-        is_cut: failing.is_cut.get(),
+        output_failed: failing.output_failed.get(),
         printed: failing.taken.into_inner(),
     }
 }
@@ -92,11 +93,11 @@ fn run_of<R: Threads + Files + Sync>(
     alloc: Global,
     case: &Case,
     failing: u64,
-    writes_half: bool,
+    written: Written,
 ) -> Ended {
     let calls = Calls {
         failing,
-        writes_half,
+        written,
         made: Cell::new(0),
     };
     if case.is_sha {
@@ -138,35 +139,51 @@ fn held<R: Files>(rt: &R, alloc: Global, name: &str) -> Option<Vec<u8>> {
     }
 }
 
-// How many files there are in the current folder.
-fn count_files<R: Files>(rt: &R, alloc: Global) -> u64 {
+// The names in the current folder, each ended by a byte 0.
+fn names_in<R: Files>(rt: &R, alloc: Global) -> Vec<u8> {
     let mut names = Vec::new(alloc);
     if let Ok(mut folder) = rt.open_dir("./") {
         let _ = folder.read_to_end(&mut names);
     }
-    let mut count = 0u64;
-    for byte in &names {
-        if *byte == 0 {
-            count = count.wrapping_add(1);
-        }
-    }
-    count
+    names
 }
 
-// Whether all files of a row are as before, but for the one that is made, and no other is there.
-fn are_kept<R: Files>(rt: &R, alloc: Global, case: &Case, count: u64) -> bool {
-    for name in &case.names {
-        let is_made = name.as_str() == case.name.as_str();
-        let before = case.files.shelf.file(name.as_str());
-        let now = held(rt, alloc, name.as_str());
-        if !is_made && now.as_deref() != before {
+// Whether this name is one of these.
+fn is_listed(names: &str, name: &str) -> bool {
+    for one in names.split('\0') {
+        if one == name {
+            return true;
+        }
+    }
+    false
+}
+
+// Whether all of these names but one are among those.
+fn are_listed(these: &[u8], those: &[u8], but: &str) -> bool {
+    let these = str::from_utf8(these).unwrap_or("");
+    let those = str::from_utf8(those).unwrap_or("");
+    for name in these.split('\0') {
+        if name != but && !is_listed(those, name) {
             return false;
         }
     }
-    let was_there = case.files.shelf.file(case.name.as_str()).is_some();
-    let is_there = held(rt, alloc, case.name.as_str()).is_some();
-    let more = u64::from(is_there && !was_there);
-    count_files(rt, alloc) == count.wrapping_add(more)
+    true
+}
+
+// Whether all files of a row are as before, but for the one that is made, and just those files are
+// in the folder that were there before.
+fn are_kept<R: Files>(rt: &R, alloc: Global, case: &Case, before: &[u8]) -> bool {
+    for name in &case.names {
+        let is_made = name.as_str() == case.name.as_str();
+        let bytes = case.files.shelf.file(name.as_str());
+        let now = held(rt, alloc, name.as_str());
+        if !is_made && now.as_deref() != bytes {
+            return false;
+        }
+    }
+    let now = names_in(rt, alloc);
+    let made = case.name.as_str();
+    are_listed(&now, before, made) && are_listed(before, &now, made)
 }
 
 // Whether `list` says of a file that it is no whole map.
@@ -216,7 +233,7 @@ fn is_made<R: Files>(rt: &R, alloc: Global, case: &Case) -> bool {
 // Whether status and text are those of a run that a call cut short.
 fn is_told(case: &Case, ended: &Ended) -> bool {
     let printed = ended.printed.as_slice();
-    let is_text = if ended.is_cut {
+    let is_text = if ended.output_failed {
         case.text.as_slice().starts_with(printed)
     } else {
         printed == b"shelf fault\n".as_slice()
@@ -236,7 +253,8 @@ fn is_right<R: Threads + Files + Sync>(
         Ok(is_told(case, ended) && is_left(rt, alloc, case)?)
     } else {
         let is_text = ended.printed.as_slice() == case.text.as_slice();
-        Ok(ended.status == 0 && is_text && is_made(rt, alloc, case))
+        let is_status = i128::from(ended.status) == case.status;
+        Ok(is_status && is_text && is_made(rt, alloc, case))
     }
 }
 
@@ -249,13 +267,13 @@ fn count_calls<R: Threads + Files + Sync>(
     rt: &R,
     alloc: Global,
     case: &Case,
-    writes_half: bool,
+    written: Written,
 ) -> Result<Option<u64>, AllocError> {
     for failing in 1..MANY {
         let is_laid = are_laid(rt, case);
-        let count = count_files(rt, alloc);
-        let ended = run_of(rt, alloc, case, failing, writes_half);
-        let is_kept = is_laid && are_kept(rt, alloc, case, count);
+        let before = names_in(rt, alloc);
+        let ended = run_of(rt, alloc, case, failing, written);
+        let is_kept = is_laid && are_kept(rt, alloc, case, &before);
         if !is_kept || !is_right(rt, alloc, case, &ended, failing)? {
             return Ok(None);
         }
@@ -314,6 +332,16 @@ fn are_enough(calls: Option<u64>, least: &[i128]) -> bool {
     }
 }
 
+// Whether no file of a row stands in the current folder yet.
+fn are_free<R: Files>(rt: &R, alloc: Global, case: &Case) -> bool {
+    for name in &case.names {
+        if held(rt, alloc, name.as_str()).is_some() {
+            return false;
+        }
+    }
+    held(rt, alloc, case.name.as_str()).is_none()
+}
+
 // Whether a row over these files is so where each call of its run fails in turn, and the run makes
 // so many calls at least.
 pub(crate) fn holds<R: Threads + Files + Sync>(
@@ -336,14 +364,18 @@ pub(crate) fn holds<R: Threads + Files + Sync>(
         files,
         names,
         words,
+        status: number(words_of(group, "status")).unwrap_or(-1),
         text,
         name,
         is_map: line.starts_with("build ") || line.starts_with("apply "),
         made,
     };
     let least = numbers(alloc, least)?;
-    for writes_half in [false, true] {
-        let calls = count_calls(rt, alloc, &case, writes_half)?;
+    if !are_free(rt, alloc, &case) {
+        return Ok(false);
+    }
+    for written in [Written::Nothing, Written::Half, Written::All] {
+        let calls = count_calls(rt, alloc, &case, written)?;
         clear(rt, &case);
         if !are_enough(calls, &least) {
             return Ok(false);

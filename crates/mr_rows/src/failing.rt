@@ -10,13 +10,21 @@ use std::rt;
 // The most bytes that the output takes in a call.
 const MOST: usize = 7;
 
+// How much of its bytes a call that fails to write to a file has written.
+#[derive(Clone, Copy)]
+pub(crate) enum Written {
+    Nothing,
+    Half,
+    All,
+}
+
 // Calls on files and on the output, numbered from 1.
 #[derive(Drop)]
 pub(crate) struct Calls {
     // The number of the one that fails.
     pub(crate) failing: u64,
-    // Whether a call that fails to write to a file has written the front half.
-    pub(crate) writes_half: bool,
+    // What it has written, if it writes to a file.
+    pub(crate) written: Written,
     pub(crate) made: Cell<u64>,
 }
 
@@ -52,10 +60,13 @@ impl<F: Write> Write for FailingFile<'_, F> {
         match self.calls.count() {
             Ok(()) => self.file.write(bytes),
             Err(error) => {
-                if self.calls.writes_half {
-                    let (half, _) = bytes.split_at(bytes.len() / 2);
-                    self.file.write_all(half)?;
-                }
+                let count = match self.calls.written {
+                    Written::Nothing => 0,
+                    Written::Half => bytes.len() / 2,
+                    Written::All => bytes.len(),
+                };
+                let (front, _) = bytes.split_at(count);
+                self.file.write_all(front)?;
                 Err(error)
             }
         }
@@ -96,16 +107,15 @@ impl<F: OpenFile> OpenFile for FailingFile<'_, F> {
     }
 }
 
-// The file system and an output that takes few bytes a call. No call is counted that the program
-// does not make.
+// The file system and an output that takes few bytes a call. Calls that the program does not make
+// are refused, and not counted.
 #[derive(Drop)]
 pub(crate) struct Failing<'a, R> {
     pub(crate) rt: &'a R,
     pub(crate) calls: &'a Calls,
     // What the output took.
     pub(crate) taken: RefCell<Vec<u8>>,
-    // Whether the output failed.
-    pub(crate) is_cut: Cell<bool>,
+    pub(crate) output_failed: Cell<bool>,
 }
 
 fn unsupported() -> io::Error {
@@ -159,8 +169,8 @@ impl<'a, R: rt::Files> rt::Files for Failing<'a, R> {
         Err(unsupported())
     }
 
-    fn remove_dir_all<B: Allocator>(&self, alloc: B, path: &str) -> io::Result<()> {
-        self.rt.remove_dir_all(alloc, path)
+    fn remove_dir_all<B: Allocator>(&self, _alloc: B, _path: &str) -> io::Result<()> {
+        Err(unsupported())
     }
 }
 
@@ -179,7 +189,7 @@ impl<R> Print for Failing<'_, R> {
 
     fn write_some(&self, bytes: &[u8]) -> io::Result<usize> {
         if let Err(error) = self.calls.count() {
-            self.is_cut.set(true);
+            self.output_failed.set(true);
             return Err(error);
         }
         let count = bytes.len().min(MOST);
