@@ -140,12 +140,12 @@ fn held<R: Files>(rt: &R, alloc: Global, name: &str) -> Option<Vec<u8>> {
 }
 
 // The names in the current folder, each ended by a byte 0.
-fn names_in<R: Files>(rt: &R, alloc: Global) -> Vec<u8> {
+fn names_in<R: Files>(rt: &R, alloc: Global) -> Result<String, AllocError> {
     let mut names = Vec::new(alloc);
     if let Ok(mut folder) = rt.open_dir("./") {
         let _ = folder.read_to_end(&mut names);
     }
-    names
+    String::from_str(alloc, str::from_utf8(&names).unwrap_or(""))
 }
 
 // Whether this name is one of these.
@@ -159,9 +159,7 @@ fn is_listed(names: &str, name: &str) -> bool {
 }
 
 // Whether all of these names but one are among those.
-fn are_listed(these: &[u8], those: &[u8], but: &str) -> bool {
-    let these = str::from_utf8(these).unwrap_or("");
-    let those = str::from_utf8(those).unwrap_or("");
+fn are_listed(these: &str, those: &str, but: &str) -> bool {
     for name in these.split('\0') {
         if name != but && !is_listed(those, name) {
             return false;
@@ -172,18 +170,24 @@ fn are_listed(these: &[u8], those: &[u8], but: &str) -> bool {
 
 // Whether all files of a row are as before, but for the one that is made, and just those files are
 // in the folder that were there before.
-fn are_kept<R: Files>(rt: &R, alloc: Global, case: &Case, before: &[u8]) -> bool {
+fn are_kept<R: Files>(
+    rt: &R,
+    alloc: Global,
+    case: &Case,
+    before: &str,
+) -> Result<bool, AllocError> {
     for name in &case.names {
         let is_made = name.as_str() == case.name.as_str();
         let bytes = case.files.shelf.file(name.as_str());
         let now = held(rt, alloc, name.as_str());
         if !is_made && now.as_deref() != bytes {
-            return false;
+            return Ok(false);
         }
     }
-    let now = names_in(rt, alloc);
+    let now = names_in(rt, alloc)?;
     let made = case.name.as_str();
-    are_listed(&now, before, made) && are_listed(before, &now, made)
+    let are_old = are_listed(now.as_str(), before, made);
+    Ok(are_old && are_listed(before, now.as_str(), made))
 }
 
 // Whether `list` says of a file that it is no whole map.
@@ -271,9 +275,9 @@ fn count_calls<R: Threads + Files + Sync>(
 ) -> Result<Option<u64>, AllocError> {
     for failing in 1..MANY {
         let is_laid = are_laid(rt, case);
-        let before = names_in(rt, alloc);
+        let before = names_in(rt, alloc)?;
         let ended = run_of(rt, alloc, case, failing, written);
-        let is_kept = is_laid && are_kept(rt, alloc, case, &before);
+        let is_kept = is_laid && are_kept(rt, alloc, case, before.as_str())?;
         if !is_kept || !is_right(rt, alloc, case, &ended, failing)? {
             return Ok(None);
         }
