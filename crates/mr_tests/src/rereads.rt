@@ -6,7 +6,7 @@ ghost use Rattle.mr_outside.specs.Faults.{next_count};
 use crate::assertions::holds;
 use hex::FromHex;
 use mr_bench::parts::File;
-use mr_bench::runs::{file_of, ran, ran_on, shelf_of};
+use mr_bench::runs::{digest, file_of, ran, ran_on, shelf_of};
 use mr_outside::{MemShelf, NoGate, Shelf, ShelfErr};
 use mr_tool::Status::BadMap;
 use mr_tree::XorHash;
@@ -237,7 +237,26 @@ fn tells_of_a_change(alloc: Global, said: &[u8]) -> Result<bool, AllocError> {
     })
 }
 
-// Whether a command line is refused where the leaves of a file are so.
+// Whether page 0 of a file has the seal of a map.
+fn is_sealed(bytes: &[u8]) -> bool {
+    let (_, behind) = bytes.split_at(bytes.len().min(4092));
+    behind.starts_with(b"SEAL")
+}
+
+// Whether no proof was made, and no map is whole that was begun.
+fn is_unfinished(shelf: &MemShelf) -> bool {
+    match shelf.file("n") {
+        Some(bytes) => shelf.file("p").is_none() && !is_sealed(bytes),
+        None => shelf.file("p").is_none(),
+    }
+}
+
+// The digest of the map that is read.
+fn digest_of_map(alloc: Global, shelf: &MemShelf) -> Result<String, AllocError> {
+    digest(alloc, &file_of(alloc, shelf, "m")?)
+}
+
+// Whether a command line is refused where the leaves of a file are so, and leaves what it may.
 fn is_refused<R: Threads + Sync>(
     rt: &R,
     alloc: Global,
@@ -246,9 +265,11 @@ fn is_refused<R: Threads + Sync>(
     fickle: &'static str,
     at_once: bool,
 ) -> Result<bool, AllocError> {
+    let map = built(rt, alloc, files)?;
+    let before = digest_of_map(alloc, &map)?;
     let shelf = Fickle {
         alloc,
-        shelf: built(rt, alloc, files)?,
+        shelf: map,
         fickle,
         at_once,
         seen: Vec::new(alloc),
@@ -256,7 +277,8 @@ fn is_refused<R: Threads + Sync>(
         reads: 0,
     };
     let (status, said, left) = ran::<XorHash, _, _, R>(rt, alloc, words, shelf, &[], &NoGate)?;
-    let keeps = file_of(alloc, &left.shelf, "m")?.len() == 320 * 4096;
+    let after = digest_of_map(alloc, &left.shelf)?;
+    let keeps = before.as_str() == after.as_str() && is_unfinished(&left.shelf);
     Ok(status == BadMap && keeps && tells_of_a_change(alloc, &said)?)
 }
 
