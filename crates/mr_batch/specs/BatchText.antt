@@ -1,13 +1,13 @@
 -- The text of a batch: the line `batch N`, then a line for each change, `+ ` and a record line or
 -- `- ` and a number.
-use Rattle.std.specs.Prelude.{ℕ, ◌^◌, ◌<◌, ◌≤◌, not, if◌then◌else◌, List, [], ◌∷◌, ◌++◌, length, All, Option, None, Result, Ok, Err, ok_or, flat_map, bytes_eq, codes, decimal}
+use Rattle.std.specs.Prelude.{ℕ, ◌^◌, ◌<◌, ◌≤◌, not, if◌then◌else◌, List, [], ◌∷◌, ◌++◌, length, All, Option, None, Result, Ok, Err, ok_or, bytes_eq, codes, decimal}
 use Rattle.mr_record.specs.declared.text_fault.TextRule.{TextRule}
 use Rattle.mr_record.specs.declared.text_fault.TextRule.TheVariants.{NoEnd, Head, Form, Number}
 use Rattle.mr_record.specs.declared.text_fault.TextFault.{TextFault}
 use Rattle.mr_record.specs.Decimal.{u64_of}
 use Rattle.mr_record.specs.Lines.{Line, lines_of, fields_of}
 use Rattle.mr_record.specs.Record.{IsRecord}
-use Rattle.mr_record.specs.LineTexts.{Reader, on_line, values_after}
+use Rattle.mr_record.specs.LineTexts.{Reader, text_by, on_line, values_after}
 use Rattle.mr_record.specs.RecordText.{line_of, record_of_fields}
 use Rattle.mr_record.specs.Results.{◌>>=◌}
 use Rattle.mr_batch.specs.declared.change.Change.{Change}
@@ -24,14 +24,6 @@ change_line (Remove n) = 45 ∷ 32 ∷ decimal n
 -- the first line, without its line feed
 unfoldable pub head_line : ℕ → List ℕ
 head_line n = codes "batch " ++ decimal n
-
--- the lines of the changes, each with its line feed
-unfoldable pub changes_text : List Change → List ℕ
-changes_text changes = flat_map (λ c. change_line c ++ 10 ∷ []) changes
-
--- the lines of the batch, each with its line feed
-unfoldable pub batch_text : Changes → List ℕ
-batch_text b = head_line b.number ++ 10 ∷ changes_text b.list
 
 -- the most changes of a batch
 abbrev pub change_limit : ℕ
@@ -99,6 +91,14 @@ abbrev pub change_lines : Reader Change
 change_lines =
     record
     { limit = change_limit; first = 2; read = λ earlier. change_of_line; spell = change_line }
+
+-- the lines of the changes, each with its line feed
+unfoldable pub changes_text : List Change → List ℕ
+changes_text changes = text_by change_lines changes
+
+-- the lines of the batch, each with its line feed
+unfoldable pub batch_text : Changes → List ℕ
+batch_text b = head_line b.number ++ 10 ∷ changes_text b.list
 
 -- the batch with the number and the changes of the lines, else the first fault
 unfoldable pub batch_behind : ℕ → List Line → Result Changes TextFault

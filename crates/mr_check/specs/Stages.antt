@@ -10,6 +10,7 @@ use Rattle.mr_check.specs.declared.stage.HeadField.{HeadField}
 use Rattle.mr_check.specs.declared.stage.HeadField.TheVariants as part
 use Rattle.mr_check.specs.declared.stage.Stage.{Stage}
 use Rattle.mr_check.specs.declared.stage.Stage.TheVariants as stage
+use Rattle.mr_record.specs.Record.{payload_limit}
 
 abbrev pub head_want : Kind → HeadField → Want
 head_want k part.Magic = want.Magic
@@ -62,4 +63,4 @@ room_in (Some w) = size_of w
 pub record FitsStage (k : Kind) (s : Stage) (open_nodes : ℕ) : Type 0 where
   pub levels : open_nodes + height s ≤ 7
   pub some : 1 ≤ room_in (want_at k s)
-  pub few : room_in (want_at k s) ≤ 200
+  pub few : room_in (want_at k s) ≤ payload_limit

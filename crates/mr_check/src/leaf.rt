@@ -4,6 +4,7 @@ ghost use Rattle.std.specs.Prelude.{◌≡◌, ◌≤◌, [], List, vec_len};
 ghost use Rattle.mr_record.specs.declared.record.Record as types;
 ghost use Rattle.mr_check.specs.Tallies.{Counts};
 ghost use Rattle.mr_check.specs.Standing.{frames_of, Above, InTree, IsLeaf, LeafRead, Steps, StepFits, after_record, asked, region_of, found_by, plus, behind_length};
+ghost use Rattle.mr_record.specs.Record.{payload_limit};
 
 use crate::closing::{area_of, close, meets};
 use crate::frame::Frame;
@@ -98,7 +99,7 @@ pub(crate) fn sized<H: Hashes>(
     length: u8,
 ) -> Stepped
     requires deep { vec_len m.old.frames.list ≤ 7 }
-    requires few { length ≤ 200 }
+    requires few { length ≤ payload_limit }
     ensures fits { StepFits m.new.head.kind m.new.stage (vec_len m.new.frames.list) result }
     ensures steps { (given : List types.Record) (a : Above) → IsLeaf H.holds m.old.leaf a.records
         → InTree H.of H.holds q.now m.old.head (frames_of m.old) m.old.tally 0 given a

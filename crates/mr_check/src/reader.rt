@@ -14,6 +14,7 @@ ghost use Rattle.mr_check.specs.Stops.{noted};
 ghost use Rattle.mr_check.specs.Stages.{want_at, size_in, MayBe, FitsStage};
 ghost use Rattle.mr_check.specs.Standing.{Above, IsOpen, Steps, StepFits, WaitsPast, next_at};
 ghost use Rattle.mr_check.specs.Reads.{want_of, last_field, FitsReader, IsWhole, StandsAt, Behind, Turns, TakesSome, TakesJust, FaultOf};
+ghost use Rattle.mr_record.specs.Record.{payload_limit};
 
 use crate::leaf::record;
 use crate::machine::{Machine, Stepped};
@@ -47,7 +48,7 @@ pub(crate) enum Turn {
 // The value of the field of the bytes that are held and these, which are its last.
 fn read_whole(want: &Want, held: &mut Buffer<PAYLOAD_LIMIT>, front: &[u8]) -> Result<Field, Rule>
     requires size { length held.old + length front.now ≡ size_of want.now }
-    requires few { size_of want.now ≤ 200 }
+    requires few { size_of want.now ≤ payload_limit }
     requires payload { FitsPayload want.now }
     ensures exact { result ≡ field_of want.now (held.old ++ front.now) }
     ensures form { IfOk result (HasForm want.now) }

@@ -7,6 +7,7 @@ ghost use Rattle.mr_tree.specs.View.{entry_of};
 ghost use Rattle.mr_proof.specs.Cut.{Leaf};
 ghost use Rattle.mr_proof.specs.Spelling.{cut_bytes};
 ghost use Rattle.mr_clash.specs.Steps.{left};
+ghost use Rattle.mr_tree.specs.Limits.{leaf_limit};
 
 use crate::finding::are_same;
 use crate::rest::Rest;
@@ -47,7 +48,7 @@ fn pass_own_records(records: &[Record], from: &mut Rest<'_>) -> bool
 
 // Passes over the leaf with these records where it stands next, and else over nothing.
 pub(crate) fn pass_own_leaf(records: &[Record], from: &mut Rest<'_>) -> bool
-    requires { length records.now ≤ 16 }
+    requires { length records.now ≤ leaf_limit }
     ensures own { result ≡ true → left from.old ≡ cut_bytes (Leaf records.now) ++ left from.new }
     ensures other { result ≡ false → left from.new ≡ left from.old }
 {

@@ -6,6 +6,7 @@ ghost use Rattle.mr_record.specs.Record.{record_bytes};
 ghost use Rattle.mr_tree.specs.Digest.{leaf_tag, entry_bytes};
 ghost use Rattle.mr_tree.specs.View.{entry_of, preimage_of};
 ghost use Rattle.mr_clash.specs.Steps.{string_over};
+ghost use Rattle.mr_tree.specs.Limits.{leaf_limit};
 
 use mr_record::{RECORD_LIMIT, Record, encoded};
 use mr_tree::{Child, ENTRY_LIMIT, Entry, NodeView};
@@ -53,7 +54,7 @@ fn put_record(string: &mut Vec<u8>, one: &Record) -> Result<(), AllocError>
 
 // The string of the leaf with these records.
 fn leaf_string(alloc: Global, records: &[Record]) -> Result<Vec<u8>, AllocError>
-    requires { length records.now ≤ 16 }
+    requires { length records.now ≤ leaf_limit }
     ensures { IfOk result (λ v. v.items ≡ leaf_tag ∷ length records.now
         ∷ flat_map record_bytes records.now) }
 {

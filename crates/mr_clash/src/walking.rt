@@ -5,6 +5,7 @@ ghost use Rattle.mr_tree.specs.Nodes.{MayFetch, Shows, TellsRefusal};
 ghost use Rattle.mr_tree.specs.declared.child.Child as types;
 ghost use Rattle.mr_clash.specs.Causes.{AuditCauses, IsHandedOn, of_nodes};
 ghost use Rattle.mr_clash.specs.Steps.{left, FetchesChildren, FetchesItem, FetchesItems, Walks, WalksAll, WalksChildren};
+ghost use Rattle.mr_tree.specs.Limits.{inner_limit};
 
 use crate::AuditErr;
 use crate::finding::first_of;
@@ -46,7 +47,7 @@ fn walk_children<N: Nodes>(
     from: &mut Rest<'_>,
 ) -> Result<Row, AuditErr>
     requires above { 0 < level }
-    requires few { length children.now ≤ 64 }
+    requires few { length children.now ≤ inner_limit }
     requires may { All (MayFetch N.Hash.of (N.stands nodes.old)) children.now }
     requires alike { All (λ (c : types.Child). c.level + 1 ≡ level) children.now }
     ensures kept { N.kept nodes.old nodes.new }
@@ -81,7 +82,7 @@ fn walk_all<N: Nodes>(
     children: &[Child],
     from: &mut Rest<'_>,
 ) -> Result<Row, AuditErr>
-    requires few { length children.now ≤ 64 }
+    requires few { length children.now ≤ inner_limit }
     requires may { All (MayFetch N.Hash.of (N.stands nodes.old)) children.now }
     requires alike { All (λ (c : types.Child). c.level ≡ level) children.now }
     ensures kept { N.kept nodes.old nodes.new }

@@ -12,6 +12,7 @@ ghost use Rattle.mr_store.specs.Copying.{is_round};
 ghost use Rattle.mr_edit.specs.Book.{HasNode};
 ghost use Rattle.mr_edit.specs.Causes.{HasEditCause, CanLook};
 ghost use Rattle.mr_edit.specs.Outcome.{TakesPage, Writes, NeverMap, CanTake, CanWrite};
+ghost use Rattle.mr_tree.specs.Limits.{inner_limit, leaf_limit};
 
 use crate::hints::Hints;
 use crate::{EditErr, PageFile};
@@ -108,7 +109,7 @@ pub(crate) fn write_leaf<F: PageFile>(
 ) -> Result<Child, EditErr>
     requires page { 1 ≤ page }
     requires some { 1 ≤ length records.now }
-    requires few { length records.now ≤ 16 }
+    requires few { length records.now ≤ leaf_limit }
     ensures writes { IfOk result (λ c. Writes (by One F.Hash.of) (F.told desk.old.file)
         desk.old.free (F.told desk.new.file) desk.new.free page (Leaf records.now) c) }
     ensures level { IfOk result (λ c. c.level ≡ 0) }
@@ -136,7 +137,7 @@ pub(crate) fn write_inner<F: PageFile>(
     requires page { 1 ≤ page }
     requires level { (1 ≤ level) × (level ≤ 7) }
     requires some { 1 ≤ length children.now }
-    requires few { length children.now ≤ 64 }
+    requires few { length children.now ≤ inner_limit }
     requires below { All (λ (c : child_types.Child). c.level + 1 ≡ level) children.now }
     ensures writes { IfOk result (λ c. Writes (by One F.Hash.of) (F.told desk.old.file)
         desk.old.free (F.told desk.new.file) desk.new.free page

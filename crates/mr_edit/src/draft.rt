@@ -8,6 +8,7 @@ ghost use Rattle.mr_edit.specs.Draft.{drawn, IsTop, IsOff, Copies, CopyFails, Ca
 ghost use Rattle.mr_edit.specs.Reads.{reads_along};
 ghost use Rattle.mr_edit.specs.Sheets.{HasCopied, CopyStops, IsFiled, IsSheets};
 ghost use Rattle.mr_edit.specs.Shelves.{HasShelfCause};
+ghost use Rattle.mr_store.specs.Stored.{room};
 
 use crate::copying::copy_file;
 use crate::sheets::Sheets;
@@ -41,7 +42,7 @@ struct Ready {
 fn make_ready(alloc: Global, new: &str) -> Result<Ready, AllocError>
     ensures name { IfOk result (λ r. string_bytes r.name ≡ new.now) }
     ensures entries { IfOk result (λ r. r.cache.entries ≡ []) }
-    ensures cap { IfOk result (λ r. r.cache.cap ≡ 256) }
+    ensures cap { IfOk result (λ r. r.cache.cap ≡ room) }
 {
     let cache = empty_cache(alloc)?;
     let name = String::from_str(alloc, new)?;
@@ -59,7 +60,7 @@ fn copied<S: Shelf>(
     requires { old.now ≢ new.now }
     ensures name { IfOk result (λ r. string_bytes r.name ≡ new.now) }
     ensures entries { IfOk result (λ r. r.cache.entries ≡ []) }
-    ensures cap { IfOk result (λ r. r.cache.cap ≡ 256) }
+    ensures cap { IfOk result (λ r. r.cache.cap ≡ room) }
     ensures copied { IsFiled (S.state shelf.old).files old.now → MatchResult result
         (λ done. HasCopied old.now new.now pages (max 1 pages) (S.state shelf.old)
         (S.state shelf.new))

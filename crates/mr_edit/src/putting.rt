@@ -5,7 +5,7 @@ ghost use Rattle.std.specs.List.{AllByRecursion};
 ghost use Rattle.mr_record.specs.declared.record.Record as record_types;
 ghost use Rattle.mr_record.specs.declared.version.Version.TheVariants.{One};
 ghost use Rattle.mr_tree.specs.Digest.{by};
-ghost use Rattle.mr_tree.specs.Limits.{level_limit};
+ghost use Rattle.mr_tree.specs.Limits.{level_limit, leaf_fill, leaf_limit, inner_fill, inner_limit};
 ghost use Rattle.mr_tree.specs.declared.child.Child as child_types;
 ghost use Rattle.mr_split.specs.Choice.{choose as chosen};
 ghost use Rattle.mr_edit.specs.Held.{entries};
@@ -69,8 +69,8 @@ fn halve_records(
     alloc: Global,
     records: Vec<Record>,
 ) -> Result<(Vec<Record>, Vec<Record>), AllocError>
-    requires { length records.items ≡ 17 }
-    ensures { IfOk result (λ p. Halves 6 16 (map (λ (r : record_types.Record). r.rect)
+    requires { length records.items ≡ leaf_limit + 1 }
+    ensures { IfOk result (λ p. Halves leaf_fill leaf_limit (map (λ (r : record_types.Record). r.rect)
         records.items) records.items p.0.items p.1.items) }
 {
     let rects = rects_of(alloc, &records)?;
@@ -83,8 +83,8 @@ fn halve_children(
     alloc: Global,
     children: Vec<Child>,
 ) -> Result<(Vec<Child>, Vec<Child>), AllocError>
-    requires { length children.items ≡ 65 }
-    ensures { IfOk result (λ p. Halves 24 64 (map (λ (c : child_types.Child). c.rect)
+    requires { length children.items ≡ inner_limit + 1 }
+    ensures { IfOk result (λ p. Halves inner_fill inner_limit (map (λ (c : child_types.Child). c.rect)
         children.items) children.items p.0.items p.1.items) }
 {
     let rects = outlines_of(alloc, &children)?;

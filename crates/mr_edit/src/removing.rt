@@ -12,6 +12,7 @@ ghost use Rattle.mr_edit.specs.Counted.{FreesOnce, LeavesOnce, ReadsTwice, Takes
 ghost use Rattle.mr_edit.specs.Outcome.{NeverMap, CanWrite};
 ghost use Rattle.mr_edit.specs.Removal.{LeavesLeaf, LeavesInner, Shortens, Searches};
 ghost use Rattle.mr_edit.specs.Removable.{CanLeave, CanTakeOut};
+ghost use Rattle.mr_tree.specs.Limits.{inner_limit, leaf_limit};
 
 use crate::desk::{look, write_inner, write_leaf};
 use crate::freeing::{free_page, free_subtrees};
@@ -39,7 +40,7 @@ fn leave_leaf<F: PageFile>(
     records: Vec<Record>,
 ) -> Result<Left, EditErr>
     requires page { 1 ≤ page }
-    requires few { length records.items ≤ 16 }
+    requires few { length records.items ≤ leaf_limit }
     ensures leaves { IfOk result (λ l. LeavesLeaf (by One F.Hash.of) false (F.told desk.old.file)
         desk.old.free (F.told desk.new.file) desk.new.free page records.items
         (option_to_list l.entry) l.aside.items) }
@@ -74,7 +75,7 @@ fn leave_top_leaf<F: PageFile>(
     records: Vec<Record>,
 ) -> Result<Left, EditErr>
     requires page { 1 ≤ page }
-    requires few { length records.items ≤ 16 }
+    requires few { length records.items ≤ leaf_limit }
     ensures leaves { IfOk result (λ l. LeavesLeaf (by One F.Hash.of) true (F.told desk.old.file)
         desk.old.free (F.told desk.new.file) desk.new.free page records.items
         (option_to_list l.entry) l.aside.items) }
@@ -110,7 +111,7 @@ fn leave_inner<F: PageFile>(
 ) -> Result<Left, EditErr>
     requires page { 1 ≤ page }
     requires level { (1 ≤ level) × (level ≤ 7) }
-    requires few { length children.now ≤ 64 }
+    requires few { length children.now ≤ inner_limit }
     requires below { AllByRecursion (λ (c : child_types.Child). c.level + 1 ≡ level)
         children.now }
     ensures leaves { IfOk result (λ l. LeavesInner (by One F.Hash.of) false (F.told desk.old.file)
@@ -183,7 +184,7 @@ fn leave_top_inner<F: PageFile>(
 ) -> Result<Left, EditErr>
     requires page { 1 ≤ page }
     requires level { (1 ≤ level) × (level ≤ 7) }
-    requires few { length children.now ≤ 64 }
+    requires few { length children.now ≤ inner_limit }
     requires below { AllByRecursion (λ (c : child_types.Child). c.level + 1 ≡ level)
         children.now }
     ensures leaves { IfOk result (λ l. LeavesInner (by One F.Hash.of) true (F.told desk.old.file)
@@ -231,7 +232,7 @@ fn leave<F: PageFile>(
 ) -> Result<Left, EditErr>
     requires page { 1 ≤ page }
     requires level { (1 ≤ level) × (level ≤ 7) }
-    requires few { length children.now ≤ 64 }
+    requires few { length children.now ≤ inner_limit }
     requires below { AllByRecursion (λ (c : child_types.Child). c.level + 1 ≡ level)
         children.now }
     ensures leaves { IfOk result (λ l. LeavesInner (by One F.Hash.of) root (F.told desk.old.file)
@@ -265,7 +266,7 @@ fn leave_records<F: PageFile>(
     root: bool,
 ) -> Result<Left, EditErr>
     requires page { 1 ≤ page }
-    requires few { length records.items ≤ 16 }
+    requires few { length records.items ≤ leaf_limit }
     ensures leaves { IfOk result (λ l. LeavesLeaf (by One F.Hash.of) root (F.told desk.old.file)
         desk.old.free (F.told desk.new.file) desk.new.free page records.items
         (option_to_list l.entry) l.aside.items) }

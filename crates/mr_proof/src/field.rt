@@ -1,7 +1,7 @@
 //! The fields of a proof, and their values.
 
 ghost use Rattle.std.specs.Prelude.{◌≡◌, ◌≤◌, IfOk, length, Ok};
-ghost use Rattle.mr_record.specs.Record.{sides_of};
+ghost use Rattle.mr_record.specs.Record.{sides_of, payload_limit};
 ghost use Rattle.mr_proof.specs.declared.field.Field as types;
 ghost use Rattle.mr_proof.specs.Fields.{size_of, field_of, field_bytes, IsField, FitsPayload, HasForm, only_if, tag_of, entries_of, rectangle_field, kind_byte};
 ghost use Rattle.mr_proof.specs.declared.field.Field.TheVariants as field;
@@ -41,7 +41,7 @@ fn rect_of(bytes: &[u8]) -> Result<Field, Rule>
 }
 
 fn payload_of(bytes: &[u8]) -> Result<Field, Rule>
-    requires { length bytes.now ≤ 200 }
+    requires { length bytes.now ≤ payload_limit }
     ensures { result ≡ Ok (field.Payload bytes.now) }
 {
     match Bytes::new(bytes) {

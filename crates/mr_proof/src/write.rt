@@ -10,6 +10,7 @@ ghost use Rattle.mr_proof.specs.Limits.{count_limit, level_limit};
 ghost use Rattle.mr_proof.specs.Cut.{Leaf, pruned_cut};
 ghost use Rattle.mr_proof.specs.Spelling.{cut_bytes, radius_bytes, level_bytes, head_bytes, FitsRadius};
 ghost use Rattle.mr_proof.specs.Items.{item_bytes, FitsItem};
+ghost use Rattle.mr_tree.specs.Limits.{leaf_limit};
 
 use crate::field::{VERSION, kind_byte};
 use crate::{Head, Item, Kind};
@@ -106,7 +107,7 @@ fn put_records(bytes: &mut Buffer<LEAF_BYTES>, records: &[Record])
 }
 
 fn leaf(records: &[Record]) -> Buffer<LEAF_BYTES>
-    requires { length records.now ≤ 16 }
+    requires { length records.now ≤ leaf_limit }
     ensures { result ≡ cut_bytes (Leaf records.now) }
 {
     let mut bytes = Buffer::new();

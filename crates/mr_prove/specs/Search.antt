@@ -23,6 +23,7 @@ use Rattle.mr_prove.specs.Causes.{HasCause}
 use Rattle.mr_prove.specs.Parts.{opened_at}
 use Rattle.mr_prove.specs.declared.error.ProveErr.{ProveErr}
 use Rattle.mr_prove.specs.declared.waiting.Waiting.{Waiting}
+use Rattle.mr_tree.specs.Limits.{inner_limit}
 
 -- ---- what a search promises
 
@@ -124,7 +125,7 @@ pub record Visited (hash : List ℕ → List ℕ) (s : Standing) (p : Point) (c 
     (queue queue_now : List Waiting) (best best_now : List ℕ) : Type 0 where
   pub node : Node
   pub shows : Shows hash s c node
-  pub children : length (children_in node) ≤ 64
+  pub children : length (children_in node) ≤ inner_limit
   pub lower : All (λ (d : Child). d.level + 1 ≡ c.level) (children_in node)
   pub queued : IsPermutation (queue ++ map (waiting p) (children_in node)) queue_now
   pub least : (x : ℕ) → min k (below x best_now)

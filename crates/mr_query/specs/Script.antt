@@ -1,12 +1,12 @@
 -- The text of a script: a query's word on each line.
-use Rattle.std.specs.Prelude.{ℕ, ◌^◌, ◌≤◌, List, [], ◌∷◌, ◌++◌, length, All, Result, Ok, Err, flat_map, ⊤}
+use Rattle.std.specs.Prelude.{ℕ, ◌^◌, ◌≤◌, List, [], ◌∷◌, ◌++◌, length, All, Result, Ok, Err, ⊤}
 use Rattle.mr_record.specs.declared.text_fault.TextErr.{TextErr}
 use Rattle.mr_record.specs.declared.text_fault.TextErr.TheVariants as errors
 use Rattle.mr_record.specs.declared.text_fault.TextFault.{TextFault}
 use Rattle.mr_record.specs.declared.text_fault.TextRule.{TextRule}
 use Rattle.mr_record.specs.declared.text_fault.TextRule.TheVariants as rules
 use Rattle.mr_record.specs.Lines.{lines_of}
-use Rattle.mr_record.specs.LineTexts.{Reader, values_after, IsFirstFaultBy}
+use Rattle.mr_record.specs.LineTexts.{Reader, text_by, values_after, IsFirstFaultBy}
 use Rattle.mr_query.specs.declared.query.Query.{Query}
 use Rattle.mr_query.specs.declared.query.QueryFault.{QueryFault}
 use Rattle.mr_query.specs.Word.{IsQuery, query_of, word_of}
@@ -21,10 +21,6 @@ script_limit = 2 ^ 16
 pub record IsScript (queries : List Query) : Type 0 where
   pub each : All IsQuery queries
   pub count : length queries ≤ script_limit
-
--- the words of the queries, each with a line feed
-unfoldable pub script_of : List Query → List ℕ
-script_of queries = flat_map (λ q. word_of q ++ 10 ∷ []) queries
 
 -- ---- what a text spells
 
@@ -42,6 +38,10 @@ abbrev pub query_lines : Reader Query
 query_lines =
     record
     { limit = script_limit; first = 1; read = λ earlier. query_of_line; spell = word_of }
+
+-- the words of the queries, each with a line feed
+unfoldable pub script_of : List Query → List ℕ
+script_of queries = text_by query_lines queries
 
 -- the queries of a text in order, else its fault
 abbrev pub queries_of_text : List ℕ → Result (List Query) TextFault

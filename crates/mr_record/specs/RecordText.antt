@@ -1,5 +1,5 @@
 -- The texts of records: `number x0 y0 x1 y1 payload` on a line, and lines with different numbers.
-use Rattle.std.specs.Prelude.{◌≢◌, ℕ, ◌^◌, ◌≤◌, ◌==◌, ◌&&◌, ◌||◌, nat_le, Bool, if◌then◌else◌, List, [], ◌∷◌, ◌++◌, length, All, AllPairs, Option, Some, None, Result, Ok, Err, ok_or, flat_map, bytes_eq, decimal}
+use Rattle.std.specs.Prelude.{◌≢◌, ℕ, ◌^◌, ◌≤◌, ◌==◌, ◌&&◌, ◌||◌, nat_le, Bool, if◌then◌else◌, List, [], ◌∷◌, ◌++◌, length, All, AllPairs, Option, Some, None, Result, Ok, Err, ok_or, bytes_eq, decimal}
 use Rattle.std.specs.List.{list_any, list_all}
 use Rattle.std.specs.Fmt.{signed_decimal}
 use Rattle.hex.specs.Hex.{encode_lower, decode_of}
@@ -11,7 +11,7 @@ use Rattle.mr_record.specs.declared.text_fault.TextRule.TheVariants.{Form, Numbe
 use Rattle.mr_record.specs.declared.text_fault.TextFault.{TextFault}
 use Rattle.mr_record.specs.Decimal.{u64_of, i32_of}
 use Rattle.mr_record.specs.Lines.{lines_of, fields_of}
-use Rattle.mr_record.specs.LineTexts.{Reader, values_after}
+use Rattle.mr_record.specs.LineTexts.{Reader, text_by, values_after}
 use Rattle.mr_record.specs.Record.{IsRecord}
 use Rattle.mr_record.specs.Results.{◌>>=◌}
 
@@ -28,10 +28,6 @@ line_of r =
     decimal r.number ++ 32 ∷ (signed_decimal r.rect.x0 ++ 32 ∷ (signed_decimal r.rect.y0
     ++ 32 ∷ (signed_decimal r.rect.x1 ++ 32 ∷ (signed_decimal r.rect.y1
     ++ 32 ∷ payload_text r.payload))))
-
--- the lines of the records, each with its line feed
-unfoldable pub text_of : List Record → List ℕ
-text_of records = flat_map (λ r. line_of r ++ 10 ∷ []) records
 
 -- the most lines of a record text
 abbrev pub line_limit : ℕ
@@ -103,6 +99,10 @@ new_record earlier line = record_of_line line >>= if_new earlier
 -- how the lines of a text spell records
 abbrev pub record_lines : Reader Record
 record_lines = record { limit = line_limit; first = 1; read = new_record; spell = line_of }
+
+-- the lines of the records, each with its line feed
+unfoldable pub text_of : List Record → List ℕ
+text_of records = text_by record_lines records
 
 -- the records of a text in order, else its fault
 abbrev pub records_of_text : List ℕ → Result (List Record) TextFault

@@ -3,7 +3,7 @@
 ghost use Rattle.std.specs.Prelude.{◌≡◌, ℕ, ◌+◌, ◌≤◌, ◌++◌, ◌∷◌, [], List, length, drop, OnOk, IfOk, MatchResult};
 ghost use Rattle.mr_outside.specs.Causes.{SinkCauses};
 ghost use Rattle.mr_outside.specs.Told.{Takes, TakesFront};
-ghost use Rattle.mr_record.specs.Record.{IsRecord, record_bytes};
+ghost use Rattle.mr_record.specs.Record.{IsRecord, record_bytes, payload_limit};
 ghost use Rattle.mr_record.specs.RecordField.{field_at, rectangle_at, payload_behind, payload_at, record_in};
 ghost use Rattle.mr_record.specs.declared.record.Record as types;
 
@@ -48,7 +48,7 @@ fn read_rect(bytes: &[u8]) -> Result<Rect, RecordFault>
 fn read_payload_behind(bytes: &[u8], len: u8) -> Result<&[u8], RecordFault>
     ensures exact { MatchResult result (λ raw. payload_behind bytes.now len ≡ Ok raw.now)
         (λ e. payload_behind bytes.now len ≡ Err e) }
-    ensures within { IfOk result (λ raw. length raw.now ≤ 200) }
+    ensures within { IfOk result (λ raw. length raw.now ≤ payload_limit) }
 {
     if usize::from(len) > PAYLOAD_LIMIT {
         return Err(RecordFault {
@@ -64,7 +64,7 @@ fn read_payload_behind(bytes: &[u8], len: u8) -> Result<&[u8], RecordFault>
 fn read_payload(bytes: &[u8]) -> Result<&[u8], RecordFault>
     ensures exact { MatchResult result (λ raw. payload_at bytes.now ≡ Ok raw.now)
         (λ e. payload_at bytes.now ≡ Err e) }
-    ensures within { IfOk result (λ raw. length raw.now ≤ 200) }
+    ensures within { IfOk result (λ raw. length raw.now ≤ payload_limit) }
 {
     let raw = field(bytes, 24, 1)?;
     read_payload_behind(bytes, raw[0])

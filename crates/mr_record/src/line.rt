@@ -9,7 +9,7 @@ ghost use Rattle.mr_record.specs.declared.record.Record as types;
 ghost use Rattle.mr_record.specs.declared.text_fault.TextRule.TheVariants as rules;
 
 use crate::cutting::cut;
-use crate::{Payload, Record, TextRule, read_i32, read_u64};
+use crate::{PAYLOAD_LIMIT, Payload, Record, TextRule, read_i32, read_u64};
 use mr_geom::Rect;
 
 fn are_lower_digits(field: &[u8]) -> bool
@@ -27,7 +27,7 @@ fn read_hex(field: &[u8]) -> Option<Payload>
     if field.len() < 2 || field.len() > 400 || !are_lower_digits(field) {
         return None;
     }
-    let mut places = [0; 200];
+    let mut places = [0; PAYLOAD_LIMIT];
     let (front, _) = places.split_at_mut(field.len() / 2);
     match hex::decode_to_slice(field, front) {
         Ok(()) => Payload::new(front),

@@ -7,7 +7,7 @@ ghost use Rattle.mr_outside.specs.Told.{Takes, TakesFront};
 ghost use Rattle.mr_outside.specs.Causes.{SinkCauses};
 ghost use Rattle.mr_geom.specs.Rectangle.{IsOrdered, FitsMap};
 ghost use Rattle.mr_record.specs.Bytes.{AreBytes};
-ghost use Rattle.mr_record.specs.Record.{IsRecord};
+ghost use Rattle.mr_record.specs.Record.{IsRecord, payload_limit};
 ghost use Rattle.mr_record.specs.RecordText.{payload_text, line_of, text_of};
 ghost use Rattle.mr_record.specs.Gathered.{Sends};
 
@@ -63,7 +63,7 @@ pub fn put_coordinate<const N: usize>(line: &mut Buffer<N>, coordinate: i32)
 
 // Puts two lower-case hexadecimal digits for each byte.
 fn put_hex<const N: usize>(line: &mut Buffer<N>, bytes: &[u8])
-    requires short { length bytes.now ≤ 200 }
+    requires short { length bytes.now ≤ payload_limit }
     requires room { length line.old + 400 ≤ N }
     ensures put { line.new ≡ line.old ++ encode_lower bytes.now }
     ensures within { length line.new ≤ length line.old + 400 }
@@ -81,7 +81,7 @@ fn put_payload<const N: usize>(line: &mut Buffer<N>, payload: &Payload)
     requires { length line.old + 400 ≤ N }
     ensures put { line.new ≡ line.old ++ payload_text payload.now }
     ensures within { length line.new ≤ length line.old + 400 }
-    ensures short { length payload.now ≤ 200 }
+    ensures short { length payload.now ≤ payload_limit }
     ensures bytes { AreBytes payload.now }
 {
     match payload.bytes() {

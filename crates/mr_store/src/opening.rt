@@ -7,7 +7,7 @@ ghost use Rattle.mr_pages.specs.Page.{page_limit};
 ghost use Rattle.mr_store.specs.Paging.{sourced};
 ghost use Rattle.mr_store.specs.Opening.{HasPages, WasChecked, Refused, TellsMap, IsOpened, IsRefused, OpensMap, RefusesMap};
 ghost use Rattle.mr_record.specs.Bytes.{AreBytes};
-ghost use Rattle.mr_store.specs.Stored.{told_bytes, stands_for};
+ghost use Rattle.mr_store.specs.Stored.{told_bytes, stands_for, room};
 
 use crate::kept::Kept;
 use crate::paged::Paged;
@@ -34,7 +34,7 @@ struct Ready {
 /// A cache of node pages in which none is kept yet.
 pub fn empty_cache(alloc: Global) -> Result<LruCache<u32, Kept>, AllocError>
     ensures entries { IfOk result (λ c. c.entries ≡ []) }
-    ensures cap { IfOk result (λ c. c.cap ≡ 256) }
+    ensures cap { IfOk result (λ c. c.cap ≡ room) }
 {
     match NonZeroUsize::new(ROOM) {
         Some(room) => LruCache::new(alloc, room),
@@ -80,7 +80,7 @@ fn make_ready<H: Hashes, S: Shelf>(
     ensures are { OfFile (S.state shelf.old).files name.now ⊤ AreBytes }
     ensures name { IfOk result (λ r. string_bytes r.name ≡ name.now) }
     ensures entries { IfOk result (λ r. r.cache.entries ≡ []) }
-    ensures cap { IfOk result (λ r. r.cache.cap ≡ 256) }
+    ensures cap { IfOk result (λ r. r.cache.cap ≡ room) }
     ensures pages { IfOk result (λ r. OfFile (S.state shelf.old).files name.now ⊥
         (HasPages r.pages)) }
     ensures some { IfOk result (λ r. 1 ≤ r.pages) }

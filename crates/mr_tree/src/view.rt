@@ -7,6 +7,7 @@ ghost use Rattle.mr_tree.specs.View.{records_in, children_in, IsChild, IsView, s
 ghost use Rattle.mr_tree.specs.Digest.{by};
 ghost use Rattle.mr_tree.specs.declared.child.Child as types;
 ghost use Rattle.mr_tree.specs.declared.tree.Tree.TheOpen.{Leaf, Inner};
+ghost use Rattle.mr_tree.specs.Limits.{inner_limit, leaf_limit};
 
 use crate::digest::leaf_entry;
 use crate::gathering::Gathering;
@@ -68,7 +69,7 @@ fn child_at(list: &[Child], i: usize) -> &Child
 // What is to be said of an inner node.
 pub(crate) fn inner_entry<H: Hashes>(level: u8, children: &[Child]) -> Entry
     requires level { level ≡ level_of (Inner children.now) }
-    requires few { length children.now ≤ 64 }
+    requires few { length children.now ≤ inner_limit }
     ensures { result ≡ entry_over (by One H.of) (Inner children.now) }
 {
     let mut all = Gathering::<H>::inner(level, children.len() as u8);
@@ -113,7 +114,7 @@ impl NodeView {
     /// How many records or children it has.
     pub fn len(&self) -> usize
         ensures value { result ≡ size self.now }
-        ensures few { result ≤ 64 }
+        ensures few { result ≤ inner_limit }
     {
         self.len
     }
@@ -137,7 +138,7 @@ impl NodeView {
     /// The records, none of an inner node.
     pub fn records(&self) -> &[Record]
         ensures value { result.now ≡ records_in self.now }
-        ensures few { length (records_in self.now) ≤ 16 }
+        ensures few { length (records_in self.now) ≤ leaf_limit }
         ensures leaf { level_of self.now ≡ 0 → self.now ≡ Leaf (records_in self.now) }
     {
         if self.level == 0 {
@@ -150,7 +151,7 @@ impl NodeView {
     /// The children, none of a leaf.
     pub fn children(&self) -> &[Child]
         ensures value { result.now ≡ children_in self.now }
-        ensures few { length (children_in self.now) ≤ 64 }
+        ensures few { length (children_in self.now) ≤ inner_limit }
         ensures inner { 0 < level_of self.now → self.now ≡ Inner (children_in self.now) }
         ensures some { 0 < level_of self.now → 1 ≤ length (children_in self.now) }
         ensures alike { All (λ (c : types.Child). c.level + 1 ≡ level_of self.now)
@@ -188,7 +189,7 @@ impl NodeView {
     /// Makes it a leaf with 1 to 16 records.
     pub fn set_leaf(&mut self, list: &[Record])
         requires some { 1 ≤ length list.now }
-        requires few { length list.now ≤ 16 }
+        requires few { length list.now ≤ leaf_limit }
         ensures { self.new ≡ Leaf list.now }
     {
         self.level = 0;
@@ -200,7 +201,7 @@ impl NodeView {
     pub fn set_inner(&mut self, level: u8, list: &[Child])
         requires level { (1 ≤ level) × (level ≤ 7) }
         requires some { 1 ≤ length list.now }
-        requires few { length list.now ≤ 64 }
+        requires few { length list.now ≤ inner_limit }
         requires below { All (λ (c : types.Child). c.level + 1 ≡ level) list.now }
         ensures { self.new ≡ Inner list.now }
     {

@@ -6,6 +6,7 @@ ghost use Rattle.mr_record.specs.Record.{record_bytes};
 ghost use Rattle.mr_tree.specs.View.{level_of, preimage_of};
 ghost use Rattle.mr_pages.specs.PageBytes.{page_size, first_form};
 ghost use Rattle.mr_pages.specs.Walking.{page_node};
+ghost use Rattle.mr_tree.specs.Limits.{leaf_limit};
 
 use crate::layout::PAGE_SIZE;
 use mr_record::Record;
@@ -21,7 +22,7 @@ fn width(one: &Record) -> usize
 
 // How many bytes some records take.
 fn width_of(records: &[Record]) -> usize
-    requires { length records.now ≤ 16 }
+    requires { length records.now ≤ leaf_limit }
     ensures value { result ≡ length (flat_map record_bytes records.now) }
     ensures bound { result ≤ 3600 }
 {

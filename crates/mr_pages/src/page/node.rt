@@ -11,6 +11,7 @@ ghost use Rattle.mr_pages.specs.Page as types;
 ghost use Rattle.mr_pages.specs.PageBytes.{many, record_field, link_bytes, link_size, link_in, link_field, before_zeros, from_one_to, leaf_in, inner_in, tagged_in, node_in, node_bytes, node_limit, form_of, first_form, IsLayout, SpellsNode};
 ghost use Rattle.mr_pages.specs.Faults.{of_level};
 ghost use Rattle.mr_pages.specs.Walking.{child_link, page_node, Shows};
+ghost use Rattle.mr_tree.specs.Limits.{inner_limit, leaf_limit};
 
 use crate::layout::{FIRST, LINK_SIZE, Layout, PAGE_SIZE};
 use crate::page::put::{are_zero_bytes, fill_up, put};
@@ -100,7 +101,7 @@ fn read_children<'a>(places: &mut [Child], level: u8, bytes: &'a [u8]) -> Option
 
 fn show_leaf(count: u8, bytes: &[u8], into: &mut NodeView) -> bool
     requires some { 1 ≤ count }
-    requires few { count ≤ 16 }
+    requires few { count ≤ leaf_limit }
     ensures { Shows result into.new (option_map Leaf
         (option_and_then before_zeros (many record_field count bytes.now))) }
 {
@@ -121,7 +122,7 @@ fn show_leaf(count: u8, bytes: &[u8], into: &mut NodeView) -> bool
 fn show_inner(level: u8, count: u8, bytes: &[u8], into: &mut NodeView) -> bool
     requires level { (1 ≤ level) × (level ≤ 7) }
     requires some { 1 ≤ count }
-    requires few { count ≤ 64 }
+    requires few { count ≤ inner_limit }
     ensures { Shows result into.new (option_map Inner
         (option_and_then before_zeros (many (link_field (level - 1)) count bytes.now))) }
 {
