@@ -11,8 +11,6 @@ mod mem_sink;
 mod reading;
 mod shelf;
 mod sink;
-mod std_shelf;
-mod std_sink;
 
 pub use buffer::Buffer;
 pub use gate::{Gate, NoGate};
@@ -22,5 +20,3 @@ pub use mem_sink::MemSink;
 pub use reading::{PIECE, read_all};
 pub use shelf::{Shelf, ShelfErr};
 pub use sink::{Sink, SinkErr, write_all};
-pub use std_shelf::StdShelf;
-pub use std_sink::StdSink;

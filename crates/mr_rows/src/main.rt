@@ -8,7 +8,8 @@ mod groups;
 mod lines;
 mod steps;
 
-use mr_outside::{StdShelf, read_all};
+use mr_outside::read_all;
+use mr_system::StdShelf;
 use std::alloc::{AllocError, Global};
 use std::process::ExitCode;
 use std::rt::{Env, Files};

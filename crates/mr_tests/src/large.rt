@@ -2,7 +2,8 @@
 
 use crate::assertions::{all_hold, holds};
 use mr_bench::runs::{ran, shelf_of};
-use mr_outside::{MemSink, NoGate, StdShelf};
+use mr_outside::{MemSink, NoGate};
+use mr_system::StdShelf;
 use mr_tool::Status::{BadWords, Outside};
 use mr_tool::run;
 use mr_tree::{Sha, XorHash};

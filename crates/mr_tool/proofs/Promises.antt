@@ -47,28 +47,28 @@ use Rattle.mr_batch.specs.BatchText.{batch_of_text}
 use Rattle.mr_batch.specs.Changes.{Changes}
 use Rattle.mr_batch.specs.Replay.{replay}
 use Rattle.mr_batch.specs.declared.admission.BatchFault.{BatchFault}
-use Rattle.mr_tool.specs.Answer.{World, HasStopped, IsWhole}
-use Rattle.mr_tool.specs.Ending.{Comes, Ends, Finishes, FindsMap, IsWell, printed_of}
-use Rattle.mr_tool.specs.First.{first}
-use Rattle.mr_tool.specs.Found.{Found}
-use Rattle.mr_tool.specs.Outcome.{Outcome, IsHeld}
-use Rattle.mr_tool.specs.Plan.{Plan, comes, opens, rereads, Input, IsInput}
-use Rattle.mr_tool.specs.Rereading.{Rereading, proving, auditing, serving, applying, MaySay}
+use Rattle.mr_command.specs.Answer.{World, HasStopped, IsWhole}
+use Rattle.mr_command.specs.Ending.{Comes, Ends, Finishes, FindsMap, IsWell, printed_of}
+use Rattle.mr_plan.specs.First.{first}
+use Rattle.mr_plan.specs.Found.{Found}
+use Rattle.mr_plan.specs.Outcome.{Outcome, IsHeld}
+use Rattle.mr_plan.specs.Plan.{Plan, comes, opens, rereads, Input, IsInput}
+use Rattle.mr_plan.specs.Rereading.{Rereading, proving, auditing, serving, applying, MaySay}
 use Rattle.mr_tool.specs.Promises.{Holds, HoldsRecords, HoldsMap, HoldsProof, HoldsBatch, HoldsScript, HoldsBundle, IsInOrder, CompletesWords, AnswersHonest, PrintsScan, IsWorth, AcceptsHonestOrCollides, Delivers, SaysWorth, AuditsAccepted, CollidesRightly, IsApplied, AppliesAlike}
-use Rattle.mr_tool.specs.Say.{given, given_map, needs, needs_map, needs_sized_map, prints, say, say_root_of, say_build_of, say_list_of, say_admitted, say_batch, say_change, say_apply, say_apply_of, say_prove_of, say_check, say_check_of, say_audit, say_audit_of, say_finding, say_script, say_serve, say_serve_of, given_queries, say_parts, say_parts_of, say_check_all, say_make_of}
-use Rattle.mr_tool.specs.Lines.{digest_line, sound_line, collision_lines}
-use Rattle.mr_tool.specs.Words.{IsWord, words_of, Spells}
-use Rattle.mr_tool.specs.declared.ending.Ending.{Ending}
-use Rattle.mr_tool.specs.declared.ending.Halt.{Halt}
-use Rattle.mr_tool.specs.declared.ending.Halt.TheVariants as halts
+use Rattle.mr_plan.specs.Say.{given, given_map, needs, needs_map, needs_sized_map, prints, say, say_root_of, say_build_of, say_list_of, say_admitted, say_batch, say_change, say_apply, say_apply_of, say_prove_of, say_check, say_check_of, say_audit, say_audit_of, say_finding, say_script, say_serve, say_serve_of, given_queries, say_parts, say_parts_of, say_check_all, say_make_of}
+use Rattle.mr_plan.specs.Lines.{digest_line, sound_line, collision_lines}
+use Rattle.mr_plan.specs.Words.{IsWord, words_of, Spells}
+use Rattle.mr_command.specs.declared.ending.Ending.{Ending}
+use Rattle.mr_command.specs.declared.ending.Halt.{Halt}
+use Rattle.mr_command.specs.declared.ending.Halt.TheVariants as halts
 use Rattle.mr_pages.specs.declared.opening.Opened.{Opened}
-use Rattle.mr_tool.specs.declared.status.Status.{Status}
-use Rattle.mr_tool.specs.declared.status.Status.TheVariants.{Done, Refused, BadMap, BadBatch, Collision, Outside, NoMemory}
-use Rattle.mr_tool.specs.declared.words.Command.{Command}
-use Rattle.mr_tool.specs.declared.words.Command.TheVariants as commands
-use Rattle.mr_tool.proofs.Batches.{fits_if_none, says_applied}
-use Rattle.mr_tool.proofs.Bundles.{parts_done, served_done}
-use Rattle.mr_tool.proofs.Verdicts.{says_verdict, says_finding}
+use Rattle.mr_plan.specs.declared.status.Status.{Status}
+use Rattle.mr_plan.specs.declared.status.Status.TheVariants.{Done, Refused, BadMap, BadBatch, Collision, Outside, NoMemory}
+use Rattle.mr_plan.specs.declared.words.Command.{Command}
+use Rattle.mr_plan.specs.declared.words.Command.TheVariants as commands
+use Rattle.mr_command.proofs.Batches.{fits_if_none, says_applied}
+use Rattle.mr_command.proofs.Bundles.{parts_done, served_done}
+use Rattle.mr_command.proofs.Verdicts.{says_verdict, says_finding}
 
 -- ---- to the end, or stopped
 

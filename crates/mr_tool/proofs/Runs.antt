@@ -4,18 +4,18 @@ use Rattle.std.specs.Prelude.{Option, None, ◌⊎◌, Result, Ok, Err}
 use Rattle.mr_outside.specs.Files.{Files}
 use Rattle.mr_outside.specs.Told.{Takes, TakesFront}
 use Rattle.mr_outside.proofs.Taking.{Takes-none}
-use Rattle.mr_tool.specs.Answer.{World, HasOutsideCause, IsAnswer, IsQuiet, IsSettled, IsStopped, IsWhole, ShelfFailed}
-use Rattle.mr_tool.specs.Ending.{AreJudged, Comes, Finishes, Prints, printed_of}
-use Rattle.mr_tool.specs.Lines.{bad_words_line, shelf_fault_line}
-use Rattle.mr_tool.specs.Outcome.{Outcome, Written, Nothing, File, IsLeft, MayLeave}
-use Rattle.mr_tool.specs.Plan.{Plan, Leads}
-use Rattle.mr_tool.specs.Say.{ends, say}
-use Rattle.mr_tool.specs.declared.ending.Ending.{Ending}
-use Rattle.mr_tool.specs.declared.ending.Halt.{Halt}
-use Rattle.mr_tool.specs.declared.ending.Halt.TheVariants as halts
-use Rattle.mr_tool.specs.declared.status.Status.{Status}
-use Rattle.mr_tool.specs.declared.status.Status.TheVariants.{BadWords, Outside, NoMemory}
-use Rattle.mr_tool.proofs.Plans.{told_outcome, ended_so, given_up}
+use Rattle.mr_command.specs.Answer.{World, HasOutsideCause, IsAnswer, IsQuiet, IsSettled, IsStopped, IsWhole, ShelfFailed}
+use Rattle.mr_command.specs.Ending.{AreJudged, Comes, Finishes, Prints, printed_of}
+use Rattle.mr_plan.specs.Lines.{bad_words_line, shelf_fault_line}
+use Rattle.mr_plan.specs.Outcome.{Outcome, Written, Nothing, File, IsLeft, MayLeave}
+use Rattle.mr_plan.specs.Plan.{Plan, Leads}
+use Rattle.mr_plan.specs.Say.{ends, say}
+use Rattle.mr_command.specs.declared.ending.Ending.{Ending}
+use Rattle.mr_command.specs.declared.ending.Halt.{Halt}
+use Rattle.mr_command.specs.declared.ending.Halt.TheVariants as halts
+use Rattle.mr_plan.specs.declared.status.Status.{Status}
+use Rattle.mr_plan.specs.declared.status.Status.TheVariants.{BadWords, Outside, NoMemory}
+use Rattle.mr_command.proofs.Plans.{told_outcome, ended_so, given_up}
 
 -- an outcome that the plan leads to is answered
 answers : (plan : Plan) (before after : World) → AreJudged plan before.shelf.files → (status : Status) (said : Outcome)

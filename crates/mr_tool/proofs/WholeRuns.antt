@@ -3,21 +3,21 @@ use Rattle.std.proofs.Common.{◌≡◌, ℕ, List, sym, ap, subst, arith, inl, 
 use Rattle.std.specs.Prelude.{Option, Some, None, Result, Err}
 use Rattle.mr_outside.specs.State.{Shelved}
 use Rattle.mr_proof.proofs.PreimageBytes.{IsSized}
-use Rattle.mr_tool.specs.Answer.{World, HasOutsideCause, IsAnswer, IsQuiet}
-use Rattle.mr_tool.specs.Ending.{Comes, Finishes, Prints}
-use Rattle.mr_tool.specs.Lines.{bad_words_line}
+use Rattle.mr_command.specs.Answer.{World, HasOutsideCause, IsAnswer, IsQuiet}
+use Rattle.mr_command.specs.Ending.{Comes, Finishes, Prints}
+use Rattle.mr_plan.specs.Lines.{bad_words_line}
 use Rattle.mr_tool.specs.Run.{IsRun}
-use Rattle.mr_tool.specs.Counting.{ReadsFew}
-use Rattle.mr_tool.specs.Say.{ends, say}
-use Rattle.mr_tool.specs.Spelling.{IsSpelled}
-use Rattle.mr_tool.specs.declared.ending.Ending.{Ending}
-use Rattle.mr_tool.specs.declared.ending.Halt.{Halt}
-use Rattle.mr_tool.specs.declared.ending.Halt.TheVariants as halts
-use Rattle.mr_tool.specs.declared.status.Status.{Status}
-use Rattle.mr_tool.specs.declared.status.Status.TheVariants.{BadWords}
-use Rattle.mr_tool.specs.declared.words.Command.{Command}
-use Rattle.mr_tool.specs.declared.words.Command.TheVariants as commands
-use Rattle.mr_tool.proofs.Counting.{few_none}
+use Rattle.mr_command.specs.Counting.{ReadsFew}
+use Rattle.mr_plan.specs.Say.{ends, say}
+use Rattle.mr_plan.specs.Spelling.{IsSpelled}
+use Rattle.mr_command.specs.declared.ending.Ending.{Ending}
+use Rattle.mr_command.specs.declared.ending.Halt.{Halt}
+use Rattle.mr_command.specs.declared.ending.Halt.TheVariants as halts
+use Rattle.mr_plan.specs.declared.status.Status.{Status}
+use Rattle.mr_plan.specs.declared.status.Status.TheVariants.{BadWords}
+use Rattle.mr_plan.specs.declared.words.Command.{Command}
+use Rattle.mr_plan.specs.declared.words.Command.TheVariants as commands
+use Rattle.mr_command.proofs.Counting.{few_none}
 use Rattle.mr_tool.proofs.Promises.{completes, honest_answered, accepted_worth, accepted_audited, collided_rightly, applied_alike}
 use Rattle.mr_tool.proofs.Runs.{answer_of, from_sink, outside_of, quiet_of, words_answered}
 

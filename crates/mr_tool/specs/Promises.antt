@@ -1,7 +1,7 @@
 -- What a run promises of inputs that are in order, of honest proofs and of accepted ones: theorems
 -- over what it answers, in the form in which they are quoted. They speak of files that are told,
 -- but for the commands that read none.
-use Rattle.std.specs.Prelude.{◌≡◌, ◌⊎◌, ⊤, ℕ, ◌^◌, ◌<◌, true, List, [], ◌∷◌, ◌++◌, length, All, Option, Some, None, Ok}
+use Rattle.std.specs.Prelude.{◌≡◌, ◌⊎◌, ⊤, ℕ, ◌^◌, ◌<◌, List, [], ◌∷◌, ◌++◌, length, All, Option, Some, None, Ok}
 use Rattle.std.specs.Borrow.{Bor}
 use Rattle.mr_outside.specs.Files.{Files, file}
 use Rattle.mr_outside.specs.Told.{Takes}
@@ -28,18 +28,17 @@ use Rattle.mr_proof.specs.Honest as honest
 use Rattle.mr_proof.specs.Tight.{asks}
 use Rattle.mr_bundle.specs.Bundle.{parts}
 use Rattle.mr_bundle.specs.Verdicts.{verdicts}
-use Rattle.mr_bundle.specs.declared.verdict.Verdict.{Verdict}
-use Rattle.mr_tool.specs.Answer.{World, IsWhole, HasStopped}
-use Rattle.mr_tool.specs.First.{first}
-use Rattle.mr_tool.specs.Judged.{is_accepted}
-use Rattle.mr_tool.specs.Outcome.{Outcome}
-use Rattle.mr_tool.specs.Lines.{digest_line, sound_line, collision_lines}
-use Rattle.mr_tool.specs.Say.{ends, prints}
-use Rattle.mr_tool.specs.Words.{Spells}
-use Rattle.mr_tool.specs.declared.status.Status.{Status}
-use Rattle.mr_tool.specs.declared.status.Status.TheVariants.{Done, Collision}
-use Rattle.mr_tool.specs.declared.words.Command.{Command}
-use Rattle.mr_tool.specs.declared.words.Command.TheVariants as commands
+use Rattle.mr_command.specs.Answer.{World, IsWhole, HasStopped}
+use Rattle.mr_plan.specs.First.{first}
+use Rattle.mr_plan.specs.Judged.{IsAccepted}
+use Rattle.mr_plan.specs.Outcome.{Outcome}
+use Rattle.mr_plan.specs.Lines.{digest_line, sound_line, collision_lines}
+use Rattle.mr_plan.specs.Say.{ends, prints}
+use Rattle.mr_plan.specs.Words.{Spells}
+use Rattle.mr_plan.specs.declared.status.Status.{Status}
+use Rattle.mr_plan.specs.declared.status.Status.TheVariants.{Done, Collision}
+use Rattle.mr_plan.specs.declared.words.Command.{Command}
+use Rattle.mr_plan.specs.declared.words.Command.TheVariants as commands
 
 -- the files are told, and the named one holds these bytes
 abbrev pub Holds : Option Files → List ℕ → List ℕ → Type 0
@@ -105,10 +104,6 @@ pub record HoldsScript (hash : List ℕ → List ℕ) (told : Option Files) (map
   pub beside : Holds told name text
   pub queries : List Query
   pub right : queries_of_text text ≡ Ok queries
-
--- the verdict is an answer
-abbrev pub IsAccepted : Verdict → Type 0
-IsAccepted v = is_accepted v ≡ true
 
 -- a script without a fault, and a bundle for its queries that is not broken, each part of which is
 -- accepted

@@ -1,14 +1,14 @@
 -- A run of the program on some words, as the clauses of `run` say it.
 use Rattle.std.specs.Prelude.{◌≡◌, ℕ, List, Option}
-use Rattle.mr_tool.specs.Answer.{World, Counts, HasOutsideCause, IsAnswer, IsQuiet}
+use Rattle.mr_command.specs.Answer.{World, Counts, HasOutsideCause, IsAnswer, IsQuiet}
 use Rattle.mr_tool.specs.Promises.{CompletesWords, AnswersHonest, AcceptsHonestOrCollides, AuditsAccepted, CollidesRightly, AppliesAlike}
-use Rattle.mr_tool.specs.Counting.{ReadsFew}
-use Rattle.mr_tool.specs.Say.{say}
-use Rattle.mr_tool.specs.Spelling.{IsSpelled}
-use Rattle.mr_tool.specs.Status.{code_of}
-use Rattle.mr_tool.specs.declared.status.Status.{Status}
-use Rattle.mr_tool.specs.declared.status.Status.TheVariants.{Outside}
-use Rattle.mr_tool.specs.declared.words.Command.{Command}
+use Rattle.mr_command.specs.Counting.{ReadsFew}
+use Rattle.mr_plan.specs.Say.{say}
+use Rattle.mr_plan.specs.Spelling.{IsSpelled}
+use Rattle.mr_plan.specs.Status.{code_of}
+use Rattle.mr_plan.specs.declared.status.Status.{Status}
+use Rattle.mr_plan.specs.declared.status.Status.TheVariants.{Outside}
+use Rattle.mr_plan.specs.declared.words.Command.{Command}
 
 -- whatever the words spell is answered
 abbrev pub AnswersWords : (List ℕ → List ℕ) → List (List ℕ) → World → World → Status → Type 0

@@ -5,12 +5,11 @@ ghost use Rattle.std.specs.String.{string_bytes};
 ghost use Rattle.mr_outside.specs.Causes.{SinkCauses};
 ghost use Rattle.mr_outside.specs.Told.{Takes, TakesFront};
 ghost use Rattle.mr_record.specs.RecordText.{text_of};
-ghost use Rattle.mr_tool.specs.Ending.{Finishes, Prints, printed_of, shown_of};
+ghost use Rattle.mr_command.specs.Ending.{Finishes, Prints, printed_of, shown_of};
 
-use crate::Status;
-use crate::ending::{Ending, Halt, Shown};
-use crate::listing::write_tree;
+use mr_command::{Ending, Halt, Shown, write_tree};
 use mr_outside::{Sink, SinkErr, write_all};
+use mr_plan::Status;
 use mr_record::write_lines;
 
 // Writes the text of an ending, its records one by one.

@@ -1,32 +1,9 @@
-//! The program's commands, from the words to what is printed.
+//! A run of the program: its words are read, a command is carried out, and what that came to is
+//! printed.
 #![tactic(auto)]
 
-mod applying;
-mod auditing;
-mod building;
-mod bundling;
-mod checking;
-mod checking_all;
-mod demonstrating;
-mod ending;
-mod fetching;
 mod finish;
-mod input;
-mod judged;
-mod lines;
-mod listing;
-mod making;
-mod opening;
-mod pieces;
 mod program;
-mod proving;
-mod root;
-mod saving;
-mod serving;
-mod status;
-mod text;
-mod words;
 
+pub use mr_plan::Status;
 pub use program::run;
-pub use status::Status;
-pub use words::{Command, DEMO_LIMIT, read_words};

@@ -3,28 +3,20 @@
 ghost use Rattle.std.specs.Prelude.{◌≡◌, ℕ, List, length, Some, None, map};
 ghost use Rattle.std.specs.String.{string_bytes};
 ghost use Rattle.mr_record.specs.Bytes.{AreBytes};
-ghost use Rattle.mr_tool.specs.Answer.{Counts, IsQuiet, world};
-ghost use Rattle.mr_tool.specs.Ending.{Comes};
+ghost use Rattle.mr_command.specs.Answer.{Counts, IsQuiet, world};
+ghost use Rattle.mr_command.specs.Ending.{Comes};
 ghost use Rattle.mr_tool.specs.Promises.{CompletesWords, AnswersHonest, AcceptsHonestOrCollides, AuditsAccepted, CollidesRightly, AppliesAlike};
 ghost use Rattle.mr_tool.specs.Run.{AnswersWords, BlamesRightly, IsRun, ReadsFewWords};
-ghost use Rattle.mr_tool.specs.Say.{say};
-ghost use Rattle.mr_tool.specs.Spelling.{IsSpelled, MayBeAsked};
+ghost use Rattle.mr_plan.specs.Say.{say};
+ghost use Rattle.mr_plan.specs.Spelling.{IsSpelled, MayBeAsked};
 
-use crate::applying::apply;
-use crate::auditing::audit_query;
-use crate::building::build;
-use crate::checking::check_proof;
-use crate::checking_all::check_bundle;
-use crate::demonstrating::demo;
-use crate::ending::{Ending, Halt};
 use crate::finish::finish;
-use crate::listing::list;
-use crate::making::make;
-use crate::proving::prove_query;
-use crate::root::root;
-use crate::serving::serve;
-use crate::{Command, Status, read_words};
+use mr_command::{
+    Ending, Halt, apply, audit_query, build, check_bundle, check_proof, demo, list, make,
+    prove_query, root, serve,
+};
 use mr_outside::{Gate, Shelf, Sink};
+use mr_plan::{Command, Status, read_words};
 use mr_tree::Hash32;
 use std::alloc::Global;
 use std::thread::Threads;

@@ -7,9 +7,9 @@ ghost use Rattle.mr_outside.specs.Told.{OfFile};
 use crate::assertions::{all_hold, all_hold_in_memory, holds, holds_in_memory};
 use crate::untold::Untold;
 use mr_outside::{
-    Gate, MemShelf, MemSink, NoGate, Shelf, ShelfErr, Sink, SinkErr, StdShelf, StdSink, read_all,
-    write_all,
+    Gate, MemShelf, MemSink, NoGate, Shelf, ShelfErr, Sink, SinkErr, read_all, write_all,
 };
+use mr_system::{StdShelf, StdSink};
 use std::alloc::{AllocError, Allocator, Global};
 use std::cell::RefCell;
 use std::fmt::Display;

@@ -3,7 +3,7 @@
 ghost use Rattle.std.specs.Prelude.{◌≡◌, map, IfOk, IfErr};
 ghost use Rattle.std.specs.String.{string_bytes};
 ghost use Rattle.std.specs.IoError.{error_kind};
-ghost use Rattle.mr_tool.specs.Answer.{world};
+ghost use Rattle.mr_command.specs.Answer.{world};
 ghost use Rattle.mr_tool.specs.Run.{EndsWith};
 
 use mr_outside::{NoGate, Shelf, Sink};

@@ -3,7 +3,7 @@
 
 mod given;
 
-use mr_outside::{StdShelf, StdSink};
+use mr_system::{StdShelf, StdSink};
 use mr_tree::Sha;
 use std::fs::File;
 use std::process::ExitCode;

@@ -1,8 +1,8 @@
 use Rattle.std.proofs.Common.{subst}
 use Rattle.mr_outside.specs.Told.{Takes}
 use Rattle.mr_record.specs.RecordText.{text_of}
-use Rattle.mr_tool.specs.Ending.{shown_of}
-use Rattle.mr_tool.proofs.Endings.{front_after, whole_after, causes_after}
+use Rattle.mr_command.specs.Ending.{shown_of}
+use Rattle.mr_command.proofs.Endings.{front_after, whole_after, causes_after}
 use Rattle.mr_tool.proofs.finish.write_ending.Goals as goal
 
 pub returns-clause-front : goal.returns-clause-front

@@ -1,9 +1,9 @@
 use Rattle.std.proofs.Common.{refl, subst, ap, ◌∙◌}
 use Rattle.std.specs.Prelude.{map}
 use Rattle.std.specs.String.{string_bytes}
-use Rattle.mr_tool.specs.Answer.{world}
-use Rattle.mr_tool.specs.Say.{say}
-use Rattle.mr_tool.specs.Spelling.{IsSpelled}
+use Rattle.mr_command.specs.Answer.{world}
+use Rattle.mr_plan.specs.Say.{say}
+use Rattle.mr_plan.specs.Spelling.{IsSpelled}
 use Rattle.mr_tool.proofs.WholeRuns.{run_of, run_of_none}
 use Rattle.mr_tool.proofs.program.answered.Goals as goal
 

@@ -1,7 +1,7 @@
 use Rattle.std.proofs.Common.{sym, subst}
 use Rattle.std.specs.Prelude.{IfOk, map}
 use Rattle.std.specs.String.{string_bytes}
-use Rattle.mr_tool.specs.Answer.{world}
+use Rattle.mr_command.specs.Answer.{world}
 use Rattle.mr_tool.specs.Run.{EndsWith, IsRun}
 use Rattle.mrtree.proofs.given.run_given.Goals as goal
 

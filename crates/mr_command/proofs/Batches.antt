@@ -1,0 +1,30 @@
+-- What is said of a batch, by whether it may be applied.
+use Rattle.std.proofs.Common.{◌≡◌, ℕ, List, refl, ap}
+use Rattle.std.specs.Prelude.{Option, Some, None, Ok, Err}
+use Rattle.mr_record.specs.declared.record.Record.{Record}
+use Rattle.mr_tree.specs.Tree.{records}
+use Rattle.mr_batch.specs.Admissible.{batch_fault}
+use Rattle.mr_batch.specs.Applied.{IsAdmissible}
+use Rattle.mr_batch.specs.Changes.{Changes}
+use Rattle.mr_batch.specs.declared.admission.BatchFault.{BatchFault}
+use Rattle.mr_batch.proofs.Walking.{admitted}
+use Rattle.mr_plan.specs.Say.{say_admitted, say_batch, say_changed}
+use Rattle.mr_pages.specs.declared.opening.Opened.{Opened}
+
+-- nothing hinders a batch that may be applied
+no_fault : (rs : List Record) (held : ℕ) (b : Changes) → IsAdmissible rs held b → batch_fault rs held b ≡ None
+no_fault rs held b may = at (batch_fault rs held b) refl
+  where
+    at : (o : Option BatchFault) → batch_fault rs held b ≡ o → batch_fault rs held b ≡ None
+    at None e = e
+    at (Some f) e = let fine = (admitted (Err f) rs held b e).1 may in absurd cc
+
+-- and where nothing hinders it, it may be
+pub fits_if_none : (rs : List Record) (held : ℕ) (b : Changes) → batch_fault rs held b ≡ None → IsAdmissible rs held b
+fits_if_none rs held b e = (admitted (Ok tt) rs held b e).0 refl
+
+pub says_applied : (hash : List ℕ → List ℕ) (new : List ℕ) (pages : ℕ) (map : Opened) (b : Changes)
+    → IsAdmissible (records map.tree) map.batch b
+    → say_batch hash new pages map b ≡ say_changed hash new pages map.tree b
+says_applied hash new pages map b may =
+    ap (say_admitted hash new pages map.tree b) (no_fault (records map.tree) map.batch b may)

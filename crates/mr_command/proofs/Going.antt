@@ -1,0 +1,559 @@
+-- What a command comes to behind a step of it.
+use Rattle.std.proofs.Common.{◌≡◌, ℕ, ◌+◌, ◌≤◌, ◌<◌, ◌^◌, List, length, refl, sym, ap, subst, ◌∙◌, inl, inr, arith}
+use Rattle.std.specs.Prelude.{Option, Some, None, MatchOption, IfOk, IsErrAnd, ⊤, ◌⊎◌, Result, Ok, Err}
+use Rattle.std.specs.Global.{Vec}
+use Rattle.mr_outside.specs.Causes.{ShelfCauses}
+use Rattle.mr_outside.specs.Faults.{Rose}
+use Rattle.mr_outside.specs.Files.{Files, file, with_file}
+use Rattle.mr_outside.specs.Reading.{piece_count}
+use Rattle.mr_outside.specs.State.{Shelved}
+use Rattle.mr_outside.specs.Told.{OfFile, MayMiss}
+use Rattle.mr_outside.specs.Writing.{IsChanged}
+use Rattle.mr_outside.specs.declared.shelf.ShelfErr.{ShelfErr}
+use Rattle.mr_outside.specs.declared.shelf.ShelfErr.TheVariants as shelf
+use Rattle.mr_record.specs.Bytes.{AreBytes}
+use Rattle.mr_tree.specs.WellFormed.{WellFormed}
+use Rattle.mr_tree.specs.declared.tree.Tree.{Tree}
+use Rattle.mr_pages.specs.PageBytes.{first_form}
+use Rattle.mr_pages.specs.Law.{Agrees, IsMap}
+use Rattle.mr_pages.specs.Saved.{saved, MayStand, Leaves}
+use Rattle.mr_pages.specs.Opening.{Answers, Fails, MapCauses, OrFails, SomeBytes, Tells}
+use Rattle.mr_pages.specs.declared.error.MapErr.{MapErr}
+use Rattle.mr_pages.specs.declared.error.MapErr.TheVariants as errors
+use Rattle.mr_pages.specs.declared.rule.MapFault.{MapFault}
+use Rattle.mr_command.specs.Ending.{Gives, GivesOrStops, Misses, Comes, Came, Stops, Ends, GivesUp, AreJudged, IsJudged, GoesOn, Blames, IsCalm, NoneFalls, IsWell, WasFound, IsAsRead, Reads, ReadsPages, HoldsMap, Opens, Saves, SaysRefusal, printed_of}
+use Rattle.mr_plan.specs.Found.{Found, Shows, bad_map_line}
+use Rattle.mr_plan.specs.Outcome.{Outcome, Content, Nothing, File, map_of, IsLaidOut, IsLeft, MayLeave}
+use Rattle.mr_plan.specs.Plan.{Plan, comes, opens, Input, IsInput, IsAbsent, LacksInput}
+use Rattle.mr_plan.specs.Say.{ends, needs, needs_map, given_map, says_missing}
+use Rattle.mr_command.specs.declared.ending.Ending.{Ending}
+use Rattle.mr_command.specs.declared.ending.Halt.{Halt}
+use Rattle.mr_command.specs.declared.ending.Halt.TheVariants as halts
+use Rattle.mr_pages.specs.declared.opening.Opened.{Opened}
+use Rattle.mr_plan.specs.declared.status.Status.TheVariants.{BadMap, Outside}
+use Rattle.mr_command.proofs.Counting.{AllowsFrom, TakenFrom, text_taken, map_taken, few_behind, few_stopped, few_none, few_found, once_of}
+use Rattle.mr_pages.proofs.HeadLaws.{first_form_is}
+use Rattle.mr_pages.proofs.SavedStands.{saved_stands}
+
+-- a step that left the files and the count of faults as they were
+pub record IsStep (before between : Shelved) : Type 0 where
+  pub counts : NoneFalls before between
+  pub files : between.files ≡ before.files
+  pub faults : between.faults ≡ before.faults
+
+stops_after : (before between after : Shelved) (halt : Halt) → IsStep before between → Stops between after halt
+    → Stops before after halt
+stops_after before between after halts.Words step stops = stops
+stops_after before between after halts.Shelf step stops = subst (λ n. Rose n after.faults) step.faults stops
+stops_after before between after halts.NoMemory step stops = stops
+
+-- ---- what a plan opens
+
+pub judged_needs : (name : List ℕ) (said : List ℕ → Outcome) (told : Option Files)
+    → AreJudged (needs name (λ bytes. comes (said bytes))) told
+judged_needs name said told None is = tt
+judged_needs name said told (Some bytes) is = tt
+
+judged_given : (next : Opened → Plan) (told : Option Files) → GoesOn next told → (found : Found)
+    → AreJudged (given_map next found) told
+judged_given next told goes (Ok map) = goes map
+judged_given next told goes (Err fault) = tt
+
+judged_map : (hash : List ℕ → List ℕ) (name : List ℕ) (next : Opened → Plan) (told : Option Files)
+    → IsJudged hash told name → GoesOn next told → AreJudged (needs_map hash name next) told
+judged_map hash name next told judged goes None is = tt
+judged_map hash name next told judged goes (Some bytes) is =
+    (judged bytes is, λ found shown. judged_given next told goes found)
+
+-- ---- behind a file that was read
+
+-- what came of the rest came of the whole
+module _ (name : List ℕ) (next : List ℕ → Plan) (bytes : List ℕ) (before between after : Shelved)
+    (step : IsStep before between) (once : TakenFrom before.files name next before.reads between.reads)
+    (input : IsInput before.files name (Some bytes)) (are : AreBytes bytes)
+    (judged : AreJudged (needs name next) before.files) where
+  came_on : (result : Result Ending Halt) → Came (next bytes) between after result
+      → Came (needs name next) before after result
+  came_on (Ok ending) came = (
+    Some bytes,
+    input,
+    are,
+    subst (λ files. Ends (next bytes) files after.files ending.status (printed_of ending)) step.files came,
+  )
+  came_on (Err halt) came = (
+    stops_after before between after halt step came.0,
+    inr (Some bytes, input, subst (λ files. GivesUp (next bytes) files after.files) step.files came.1),
+  )
+
+  blames_on : (result : Result Ending Halt) → Blames (next bytes) between after result
+      → Blames (needs name next) before after result
+  blames_on (Ok ending) blames = λ outside. elim (blames outside) [
+    | inl rose ↦ inl (subst (λ n. Rose n after.faults) step.faults rose)
+    | inr lacks ↦ inr (inr (Some bytes, input, subst (LacksInput (next bytes)) step.files lacks))
+  ]
+  blames_on (Err halt) blames = tt
+
+  calm_on : (result : Result Ending Halt) → IsCalm between after result → IsCalm before after result
+  calm_on (Ok ending) calm = λ settled. calm settled ∙ step.faults
+  calm_on (Err halt) calm = tt
+
+  pub comes_on : (result : Result Ending Halt) → Comes (next bytes) between after result
+      → Comes (needs name next) before after result
+  comes_on result on = record {
+    counts = record {
+      faults = omega (arith, step.counts.faults, on.counts.faults);
+      reads = omega (arith, step.counts.reads, on.counts.reads);
+    };
+    judged = judged;
+    came = came_on result on.came;
+    outside = blames_on result on.outside;
+    quiet = calm_on result on.quiet;
+    few = few_behind before.files name next bytes before.reads between.reads after.reads input once
+        (subst (λ told. AllowsFrom told (next bytes) between.reads after.reads) step.files on.few);
+  }
+
+-- bytes that were read, and what came of them
+pub comes_read : (name : List ℕ) (said : List ℕ → Outcome) (before between after : Shelved) (bytes : Vec ℕ)
+    (read : Option (Vec ℕ)) (result : Result Ending Halt) → read ≡ Some bytes
+    → Reads name before between (Ok read) → Comes (comes (said bytes.items)) between after result
+    → Comes (needs name (λ b. comes (said b))) before after result
+comes_read name said before between after bytes read result was got on =
+    let was_read : Reads name before between (Ok (Some bytes)) =
+    subst (λ r. Reads name before between (Ok r)) was got in
+    comes_on name (λ b. comes (said b)) bytes.items before between after
+    (record { counts = was_read.counts; files = was_read.files; faults = was_read.read.2 })
+    (text_taken before.files name said before.reads between.reads was_read.once) was_read.read.0 was_read.read.1
+    (judged_needs name said before.files) result on
+
+-- an outcome that writes no file, at once
+pub comes_at_once : (said : Outcome) (at : Shelved) (ending : Ending) → said.written ≡ Nothing → Gives said ending
+    → Comes (comes said) at at (Ok ending)
+comes_at_once said at ending writes gives = record {
+  counts = record { faults = omega arith; reads = omega arith };
+  judged = tt;
+  came = (
+    gives.status,
+    gives.printed,
+    subst (λ w. IsLeft w at.files at.files) (sym writes) refl,
+  );
+  outside = λ e. absurd (gives.settled.0 e);
+  quiet = λ settled. refl;
+  few = few_none at.files said at.reads at.reads refl;
+}
+
+-- the same where memory may have run out
+pub comes_given : (said : Outcome) (at : Shelved) (result : Result Ending Halt) → said.written ≡ Nothing
+    → GivesOrStops said result → Comes (comes said) at at result
+comes_given said at (Ok ending) writes gives = comes_at_once said at ending writes gives
+comes_given said at (Err halt) writes is = record {
+  counts = record { faults = omega arith; reads = omega arith };
+  judged = tt;
+  came = (
+    subst (Stops at at) (sym is) tt,
+    subst (λ w. MayLeave w at.files at.files) (sym writes) refl,
+  );
+  outside = tt;
+  quiet = tt;
+  few = few_none at.files said at.reads at.reads refl;
+}
+
+-- a refusal for want of memory
+pub out_of_memory : (said : Outcome) (result : Result Ending Halt) → IsErrAnd result (λ h. h ≡ halts.NoMemory)
+    → GivesOrStops said result
+out_of_memory said (Ok ending) is = absurd is
+out_of_memory said (Err halt) is = is
+
+-- ---- behind a file that was read as a map
+
+-- what came of a map or a fault that was found came of the bytes
+comes_found : (hash : List ℕ → List ℕ) (bytes : List ℕ) (next : Found → Plan) (found : Found) (before after : Shelved)
+    (result : Result Ending Halt) → AreJudged (opens hash bytes next) before.files
+    → WasFound before.files hash bytes found → IsWell found
+    → Comes (next found) before after result → Comes (opens hash bytes next) before after result
+comes_found hash bytes next found before after (Ok ending) judged is well on = record {
+  counts = on.counts;
+  judged = judged;
+  came = (found, is, well, on.came);
+  outside = λ outside. elim (on.outside outside) [ inl rose ↦ inl rose | inr lacks ↦ inr (found, is.0, lacks) ];
+  quiet = on.quiet;
+  few = few_found before.files hash bytes next found before.reads after.reads is.0 on.few;
+}
+comes_found hash bytes next found before after (Err halt) judged is well on = record {
+  counts = on.counts;
+  judged = judged;
+  came = (on.came.0, (found, is.0, on.came.1));
+  outside = tt;
+  quiet = tt;
+  few = few_found before.files hash bytes next found before.reads after.reads is.0 on.few;
+}
+
+-- the bytes of a file that was opened, and what was found in them
+record Holds (hash : List ℕ → List ℕ) (told : Option Files) (name : List ℕ) (found : Found) : Type 0 where
+  pub bytes : List ℕ
+  pub input : IsInput told name (Some bytes)
+  pub are : AreBytes bytes
+  pub is : WasFound told hash bytes found
+
+comes_opened : (hash : List ℕ → List ℕ) (name : List ℕ) (next : Opened → Plan) (before between after : Shelved)
+    (found : Found) (result : Result Ending Halt) → IsStep before between → ReadsPages name before between
+    → IsJudged hash before.files name → GoesOn next before.files → Holds hash before.files name found → IsWell found
+    → Comes (given_map next found) between after result → Comes (needs_map hash name next) before after result
+comes_opened hash name next before between after found result step once judged goes holds well on =
+    comes_on name (λ bytes. opens hash bytes (given_map next)) holds.bytes before between after step
+    (map_taken before.files name hash (given_map next) before.reads between.reads once) holds.input holds.are
+    (judged_map hash name next before.files judged goes) result
+    (comes_found hash holds.bytes (given_map next) found between after result
+    (subst (AreJudged (opens hash holds.bytes (given_map next))) (sym step.files)
+    (judged_map hash name next before.files judged goes (Some holds.bytes) holds.input))
+    (subst (λ files. WasFound files hash holds.bytes found) (sym step.files) holds.is) well on)
+
+pub comes_map : (hash : List ℕ → List ℕ) (name : List ℕ) (next : Opened → Plan) (before between after : Shelved)
+    (map : Opened) (result : Result Ending Halt) → HoldsMap hash name before between map → GoesOn next before.files
+    → Comes (next map) between after result → Comes (needs_map hash name next) before after result
+comes_map hash name next before between after map result holds goes on =
+    comes_opened hash name next before between after (Ok map) result
+    (record { counts = holds.counts; files = holds.files; faults = holds.quiet }) holds.once holds.judged goes
+    (record { bytes = holds.bytes; input = holds.input; are = holds.are; is = holds.found }) (holds.well, holds.low) on
+
+-- the same where the file stands for no map
+comes_bad : (hash : List ℕ → List ℕ) (name : List ℕ) (next : Opened → Plan) (before after : Shelved)
+    (fault : MapFault) (ending : Ending) → IsStep before after → ReadsPages name before after
+    → IsJudged hash before.files name → GoesOn next before.files → Holds hash before.files name (Err fault)
+    → Gives (ends BadMap (bad_map_line fault)) ending → Comes (needs_map hash name next) before after (Ok ending)
+comes_bad hash name next before after fault ending step once judged goes holds gives =
+    comes_opened hash name next before after after (Err fault) (Ok ending) step once judged goes holds tt
+    (comes_at_once (ends BadMap (bad_map_line fault)) after ending refl gives)
+
+-- where it is missing
+pub misses : (told : Option Files) (name : List ℕ) (before after : ℕ) → MayMiss told name before after
+    → IsInput told name None × (Rose before after ⊎ IsAbsent told name)
+misses None name before after miss = (tt, inl miss)
+misses (Some files) name before after miss = (miss, inr miss)
+
+input_is : (told : Option Files) (name : List ℕ) (bytes : List ℕ) → AreBytes bytes
+    → OfFile told name ⊥ (λ held. bytes ≡ held) → IsInput told name (Some bytes)
+input_is None name bytes are is = are
+input_is (Some files) name bytes are is = by_found (file files name) is
+  where
+    by_found : (o : Option (List ℕ)) → MatchOption o ⊥ (λ held. bytes ≡ held) → o ≡ Some bytes
+    by_found None is = absurd is
+    by_found (Some held) is = ap (λ b. Some b) (sym is)
+
+-- what was read, by the answer of the call that read it
+pub reads_of : (name : List ℕ) (before after : Shelved) (read : Result (Vec ℕ) ShelfErr)
+    (result : Result (Option (Vec ℕ)) Halt) → IfOk read (λ v. OfFile before.files name ⊥ (λ bytes. v.items ≡ bytes))
+    → ShelfCauses name before after read → after.files ≡ before.files → before.reads ≤ after.reads
+    → OfFile before.files name (after.reads ≡ before.reads)
+    (λ bytes. after.reads ≤ before.reads + piece_count (length bytes))
+    → IsAsRead read result → Reads name before after result
+reads_of name before after (Ok bytes) result held causes files reads pieces is =
+    subst (Reads name before after) (sym is.0) (record {
+      counts = record { faults = causes.faults; reads = reads };
+      files = files;
+      read = (input_is before.files name bytes.items is.1 held, is.1, causes.quiet);
+      once = once_of before.files name before.reads after.reads pieces;
+    })
+reads_of name before after (Err shelf.Missing) result held causes files reads pieces is =
+    subst (Reads name before after) (sym is) (record {
+      counts = record { faults = causes.faults; reads = reads };
+      files = files;
+      read = misses before.files name before.faults after.faults (causes.missing refl);
+      once = once_of before.files name before.reads after.reads pieces;
+    })
+reads_of name before after (Err shelf.Fault) result held causes files reads pieces is =
+    subst (Reads name before after) (sym is) (record {
+      counts = record { faults = causes.faults; reads = reads };
+      files = files;
+      read = causes.fault refl;
+      once = once_of before.files name before.reads after.reads pieces;
+    })
+reads_of name before after (Err shelf.NoMemory) result held causes files reads pieces is =
+    subst (Reads name before after) (sym is) (record {
+      counts = record { faults = causes.faults; reads = reads };
+      files = files;
+      read = tt;
+      once = once_of before.files name before.reads after.reads pieces;
+    })
+
+pub comes_missing : (name : List ℕ) (next : List ℕ → Plan) (before after : Shelved) (ending : Ending)
+    → NoneFalls before after → TakenFrom before.files name next before.reads after.reads
+    → after.files ≡ before.files
+    → AreJudged (needs name next) before.files
+    → IsInput before.files name None × (Rose before.faults after.faults ⊎ IsAbsent before.files name)
+    → ending.status ≡ Outside → printed_of ending ≡ (says_missing name).printed
+    → Comes (needs name next) before after (Ok ending)
+comes_missing name next before after ending counts once files judged misses status printed = record {
+  counts = counts;
+  judged = judged;
+  came = (None, misses.0, tt, (status, printed, files));
+  outside = λ e. elim misses.1 [ inl rose ↦ inl rose | inr absent ↦ inr (inl absent) ];
+  quiet = λ settled. absurd (settled.0 status);
+  few = few_stopped before.files name next before.reads after.reads once;
+}
+
+-- and where the command stopped
+pub comes_halted : (name : List ℕ) (next : List ℕ → Plan) (before after : Shelved) (halt : Halt)
+    → NoneFalls before after → TakenFrom before.files name next before.reads after.reads
+    → after.files ≡ before.files
+    → AreJudged (needs name next) before.files → Stops before after halt
+    → Comes (needs name next) before after (Err halt)
+comes_halted name next before after halt counts once files judged stops = record {
+  counts = counts;
+  judged = judged;
+  came = (stops, inl files);
+  outside = tt;
+  quiet = tt;
+  few = few_stopped before.files name next before.reads after.reads once;
+}
+
+-- where the one file that is read is missing
+pub comes_missed : (name : List ℕ) (said : List ℕ → Outcome) (before after : Shelved) (read : Option (Vec ℕ))
+    (result : Result Ending Halt) → read ≡ None → Reads name before after (Ok read) → Misses name result
+    → Comes (needs name (λ b. comes (said b))) before after result
+comes_missed name said before after read (Ok ending) was got gives =
+    let missed : Reads name before after (Ok None) = subst (λ r. Reads name before after (Ok r)) was got in
+    comes_missing name (λ b. comes (said b)) before after ending missed.counts
+    (text_taken before.files name said before.reads after.reads missed.once) missed.files
+    (judged_needs name said before.files) missed.read gives.0 gives.1
+comes_missed name said before after read (Err halt) was got is =
+    comes_halted name (λ b. comes (said b)) before after halt got.counts
+    (text_taken before.files name said before.reads after.reads got.once) got.files
+    (judged_needs name said before.files)
+    (subst (Stops before after) (sym is) tt)
+
+pub comes_unread : (name : List ℕ) (said : List ℕ → Outcome) (before after : Shelved) (halt : Halt)
+    → Reads name before after (Err halt) → Comes (needs name (λ b. comes (said b))) before after (Err halt)
+comes_unread name said before after halt got =
+    comes_halted name (λ b. comes (said b)) before after halt got.counts
+    (text_taken before.files name said before.reads after.reads got.once) got.files
+    (judged_needs name said before.files)
+    got.read
+
+-- ---- what opening a file answers
+
+-- a clause of the call that opens a file, at what it answered
+abbrev pub Answered : (List ℕ → List ℕ) → List ℕ → Shelved → Shelved → Result Opened MapErr → Type 0
+Answered hash name before after result =
+    OfFile before.files name (Fails result) (λ bytes. Tells first_form hash bytes result)
+    × SomeBytes first_form hash result
+    × MapCauses name before after result
+    × (after.files ≡ before.files)
+    × (before.reads ≤ after.reads)
+    × ReadsPages name before after
+
+told_bytes : (hash : List ℕ → List ℕ) (files : Files) (name : List ℕ) (found : Found) (result : Result Opened MapErr)
+    → (Fails result → ⊥)
+    → ((bytes : List ℕ) → Answers first_form hash bytes result → Shows hash bytes found)
+    → ((map : Opened) → OrFails result (Ok map) → found ≡ Ok map) → (input : Input)
+    → file files name ≡ input → MatchOption input (Fails result) (λ bytes. Tells first_form hash bytes result)
+    → Holds hash (Some files) name found
+told_bytes hash files name found result not shows only None e is = absurd (not is)
+told_bytes hash files name found result not shows only (Some bytes) e is = record {
+  bytes = bytes;
+  input = e;
+  are = is.are;
+  is = (shows bytes is.answers, λ map stands. only map (is.map map.tree map.batch stands));
+}
+
+holds_found : (hash : List ℕ → List ℕ) (told : Option Files) (name : List ℕ) (found : Found)
+    (result : Result Opened MapErr) → (Fails result → ⊥)
+    → ((bytes : List ℕ) → Answers first_form hash bytes result → Shows hash bytes found)
+    → ((map : Opened) → OrFails result (Ok map) → found ≡ Ok map)
+    → OfFile told name (Fails result) (λ bytes. Tells first_form hash bytes result)
+    → SomeBytes first_form hash result → Holds hash told name found
+holds_found hash None name found result not shows only exact some = record
+    { bytes = some.0; input = some.1; are = some.1; is = (shows some.0 some.2, tt) }
+holds_found hash (Some files) name found result not shows only exact some =
+    told_bytes hash files name found result not shows only (file files name) refl exact
+
+-- the one answer, as what is found
+pub found_only : (map other : Opened) → OrFails (Ok map) (Ok other) → ◌≡◌ {A = Found} (Ok map) (Ok other)
+found_only map other (inl e) = cc
+found_only map other (inr fails) = absurd fails
+
+fault_only : (fault : MapFault) (map : Opened) → OrFails (Err (errors.Map fault)) (Ok map)
+    → ◌≡◌ {A = Found} (Err fault) (Ok map)
+fault_only fault map (inl e) = absurd (cc)
+fault_only fault map (inr fails) = absurd fails
+
+no_fault_rose : (before after : Shelved) (name : List ℕ) (result : Result Opened MapErr)
+    → (Fails result → ⊥) → MapCauses name before after result → after.faults ≡ before.faults
+no_fault_rose before after name result not causes = elim causes.quiet
+    [ inl same ↦ same | inr fails ↦ absurd (not fails) ]
+
+-- told or not
+pub is_judged : (hash : List ℕ → List ℕ) (told : Option Files) (name : List ℕ)
+    → OfFile told name ⊤ (Agrees first_form hash) → ((bytes : List ℕ) → AreBytes bytes → Agrees first_form hash bytes)
+    → IsJudged hash told name
+is_judged hash None name agrees law bytes is = law bytes is
+is_judged hash (Some files) name agrees law bytes is =
+    subst (λ input. MatchOption input ⊤ (Agrees first_form hash)) is agrees
+
+halt_is : (halt other : Halt) → ◌≡◌ {A = Result Ending Halt} (Err halt) (Err other) → halt ≡ other
+halt_is halt other is = cc
+
+counts_of : (hash : List ℕ → List ℕ) (name : List ℕ) (before after : Shelved) (result : Result Opened MapErr)
+    → Answered hash name before after result → NoneFalls before after
+counts_of hash name before after result on = record { faults = on.2.faults; reads = on.4 }
+
+module _ (hash : List ℕ → List ℕ) (name : List ℕ) (before after : Shelved)
+    (judged : IsJudged hash before.files name) where
+  pub opens_map : (map : Opened) → Answered hash name before after (Ok map) → WellFormed map.tree
+      → map.batch < 2 ^ 64 → HoldsMap hash name before after map
+  opens_map map on well low =
+      let holds = holds_found hash before.files name (Ok map) (Ok map) (λ f. f) (λ bytes a. a) (found_only map) on.0
+      on.1 in
+      record {
+        counts = counts_of hash name before after (Ok map) on;
+        files = on.3;
+        quiet = no_fault_rose before after name (Ok map) (λ f. f) on.2;
+        once = on.5;
+        bytes = holds.bytes;
+        input = holds.input;
+        are = holds.are;
+        judged = judged;
+        found = holds.is;
+        well = well;
+        low = low;
+      }
+
+  pub opens_bad : (fault : MapFault) (ending : Ending) → Answered hash name before after (Err (errors.Map fault))
+      → Gives (ends BadMap (bad_map_line fault)) ending → Opens hash name before after (Ok (Err ending))
+  opens_bad fault ending on gives next goes =
+      comes_bad hash name next before after fault ending
+      (record {
+        counts = counts_of hash name before after (Err (errors.Map fault)) on;
+        files = on.3;
+        faults = no_fault_rose before after name (Err (errors.Map fault)) (λ f. f) on.2;
+      }) on.5 judged goes
+      (holds_found hash before.files name (Err fault) (Err (errors.Map fault)) (λ f. f) (λ bytes a. a)
+      (fault_only fault) on.0 on.1) gives
+
+  pub opens_missing : (ending : Ending) → Answered hash name before after (Err errors.Missing)
+      → ending.status ≡ Outside → printed_of ending ≡ (says_missing name).printed
+      → Opens hash name before after (Ok (Err ending))
+  opens_missing ending on status printed next goes =
+      comes_missing name (λ bytes. opens hash bytes (given_map next)) before after ending
+      (counts_of hash name before after (Err errors.Missing) on)
+      (map_taken before.files name hash (given_map next) before.reads after.reads on.5) on.3
+      (judged_map hash name next before.files judged goes)
+      (misses before.files name before.faults after.faults (on.2.missing refl)) status printed
+
+  pub opens_halted : (halt : Halt) → NoneFalls before after
+      → ReadsPages name before after → after.files ≡ before.files → Stops before after halt
+      → Opens hash name before after (Err halt)
+  opens_halted halt counts few files stops next goes =
+      comes_halted name (λ bytes. opens hash bytes (given_map next)) before after halt counts
+      (map_taken before.files name hash (given_map next) before.reads after.reads few) files
+      (judged_map hash name next before.files judged goes) stops
+
+  -- by its refusal
+  pub opens_refused : (error : MapErr) (ending : Ending) → Answered hash name before after (Err error)
+      → SaysRefusal name error (Ok ending) → Opens hash name before after (Ok (Err ending))
+  opens_refused (errors.Map fault) ending on says = opens_bad fault ending on says
+  opens_refused errors.Missing ending on says = opens_missing ending on says.0 says.1
+  opens_refused errors.Fault ending on says = absurd (cc)
+  opens_refused errors.NoMemory ending on says = absurd (cc)
+
+  -- memory ran out, or the shelf failed
+  out : (error : MapErr) (halt : Halt) → Answered hash name before after (Err error) → Stops before after halt
+      → Opens hash name before after (Err halt)
+  out error halt on stops =
+      opens_halted halt (counts_of hash name before after (Err error) on) on.5 on.3 stops
+
+  pub opens_given_up : (error : MapErr) (halt : Halt) → Answered hash name before after (Err error)
+      → SaysRefusal name error (Err halt) → Opens hash name before after (Err halt)
+  opens_given_up (errors.Map fault) halt on says =
+      out (errors.Map fault) halt on (subst (Stops before after) (sym says) tt)
+  opens_given_up errors.Missing halt on says = out errors.Missing halt on (subst (Stops before after) (sym says) tt)
+  opens_given_up errors.Fault halt on says =
+      out errors.Fault halt on (subst (Stops before after) (sym (halt_is halt halts.Shelf says)) (on.2.fault refl))
+  opens_given_up errors.NoMemory halt on says =
+      out errors.NoMemory halt on (subst (Stops before after) (sym (halt_is halt halts.NoMemory says)) tt)
+
+-- a refusal that is handed on
+pub halted_is : {A : Type 0} (result : Result A Halt) (halt : Halt) → IsErrAnd result (λ h. h ≡ halt)
+    → result ≡ Err halt
+halted_is (Ok value) halt is = absurd is
+halted_is (Err h) halt is = ap (λ x. Err x) is
+
+-- ---- behind a file that was written
+
+pub comes_saved : (name : List ℕ) (content : Content) (said : Outcome) (before after : Shelved) (ending : Ending)
+    (done : Unit) → said.written ≡ File name content → Gives said ending
+    → Saves name content before after (Ok done) → Comes (comes said) before after (Ok ending)
+comes_saved name content said before after ending done writes gives saves = record {
+  counts = saves.counts;
+  judged = tt;
+  came = (
+    gives.status,
+    gives.printed,
+    subst (λ w. IsLeft w before.files after.files) (sym writes) saves.saved.0,
+  );
+  outside = λ e. absurd (gives.settled.0 e);
+  quiet = λ settled. saves.saved.1;
+  few = few_none before.files said before.reads after.reads saves.unread;
+}
+
+pub comes_unsaved : (name : List ℕ) (content : Content) (said : Outcome) (before after : Shelved) (halt : Halt)
+    → said.written ≡ File name content → Saves name content before after (Err halt)
+    → Comes (comes said) before after (Err halt)
+comes_unsaved name content said before after halt writes saves = record {
+  counts = saves.counts;
+  judged = tt;
+  came = (saves.saved.0, subst (λ w. MayLeave w before.files after.files) (sym writes) saves.saved.1);
+  outside = tt;
+  quiet = tt;
+  few = few_none before.files said before.reads after.reads saves.unread;
+}
+
+-- each digest has 32 bytes
+abbrev pub IsSized : (List ℕ → List ℕ) → Type 0
+IsSized hash = (xs : List ℕ) → length (hash xs) ≡ 32
+
+-- what a save leaves
+module _ (hash : List ℕ → List ℕ) (sized : IsSized hash) (name : List ℕ) (tree : Tree) (batch : ℕ)
+    (before after : Shelved) (well : WellFormed tree) (low : batch < 2 ^ 64) where
+  is_map : IsMap first_form hash (saved first_form hash tree batch) tree batch
+  is_map = record { well = well; stands = saved_stands first_form first_form_is hash sized tree batch well low }
+
+  laid_out : (bytes : List ℕ) → bytes ≡ saved first_form hash tree batch → IsLaidOut hash tree batch bytes
+  laid_out bytes laid = record {
+    laid = laid;
+    stands = subst (λ b. IsMap first_form hash b tree batch) (sym laid) is_map;
+  }
+
+  pub saved_so : (done : Unit) → before.faults ≤ after.faults → after.reads ≡ before.reads
+      → after.faults ≡ before.faults
+      → IsChanged (with_file name) (saved first_form hash tree batch) before.files after.files
+      → Saves name (map_of hash tree batch) before after (Ok done)
+  saved_so done faults same quiet changed = record {
+    counts = record { faults = faults; reads = omega (arith, same) };
+    unread = same;
+    saved = (
+      (saved first_form hash tree batch, laid_out (saved first_form hash tree batch) refl, changed),
+      quiet,
+    );
+  }
+
+  pub unsaved : (halt : Halt) → before.faults ≤ after.faults → after.reads ≡ before.reads → Stops before after halt
+      → Leaves (MayStand first_form hash tree batch) name before.files after.files
+      → Saves name (map_of hash tree batch) before after (Err halt)
+  unsaved halt faults same stops left = record {
+    counts = record { faults = faults; reads = omega (arith, same) };
+    unread = same;
+    saved = (
+      stops,
+      elim left [
+        | inl untouched ↦ inl untouched
+        | inr held ↦ inr (
+          held.0,
+          elim held.1 [
+            | inl none ↦ inl none
+            | inr whole ↦ inr (laid_out held.0 whole)
+          ],
+          held.2,
+        )
+      ],
+    );
+  }

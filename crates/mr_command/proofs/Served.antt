@@ -1,0 +1,241 @@
+-- `serve` on a map that is opened page by page and taken into memory.
+use Rattle.std.proofs.Common.{◌≡◌, ℕ, ◌+◌, ◌<◌, ◌≤◌, ltb, List, length, refl, sym, ap, subst, ◌∙◌, inl, inr, arith}
+use Rattle.std.specs.Prelude.{max, Option, Some, None, IfSome, IsSome, Result, Ok, Err}
+use Rattle.std.proofs.lemmas.Bool.{cases_Bool, ltb-true, ltb-false}
+use Rattle.mr_outside.specs.Files.{Files, file}
+use Rattle.mr_outside.specs.Faults.{Rose, last_count}
+use Rattle.mr_outside.specs.State.{Shelved}
+use Rattle.mr_outside.specs.Told.{OfFile}
+use Rattle.mr_record.specs.Bytes.{AreBytes}
+use Rattle.mr_tree.specs.Nodes.{Standing, HasSomeCause, subtrees}
+use Rattle.mr_tree.specs.Snapshot.{standing, standing_of, tree_of}
+use Rattle.mr_tree.specs.WellFormed.{WellFormed}
+use Rattle.mr_tree.specs.declared.nodes.NodesErr.{NodesErr}
+use Rattle.mr_tree.specs.declared.nodes.Top.{Top}
+use Rattle.mr_tree.specs.declared.stored.Stored.{Stored}
+use Rattle.mr_tree.specs.declared.tree.Tree.{Tree}
+use Rattle.mr_pages.specs.Law.{IsMap}
+use Rattle.mr_pages.specs.PageBytes.{first_form}
+use Rattle.mr_pages.specs.declared.error.MapErr.{MapErr}
+use Rattle.mr_pages.specs.declared.head.MapHead.{MapHead}
+use Rattle.mr_pages.specs.declared.opening.Opened.{Opened}
+use Rattle.mr_query.specs.Script.{queries_of_text}
+use Rattle.mr_store.specs.Opening.{TellsMap, RefusesMap, pages_in}
+use Rattle.mr_store.specs.Stored.{ReadsFew as FewFetches, Keeps, StandsFor, room}
+use Rattle.mr_command.specs.Counting.{pieces_of, IsFewServed, ReadsFew}
+use Rattle.mr_command.specs.Ending.{Comes, Ends, GivesUp, GoesOn, NoneFalls, SaysRefusal, SaysUntold, printed_of}
+use Rattle.mr_plan.specs.Found.{as_map_error}
+use Rattle.mr_plan.specs.Outcome.{Outcome}
+use Rattle.mr_plan.specs.Plan.{Plan, Input, comes, rereads, LacksInput}
+use Rattle.mr_plan.specs.Rereading.{Rereading, serving, MaySay}
+use Rattle.mr_plan.specs.Say.{given, needs, needs_map, held_in, say_script, say_serve_of, says_missing}
+use Rattle.mr_command.specs.declared.ending.Ending.{Ending}
+use Rattle.mr_command.specs.declared.ending.Halt.{Halt}
+use Rattle.mr_plan.specs.declared.status.Status.TheVariants.{Outside}
+use Rattle.mr_command.proofs.Audits.{untold_from}
+use Rattle.mr_command.proofs.Counting.{AllowsFrom, few_pieces}
+use Rattle.mr_command.proofs.Going.{judged_needs}
+use Rattle.mr_command.proofs.Pages.{HasMap, at_input, few_refused, few_there, has_map, told_halted, told_on, with_same}
+use Rattle.mr_command.proofs.Rereading.{comes_told, comes_untold, fetch_blamed, fetch_stopped, last_leaves, needs_but, says_refused}
+
+same_tree : (a b : Tree) → ◌≡◌ {A = Option Tree} (Some a) (Some b) → a ≡ b
+same_tree a b e = cc
+
+-- it is the one that stands so
+one_map : (s : Standing) (nodes : List Stored) (top : Top) (t : Tree)
+    → standing nodes top ≡ standing_of s.version s.batch t
+    → held_in nodes top ≡ record { tree = t; batch = s.batch }
+one_map s nodes top t e =
+    let trees : tree_of nodes top ≡ t = same_tree (tree_of nodes top) t (ap (λ (x : Standing). x.tree) e) in
+    let batches : top.batch ≡ s.batch = ap (λ (x : Standing). x.batch) e in
+    λ i. record { tree = trees i; batch = batches i }
+
+-- ---- over files that are not told
+
+-- a file was read, and what came of it may be said
+module _ (reading : Rereading) (name : List ℕ) (said : List ℕ → Outcome) (before after : Shelved)
+    (none : before.files ≡ None) (may_miss : MaySay reading (says_missing name))
+    (may : (bytes : List ℕ) → AreBytes bytes → MaySay reading (said bytes)) where
+  abbrev plan : Plan
+  plan = needs name (λ b. comes (said b))
+
+  no_input : LacksInput plan before.files → ⊥
+  no_input lacks = elim (subst (LacksInput plan) none lacks) [
+    | inl absent ↦ absent
+    | inr on ↦ at_end on.0 on.2
+  ]
+    where
+      at_end : (input : Input) → LacksInput (given name (λ b. comes (said b)) input) None → ⊥
+      at_end None lacks = lacks
+      at_end (Some bytes) lacks = lacks
+
+  stays : GivesUp plan before.files after.files → after.files ≡ before.files
+  stays up = elim up [
+    | inl same ↦ same
+    | inr on ↦ at_end on.0 on.2
+  ]
+    where
+      at_end : (input : Input) → GivesUp (given name (λ b. comes (said b)) input) before.files after.files
+          → after.files ≡ before.files
+      at_end None same = same
+      at_end (Some bytes) may = last_leaves (said bytes).written before.files after.files none may
+
+  says_needs : (result : Result Ending Halt) → Comes plan before after result → SaysUntold reading before after result
+  says_needs (Ok ending) on = by_input on.came.0 on.came.2 on.came.3
+    where
+      outside : ending.status ≡ Outside → Rose before.faults after.faults
+      outside is = elim (on.outside is) [ inl rose ↦ rose | inr lacks ↦ absurd (no_input lacks) ]
+
+      by_input : (input : Input) → IfSome input AreBytes
+          → Ends (given name (λ b. comes (said b)) input) before.files after.files ending.status (printed_of ending)
+          → SaysUntold reading before after (Ok ending)
+      by_input None are ends = (says_missing name, may_miss, ends.0, ends.1, ends.2, outside, on.quiet)
+      by_input (Some bytes) are ends = (said bytes, may bytes are, ends.0, ends.1, ends.2, outside, on.quiet)
+  says_needs (Err halt) on = (on.came.0, stays on.came.1)
+
+-- ---- a map that is not opened
+
+pub serving_refused : (hash : List ℕ → List ℕ) (map script bundle : List ℕ) (next : Plan) (before after : Shelved)
+    (e : MapErr) → RefusesMap hash map before after e
+    → ReadsFew (rereads (serving hash map script bundle) next) before after
+serving_refused hash map script bundle next before after e r = by_told before.files r.reads
+  where
+    by_told : (o : Option Files)
+        → OfFile o map (after.reads ≡ before.reads) (λ bytes. after.reads ≤ before.reads + pages_in bytes)
+        → AllowsFrom o (rereads (serving hash map script bundle) next) before.reads after.reads
+    by_told None few = tt
+    by_told (Some files) few =
+        few_refused (Some files) map before.reads after.reads (λ bytes n. IsFewServed hash bytes (file files script) n)
+        (λ bytes. inl (omega arith)) few
+
+-- what is read for a walk that fetches so many nodes
+pub few_walked : (r r' f f' n : ℕ) → f ≡ 0 → FewFetches r f r' f' → r' ≤ max r last_count → f' ≤ f + n → r' ≤ r + n
+few_walked r r' f f' n none few most bound = elim few [
+  | inl each ↦ omega (arith, each, bound, none)
+  | inr last ↦ omega (arith, last, most, bound, none)
+]
+
+-- the pages of the map, and the pieces of the script; and the nodes of a large one
+few_script : (hash : List ℕ → List ℕ) (h : MapHead) (bytes : List ℕ) (script : Input) (r m e : ℕ) (t : Tree)
+    (batch : ℕ) → IsMap first_form hash bytes t batch → h.pages ≡ pages_in bytes → m ≤ r + pages_in bytes
+    → (h.pages ≤ room + 1 → e ≤ m + pieces_of script) → e ≤ m + length (subtrees t) + pieces_of script
+    → (n : ℕ) × (e ≤ r + n) × IsFewServed hash bytes script n
+few_script hash h bytes script r m e t batch stands pages few still nodes =
+    elim (cases_Bool (ltb (room + 1) h.pages)) [
+      | inl large ↦ (
+        pages_in bytes + length (subtrees t) + pieces_of script,
+        omega (arith, few, nodes),
+        inr (
+          t,
+          batch,
+          stands,
+          inr (subst (λ n. room + 1 < n) pages (ltb-true (room + 1) h.pages large), omega arith),
+        ),
+      )
+      | inr small ↦ (
+        pages_in bytes + pieces_of script,
+        omega (arith, few, still (ltb-false (room + 1) h.pages small)),
+        inr (t, batch, stands, inl (omega arith)),
+      )
+    ]
+
+-- ---- a map that is opened, and taken into memory
+
+module _ (hash : List ℕ → List ℕ) (sized : (xs : List ℕ) → length (hash xs) ≡ 32) (map script bundle : List ℕ)
+    (n n' : List ℕ) (before mid end : Shelved) (s : Standing) (h h' : MapHead) (f0 f : ℕ)
+    (same : mid.files ≡ before.files) (quiet : mid.faults ≡ before.faults)
+    (more : before.reads ≤ mid.reads) (answers : OfFile before.files map ⊥ (TellsMap hash s))
+    (pages : OfFile before.files map ⊥ (λ bytes. h.pages ≡ pages_in bytes))
+    (few : OfFile before.files map ⊥ (λ bytes. mid.reads ≤ before.reads + pages_in bytes))
+    (kept : Keeps n n' h h' mid end f0 f) (none : f0 ≡ 0)
+    (fetched : IfSome s.tree (λ t. f ≤ f0 + length (subtrees t))) where
+  abbrev on_map : Opened → Plan
+  on_map = say_script hash script bundle
+
+  abbrev reading : Rereading
+  reading = serving hash map script bundle
+
+  abbrev said : Opened → List ℕ → Outcome
+  said m text = say_serve_of hash bundle m (queries_of_text text)
+
+  goes : GoesOn on_map before.files
+  goes m = judged_needs script (said m) before.files
+
+  -- the reads, with those of the script
+  few_served : (after : Shelved) (files : Files) → before.files ≡ Some files → HasMap hash sized map before s mid
+      → after.reads ≤ end.reads + pieces_of (file files script)
+      → ReadsFew (rereads reading (needs_map hash map on_map)) before after
+  few_served after files told has pieces =
+      let pages_are = at_input before.files files map has.bytes ⊥ (λ bytes. h.pages ≡ pages_in bytes) told has.input
+      pages in
+      let few_are = at_input before.files files map has.bytes ⊥ (λ bytes. mid.reads ≤ before.reads + pages_in bytes)
+      told has.input few in
+      let bound = subst (λ o. IfSome o (λ t. f ≤ f0 + length (subtrees t))) has.told fetched in
+      let walked = few_walked mid.reads end.reads f0 f (length (subtrees has.tree)) none kept.few kept.most bound in
+      few_there before.files files map has.bytes before.reads after.reads
+      (λ files bytes n. IsFewServed hash bytes (file files script) n) told has.input
+      (few_script hash h has.bytes (file files script) before.reads mid.reads after.reads has.tree s.batch has.stands
+      pages_are few_are
+      (λ small. omega (arith, pieces, kept.still (subst IsSome (sym (same ∙ told)) refl) small))
+      (omega (arith, pieces, walked)))
+
+  -- the script was read
+  pub served : (nodes : List Stored) (top : Top) (after : Shelved) (result : Result Ending Halt)
+      → StandsFor s nodes top → ∥ WellFormed (tree_of nodes top) ∥₁ → end.faults ≡ mid.faults
+      → Comes (on_map (held_in nodes top)) end after result
+      → Comes (rereads reading (needs_map hash map on_map)) before after result
+  served nodes top after result stands well calm on = by_files before.files refl
+    where
+      counts : NoneFalls before after
+      counts = record {
+        faults = omega (arith, quiet, kept.faults, on.counts.faults);
+        reads = omega (arith, more, kept.reads, on.counts.reads);
+      }
+
+      by_files : (o : Option Files) → before.files ≡ o
+          → Comes (rereads reading (needs_map hash map on_map)) before after result
+      by_files None none =
+          let m = held_in nodes top in
+          comes_untold reading (needs_map hash map on_map) before after none result counts
+          (untold_from reading before end after result (kept.files ∙ same) (calm ∙ quiet)
+          (says_needs reading script (said m) end after (kept.files ∙ same ∙ none) (inr (inl refl))
+          (λ bytes are. inr (inr (m, well, bytes, are, refl))) result on))
+      by_files (Some files) told =
+          let has = has_map hash sized map before s mid same quiet answers files told in
+          let m : Opened = record { tree = has.tree; batch = s.batch } in
+          let own = one_map s nodes top has.tree (stands has.tree has.told) in
+          let pieces = few_pieces end.files files script (said (held_in nodes top)) end.reads after.reads
+          (kept.files ∙ same ∙ told) on.few in
+          comes_told reading (needs_map hash map on_map) before after files told result counts.reads
+          (few_served after files told has pieces)
+          (told_on hash sized map before s mid same quiet answers on_map goes has after result
+          (subst (λ w. Comes (on_map m) w after result) (with_same after.reads mid end kept.files calm)
+          (needs_but script (λ b. comes (said m b)) end after result
+          (subst (λ m. Comes (on_map m) end after result) own on))))
+
+  -- a node was not fetched
+  pub unserved : (e : NodesErr) (result : Result Ending Halt) → HasSomeCause s mid.faults end.faults e
+      → SaysRefusal map (as_map_error e) result
+      → Comes (rereads reading (needs_map hash map on_map)) before end result
+  unserved e result cause says = by_files before.files refl
+    where
+      shifted : HasSomeCause s before.faults end.faults e
+      shifted = subst (λ n. HasSomeCause s n end.faults e) quiet cause
+
+      counts : NoneFalls before end
+      counts = record { faults = omega (arith, quiet, kept.faults); reads = omega (arith, more, kept.reads) }
+
+      by_files : (o : Option Files) → before.files ≡ o
+          → Comes (rereads reading (needs_map hash map on_map)) before end result
+      by_files None none =
+          comes_untold reading (needs_map hash map on_map) before end none result counts
+          (says_refused hash reading map (λ said is. inl is) before end (kept.files ∙ same) (as_map_error e) result
+          (fetch_blamed hash s e before end shifted) says)
+      by_files (Some files) told =
+          let has = has_map hash sized map before s mid same quiet answers files told in
+          let stop = fetch_stopped map s has.tree e before end result has.told shifted says in
+          subst (Comes (rereads reading (needs_map hash map on_map)) before end) (sym stop.is)
+          (comes_told reading (needs_map hash map on_map) before end files told (Err stop.halt) counts.reads
+          (few_served end files told has (omega arith))
+          (told_halted hash sized map before s mid same quiet answers on_map goes end stop.halt kept.files
+          counts.faults stop.stops))

@@ -1,0 +1,34 @@
+-- Bytes that agree show a map or a fault, and one of them alone.
+use Rattle.std.proofs.Common.{◌≡◌, List, ℕ, refl, ap}
+use Rattle.std.specs.Prelude.{Option, Some, None, Ok, Err}
+use Rattle.mr_pages.specs.PageBytes.{first_form}
+use Rattle.mr_pages.specs.File.{file_of}
+use Rattle.mr_pages.specs.Faults.{mapfault}
+use Rattle.mr_pages.specs.Law.{Agrees}
+use Rattle.mr_pages.specs.declared.rule.MapFault.{MapFault}
+use Rattle.mr_plan.specs.Found.{Found, Shows}
+
+same_fault : (o : Option MapFault) (f g : MapFault) → o ≡ Some f → o ≡ Some g → f ≡ g
+same_fault o f g p q = cc
+
+no_fault : {A : Type 0} (o : Option MapFault) (f : MapFault) → o ≡ None → o ≡ Some f → A
+no_fault o f p q = cc
+
+module _ (hash : List ℕ → List ℕ) (bytes : List ℕ) (law : Agrees first_form hash bytes) where
+  abbrev fault_there : Option MapFault
+  fault_there = mapfault hash (file_of first_form bytes)
+
+  pub one_found : (a b : Found) → Shows hash bytes a → Shows hash bytes b → a ≡ b
+  one_found (Ok a) (Ok b) p q =
+      let one = law.only a.tree a.batch p b.tree b.batch q in
+      λ i. Ok (record { tree = one.0 i; batch = one.1 i })
+  one_found (Ok a) (Err g) p q = no_fault fault_there g (law.none a.tree a.batch p) q
+  one_found (Err f) (Ok b) p q = no_fault fault_there f (law.none b.tree b.batch q) p
+  one_found (Err f) (Err g) p q = ap (λ h. Err h) (same_fault fault_there f g p q)
+
+  found_by : (o : Option MapFault) → fault_there ≡ o → (found : Found) × Shows hash bytes found
+  found_by (Some f) e = (Err f, e)
+  found_by None e = let map = law.map e in (Ok (record { tree = map.0; batch = map.1 }), map.2)
+
+  pub found_in : (found : Found) × Shows hash bytes found
+  found_in = found_by fault_there refl

@@ -1,0 +1,102 @@
+-- What the command `check` says of a proof, by what the check answers for it.
+use Rattle.std.proofs.Common.{◌≡◌, ℕ, List, length, refl, sym, ap, subst, ◌∙◌, arith}
+use Rattle.std.specs.Prelude.{Result, Ok, Err}
+use Rattle.mr_record.specs.declared.record.Record.{Record}
+use Rattle.mr_record.specs.declared.text_fault.TextFault.{TextFault}
+use Rattle.mr_tree.specs.declared.tree.Tree.{Tree}
+use Rattle.mr_query.specs.declared.query.Query.{Query}
+use Rattle.mr_proof.specs.declared.rule.Fault.{Fault}
+use Rattle.mr_check.specs.declared.error.CheckErr.{CheckErr}
+use Rattle.mr_check.specs.Answers.{Checks}
+use Rattle.mr_proof.specs.Halves.{AcceptsHonest}
+use Rattle.mr_proof.specs.Honest.{proof}
+use Rattle.mr_proof.specs.Reading.{verdict}
+use Rattle.mr_query.specs.Scan.{scan}
+use Rattle.mr_tree.specs.Digest as digests
+use Rattle.mr_tree.specs.Tree.{records}
+use Rattle.mr_tree.specs.WellFormed.{WellFormed}
+use Rattle.mr_clash.specs.Finding.{found}
+use Rattle.mr_clash.specs.declared.finding.Finding.{Finding}
+use Rattle.mr_clash.specs.declared.finding.Finding.TheVariants as findings
+use Rattle.mr_command.specs.Answer.{IsSettled}
+use Rattle.mr_plan.specs.First.{first}
+use Rattle.mr_command.specs.Ending.{Gives, printed_of}
+use Rattle.mr_plan.specs.Outcome.{Outcome, Nothing}
+use Rattle.mr_plan.specs.Say.{say_verdict, say_check_of, say_finding, say_audit_of, say_root_of}
+use Rattle.mr_command.specs.declared.ending.Ending.{Ending}
+use Rattle.mr_pages.specs.declared.opening.Opened.{Opened}
+
+-- the error that it answers, as one of these
+pub checks_as : (hash : List ℕ → List ℕ) (root : List ℕ) (q : Query) (bytes : List ℕ)
+    (a b : CheckErr) → a ≡ b
+    → Checks (Err a) (verdict hash root q bytes)
+    → Checks (Err b) (verdict hash root q bytes)
+checks_as hash root q bytes a b e =
+    subst (λ error. Checks (Err error) (verdict hash root q bytes)) e
+
+pub says_verdict : (hash : List ℕ → List ℕ) (root : List ℕ) (q : Query) (bytes : List ℕ)
+    (v : Result (List Record) Fault) → verdict hash root q bytes ≡ v
+    → say_check_of hash root q bytes ≡ say_verdict v
+unfolding say_check_of
+says_verdict hash root q bytes v is = ap say_verdict is
+
+-- an ending of this status and text
+pub gives : (said : Outcome) (ending : Ending) → IsSettled said.status → ending.status ≡ said.status
+    → printed_of ending ≡ said.printed → Gives said ending
+gives said ending settled status printed = record
+    { status = status; printed = printed; settled = subst IsSettled (sym status) settled }
+
+verdict_writes : (v : Result (List Record) Fault) → (say_verdict v).written ≡ Nothing
+verdict_writes (Ok answer) = refl
+verdict_writes (Err fault) = refl
+
+-- the command `check` writes no file
+pub check_writes : (hash : List ℕ → List ℕ) (root : List ℕ) (q : Query) (bytes : List ℕ)
+    → (say_check_of hash root q bytes).written ≡ Nothing
+unfolding say_check_of
+check_writes hash root q bytes = verdict_writes (verdict hash root q bytes)
+
+pub finding_writes : (f : Finding) → (say_finding f).written ≡ Nothing
+finding_writes (findings.Refused fault) = refl
+finding_writes (findings.Sound answer) = refl
+finding_writes (findings.Collision owned shown) = refl
+
+-- nor does the command `root`
+pub root_writes : (hash : List ℕ → List ℕ) (found : Result (List Record) TextFault)
+    → (say_root_of hash found).written ≡ Nothing
+root_writes hash (Ok records) = refl
+root_writes hash (Err fault) = refl
+
+-- nor does the command `audit`
+pub audit_writes : (hash : List ℕ → List ℕ) (q : Query) (map : Opened) (bytes : List ℕ)
+    → (say_audit_of hash q map bytes).written ≡ Nothing
+unfolding say_audit_of
+audit_writes hash q map bytes = finding_writes (found (first hash) map.tree map.batch q bytes)
+
+pub says_finding : (hash : List ℕ → List ℕ) (q : Query) (map : Opened) (bytes : List ℕ) (f : Finding)
+    → f ≡ found (first hash) map.tree map.batch q bytes → say_finding f ≡ say_audit_of hash q map bytes
+unfolding say_audit_of
+says_finding hash q map bytes f is = ap say_finding is
+
+-- the honest proof is accepted with the answer of a scan
+pub accepted_scan : (hash : List ℕ → List ℕ) (q : Query) (t : Tree) (root bytes : List ℕ)
+    → AcceptsHonest (first hash) q → WellFormed t → root ≡ digests.root (first hash) t 0
+    → bytes ≡ proof (first hash) t 0 q
+    → verdict hash root q bytes ≡ Ok (scan (records t) q)
+accepted_scan hash q t root bytes accepts well roots own =
+    (λ i. verdict hash (roots i) q (own i)) ∙ accepts t 0 well (omega arith)
+
+abbrev Verdict : Type 0
+Verdict = Result (List Record) Fault
+
+same_answer : (a b : List Record) → ◌≡◌ {A = Verdict} (Ok a) (Ok b) → a ≡ b
+same_answer a b e = cc
+
+-- what is answered is as long as the scan
+pub answer_length : (v : Verdict) (answer scanned : List Record) → v ≡ Ok answer → v ≡ Ok scanned
+    → length answer ≡ length scanned
+answer_length v answer scanned was is = ap length (same_answer answer scanned (sym was ∙ is))
+
+-- and is no fault
+pub no_fault : (v : Verdict) (fault : Fault) (scanned : List Record) → v ≡ Err fault → v ≡ Ok scanned → ⊥
+no_fault v fault scanned was is = absurd cc

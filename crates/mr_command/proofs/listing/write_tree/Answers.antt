@@ -1,0 +1,30 @@
+use Rattle.std.proofs.Common.{subst, ap, ◌∙◌}
+use Rattle.std.specs.Prelude.{OnOk}
+use Rattle.mr_outside.specs.Told.{Takes, TakesFront}
+use Rattle.mr_record.specs.RecordText.{text_of}
+use Rattle.mr_tree.specs.Tree.{records}
+use Rattle.mr_command.specs.Listing.{items_of}
+use Rattle.mr_command.proofs.Endings.{front_none}
+use Rattle.mr_command.proofs.Numbered.{sorted_entries}
+use Rattle.mr_command.proofs.listing.write_tree.Goals as goal
+
+pub returns-in_err-entries-clause-front : goal.returns-in_err-entries-clause-front
+returns-in_err-entries-clause-front g c = front_none _ _
+
+pub returns-in_err-sort-clause-front : goal.returns-in_err-sort-clause-front
+returns-in_err-sort-clause-front g c = front_none _ _
+
+pub returns-clause-whole : goal.returns-clause-whole
+returns-clause-whole g c =
+    subst (λ rs. OnOk c.write_entries.result (Takes (g.W.Sink.state c.args.out.now)
+    (g.W.Sink.state c.write_entries.new.out) (text_of rs)))
+    (ap items_of (c.deref.ensures.value ∙ c.in_ok-sort.ensures)
+    ∙ sorted_entries c.in_ok-entries.entries.items (records c.args.tree.now) c.in_ok-entries.ensures)
+    c.write_entries.ensures.whole
+
+pub returns-clause-front : goal.returns-clause-front
+returns-clause-front g c =
+    subst (λ rs. TakesFront (g.W.Sink.state c.args.out.now) (g.W.Sink.state c.write_entries.new.out) (text_of rs))
+    (ap items_of (c.deref.ensures.value ∙ c.in_ok-sort.ensures)
+    ∙ sorted_entries c.in_ok-entries.entries.items (records c.args.tree.now) c.in_ok-entries.ensures)
+    c.write_entries.ensures.front

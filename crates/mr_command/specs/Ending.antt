@@ -1,0 +1,326 @@
+-- What a command comes to before it is printed, and how it is printed. This serves private
+-- functions.
+use Rattle.std.specs.Prelude.{◌≡◌, ◌⊎◌, ℕ, ◌+◌, ◌^◌, ◌<◌, ◌≤◌, List, ◌++◌, Option, Some, None, IfSome, ⊤, Result, Ok, Err}
+use Rattle.std.specs.Global.{Vec}
+use Rattle.std.specs.String.{string_bytes}
+use Rattle.mr_outside.specs.Files.{Files, file}
+use Rattle.mr_outside.specs.Faults.{Rose}
+use Rattle.mr_outside.specs.State.{Shelved, Sunk}
+use Rattle.mr_outside.specs.Told.{OfFiles, OfFile, Takes, TakesFront}
+use Rattle.mr_outside.specs.declared.shelf.ShelfErr.{ShelfErr}
+use Rattle.mr_outside.specs.declared.shelf.ShelfErr.TheVariants as shelf
+use Rattle.mr_record.specs.Bytes.{AreBytes}
+use Rattle.mr_record.specs.RecordText.{text_of}
+use Rattle.mr_record.specs.declared.record.Record.{Record}
+use Rattle.mr_query.specs.Scan.{by_number}
+use Rattle.mr_tree.specs.Tree.{records}
+use Rattle.mr_pages.specs.PageBytes.{first_form}
+use Rattle.mr_pages.specs.Opening.{pages_in}
+use Rattle.mr_pages.specs.Law.{Agrees, IsMap}
+use Rattle.mr_command.specs.Answer.{IsSettled}
+use Rattle.mr_tree.specs.WellFormed.{WellFormed}
+use Rattle.mr_pages.specs.declared.error.MapErr.{MapErr}
+use Rattle.mr_pages.specs.declared.error.MapErr.TheVariants as errors
+use Rattle.mr_tree.specs.declared.nodes.NodesErr.{NodesErr}
+use Rattle.mr_tree.specs.declared.tree.Tree.{Tree}
+use Rattle.mr_tree.specs.Nodes.{Standing}
+use Rattle.mr_query.specs.declared.query.Query.{Query}
+use Rattle.mr_clash.specs.Finding.{opened_accepted}
+use Rattle.mr_store.specs.Stored.{room}
+use Rattle.mr_plan.specs.Found.{Found, Shows, as_map_error, bad_map_line}
+use Rattle.mr_plan.specs.Lines.{bad_words_line, shelf_fault_line}
+use Rattle.mr_plan.specs.Outcome.{Outcome, Content, File, IsLeft, MayLeave}
+use Rattle.mr_command.specs.Counting.{pieces_of, opened_beside, ReadsFew}
+use Rattle.mr_plan.specs.First.{first}
+use Rattle.mr_plan.specs.Plan.{Plan, comes, reads, opens, rereads, judges, Input, IsInput, IsAbsent, LacksInput}
+use Rattle.mr_plan.specs.Rereading.{Rereading, MaySay}
+use Rattle.mr_plan.specs.Say.{ends, needs_map, says_missing, say_written}
+use Rattle.mr_command.specs.declared.ending.Ending.{Ending}
+use Rattle.mr_command.specs.declared.ending.Shown.{Shown}
+use Rattle.mr_command.specs.declared.ending.Shown.TheVariants as shown
+use Rattle.mr_command.specs.declared.ending.Halt.{Halt}
+use Rattle.mr_command.specs.declared.ending.Halt.TheVariants as halts
+use Rattle.mr_pages.specs.declared.opening.Opened.{Opened}
+use Rattle.mr_plan.specs.declared.status.Status.{Status}
+use Rattle.mr_bundle.specs.declared.text.Text.{Text}
+use Rattle.mr_plan.specs.declared.status.Status.TheVariants.{BadWords, BadMap, Outside, NoMemory}
+
+-- the records that are printed: these, or those of a tree in rising number
+abbrev pub shown_of : Shown → List Record
+shown_of (shown.Records list) = list.items
+shown_of (shown.OfTree alloc tree) = by_number (records tree)
+
+-- what is printed of an ending: its text, then a line for each record
+abbrev pub printed_of : Ending → List ℕ
+printed_of ending = ending.text.items ++ text_of (shown_of ending.records)
+
+-- the ending is what is said, for a reason that is not outside
+pub record Gives (said : Outcome) (ending : Ending) : Type 0 where
+  pub status : ending.status ≡ said.status
+  pub printed : printed_of ending ≡ said.printed
+  pub settled : IsSettled ending.status
+
+-- this is said, or memory ran out
+abbrev pub GivesOrStops : Outcome → Result Ending Halt → Type 0
+GivesOrStops said (Ok ending) = Gives said ending
+GivesOrStops said (Err halt) = halt ≡ halts.NoMemory
+
+-- the line on a missing file, or memory ran out
+abbrev pub Misses : List ℕ → Result Ending Halt → Type 0
+Misses name (Ok ending) = (ending.status ≡ Outside)
+    × (printed_of ending ≡ (says_missing name).printed)
+Misses name (Err halt) = halt ≡ halts.NoMemory
+
+-- what is said where a map was not opened, by its refusal
+abbrev pub SaysRefusal : List ℕ → MapErr → Result Ending Halt → Type 0
+SaysRefusal name (errors.Map fault) result =
+    GivesOrStops (ends BadMap (bad_map_line fault)) result
+SaysRefusal name errors.Missing result = Misses name result
+SaysRefusal name errors.Fault result = result ≡ Err halts.Shelf
+SaysRefusal name errors.NoMemory result = result ≡ Err halts.NoMemory
+
+-- ---- before it is printed
+
+-- no count of the shelf falls
+pub record NoneFalls (before after : Shelved) : Type 0 where
+  pub faults : before.faults ≤ after.faults
+  pub reads : before.reads ≤ after.reads
+
+-- a map that the bytes stand for is what is found
+abbrev pub FindsMap : (List ℕ → List ℕ) → List ℕ → Found → Type 0
+FindsMap hash bytes found =
+    (map : Opened) → IsMap first_form hash bytes map.tree map.batch → found ≡ Ok map
+
+-- a map is of a well-formed tree at a batch of 64 bits
+abbrev pub IsWell : Found → Type 0
+IsWell (Ok map) = WellFormed map.tree × (map.batch < 2 ^ 64)
+IsWell (Err fault) = ⊤
+
+-- this was found in the bytes of a file
+abbrev pub WasFound : Option Files → (List ℕ → List ℕ) → List ℕ → Found → Type 0
+WasFound told hash bytes found = Shows hash bytes found
+    × OfFiles told (λ files. FindsMap hash bytes found)
+
+-- the plan comes to this status and text, and the files are left as its outcome says
+abbrev pub Ends : Plan → Option Files → Option Files → Status → List ℕ → Type 0
+Ends (comes said) before after status text = (status ≡ said.status) × (text ≡ said.printed)
+    × IsLeft said.written before after
+Ends (reads name next) before after status text = (input : Input) × IsInput before name input
+    × IfSome input AreBytes × Ends (next input) before after status text
+Ends (opens hash bytes next) before after status text = (found : Found)
+    × WasFound before hash bytes found × IsWell found × Ends (next found) before after status text
+Ends (rereads reading next) None after status text = (said : Outcome) × MaySay reading said
+    × (status ≡ said.status) × (text ≡ said.printed) × IsLeft said.written None after
+Ends (rereads reading next) (Some files) after status text =
+    Ends next (Some files) after status text
+Ends (judges hash root query proof next) before after status text =
+    Ends next before after status text
+
+-- the plan was given up, and the files are left as its outcome allows
+abbrev pub GivesUp : Plan → Option Files → Option Files → Type 0
+GivesUp (comes said) before after = MayLeave said.written before after
+GivesUp (reads name next) before after = (after ≡ before)
+    ⊎ ((input : Input) × IsInput before name input × GivesUp (next input) before after)
+GivesUp (opens hash bytes next) before after = (found : Found) × Shows hash bytes found
+    × GivesUp (next found) before after
+GivesUp (rereads reading next) None after = after ≡ None
+GivesUp (rereads reading next) (Some files) after = GivesUp next (Some files) after
+GivesUp (judges hash root query proof next) before after = GivesUp next before after
+
+-- the bytes that the plan opens stand for one map or have one fault, whichever
+abbrev pub AreJudged : Plan → Option Files → Type 0
+AreJudged (comes said) told = ⊤
+AreJudged (reads name next) told =
+    (input : Input) → IsInput told name input → AreJudged (next input) told
+AreJudged (opens hash bytes next) told = Agrees first_form hash bytes
+    × ((found : Found) → Shows hash bytes found → AreJudged (next found) told)
+AreJudged (rereads reading next) None = ⊤
+AreJudged (rereads reading next) (Some files) = AreJudged next (Some files)
+AreJudged (judges hash root query proof next) told = AreJudged next told
+
+-- why a command is not carried out to its end
+abbrev pub Stops : Shelved → Shelved → Halt → Type 0
+Stops before after halts.Words = ⊥
+Stops before after halts.Shelf = Rose before.faults after.faults
+Stops before after halts.NoMemory = ⊤
+
+abbrev pub Came : Plan → Shelved → Shelved → Result Ending Halt → Type 0
+Came plan before after (Ok ending) = Ends plan before.files after.files ending.status
+    (printed_of ending)
+Came plan before after (Err halt) = Stops before after halt × GivesUp plan before.files after.files
+
+-- why an ending may say that something outside failed
+abbrev pub Blames : Plan → Shelved → Shelved → Result Ending Halt → Type 0
+Blames plan before after (Ok ending) = ending.status ≡ Outside → Rose before.faults after.faults
+    ⊎ LacksInput plan before.files
+Blames plan before after (Err halt) = ⊤
+
+-- where it does not, nothing failed
+abbrev pub IsCalm : Shelved → Shelved → Result Ending Halt → Type 0
+IsCalm before after (Ok ending) = IsSettled ending.status → after.faults ≡ before.faults
+IsCalm before after (Err halt) = ⊤
+
+-- a command comes to what is said
+pub record Comes (plan : Plan) (before after : Shelved) (result : Result Ending Halt) : Type 0 where
+  pub counts : NoneFalls before after
+  pub judged : AreJudged plan before.files
+  pub came : Came plan before after result
+  pub outside : Blames plan before after result
+  pub quiet : IsCalm before after result
+  pub few : ReadsFew plan before after
+
+abbrev pub Read : List ℕ → Shelved → Shelved → Result (Option (Vec ℕ)) Halt → Type 0
+Read name before after (Ok None) = IsInput before.files name None
+    × (Rose before.faults after.faults ⊎ IsAbsent before.files name)
+Read name before after (Ok (Some bytes)) = IsInput before.files name (Some bytes.items)
+    × AreBytes bytes.items × (after.faults ≡ before.faults)
+Read name before after (Err halt) = Stops before after halt
+
+-- the same shelf with this count of reads
+abbrev pub with_reads : ℕ → Shelved → Shelved
+with_reads n s = record { files = s.files; faults = s.faults; reads = n }
+
+-- a command comes to what is said, but for what it reads, which is counted apart
+abbrev pub ComesBut : Plan → Shelved → Shelved → Result Ending Halt → Type 0
+ComesBut plan before after result = Comes plan (with_reads after.reads before) after result
+
+-- over files that are not told, what is said may be said, each failure has its cause, and what is
+-- settled counts no fault
+abbrev pub SaysUntold : Rereading → Shelved → Shelved → Result Ending Halt → Type 0
+SaysUntold reading before after (Ok ending) = (said : Outcome) × MaySay reading said
+    × (ending.status ≡ said.status) × (printed_of ending ≡ said.printed)
+    × IsLeft said.written before.files after.files
+    × (ending.status ≡ Outside → Rose before.faults after.faults)
+    × (IsSettled ending.status → after.faults ≡ before.faults)
+SaysUntold reading before after (Err halt) = Stops before after halt
+    × (after.files ≡ before.files)
+
+-- what is made of a proof, or of why a node of the map was not fetched
+abbrev pub KeepsProof : (map name : List ℕ) → Result Text NodesErr → Shelved → Shelved
+    → Result Ending Halt → Type 0
+KeepsProof map name (Ok text) before after result =
+    Comes (comes (say_written name text.bytes.items)) before after result
+KeepsProof map name (Err e) before after result = (after ≡ before)
+    × SaysRefusal map (as_map_error e) result
+
+-- what is made of the answer of a read
+abbrev pub IsAsRead : Result (Vec ℕ) ShelfErr → Result (Option (Vec ℕ)) Halt → Type 0
+IsAsRead (Ok bytes) result = (result ≡ Ok (Some bytes)) × AreBytes bytes.items
+IsAsRead (Err shelf.Missing) result = result ≡ Ok None
+IsAsRead (Err shelf.Fault) result = result ≡ Err halts.Shelf
+IsAsRead (Err shelf.NoMemory) result = result ≡ Err halts.NoMemory
+
+-- where the files are told, this one was read once
+abbrev pub ReadsOnce : List ℕ → Shelved → Shelved → Type 0
+ReadsOnce name before after = OfFiles before.files
+    (λ files. after.reads ≤ before.reads + pieces_of (file files name))
+
+-- where the files are told, each page of this one was read once at most
+abbrev pub ReadsPages : List ℕ → Shelved → Shelved → Type 0
+ReadsPages name before after = OfFile before.files name (after.reads ≡ before.reads)
+    (λ bytes. after.reads ≤ before.reads + pages_in bytes)
+
+-- behind an opened map nothing is read, or of a large one the nodes that the bytes of a proof open
+abbrev pub ReadsOpened : (List ℕ → List ℕ) → Query → Standing → (pages : ℕ) → List ℕ → Shelved
+    → Shelved → Type 0
+ReadsOpened hash q s pages bytes before after = IfSome s.tree (λ t.
+    (after.reads ≡ before.reads) ⊎ ((room + 1 < pages)
+    × (after.reads ≤ before.reads + opened_accepted (first hash) t s.batch q bytes)))
+
+-- the pieces of a proof, and of a large map the nodes that it opens
+abbrev pub IsBeside : (List ℕ → List ℕ) → Tree → (batch : ℕ) → Query → (pages : ℕ) → Input
+    → (before after : ℕ) → Type 0
+IsBeside hash t batch q pages proof before after = (after ≤ before + pieces_of proof)
+    ⊎ ((room + 1 < pages)
+    × (after ≤ before + pieces_of proof + opened_beside hash t batch q proof))
+
+-- so many are read of the file of a proof and of the map
+abbrev pub ReadsBeside : (List ℕ → List ℕ) → Query → Standing → (pages : ℕ) → List ℕ → Shelved
+    → Shelved → Type 0
+ReadsBeside hash q s pages proof before after = IfSome s.tree (λ t. OfFiles before.files (λ files.
+    IsBeside hash t s.batch q pages (file files proof) before.reads after.reads))
+
+-- an input was read, or is missing
+pub record Reads (name : List ℕ) (before after : Shelved) (result : Result (Option (Vec ℕ)) Halt)
+    : Type 0 where
+  pub counts : NoneFalls before after
+  pub files : after.files ≡ before.files
+  pub read : Read name before after result
+  pub once : ReadsOnce name before after
+
+-- whatever bytes may be there, they stand for one map or have one fault
+abbrev pub IsJudged : (List ℕ → List ℕ) → Option Files → List ℕ → Type 0
+IsJudged hash told name =
+    (bytes : List ℕ) → IsInput told name (Some bytes) → Agrees first_form hash bytes
+
+-- a file was read that stands for this map
+pub record HoldsMap (hash : List ℕ → List ℕ) (name : List ℕ) (before after : Shelved) (map : Opened)
+    : Type 0 where
+  pub counts : NoneFalls before after
+  pub files : after.files ≡ before.files
+  pub quiet : after.faults ≡ before.faults
+  pub once : ReadsPages name before after
+  pub bytes : List ℕ
+  pub input : IsInput before.files name (Some bytes)
+  pub are : AreBytes bytes
+  pub judged : IsJudged hash before.files name
+  pub found : WasFound before.files hash bytes (Ok map)
+  pub well : WellFormed map.tree
+  pub low : map.batch < 2 ^ 64
+
+-- what follows on any map opens no bytes but such
+abbrev pub GoesOn : (Opened → Plan) → Option Files → Type 0
+GoesOn next told = (map : Opened) → AreJudged (next map) told
+
+-- a map was read, or what is said without it is settled
+abbrev pub Opens : (List ℕ → List ℕ) → List ℕ → Shelved → Shelved
+    → Result (Result Opened Ending) Halt → Type 0
+Opens hash name before after (Ok (Ok map)) = HoldsMap hash name before after map
+Opens hash name before after (Ok (Err ending)) =
+    (next : Opened → Plan) → GoesOn next before.files
+    → Comes (needs_map hash name next) before after (Ok ending)
+Opens hash name before after (Err halt) =
+    (next : Opened → Plan) → GoesOn next before.files
+    → Comes (needs_map hash name next) before after (Err halt)
+
+-- the halt over a refusal of the shelf
+abbrev pub halt_of : ShelfErr → Halt
+halt_of shelf.Missing = halts.Shelf
+halt_of shelf.Fault = halts.Shelf
+halt_of shelf.NoMemory = halts.NoMemory
+
+-- what a save leaves: the content, or what stands where it stopped
+abbrev pub Saved : List ℕ → Content → Shelved → Shelved → Result Unit Halt → Type 0
+Saved name content before after (Ok done) =
+    IsLeft (File name content) before.files after.files × (after.faults ≡ before.faults)
+Saved name content before after (Err halt) = Stops before after halt
+    × MayLeave (File name content) before.files after.files
+
+-- a file was written
+pub record Saves (name : List ℕ) (content : Content) (before after : Shelved)
+    (result : Result Unit Halt) : Type 0 where
+  pub counts : NoneFalls before after
+  pub unread : after.reads ≡ before.reads
+  pub saved : Saved name content before after result
+
+-- ---- while it is printed
+
+-- all was printed, or the sink or memory gave out behind a front
+abbrev pub Prints : Status → List ℕ → Sunk → Sunk → Status → Type 0
+Prints meant text before after ended =
+    ((ended ≡ meant) × Takes before after text × (after.faults ≡ before.faults))
+    ⊎ (((ended ≡ NoMemory) ⊎ ((ended ≡ Outside) × Rose before.faults after.faults))
+    × TakesFront before after text)
+
+-- what is printed of what a command came to
+abbrev pub Finished : Result Ending Halt → Sunk → Sunk → Status → Type 0
+Finished (Ok ending) before after status = Prints ending.status (printed_of ending) before after
+    status
+Finished (Err halts.Words) before after status = Prints BadWords bad_words_line before after status
+Finished (Err halts.Shelf) before after status = Prints Outside shelf_fault_line before after status
+Finished (Err halts.NoMemory) before after status = (status ≡ NoMemory) × (after ≡ before)
+
+pub record Finishes (came : Result Ending Halt) (before after : Sunk) (status : Status)
+    : Type 0 where
+  pub faults : before.faults ≤ after.faults
+  pub printed : Finished came before after status

@@ -1,0 +1,7 @@
+pub mod Counting
+pub mod Answer
+pub mod Ending
+pub mod Bundled
+pub mod Listing
+pub mod Taking
+pub mod Applying

@@ -1,0 +1,125 @@
+//! What a command comes to, and why it may be given up.
+
+ghost use Rattle.std.specs.Prelude.{◌≡◌, ◌++◌};
+ghost use Rattle.std.specs.String.{string_bytes};
+ghost use Rattle.mr_record.specs.RecordText.{text_of};
+ghost use Rattle.mr_query.specs.Scan.{by_number};
+ghost use Rattle.mr_tree.specs.Tree.{records as records_of};
+ghost use Rattle.mr_command.specs.Ending.{halt_of, printed_of};
+ghost use Rattle.mr_command.specs.declared.ending.Halt.TheVariants as halts;
+
+use mr_outside::ShelfErr;
+use mr_plan::Status;
+use mr_record::Record;
+use mr_tree::Tree;
+use std::alloc::{AllocError, Global};
+
+/// The records that are printed.
+#[derive(Drop)]
+pub enum Shown {
+    /// These, in this order.
+    Records(Vec<Record>),
+    /// Those of a tree, in rising number.
+    OfTree(Global, Tree),
+}
+
+/// What a command comes to: how it ends and what it prints, a text that may be empty and then a
+/// line for each record.
+#[derive(Drop)]
+pub struct Ending {
+    /// How the run is to end, once all is printed.
+    pub status: Status,
+    /// Whole lines, or nothing.
+    pub text: Vec<u8>,
+    /// The records behind them.
+    pub records: Shown,
+}
+
+impl Ending {
+    // Prints this text alone.
+    pub(crate) fn text(alloc: Global, status: Status, text: Vec<u8>) -> Ending
+        ensures status { result.status ≡ status }
+        ensures printed { printed_of result ≡ text.items }
+    {
+        Ending {
+            status,
+            text,
+            records: Shown::Records(Vec::new(alloc)),
+        }
+    }
+
+    // Prints this line alone.
+    pub(crate) fn line(alloc: Global, status: Status, line: String) -> Ending
+        ensures status { result.status ≡ status }
+        ensures printed { printed_of result ≡ string_bytes line }
+    {
+        Ending::text(alloc, status, line.into_bytes())
+    }
+
+    // Prints this line, and then these records.
+    pub(crate) fn both(status: Status, line: String, records: Vec<Record>) -> Ending
+        ensures status { result.status ≡ status }
+        ensures printed { printed_of result ≡ string_bytes line ++ text_of records.items }
+    {
+        Ending {
+            status,
+            text: line.into_bytes(),
+            records: Shown::Records(records),
+        }
+    }
+
+    // Prints these records alone.
+    pub(crate) fn records(alloc: Global, status: Status, records: Vec<Record>) -> Ending
+        ensures status { result.status ≡ status }
+        ensures printed { printed_of result ≡ text_of records.items }
+    {
+        Ending {
+            status,
+            text: Vec::new(alloc),
+            records: Shown::Records(records),
+        }
+    }
+
+    // Prints the records of a tree in rising number. The tree is kept until then, and not copied.
+    pub(crate) fn tree(alloc: Global, status: Status, tree: Tree) -> Ending
+        ensures status { result.status ≡ status }
+        ensures printed { printed_of result ≡ text_of (by_number (records_of tree)) }
+    {
+        Ending {
+            status,
+            text: Vec::new(alloc),
+            records: Shown::OfTree(alloc, tree),
+        }
+    }
+}
+
+/// Why no command comes to its end.
+#[derive(Clone, Copy)]
+pub enum Halt {
+    /// The words spell no command.
+    Words,
+    /// The shelf failed.
+    Shelf,
+    /// There was no memory.
+    NoMemory,
+}
+
+impl From<AllocError> for Halt {
+    ghost from_gives = { λ _ e. e ≡ halts.NoMemory };
+
+    fn from(_error: AllocError) -> Halt {
+        Halt::NoMemory
+    }
+}
+
+impl From<ShelfErr> for Halt {
+    ghost from_gives = { λ e h. h ≡ halt_of e };
+
+    fn from(error: ShelfErr) -> Halt {
+        match error {
+            ShelfErr::Missing => Halt::Shelf,
+            ShelfErr::Fault => Halt::Shelf,
+            ShelfErr::NoMemory => Halt::NoMemory,
+        }
+    }
+}

@@ -1,0 +1,53 @@
+//! Findings of a map whose nodes are fetched one by one.
+
+ghost use Rattle.std.specs.Prelude.{◌≡◌, ◌≤◌, ◌+◌, IfOk, IfErr, IfSome, OnOk};
+ghost use Rattle.mr_tree.specs.Digest.{by};
+ghost use Rattle.mr_tree.specs.Nodes.{HasSomeCause};
+ghost use Rattle.mr_query.specs.Word.{IsAskable};
+ghost use Rattle.mr_clash.specs.Finding.{found, opened_accepted, Collides, FindsFor};
+ghost use Rattle.mr_command.specs.Ending.{SaysRefusal};
+ghost use Rattle.mr_plan.specs.Found.{as_map_error};
+
+use crate::ending::{Ending, Halt};
+use crate::opening::unopened;
+use mr_clash::{AuditErr, Finding, audit};
+use mr_plan::map_error;
+use mr_query::Query;
+use mr_tree::{Nodes, NodesErr};
+use std::alloc::Global;
+
+// What is found of the bytes of a proof, by these nodes, or why one of them was not fetched.
+pub(crate) fn finding_of_nodes<N: Nodes>(
+    alloc: Global,
+    nodes: &mut N,
+    query: &Query,
+    bytes: &[u8],
+) -> Result<Finding, NodesErr>
+    requires { IsAskable query.now }
+    ensures kept { N.kept nodes.old nodes.new }
+    ensures told { IfSome (N.stands nodes.old).tree (λ t. IfOk result (λ f.
+        f ≡ found (by (N.stands nodes.old).version N.Hash.of) t (N.stands nodes.old).batch
+        query.now bytes.now)) }
+    ensures judged { IfOk result (λ f.
+        FindsFor N.Hash.of (N.stands nodes.old) query.now bytes.now f) }
+    ensures collides { IfOk result (λ f. Collides N.Hash.of f) }
+    ensures fetched { IfSome (N.stands nodes.old).tree (λ t. N.fetches nodes.new ≤
+        N.fetches nodes.old + opened_accepted (by (N.stands nodes.old).version N.Hash.of) t
+        (N.stands nodes.old).batch query.now bytes.now) }
+    ensures cause { IfErr result (HasSomeCause (N.stands nodes.old) (N.faults nodes.old)
+        (N.faults nodes.new)) }
+    ensures quiet { OnOk result (N.faults nodes.new ≡ N.faults nodes.old) }
+{
+    match audit(alloc, nodes, query, bytes) {
+        Ok(finding) => Ok(finding),
+        Err(AuditErr::NoMemory) => Err(NodesErr::NoMemory),
+        Err(AuditErr::Nodes(error)) => Err(error),
+    }
+}
+
+// What a command comes to without a node of the map in a file, by why that was not fetched.
+pub(crate) fn unfetched(alloc: Global, name: &str, error: &NodesErr) -> Result<Ending, Halt>
+    ensures { SaysRefusal name.now (as_map_error error.now) result }
+{
+    unopened(alloc, name, &map_error(error))
+}

@@ -1,0 +1,120 @@
+//! The command `serve`.
+
+ghost use Rattle.std.specs.Prelude.{◌≤◌, length, All, Ok};
+ghost use Rattle.mr_query.specs.Script.{queries_of_text, script_limit};
+ghost use Rattle.mr_query.specs.Word.{IsAskable};
+ghost use Rattle.mr_command.specs.Ending.{Comes};
+ghost use Rattle.mr_plan.specs.Plan.{comes};
+ghost use Rattle.mr_plan.specs.Say.{held_in, say_script, say_serve, say_serve_of};
+
+use crate::bundling::{bundle_size, save_proofs};
+use crate::ending::{Ending, Halt};
+use crate::fetching::unfetched;
+use crate::input::{bad_text, missing, queries_in, read};
+use crate::opening::unopened;
+use mr_bundle::prove_all;
+use mr_outside::{Gate, Shelf};
+use mr_plan::served_line;
+use mr_query::Query;
+use mr_record::TextErr;
+use mr_store::Paged;
+use mr_tree::{Hash32, Snapshot};
+use std::alloc::Global;
+use std::thread::Threads;
+
+// The bundle for some queries on a map in memory, in a file, and the line on it.
+fn serve_queries<H: Hash32, S: Shelf, G: Gate, R: Threads + Sync>(
+    rt: &R,
+    alloc: Global,
+    nodes: &Snapshot<H>,
+    queries: &[Query],
+    bundle: &str,
+    shelf: &mut S,
+    gate: &G,
+) -> Result<Ending, Halt>
+    requires askable { All IsAskable queries.now }
+    requires few { length queries.now ≤ script_limit }
+    ensures { let map = held_in nodes.now.nodes.items nodes.now.top in
+        Comes (comes (say_serve_of H.of bundle.now map (Ok queries.now))) (S.state shelf.old)
+        (S.state shelf.new) result }
+{
+    let list = prove_all::<H, G, R>(rt, alloc, nodes, queries, gate)?;
+    let line = served_line(alloc, queries.len(), bundle_size(&list))?;
+    save_proofs(alloc, line, bundle, &list, shelf)
+}
+
+// The same for the queries of a text, or its fault.
+fn serve_text<H: Hash32, S: Shelf, G: Gate, R: Threads + Sync>(
+    rt: &R,
+    alloc: Global,
+    nodes: &Snapshot<H>,
+    text: Vec<u8>,
+    bundle: &str,
+    shelf: &mut S,
+    gate: &G,
+) -> Result<Ending, Halt>
+    ensures { let map = held_in nodes.now.nodes.items nodes.now.top in
+        Comes (comes (say_serve_of H.of bundle.now map (queries_of_text text.items)))
+        (S.state shelf.old) (S.state shelf.new) result }
+{
+    match queries_in(alloc, text) {
+        Ok(queries) => {
+            serve_queries::<H, S, G, R>(rt, alloc, nodes, &queries, bundle, shelf, gate)
+        }
+        Err(TextErr::Text(fault)) => bad_text(alloc, &fault),
+        Err(TextErr::NoMemory) => Err(Halt::NoMemory),
+    }
+}
+
+// The same for the script in a file.
+fn serve_script<H: Hash32, S: Shelf, G: Gate, R: Threads + Sync>(
+    rt: &R,
+    alloc: Global,
+    nodes: &Snapshot<H>,
+    script: &str,
+    bundle: &str,
+    shelf: &mut S,
+    gate: &G,
+) -> Result<Ending, Halt>
+    ensures { let map = held_in nodes.now.nodes.items nodes.now.top in
+        Comes (say_script H.of script.now bundle.now map) (S.state shelf.old)
+        (S.state shelf.new) result }
+{
+    match read(alloc, script, shelf) {
+        Ok(Some(text)) => { serve_text::<H, S, G, R>(rt, alloc, nodes, text, bundle, shelf, gate) }
+        Ok(None) => missing(alloc, script),
+        Err(halt) => Err(halt),
+    }
+}
+
+/// The proofs for the queries of a script on the map in a file, written to another one. The map is
+/// taken into memory, once, and the script is read behind it. The shelf is handed back.
+pub fn serve<H: Hash32, S: Shelf, G: Gate, R: Threads + Sync>(
+    rt: &R,
+    alloc: Global,
+    map: &str,
+    script: &str,
+    bundle: &str,
+    shelf: S,
+    gate: &G,
+) -> (Result<Ending, Halt>, S)
+    ensures { Comes (say_serve H.of map.now script.now bundle.now) (S.state shelf)
+        (S.state result.1) result.0 }
+{
+    match Paged::<S, H>::open_map(alloc, shelf, map) {
+        Err((shelf, error)) => (unopened(alloc, map, &error), shelf),
+        Ok(paged) => {
+            let mut paged = paged;
+            match paged.snapshot() {
+                Err(error) => (unfetched(alloc, map, &error), paged.close()),
+                Ok(nodes) => {
+                    let mut shelf = paged.close();
+                    let came = serve_script::<H, S, G, R>(
+                        rt, alloc, &nodes, script, bundle, &mut shelf, gate,
+                    );
+                    (came, shelf)
+                }
+            }
+        }
+    }
+}

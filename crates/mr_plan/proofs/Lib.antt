@@ -1,0 +1,3 @@
+pub mod Digests
+pub mod Spelling
+pub mod BundleLines

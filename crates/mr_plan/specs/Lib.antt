@@ -1,0 +1,14 @@
+pub mod Status
+pub mod First
+pub mod Words
+pub mod Found
+pub mod Outcome
+pub mod Lines
+pub mod Refusal
+pub mod Judged
+pub mod Saying
+pub mod Rereading
+pub mod Plan
+pub mod Demo
+pub mod Say
+pub mod Spelling

@@ -1,0 +1,226 @@
+-- What each command says. The hash function is any one.
+use Rattle.std.specs.Prelude.{ℕ, List, [], ◌∷◌, Option, Some, None, Result, Ok, Err}
+use Rattle.mr_record.specs.declared.record.Record.{Record}
+use Rattle.mr_record.specs.declared.text_fault.TextFault.{TextFault}
+use Rattle.mr_record.specs.RecordText.{records_of_text, text_of}
+use Rattle.mr_tree.specs.Digest.{root}
+use Rattle.mr_tree.specs.Tree.{records}
+use Rattle.mr_tree.specs.declared.tree.Tree.{Tree}
+use Rattle.mr_pack.specs.Pack.{pack}
+use Rattle.mr_batch.specs.Admissible.{batch_fault}
+use Rattle.mr_batch.specs.BatchText.{batch_of_text}
+use Rattle.mr_batch.specs.Changes.{Changes}
+use Rattle.mr_batch.specs.Peak.{peak}
+use Rattle.mr_batch.specs.Replay.{replay}
+use Rattle.mr_batch.specs.Workload.{generated}
+use Rattle.mr_batch.specs.declared.admission.BatchFault.{BatchFault}
+use Rattle.mr_query.specs.Scan.{by_number}
+use Rattle.mr_query.specs.Script.{queries_of_text}
+use Rattle.mr_query.specs.declared.query.Query.{Query}
+use Rattle.mr_proof.specs.declared.rule.Fault.{Fault}
+use Rattle.mr_proof.specs.Honest as honest
+use Rattle.mr_proof.specs.Reading.{verdict}
+use Rattle.mr_clash.specs.Finding.{found}
+use Rattle.mr_plan.specs.Demo.{demo_lines}
+use Rattle.mr_plan.specs.First.{first}
+use Rattle.mr_plan.specs.Found.{Found, bad_map_line}
+use Rattle.mr_plan.specs.Lines.{digest_line, bad_words_line, bad_text_line, bad_batch_line, made_line}
+use Rattle.mr_plan.specs.Outcome.{Outcome, File, map_of, changed}
+use Rattle.mr_plan.specs.Plan.{Input, Plan, comes, reads, opens, rereads, judges}
+use Rattle.mr_plan.specs.Rereading.{proving, auditing, serving, applying}
+pub use Rattle.mr_plan.specs.Saying.{ends, prints, says_missing, say_text, say_written}
+pub use Rattle.mr_plan.specs.Saying.{say_finding, say_bundle, held_in}
+pub use Rattle.mr_plan.specs.Saying.{say_serve_of, say_verdicts, say_parts_of}
+use Rattle.mr_plan.specs.Refusal.{refused_line}
+use Rattle.mr_pages.specs.Opening.{pages_in}
+use Rattle.mr_pages.specs.declared.opening.Opened.{Opened}
+use Rattle.mr_plan.specs.declared.status.Status.TheVariants.{Done, BadWords, Refused, BadText, BadMap, BadBatch}
+use Rattle.mr_plan.specs.declared.words.Command.{Command}
+use Rattle.mr_plan.specs.declared.words.Command.TheVariants as commands
+
+-- what follows on a file's bytes, or the line on a missing file
+abbrev pub given : List ℕ → (List ℕ → Plan) → Input → Plan
+given name next None = comes (says_missing name)
+given name next (Some bytes) = next bytes
+
+-- a file that has to be there is read
+abbrev pub needs : List ℕ → (List ℕ → Plan) → Plan
+needs name next = reads name (given name next)
+
+-- what follows on a map, or the line on the fault of a file that stands for none
+abbrev pub given_map : (Opened → Plan) → Found → Plan
+given_map next (Ok map) = next map
+given_map next (Err fault) = comes (ends BadMap (bad_map_line fault))
+
+-- a file that has to be there and to stand for a map is read
+abbrev pub needs_map : (List ℕ → List ℕ) → List ℕ → (Opened → Plan) → Plan
+needs_map hash name next = needs name (λ bytes. opens hash bytes (given_map next))
+
+-- the same, where what follows goes by the number of the file's pages besides
+abbrev pub needs_sized_map : (List ℕ → List ℕ) → List ℕ → ((pages : ℕ) → Opened → Plan) → Plan
+needs_sized_map hash name next =
+    needs name (λ bytes. opens hash bytes (given_map (next (pages_in bytes))))
+
+-- the root of the tree of the records of a text at batch 0, or the text's first fault
+abbrev pub say_root_of : (List ℕ → List ℕ) → Result (List Record) TextFault → Outcome
+say_root_of hash (Err fault) = ends BadText (bad_text_line fault)
+say_root_of hash (Ok records) = prints (digest_line (root (first hash) (pack records) 0))
+
+-- `root RECORDS`: the root of the records of a file
+abbrev pub say_root : (List ℕ → List ℕ) → List ℕ → Plan
+say_root hash records = needs records (λ text. comes (say_root_of hash (records_of_text text)))
+
+-- the map of a tree at a batch in a file, laid out with its nodes in preorder and no free page, and
+-- its root
+abbrev pub say_map : (List ℕ → List ℕ) → List ℕ → Tree → ℕ → Outcome
+say_map hash map tree batch = record {
+  status = Done;
+  printed = digest_line (root (first hash) tree batch);
+  written = File map (map_of hash tree batch);
+}
+
+-- the map of the records of a text at batch 0 in a file, and its root; or the text's first fault
+abbrev pub say_build_of : (List ℕ → List ℕ) → List ℕ → Result (List Record) TextFault → Outcome
+say_build_of hash map (Err fault) = ends BadText (bad_text_line fault)
+say_build_of hash map (Ok records) = say_map hash map (pack records) 0
+
+-- `build MAP RECORDS`: the map of the records of a file
+abbrev pub say_build : (List ℕ → List ℕ) → List ℕ → List ℕ → Plan
+say_build hash map records =
+    needs records (λ text. comes (say_build_of hash map (records_of_text text)))
+
+-- the records of a map in rising number, a line for each
+abbrev pub say_list_of : Tree → Outcome
+say_list_of tree = prints (text_of (by_number (records tree)))
+
+-- `list MAP`: the records of the map in a file
+abbrev pub say_list : (List ℕ → List ℕ) → List ℕ → Plan
+say_list hash name = needs_map hash name (λ map. comes (say_list_of map.tree))
+
+-- the map of the tree after a batch in a file, at the batch's number, and its root. The file is
+-- made by changes from one of so many pages.
+abbrev pub say_changed : (List ℕ → List ℕ) → List ℕ → (pages : ℕ) → Tree → Changes → Outcome
+say_changed hash new pages tree batch =
+    let after = replay tree (batch ∷ []) in
+    record {
+      status = Done;
+      printed = digest_line (root (first hash) after batch.number);
+      written = File new (changed hash pages (peak tree batch) after batch.number);
+    }
+
+-- the same, or why the batch may not be applied
+abbrev pub say_admitted : (List ℕ → List ℕ) → List ℕ → (pages : ℕ) → Tree → Changes
+    → Option BatchFault → Outcome
+say_admitted hash new pages tree batch None = say_changed hash new pages tree batch
+say_admitted hash new pages tree batch (Some fault) = ends BadBatch (bad_batch_line fault)
+
+-- what is said of a batch for a map in a file of so many pages
+abbrev pub say_batch : (List ℕ → List ℕ) → List ℕ → (pages : ℕ) → Opened → Changes → Outcome
+say_batch hash new pages map batch =
+    say_admitted hash new pages map.tree batch (batch_fault (records map.tree) map.batch batch)
+
+-- what is said of the batch of a text, or the text's first fault
+abbrev pub say_apply_of : (List ℕ → List ℕ) → List ℕ → (pages : ℕ) → Opened
+    → Result Changes TextFault → Outcome
+say_apply_of hash new pages map (Err fault) = ends BadText (bad_text_line fault)
+say_apply_of hash new pages map (Ok batch) = say_batch hash new pages map batch
+
+-- what is said of the batch in a file
+abbrev pub say_change : (List ℕ → List ℕ) → (batch new : List ℕ) → (pages : ℕ) → Opened → Plan
+say_change hash batch new pages map =
+    needs batch (λ text. comes (say_apply_of hash new pages map (batch_of_text text)))
+
+-- `apply OLD BATCH NEW`: the map after the batch in a file, written to another one
+abbrev pub say_apply : (List ℕ → List ℕ) → (old batch new : List ℕ) → Plan
+say_apply hash old batch new = rereads (applying hash old batch new)
+    (needs_sized_map hash old (say_change hash batch new))
+
+-- the honest proof for a query on a map in a file, and its length
+unfoldable pub say_prove_of : (List ℕ → List ℕ) → Query → List ℕ → Opened → Outcome
+say_prove_of hash query proof map =
+    say_written proof (honest.proof (first hash) map.tree map.batch query)
+
+-- `prove MAP QUERY PROOF`: the proof for a query on the map in a file, written to another one
+abbrev pub say_prove : (List ℕ → List ℕ) → List ℕ → Query → List ℕ → Plan
+say_prove hash name query proof = rereads (proving hash name query proof)
+    (needs_map hash name (λ map. comes (say_prove_of hash query proof map)))
+
+-- the answer that a proof proves, a line for each record, or its fault
+abbrev pub say_verdict : Result (List Record) Fault → Outcome
+say_verdict (Ok answer) = prints (text_of answer)
+say_verdict (Err fault) = ends Refused (refused_line fault)
+
+-- what is said of the bytes of a proof
+unfoldable pub say_check_of : (List ℕ → List ℕ) → List ℕ → Query → List ℕ → Outcome
+say_check_of hash root query proof = say_verdict (verdict hash root query proof)
+
+-- `check ROOT QUERY PROOF`: the answer that the proof in a file proves
+abbrev pub say_check : (List ℕ → List ℕ) → List ℕ → Query → List ℕ → Plan
+say_check hash root query proof = judges hash root query proof
+    (needs proof (λ bytes. comes (say_check_of hash root query bytes)))
+
+-- what is said of the bytes of a proof and of a map
+unfoldable pub say_audit_of : (List ℕ → List ℕ) → Query → Opened → List ℕ → Outcome
+say_audit_of hash query map bytes = say_finding (found (first hash) map.tree map.batch query bytes)
+
+-- `audit MAP QUERY PROOF`: what the proof in a file is worth against the map in another one
+abbrev pub say_audit : (List ℕ → List ℕ) → List ℕ → Query → List ℕ → Plan
+say_audit hash name query proof = rereads (auditing hash name query proof)
+    (needs_map hash name
+    (λ map. needs proof (λ bytes. comes (say_audit_of hash query map bytes))))
+
+-- the bundle for the script in a file on a map, in another file
+abbrev pub say_script : (List ℕ → List ℕ) → (script bundle : List ℕ) → Opened → Plan
+say_script hash script bundle map =
+    needs script (λ text. comes (say_serve_of hash bundle map (queries_of_text text)))
+
+-- `serve MAP SCRIPT BUNDLE`: the proofs for the queries of a script on the map in a file, written
+-- to another one
+abbrev pub say_serve : (List ℕ → List ℕ) → (map script bundle : List ℕ) → Plan
+say_serve hash map script bundle = rereads (serving hash map script bundle)
+    (needs_map hash map (say_script hash script bundle))
+
+-- what follows on the queries of a text, or the line on the text's first fault
+abbrev pub given_queries : (List Query → Plan) → Result (List Query) TextFault → Plan
+given_queries next (Ok queries) = next queries
+given_queries next (Err fault) = comes (ends BadText (bad_text_line fault))
+
+-- what is said of the bundle in a file, for some queries
+abbrev pub say_parts : (List ℕ → List ℕ) → (root bundle : List ℕ) → List Query → Plan
+say_parts hash root bundle queries =
+    needs bundle (λ bytes. comes (say_parts_of hash root queries bytes))
+
+-- `check-all ROOT SCRIPT BUNDLE`: the verdicts on the parts of the bundle in a file
+abbrev pub say_check_all : (List ℕ → List ℕ) → (root script bundle : List ℕ) → Plan
+say_check_all hash root script bundle = needs script
+    (λ text. given_queries (say_parts hash root bundle) (queries_of_text text))
+
+-- the text of generated records in a file, and how many they are
+unfoldable pub say_make_of : (count seed : ℕ) → List ℕ → Outcome
+say_make_of count seed records =
+    say_text (made_line count) records (text_of (generated count seed))
+
+-- `make N SEED RECORDS`: the text of generated records, written to a file
+abbrev pub say_make : (count seed : ℕ) → List ℕ → Plan
+say_make count seed records = comes (say_make_of count seed records)
+
+-- `demo N SEED`: what generated queries give on the map of generated records
+abbrev pub say_demo : (List ℕ → List ℕ) → (count seed : ℕ) → Plan
+say_demo hash count seed = comes (prints (demo_lines hash count seed))
+
+-- what is said where words spell a command, and where they spell none
+abbrev pub say : (List ℕ → List ℕ) → Option Command → Plan
+say hash None = comes (ends BadWords bad_words_line)
+say hash (Some (commands.Root records)) = say_root hash records.now
+say hash (Some (commands.Build map records)) = say_build hash map.now records.now
+say hash (Some (commands.List map)) = say_list hash map.now
+say hash (Some (commands.Apply old batch new)) = say_apply hash old.now batch.now new.now
+say hash (Some (commands.Prove map query proof)) = say_prove hash map.now query proof.now
+say hash (Some (commands.Check root query proof)) = say_check hash root query proof.now
+say hash (Some (commands.Audit map query proof)) = say_audit hash map.now query proof.now
+say hash (Some (commands.Serve map script bundle)) =
+    say_serve hash map.now script.now bundle.now
+say hash (Some (commands.CheckAll root script bundle)) =
+    say_check_all hash root script.now bundle.now
+say hash (Some (commands.Make count seed records)) = say_make count seed records.now
+say hash (Some (commands.Demo count seed)) = say_demo hash count seed

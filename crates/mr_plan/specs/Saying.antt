@@ -1,0 +1,79 @@
+-- Outcomes, by what they say.
+use Rattle.std.specs.Prelude.{ℕ, List, ◌++◌, length, Option, Result, Ok, Err}
+use Rattle.mr_record.specs.RecordText.{text_of}
+use Rattle.mr_record.specs.declared.text_fault.TextFault.{TextFault}
+use Rattle.mr_tree.specs.Snapshot.{tree_of}
+use Rattle.mr_tree.specs.declared.nodes.Top.{Top}
+use Rattle.mr_tree.specs.declared.stored.Stored.{Stored}
+use Rattle.mr_pages.specs.declared.opening.Opened.{Opened}
+use Rattle.mr_query.specs.declared.query.Query.{Query}
+use Rattle.mr_bundle.specs.Bundle.{parts}
+use Rattle.mr_bundle.specs.Proofs.{bundle}
+use Rattle.mr_bundle.specs.Verdicts.{verdicts}
+use Rattle.mr_bundle.specs.declared.verdict.Verdict.{Verdict}
+use Rattle.mr_clash.specs.declared.finding.Finding.{Finding}
+use Rattle.mr_clash.specs.declared.finding.Finding.TheVariants as findings
+use Rattle.mr_plan.specs.First.{first}
+use Rattle.mr_plan.specs.Judged.{bundle_text, bundle_status}
+use Rattle.mr_plan.specs.Lines.{bad_text_line, missing_line, proof_line, served_line, sound_line, collision_lines}
+use Rattle.mr_plan.specs.Outcome.{Outcome, Nothing, File}
+use Rattle.mr_plan.specs.Outcome as content
+use Rattle.mr_plan.specs.Refusal.{refused_line}
+use Rattle.mr_plan.specs.declared.status.Status.{Status}
+use Rattle.mr_plan.specs.declared.status.Status.TheVariants.{Done, Refused, BadText, Collision, Outside}
+
+-- a command that ends so, prints this text and writes no file
+abbrev pub ends : Status → List ℕ → Outcome
+ends status text = record { status = status; printed = text; written = Nothing }
+
+-- all was done
+abbrev pub prints : List ℕ → Outcome
+prints text = ends Done text
+
+-- a file that is missing, by its name
+abbrev pub says_missing : List ℕ → Outcome
+says_missing name = ends Outside (missing_line name)
+
+-- these bytes in a file, and a line on them
+abbrev pub say_text : (line name bytes : List ℕ) → Outcome
+say_text line name bytes = record {
+  status = Done;
+  printed = line;
+  written = File name (content.text bytes);
+}
+
+-- these bytes in a file, and their number
+abbrev pub say_written : List ℕ → List ℕ → Outcome
+say_written proof bytes = say_text (proof_line (length bytes)) proof bytes
+
+-- what was found of the bytes of a proof: its fault; that it is the honest proof, and then the
+-- answer, a line for each record; or the two strings
+abbrev pub say_finding : Finding → Outcome
+say_finding (findings.Refused fault) = ends Refused (refused_line fault)
+say_finding (findings.Sound answer) = prints (sound_line ++ text_of answer)
+say_finding (findings.Collision owned shown) = ends Collision (collision_lines owned shown)
+
+-- a bundle in a file, how many queries it is for, and its length
+abbrev pub say_bundle : List ℕ → (queries : ℕ) → List ℕ → Outcome
+say_bundle name queries bytes = say_text (served_line queries (length bytes)) name bytes
+
+-- the map that is in memory, by its nodes and its head
+abbrev pub held_in : List Stored → Top → Opened
+held_in nodes top = record { tree = tree_of nodes top; batch = top.batch }
+
+-- the bundle for the queries of a script on a map in a file, or the script's first fault
+unfoldable pub say_serve_of : (List ℕ → List ℕ) → List ℕ → Opened → Result (List Query) TextFault
+    → Outcome
+say_serve_of hash name map (Err fault) = ends BadText (bad_text_line fault)
+say_serve_of hash name map (Ok queries) =
+    say_bundle name (length queries) (bundle (first hash) map.tree map.batch queries)
+
+-- the verdicts on the parts of a bundle that are whole, for so many queries
+abbrev pub say_verdicts : (queries : ℕ) → List Verdict → (broken : Option ℕ) → Outcome
+say_verdicts queries vs broken = ends (bundle_status vs broken) (bundle_text queries vs broken)
+
+-- what is said of a bundle, for some queries
+unfoldable pub say_parts_of : (List ℕ → List ℕ) → (root : List ℕ) → List Query → List ℕ → Outcome
+say_parts_of hash root queries bytes =
+    let cut = parts bytes (length queries) in
+    say_verdicts (length queries) (verdicts hash root queries bytes cut.list) cut.broken

@@ -1,0 +1,58 @@
+-- The command that words spell, if any.
+use Rattle.std.specs.Prelude.{◌≡◌, ◌≢◌, ℕ, ◌<◌, ◌≤◌, nat_eq, ◌&&◌, if◌then◌else◌, List, length, decimal, ⊤, Option, Some, None}
+use Rattle.std.specs.List.{list_all}
+use Rattle.hex.specs.Hex.{decode_of}
+use Rattle.mr_record.specs.RecordText.{is_lower_digit, ok_bytes}
+use Rattle.mr_plan.specs.Say.{say}
+use Rattle.mr_plan.specs.Words.{Spells, demo_limit}
+use Rattle.mr_tree.specs.Limits.{count_limit}
+use Rattle.mr_query.specs.Word.{IsAskable, IsQuery, word_of}
+use Rattle.mr_query.specs.declared.query.Query.{Query}
+use Rattle.mr_plan.specs.declared.words.Command.{Command}
+use Rattle.mr_plan.specs.declared.words.Command.TheVariants as commands
+
+-- the words spell this command, or none at all
+abbrev pub IsSpelled : List (List ℕ) → Option Command → Type 0
+IsSpelled words (Some command) = Spells words command
+IsSpelled words None = (command : Command) → Spells words command → ⊥
+
+-- the two ask for the same
+abbrev pub AsksAs : Option Command → Option Command → Type 0
+AsksAs a b = (hash : List ℕ → List ℕ) → say hash a ≡ say hash b
+
+-- ---- this serves private functions
+
+-- the query of a command, if it has one, is a window or asks for 1 to 1,024 records, the number of
+-- records that it is to generate is in its range, and a map is not changed in its own file
+abbrev pub MayBeAsked : Command → Type 0
+MayBeAsked (commands.Apply old batch new) = old.now ≢ new.now
+MayBeAsked (commands.Prove map q proof) = IsAskable q
+MayBeAsked (commands.Check root q proof) = IsAskable q
+MayBeAsked (commands.Audit map q proof) = IsAskable q
+MayBeAsked (commands.Make count seed records) = count ≤ count_limit
+MayBeAsked (commands.Demo count seed) = count ≤ demo_limit
+MayBeAsked _ = ⊤
+
+-- the word of this query stands between the names of two different files, of a map and of a proof
+pub record IsBetween (map asked proof : List ℕ) (q : Query) : Type 0 where
+  pub query : IsQuery q
+  pub spelled : asked ≡ word_of q
+  pub map_named : 0 < length map
+  pub proof_named : 0 < length proof
+  pub apart : map ≢ proof
+
+-- the query there, or none
+abbrev pub IsAsked : (map asked proof : List ℕ) → Option Query → Type 0
+IsAsked map asked proof (Some q) = IsBetween map asked proof q
+IsAsked map asked proof None = (q : Query) → IsBetween map asked proof q → ⊥
+
+-- the number from `least` to `most` that the word writes in decimal, if it writes one
+abbrev pub IsNumberOf : (word : List ℕ) (least most : ℕ) → Option ℕ → Type 0
+IsNumberOf word least most (Some n) = (word ≡ decimal n) × (least ≤ n) × (n ≤ most)
+IsNumberOf word least most None = (n : ℕ) → word ≡ decimal n → least ≤ n → n ≤ most → ⊥
+
+-- the digest that 64 lower-case hexadecimal digits write
+unfoldable pub digest_of_word : List ℕ → Option (List ℕ)
+digest_of_word word =
+    if nat_eq (length word) 64 && list_all is_lower_digit word then ok_bytes (decode_of word)
+    else None

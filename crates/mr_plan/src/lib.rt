@@ -1,0 +1,21 @@
+//! What each command says: its words, the plan of what it reads and comes to, and the lines that it
+//! prints.
+#![tactic(auto)]
+
+mod judged;
+mod lines;
+mod status;
+mod text;
+mod unfetched;
+mod words;
+
+pub use judged::{count_accepted, judged_status, judged_text};
+pub use lines::{
+    bad_batch_line, bad_map_line, bad_text_line, collision_lines, digest_line, made_line,
+    map_lines, missing_line, proof_line, push_queries, push_totals, refused_line, served_line,
+    sound_line,
+};
+pub use status::Status;
+pub use text::text_of_records;
+pub use unfetched::map_error;
+pub use words::{Command, DEMO_LIMIT, read_words};

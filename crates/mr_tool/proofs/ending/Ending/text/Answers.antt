@@ -1,5 +1,0 @@
-use Rattle.mr_tool.proofs.Endings.{line_alone}
-use Rattle.mr_tool.proofs.ending.Ending.text.Goals as goal
-
-pub returns-clause-printed : goal.returns-clause-printed
-returns-clause-printed c = line_alone c.args.text.items c.new.result.items c.new.ensures.items

@@ -1,7 +1,0 @@
-use Rattle.std.proofs.Common.{◌≡◌, ◌++◌, take}
-use Rattle.mr_tool.specs.Judged.{missing_lines}
-use Rattle.mr_tool.proofs.judged.put_all_missing.Given as goal
-
--- the lines so far
-abbrev pub invariant-loop-i : goal.invariant-loop-i
-invariant-loop-i l = l.out.bytes.items ≡ l.fn.out.bytes.items ++ missing_lines l.query l.i
