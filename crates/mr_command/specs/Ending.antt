@@ -1,5 +1,5 @@
--- What a command comes to before it is printed, and how it is printed. This serves private
--- functions.
+-- What a command comes to before it is printed (`Comes`, `GivesOrStops`), and how it is printed.
+-- All but these two, and what they are made of, serves private functions.
 use Rattle.std.specs.Prelude.{◌≡◌, ◌⊎◌, ℕ, ◌+◌, ◌^◌, ◌<◌, ◌≤◌, List, ◌++◌, Option, Some, None, IfSome, ⊤, Result, Ok, Err}
 use Rattle.std.specs.Global.{Vec}
 use Rattle.std.specs.String.{string_bytes}

@@ -218,7 +218,8 @@ fn apply_file<H: Hash32, S: Shelf>(
 
 /// The map in a file after the batch in another one, written to a third one. The pages of the map
 /// are read once, and the batch behind them; then the directory of the map's records is made, and
-/// the changes are made on a copy of its file. The shelf is handed back.
+/// the changes are made on a copy of its file. The new file has another name than the old one. The
+/// shelf is handed back.
 pub fn apply<H: Hash32, S: Shelf>(
     alloc: Global,
     old: &str,

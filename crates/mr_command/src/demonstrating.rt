@@ -175,7 +175,8 @@ fn demo_lines<H: Hash32, G: Gate, R: Threads + Sync>(
     tried::<H>(alloc, count, &made.0, &made.1, &queries)
 }
 
-/// What 64 generated queries give on the map of so many generated records, all in memory.
+/// What 64 generated queries give on the map of so many generated records, 2^16 at most, all in
+/// memory.
 pub fn demo<H: Hash32, G: Gate, R: Threads + Sync>(
     rt: &R,
     alloc: Global,

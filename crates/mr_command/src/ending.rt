@@ -93,10 +93,10 @@ impl Ending {
     }
 }
 
-/// Why no command comes to its end.
+/// Why a run has no ending.
 #[derive(Clone, Copy)]
 pub enum Halt {
-    /// The words spell no command.
+    /// The words spell no command, which no command answers.
     Words,
     /// The shelf failed.
     Shelf,

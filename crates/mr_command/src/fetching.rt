@@ -11,7 +11,7 @@ ghost use Rattle.mr_plan.specs.Found.{as_map_error};
 use crate::ending::{Ending, Halt};
 use crate::opening::unopened;
 use mr_clash::{AuditErr, Finding, audit};
-use mr_plan::map_error;
+use mr_plan::unfetched_error;
 use mr_query::Query;
 use mr_tree::{Nodes, NodesErr};
 use std::alloc::Global;
@@ -49,5 +49,5 @@ pub(crate) fn finding_of_nodes<N: Nodes>(
 pub(crate) fn unfetched(alloc: Global, name: &str, error: &NodesErr) -> Result<Ending, Halt>
     ensures { SaysRefusal name.now (as_map_error error.now) result }
 {
-    unopened(alloc, name, &map_error(error))
+    unopened(alloc, name, &unfetched_error(error))
 }

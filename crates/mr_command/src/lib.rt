@@ -1,4 +1,7 @@
 //! The commands, each from its names to what it comes to.
+//!
+//! A command answers an ending and prints nothing. An input that is missing is an ending too; a
+//! halt says that the shelf failed or memory ran out. What takes the shelf by value hands it back.
 #![tactic(auto)]
 
 mod applying;

@@ -23,7 +23,7 @@ fn made_text(alloc: Global, count: u32, seed: u64) -> Result<Text, AllocError>
     text_of_records(alloc, &list)
 }
 
-/// So many generated records, written to a file, and how many they are.
+/// So many generated records, 2^20 at most, written to a file, and how many they are.
 pub fn make<S: Shelf>(
     alloc: Global,
     count: u32,

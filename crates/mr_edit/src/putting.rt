@@ -70,8 +70,9 @@ fn halve_records(
     records: Vec<Record>,
 ) -> Result<(Vec<Record>, Vec<Record>), AllocError>
     requires { length records.items ≡ leaf_limit + 1 }
-    ensures { IfOk result (λ p. Halves leaf_fill leaf_limit (map (λ (r : record_types.Record). r.rect)
-        records.items) records.items p.0.items p.1.items) }
+    ensures { IfOk result (λ p. Halves leaf_fill leaf_limit
+        (map (λ (r : record_types.Record). r.rect) records.items)
+        records.items p.0.items p.1.items) }
 {
     let rects = rects_of(alloc, &records)?;
     let sides = sides(alloc, &rects, LEAF_FILL as usize)?;
@@ -84,8 +85,9 @@ fn halve_children(
     children: Vec<Child>,
 ) -> Result<(Vec<Child>, Vec<Child>), AllocError>
     requires { length children.items ≡ inner_limit + 1 }
-    ensures { IfOk result (λ p. Halves inner_fill inner_limit (map (λ (c : child_types.Child). c.rect)
-        children.items) children.items p.0.items p.1.items) }
+    ensures { IfOk result (λ p. Halves inner_fill inner_limit
+        (map (λ (c : child_types.Child). c.rect) children.items)
+        children.items p.0.items p.1.items) }
 {
     let rects = outlines_of(alloc, &children)?;
     let sides = sides(alloc, &rects, INNER_FILL as usize)?;

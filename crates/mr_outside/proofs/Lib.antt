@@ -3,4 +3,3 @@ pub mod Taking
 pub mod Pieces
 pub mod Changes
 pub mod NamedFiles
-pub mod InPlace

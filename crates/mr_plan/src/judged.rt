@@ -179,7 +179,11 @@ pub fn count_accepted(list: &[Verdict]) -> usize
     count
 }
 
-/// What is printed of a bundle for so many queries.
+/// What `check-all` prints of a bundle for so many queries.
+///
+/// The list has the verdicts on the whole parts, in the order of the queries, and `accepted` of
+/// them are answers; the queries behind those are missing. `broken` is the place, in bytes from
+/// the bundle's front, where it is no bundle any more.
 #[tactic(auto, unfolding(crate::specs::Judged::bundle_text))]
 pub fn judged_text(
     alloc: Global,
@@ -203,7 +207,8 @@ pub fn judged_text(
     Ok(out)
 }
 
-/// The status over a bundle, of whose parts so many are accepted.
+/// The status over a bundle, of whose parts so many are accepted: Done where all are, and it is not
+/// broken, else Refused.
 pub fn judged_status(list: &[Verdict], accepted: usize, broken: Option<usize>) -> Status
     requires { accepted ≡ accepted_count list.now }
     ensures { result ≡ bundle_status list.now broken }

@@ -17,5 +17,5 @@ pub use lines::{
 };
 pub use status::Status;
 pub use text::text_of_records;
-pub use unfetched::map_error;
-pub use words::{Command, DEMO_LIMIT, read_words};
+pub use unfetched::unfetched_error;
+pub use words::{Command, read_words};

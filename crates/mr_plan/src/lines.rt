@@ -198,7 +198,8 @@ fn push_root(alloc: Global, lines: &mut String, root: &[u8; 32]) -> Result<(), A
     lines.push_str(digest_line(alloc, root)?.as_str())
 }
 
-/// The lines on a map: how many records it has, the level of its root node, and its root digest.
+/// The lines on a map, as `demo` prints them: how many records it has, the level of its root node,
+/// and its root digest.
 pub fn map_lines(
     alloc: Global,
     count: u32,
@@ -213,7 +214,7 @@ pub fn map_lines(
     Ok(lines)
 }
 
-/// Puts the lines on queries, all of which were accepted.
+/// Puts the lines of `demo` on how many queries there were, and as many that were accepted.
 pub fn push_queries(alloc: Global, lines: &mut String, queries: usize) -> Result<(), AllocError>
     ensures { OnOk result
         (string_bytes lines.new ≡ string_bytes lines.old ++ lines_on_queries queries) }
@@ -222,7 +223,7 @@ pub fn push_queries(alloc: Global, lines: &mut String, queries: usize) -> Result
     push_count(alloc, lines, "accepted", queries as u128)
 }
 
-/// Puts the lines on the lengths of all answers and of all proofs.
+/// Puts the lines of `demo` on how many records all answers have, and how many bytes all proofs.
 pub fn push_totals(
     alloc: Global,
     lines: &mut String,
@@ -245,7 +246,8 @@ fn push_hex_line(alloc: Global, lines: &mut String, bytes: &[u8]) -> Result<(), 
     lines.push('\n')
 }
 
-/// The lines on two strings that differ and have one hash.
+/// `collision`, and then each string as a line of hexadecimal, the map's own first. That they
+/// differ and have one hash is for the caller to know.
 #[tactic(auto, unfolding(crate::specs::Lines::collision_lines))]
 pub fn collision_lines(alloc: Global, owned: &[u8], shown: &[u8]) -> Result<String, AllocError>
     ensures { IfOk result (λ s. string_bytes s ≡ collision_text owned.now shown.now) }
@@ -257,7 +259,7 @@ pub fn collision_lines(alloc: Global, owned: &[u8], shown: &[u8]) -> Result<Stri
     Ok(lines)
 }
 
-/// The line on the honest proof.
+/// `sound`, the line on the honest proof.
 pub fn sound_line(alloc: Global) -> Result<String, AllocError>
     ensures { IfOk result (λ s. string_bytes s ≡ line_of_sound) }
 {

@@ -19,7 +19,7 @@ pub(crate) fn put_records(out: &mut Text, list: &[Record]) -> Result<(), AllocEr
     }
 }
 
-/// The text of some records.
+/// A line for each record, in this order, in memory.
 pub fn text_of_records(alloc: Global, list: &[Record]) -> Result<Text, AllocError>
     ensures { IfOk result (λ t. t.bytes.items ≡ text_of list.now) }
 {

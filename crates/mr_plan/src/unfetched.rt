@@ -7,8 +7,9 @@ use mr_pages::{MapErr, MapFault, MapRule};
 use mr_tree::NodesErr;
 
 /// The same refusal as one of the map's file: a page that is read again breaks a rule, or holds
-/// another node than before.
-pub fn map_error(error: &NodesErr) -> MapErr
+/// another node than before; a missing file, a failure outside and want of memory go on as they
+/// are.
+pub fn unfetched_error(error: &NodesErr) -> MapErr
     ensures { result ≡ as_map_error error.now }
 {
     match error {

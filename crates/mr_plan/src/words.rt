@@ -12,8 +12,8 @@ use mr_query::{Query, read_query};
 use mr_record::read_u64;
 use mr_tree::COUNT_LIMIT;
 
-/// The most records of a demonstration.
-pub const DEMO_LIMIT: u64 = 1 << 16;
+// The most records of a demonstration.
+const DEMO_LIMIT: u64 = 1 << 16;
 
 /// What the user asks for. Files go by name.
 #[derive(Clone, Copy)]

@@ -1,4 +1,4 @@
-//! The program `mrtree`: what it does stands in `mr_tool`.
+//! The program `mrtree`: its runs are `mr_tool`'s.
 #![tactic(auto)]
 
 mod given;

@@ -1,6 +1,6 @@
 use Rattle.std.proofs.Common.{◌-◌, ◌≤◌, length, arith, ◌∙◌}
 use Rattle.std.proofs.KnownBytes.{Consumes-trans}
-use Rattle.mr_outside.proofs.InPlace.{take-put_mid_within, drop-put_mid_within, drop-further}
+use Rattle.mr_system.proofs.InPlace.{take-put_mid_within, drop-put_mid_within, drop-further}
 use Rattle.mr_system.proofs.std_shelf.fill.Goals as goal
 
 pub loop-count-preserved : goal.loop-count-preserved
