@@ -1,7 +1,8 @@
 """The tables of crates/mr_rows as values: rows and stories of runs, with the bytes of their files.
 
 An item is a line `KEY: WORDS`, with the lines of its parts below it, two spaces in. A group is an item of one of the
-keys that begin one, with the items behind it.
+keys that begin one, with the items behind it. A line that ends with `\\` goes on with the next one, behind the two
+spaces that this begins with.
 """
 import glob
 import os
@@ -66,7 +67,7 @@ class Table:
         self.groups: List[Group] = []
         hash_ = ""
         with open(path) as file:
-            items = list(items_of(file))
+            items = list(items_of(whole_lines(file)))
         for item in items:
             if item.key == "let":
                 self.parts[item.words] = item.parts
@@ -85,6 +86,18 @@ class Table:
             for one in used:
                 bytes_ = put(bytes_, one)
         return bytes_
+
+
+def whole_lines(lines: Iterable[str]) -> Iterator[str]:
+    """The lines, those that go on put together."""
+    front_ = ""
+    for line in lines:
+        line = front_ + (line[2:] if front_ else line).rstrip("\n")
+        if line.endswith("\\"):
+            front_ = line[:-1]
+        else:
+            front_ = ""
+            yield line
 
 
 def items_of(lines: Iterable[str]) -> Iterator[Item]:

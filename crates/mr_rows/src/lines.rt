@@ -1,9 +1,35 @@
 //! A table as its lines. An item is a line `KEY: WORDS`, and the lines of its parts stand below it,
 //! two spaces in. A group is a line of one of the keys that begin one, with the items up to the
-//! next such line. Empty lines and those that begin with `#` tell nothing.
+//! next such line. Empty lines and those that begin with `#` tell nothing. A line that ends with `\`
+//! goes on with the next one, behind the two spaces that this begins with.
 
 use mr_bench::parts::{put_line, put_part};
 use std::alloc::{AllocError, Global};
+
+// The text, with lines that go on put together.
+pub(crate) fn whole_lines(alloc: Global, text: &str) -> Result<String, AllocError> {
+    let mut all = String::new(alloc);
+    let mut goes_on = false;
+    for line in text.lines() {
+        let rest = if goes_on {
+            line.strip_prefix("  ").unwrap_or(line)
+        } else {
+            line
+        };
+        match rest.strip_suffix('\\') {
+            Some(front) => {
+                all.push_str(front)?;
+                goes_on = true;
+            }
+            None => {
+                all.push_str(rest)?;
+                all.push('\n')?;
+                goes_on = false;
+            }
+        }
+    }
+    Ok(all)
+}
 
 // The key and the words of an item; the key is empty where a line is none.
 pub(crate) fn item(line: &str) -> (&str, &str) {

@@ -31,7 +31,7 @@ fn went<R: Threads + Files + Sync>(
     alloc: Global,
     name: &str,
 ) -> Result<(bool, String), AllocError> {
-    let text = text_of(rt, alloc, name)?;
+    let text = lines::whole_lines(alloc, text_of(rt, alloc, name)?.as_str())?;
     let table: Vec<&str> = text.lines().collect(alloc)?;
     let tally = groups::tallied(rt, alloc, &table)?;
     let mut said = String::new(alloc);

@@ -5,7 +5,7 @@ use mr_bench::listed::Listed;
 use mr_bench::parts::{number, numbers, small};
 use mr_bench::runs::{digest, file_of, ran};
 use mr_outside::{MemShelf, NoGate};
-use mr_pages::{open_plain, save_plain};
+use mr_pages::{PAGE_SIZE, open_plain, save_plain};
 use mr_tree::{Hash32, Sha, XorHash};
 use std::alloc::{AllocError, Global};
 use std::thread::Threads;
@@ -148,7 +148,7 @@ fn hashes(alloc: Global, words: &str, shelf: &MemShelf) -> Result<bool, AllocErr
 // How many pages begin as free ones do.
 fn free_pages(bytes: &[u8]) -> usize {
     let mut met = 0usize;
-    for page in bytes.chunks(4096) {
+    for page in bytes.chunks(PAGE_SIZE) {
         if page.first() == Some(&b'F') {
             met = met.wrapping_add(1);
         }
@@ -162,7 +162,7 @@ fn has_pages(alloc: Global, words: &str, shelf: &MemShelf) -> Result<bool, Alloc
     let bytes = file_of(alloc, shelf, name)?;
     match numbers(alloc, counts)?.as_slice() {
         [pages, free] => {
-            let as_long = bytes.len() as i128 == pages.wrapping_mul(4096);
+            let as_long = bytes.len() as i128 == pages.wrapping_mul(PAGE_SIZE as i128);
             Ok(as_long && free_pages(&bytes) as i128 == *free)
         }
         _ => Ok(false),
