@@ -25,7 +25,7 @@ use Rattle.mr_batch.specs.Directory.{Entries}
 use Rattle.mr_batch.specs.Peak.{peak}
 use Rattle.mr_batch.specs.Replay.{replay}
 use Rattle.mr_edit.specs.Causes.{HasEditCause, IsOfPages}
-use Rattle.mr_edit.specs.Draft.{Drawn, DraftOf, Copies, CopyFails, CanApply, Applied, Applies, KeepsDraft, MayBeSealed, IsSealed, Seals, SealFails}
+use Rattle.mr_draft.specs.Draft.{Drawn, DraftOf, Copies, CopyFails, CanApply, Applied, Applies, KeepsDraft, MayBeSealed, IsSealed, Seals, SealFails}
 use Rattle.mr_edit.specs.Reads.{reads_along}
 use Rattle.mr_edit.specs.Shelves.{HasShelfCause}
 use Rattle.mr_edit.specs.declared.error.EditErr.{EditErr}

@@ -1,5 +1,3 @@
-pub mod Listings
-pub mod Gathering
 pub mod Rows
 pub mod Zips
 pub mod Frame
@@ -31,16 +29,7 @@ pub mod Deletable
 pub mod Directed
 pub mod Turns
 pub mod Admitted
-pub mod Overwrites
-pub mod ZeroPages
-pub mod Filed
-pub mod Copied
 pub mod OwnedOnce
-pub mod Copies
-pub mod Seals
-pub mod ReadPages
-pub mod NodesKept
-pub mod Ends
 pub mod FreeReads
 pub mod Tries
 pub mod SearchReads

@@ -18,7 +18,6 @@ use Rattle.mr_pages.specs.Walking.{child_link, page_node}
 use Rattle.mr_pages.proofs.Building.{FilledAs, leaf_filled, inner_filled, length_row}
 use Rattle.mr_pages.proofs.Judged.{entry_same}
 use Rattle.mr_pages.proofs.Rules.{same_rect_self}
-use Rattle.mr_store.specs.Copying.{is_round}
 use Rattle.mr_edit.specs.Book.{Book, HasNode, Owned, times}
 use Rattle.mr_edit.specs.Held.{Names}
 use Rattle.mr_edit.specs.Causes.{CanRead, CanLook, KnowsBelow}
@@ -63,7 +62,7 @@ node_said scheme c (placed.Leaf p rs) said = said_leaf scheme rs ∙ sym (ap (λ
 node_said scheme c (placed.Inner p R) said = said_inner scheme R ∙ sym (ap (λ (l : Link). l.entry) said)
 
 round : (scheme : Scheme) (b : Book) (c : Child) (P : Placed) (n : view.Node) → Names scheme b c P →
-    HasNode b c.id (page_node n) → is_round c n ≡ true
+    HasNode b c.id (page_node n) → same_rect (view.rect_of n) (Some c.rect) ≡ true
 round scheme b c P n names has =
     let same : view.rect_of n ≡ Some c.rect =
     sym (rect_known scheme n) ∙ ap (λ (e : Entry). e.rect) (entry_same scheme n
@@ -92,9 +91,10 @@ reads_in : (told : Option Book) (b : Book) (c : Child) (n : view.Node) → told 
 reads_in told b c n is reads = subst (λ o. IfSome o (λ x. HasNode x c.id (page_node n))) is reads
 
 pub off_blames : (hash : List ℕ → List ℕ) (root : Bool) (told : Option Book) (c : Child) (n : view.Node) →
-    IfSome told (λ b. HasNode b c.id (page_node n)) → is_round c n ≡ false → CanLook hash root told c → ⊥
+    IfSome told (λ b. HasNode b c.id (page_node n)) → same_rect (view.rect_of n) (Some c.rect) ≡ false
+    → CanLook hash root told c → ⊥
 off_blames hash root told c n reads off k =
-    both (is_round c n) (round (by One hash) k.read.book c k.read.placed n k.read.names
+    both (same_rect (view.rect_of n) (Some c.rect)) (round (by One hash) k.read.book c k.read.placed n k.read.names
     (reads_in told k.read.book c n k.read.is reads)) off
 
 pub few_blames : (hash : List ℕ → List ℕ) (root : Bool) (told : Option Book) (c : Child) (n : view.Node) →

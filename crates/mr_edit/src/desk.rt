@@ -1,14 +1,14 @@
 //! A file under edit and its free pages.
 
-ghost use Rattle.std.specs.Prelude.{◌≡◌, ◌≤◌, ◌+◌, true, length, map, All, IfSome, IfOk, IfErr, OnOk};
+ghost use Rattle.std.specs.Prelude.{◌≡◌, ◌≤◌, ◌+◌, true, Some, length, map, All, IfSome, IfOk, IfErr, OnOk};
 ghost use Rattle.mr_record.specs.declared.version.Version.TheVariants.{One};
 ghost use Rattle.mr_tree.specs.Digest.{by};
 ghost use Rattle.mr_tree.specs.declared.child.Child as child_types;
 ghost use Rattle.mr_tree.specs.declared.tree.Tree.TheOpen.{Leaf, Inner};
-ghost use Rattle.mr_tree.specs.View.{size, level_of};
+ghost use Rattle.mr_tree.specs.View.{size, level_of, rect_of};
+ghost use Rattle.mr_pages.specs.Faults.{same_rect};
 ghost use Rattle.mr_pages.specs.Judging.{Fills};
 ghost use Rattle.mr_pages.specs.Walking.{child_link, page_node};
-ghost use Rattle.mr_store.specs.Copying.{is_round};
 ghost use Rattle.mr_edit.specs.Book.{HasNode};
 ghost use Rattle.mr_edit.specs.Causes.{HasEditCause, CanLook};
 ghost use Rattle.mr_edit.specs.Outcome.{TakesPage, Writes, NeverMap, CanTake, CanWrite};
@@ -56,7 +56,7 @@ pub(crate) fn look<F: PageFile>(
     ensures some { OnOk result (1 ≤ size into.new) }
     ensures node { OnOk result (IfSome (F.told file.old)
         (λ b. HasNode b child.now.id (page_node into.new))) }
-    ensures round { OnOk result (is_round child.now into.new ≡ true) }
+    ensures round { OnOk result (same_rect (rect_of into.new) (Some child.now.rect) ≡ true) }
     ensures full { OnOk result (Fills root into.new ≡ true) }
     ensures kept { F.kept file.old file.new }
     ensures reads { F.reads file.new ≤ F.reads file.old + 1 }

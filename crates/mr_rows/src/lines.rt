@@ -1,7 +1,7 @@
 //! A table as its lines. An item is a line `KEY: WORDS`, and the lines of its parts stand below it,
 //! two spaces in. A group is a line of one of the keys that begin one, with the items up to the
-//! next such line. Empty lines and those that begin with `#` tell nothing. A line that ends with `\`
-//! goes on with the next one, behind the two spaces that this begins with.
+//! next such line. Empty lines and those that begin with `#` tell nothing. A line that ends with
+//! `\` goes on with the next one, behind the two spaces that this begins with.
 
 use mr_bench::parts::{put_line, put_part};
 use std::alloc::{AllocError, Global};

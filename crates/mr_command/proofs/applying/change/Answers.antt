@@ -1,7 +1,7 @@
 use Rattle.std.proofs.Common.{ap, sym, subst}
 use Rattle.std.specs.String.{string_bytes}
 use Rattle.mr_store.specs.Stored.{stands_for, told_bytes}
-use Rattle.mr_edit.specs.Draft.{drawn}
+use Rattle.mr_draft.specs.Draft.{drawn}
 use Rattle.mr_command.specs.Applying.{ComesBehind, IsFewOfCopy}
 use Rattle.mr_plan.specs.Plan.{comes}
 use Rattle.mr_plan.specs.Rereading.{applying}

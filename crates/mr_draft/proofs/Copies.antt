@@ -1,0 +1,251 @@
+-- What a copy of a map's file has on its pages: the draft over it is of the map's tree.
+use Rattle.std.proofs.Common.{◌≡◌, ◌≢◌, ℕ, ◌+◌, ◌-◌, ◌*◌, ◌<◌, ◌≤◌, ◌^◌, List, [], ◌∷◌, ◌++◌, length, take, drop, refl, sym, ap, subst, ◌∙◌, length-append, length-drop, arith}
+use Rattle.std.specs.Prelude.{if◌then◌else◌, max, Contains, Option, Some, None, option_map, IfSome, IsSome}
+use Rattle.std.specs.Option.{option_and_then}
+use Rattle.std.proofs.lemmas.Bool.{eq-eqb}
+use Rattle.std.proofs.lemmas.List.{drop-drop, take_at, take_all}
+use Rattle.std.proofs.lemmas.List.Elements.{All-append, All-drop}
+use Rattle.std.proofs.Math.Seq.{drop-append-add}
+use Rattle.lru.proofs.Splits.{Contains-nil}
+use Rattle.mr_record.specs.declared.version.Version.TheVariants.{One}
+use Rattle.mr_outside.specs.Files.{Files, with_file}
+use Rattle.mr_outside.specs.State.{Shelved}
+use Rattle.mr_outside.specs.Writing.{IsChanged}
+use Rattle.mr_outside.proofs.Changes.{file-with_file}
+use Rattle.mr_tree.specs.Digest.{by}
+use Rattle.mr_pages.specs.Page.{page_limit}
+use Rattle.mr_pages.specs.PageBytes.{page_size, first_form}
+use Rattle.mr_pages.specs.File.{file_of, page_at}
+use Rattle.mr_pages.specs.Source.{told_bytes}
+use Rattle.mr_pages.specs.Stands.{Placed, IsWritten, IsChain, AreAllPages, pages_of, whole_tree, whole_pages}
+use Rattle.mr_pages.specs.Walking.{head_of}
+use Rattle.mr_pages.specs.declared.head.MapHead.{MapHead}
+use Rattle.mr_pages.proofs.Agreement.{head_read, written_as}
+use Rattle.mr_pages.proofs.Building.{IsRead}
+use Rattle.mr_pages.proofs.Chains.{ReadsChain}
+use Rattle.mr_pages.proofs.HeadLaws.{first_form_is}
+use Rattle.mr_store.specs.Kept.{Entries}
+use Rattle.mr_store.specs.Laws.{opened}
+use Rattle.mr_store.specs.Stored.{IsOpen, IsStore, placed, stands_for, room}
+use Rattle.mr_edit.specs.Book.{Sheet, Book, HasNode, HasFree, Owned, times}
+use Rattle.mr_draft.specs.Draft.{drawn, DraftOf}
+use Rattle.mr_edit.specs.Drafted.{Drafted}
+use Rattle.mr_draft.specs.Sheets.{sheet_of, book_in, book_on, zeros, HasPages, ArePages, AreOn, AreKept, HasCopied, IsFiled}
+use Rattle.mr_draft.proofs.Copied.{set_there}
+use Rattle.mr_edit.proofs.Frame.{frame, times-append, times_first, times_rest}
+use Rattle.mr_edit.proofs.OwnedOnce.{owned_of_all}
+use Rattle.mr_edit.proofs.Places.{apart}
+use Rattle.mr_draft.proofs.ZeroPages.{length_zeros, bytes_zeros}
+
+pub sheet_node : (page : List ℕ) → (sheet_of page).node ≡ first_form.node_in page
+unfolding sheet_of
+sheet_node page = refl
+
+pub sheet_free : (page : List ℕ) → (sheet_of page).free ≡ first_form.free_in page
+unfolding sheet_of
+sheet_free page = refl
+
+-- so many pages of these bytes
+abbrev pub pages_in : ℕ → List ℕ → Book
+pages_in pages bytes = record { size = pages; sheet = λ p. sheet_of (page_at first_form bytes p) }
+
+pub book_whole : (pages : ℕ) (bytes : List ℕ) → length bytes ≡ pages * page_size →
+    book_in pages bytes ≡ Some (pages_in pages bytes)
+book_whole pages bytes whole =
+    ap (λ b. if b then Some (pages_in pages bytes) else None) (eq-eqb (length bytes) (pages * page_size) whole)
+
+-- ---- the bytes of a copy
+
+abbrev copy_of : List ℕ → List ℕ
+copy_of bytes = zeros page_size ++ drop page_size bytes
+
+copy_page : (bytes : List ℕ) (q : ℕ) → q ≢ 0 → page_at first_form (copy_of bytes) q ≡ page_at first_form bytes q
+copy_page bytes q some =
+    let more : ℕ = q * page_size - page_size in
+    let at : q * page_size ≡ length (zeros page_size) + more = omega (arith, some, length_zeros page_size) in
+    let there : page_size + more ≡ q * page_size = omega (arith, some) in
+    ap (λ k. take page_size (drop k (copy_of bytes))) at
+    ∙ ap (take page_size) (drop-append-add (zeros page_size) (drop page_size bytes) more)
+    ∙ ap (take page_size) (drop-drop more page_size bytes)
+    ∙ ap (λ k. take page_size (drop k bytes)) there
+
+module _ (hash : List ℕ → List ℕ) (h : MapHead) (es : Entries) (bytes : List ℕ) (op : IsOpen hash h es bytes) where
+  record Spans : Type 0 where
+    whole : length bytes ≡ h.pages * page_size
+    some : 1 ≤ h.pages
+    few : h.pages ≤ page_limit
+
+  spans : Spans
+  spans =
+      let o = opened hash h es bytes op in
+      let head = head_read first_form first_form_is bytes op.are (head_of h) op.head in
+      record {
+        whole = o.whole;
+        some = omega (arith, head.whole.some, head.same);
+        few = omega (arith, head.whole.few, head.same);
+      }
+
+  length_copy : length (copy_of bytes) ≡ h.pages * page_size
+  length_copy = omega (
+    arith,
+    spans.whole,
+    spans.some,
+    length-append (zeros page_size) (drop page_size bytes),
+    length_zeros page_size,
+    length-drop page_size bytes,
+  )
+
+  pub has_copy : HasPages h.pages (copy_of bytes)
+  has_copy = record {
+    some = spans.some;
+    few = spans.few;
+    are = All-append (λ b. b < 2 ^ 8) (zeros page_size) (drop page_size bytes) (bytes_zeros page_size)
+        (All-drop (λ b. b < 2 ^ 8) page_size bytes op.are);
+    long = omega (arith, length_copy);
+    blank = take_at (zeros page_size) (drop page_size bytes) page_size (length_zeros page_size);
+  }
+
+  pub whole_copy : (nodes : List ℕ) → nodes ≡ take ((max 1 h.pages - 1) * page_size) (drop page_size bytes) →
+      zeros page_size ++ nodes ≡ copy_of bytes
+  whole_copy nodes e = ap (λ xs. zeros page_size ++ xs)
+      (e ∙ take_all ((max 1 h.pages - 1) * page_size) (drop page_size bytes)
+      (omega (arith, spans.whole, spans.some, length-drop page_size bytes)))
+
+  -- ---- the draft over it
+
+  reads_as : (po : Option Placed) → IfSome po (IsRead (by One hash) (file_of first_form bytes).node) →
+      IfSome po (IsWritten (by One hash) (HasNode (pages_in h.pages bytes)))
+  reads_as None w = tt
+  reads_as (Some P) w =
+      written_as (by One hash) (λ p n. (file_of first_form bytes).node p ≡ Some n) (HasNode (pages_in h.pages bytes))
+      (λ p n e. sheet_node (page_at first_form bytes p) ∙ e) P w
+
+  abbrev new : Book
+  new = pages_in h.pages (copy_of bytes)
+
+  same_sheet : (q : ℕ) → q ≢ 0 → new.sheet q ≡ (pages_in h.pages bytes).sheet q
+  same_sheet q some = ap sheet_of (copy_page bytes q some)
+
+  copied_as : (po : Option Placed) (chain : List ℕ) → Owned h.pages (0 ∷ (whole_pages po ++ chain)) →
+      IfSome po (IsWritten (by One hash) (HasNode (pages_in h.pages bytes))) →
+      IfSome po (IsWritten (by One hash) (HasNode new))
+  copied_as None chain owned w = tt
+  copied_as (Some P) chain owned w =
+      frame (by One hash) (pages_in h.pages bytes) new P
+      (λ q there. same_sheet q (apart h.pages 0 (pages_of P ++ chain) q owned
+      (omega (arith, there, times-append q (pages_of P) chain)))) w
+
+  chain_as : (f : ℕ) (ps : List ℕ) → ((q : ℕ) → 0 < times q ps → q ≢ 0) →
+      ReadsChain (file_of first_form bytes).free f ps → IsChain (HasFree new) f ps
+  chain_as f [] low c = c
+  chain_as f (p ∷ ps) low c =
+      let some : p ≢ 0 = low p (times_first p ps) in (
+        c.0,
+        c.1,
+        (
+          omega (arith, some),
+          ap (λ (s : Sheet). s.free) (same_sheet p some) ∙ sheet_free (page_at first_form bytes p) ∙ c.2,
+        ),
+        chain_as c.0 ps (λ q there. low q (times_rest q p ps there)) c.3,
+      )
+
+  pub drafted : (told : Option Book) → told ≡ Some new →
+      Drafted (by One hash) told h.free h.root (whole_tree (placed h bytes))
+  drafted told is =
+      let r = (opened hash h es bytes op).reads in
+      let head = head_read first_form first_form_is bytes op.are (head_of h) op.head in
+      let po = placed h bytes in
+      let owned : Owned h.pages (0 ∷ (whole_pages po ++ r.lies.chain)) =
+      owned_of_all h.pages (whole_pages po ++ r.lies.chain) spans.some
+      (subst (λ n. AreAllPages n (whole_pages po ++ r.lies.chain)) (sym head.same) r.lies.all) in
+      record {
+        book = new;
+        is = is;
+        placed = po;
+        tree = refl;
+        root_is = r.root;
+        written = copied_as po r.lies.chain owned (reads_as po r.lies.written);
+        chain = r.lies.chain;
+        linked = chain_as h.free r.lies.chain
+            (λ q there. apart h.pages 0 (whole_pages po ++ r.lies.chain) q owned
+            (omega (arith, there, times-append q (whole_pages po) r.lies.chain))) r.lies.linked;
+        owned = owned;
+      }
+
+-- ---- the copy of a map that was opened
+
+set_bytes : (name bytes : List ℕ) (told after : Option Files) (files : Files) → told ≡ Some files →
+    IsChanged (with_file name) bytes told after → told_bytes after name ≡ Some bytes
+set_bytes name bytes told after files is put =
+    ap (λ o. told_bytes o name) (put ∙ ap (option_map (with_file name bytes)) is) ∙ file-with_file name bytes files
+
+module _ (hash : List ℕ → List ℕ) (h : MapHead) (es : Entries) (cap : ℕ) (old name : List ℕ) (before after : Shelved)
+    (store : IsStore hash before.files old h es cap) (c : HasCopied old name h.pages (max 1 h.pages) before after) where
+  -- the bytes of the copy, where they are told
+  record Told (bytes : List ℕ) : Type 0 where
+    there : told_bytes after.files name ≡ Some (copy_of bytes)
+
+  told_at : (files : Files) → before.files ≡ Some files → (bytes : List ℕ) → told_bytes before.files old ≡ Some bytes →
+      IsOpen hash h es bytes → Told bytes
+  told_at files is bytes found op = record {
+    there = set_bytes name (zeros page_size ++ c.nodes) before.files after.files files is c.files
+        ∙ ap Some (whole_copy hash h es bytes op c.nodes (c.so_far bytes found (spans hash h es bytes op).whole));
+  }
+
+  have_at : (files : Option Files) → before.files ≡ files → (o : Option (List ℕ)) → told_bytes before.files old ≡ o →
+      IfSome o (IsOpen hash h es) → IsFiled files old → IfSome (told_bytes after.files name) (HasPages h.pages)
+  have_at None is o found op there =
+      subst (λ x. IfSome x (HasPages h.pages))
+      (sym (ap (λ x. told_bytes x name)
+      (c.files ∙ ap (option_map (with_file name (zeros page_size ++ c.nodes))) is))) tt
+  have_at (Some files) is None found op there =
+      let none : IsSome {T = List ℕ} None =
+      subst (IsSome {T = List ℕ}) (ap (λ x. told_bytes x old) (sym is) ∙ found) there in absurd cc
+  have_at (Some files) is (Some bytes) found op there =
+      subst (λ x. IfSome x (HasPages h.pages)) (sym (told_at files is bytes found op).there)
+      (has_copy hash h es bytes op)
+
+  pub copy_pages : ArePages after.files name h.pages
+  copy_pages = record {
+    there = set_there name (zeros page_size ++ c.nodes) before.files after.files c.files;
+    have = have_at before.files refl (told_bytes before.files old) refl store.open_ store.there;
+  }
+
+  pub copy_draft : IfSome (stands_for h (told_bytes before.files old)).tree
+      (DraftOf hash (drawn after name h.pages h.free h.root h.count h.batch))
+  copy_draft = at before.files refl (told_bytes before.files old) refl store.open_ store.there
+    where
+      of_bytes : (files : Files) → before.files ≡ Some files → (bytes : List ℕ) →
+          told_bytes before.files old ≡ Some bytes → IsOpen hash h es bytes →
+          DraftOf hash (drawn after name h.pages h.free h.root h.count h.batch) (whole_tree (placed h bytes))
+      of_bytes files is bytes found op =
+          let r = (opened hash h es bytes op).reads in
+          record {
+            drafted = drafted hash h es bytes op (book_on after.files name h.pages)
+                (ap (option_and_then (book_in h.pages)) (told_at files is bytes found op).there
+                ∙ book_whole h.pages (copy_of bytes) (length_copy hash h es bytes op));
+            well = r.well;
+            counted = r.count;
+          }
+
+      at : (files : Option Files) → before.files ≡ files → (o : Option (List ℕ)) → told_bytes before.files old ≡ o →
+          IfSome o (IsOpen hash h es) → IsFiled files old → IfSome (stands_for h o).tree
+          (DraftOf hash (drawn after name h.pages h.free h.root h.count h.batch))
+      at files is None found op there = tt
+      at None is (Some bytes) found op there =
+          let no : ◌≡◌ {A = Option (List ℕ)} None (Some bytes) = ap (λ x. told_bytes x old) (sym is) ∙ found in
+          absurd cc
+      at (Some files) is (Some bytes) found op there = of_bytes files is bytes found op
+
+-- nothing is kept yet
+pub none_kept : (hash : List ℕ → List ℕ) (told : Option Book) (es : Entries) (cap : ℕ) → es ≡ [] → cap ≡ room →
+    AreKept hash told es cap
+none_kept hash told es cap none is = record {
+  cap_is = is;
+  each = λ e there. absurd (Contains-nil e (subst (λ xs. Contains xs e) none there));
+  on = at told;
+}
+  where
+    at : (o : Option Book) → IfSome o (AreOn es)
+    at None = tt
+    at (Some b) = λ e there. absurd (Contains-nil e (subst (λ xs. Contains xs e) none there))

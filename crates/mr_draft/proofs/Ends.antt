@@ -1,0 +1,204 @@
+-- What the calls of a draft come to.
+use Rattle.std.proofs.Common.{◌≡◌, ℕ, ◌+◌, ◌≤◌, List, [], ◌++◌, length, inl, inr, refl, sym, ap, subst, ◌∙◌, append-nil, arith}
+use Rattle.std.specs.Prelude.{max, Option, Some, None, option_map, IfSome, IfErr, OnOk, Result, Ok, Err}
+use Rattle.mr_record.specs.declared.version.Version.TheVariants.{One}
+use Rattle.mr_outside.specs.Files.{Files, with_file}
+use Rattle.mr_outside.specs.State.{Shelved}
+use Rattle.mr_outside.specs.Writing.{IsChanged}
+use Rattle.mr_outside.proofs.Changes.{file-with_file}
+use Rattle.mr_pages.specs.PageBytes.{page_size, first_form}
+use Rattle.mr_pages.specs.Saved.{IsUnsealed, Leaves}
+use Rattle.mr_pages.specs.Source.{told_bytes}
+use Rattle.mr_pages.specs.declared.head.MapHead.{MapHead}
+use Rattle.mr_tree.specs.Digest.{by}
+use Rattle.mr_tree.specs.Tree.{nodes, nodes_step, records}
+use Rattle.mr_tree.specs.declared.child.Child.{Child}
+use Rattle.mr_tree.specs.declared.tree.Tree.{Tree}
+use Rattle.mr_tree.proofs.Equations.{records-Empty}
+use Rattle.mr_tree.proofs.Folds.{fold-Leaf, fold-Inner}
+use Rattle.mr_pages.specs.Page.{Link}
+use Rattle.mr_pages.specs.Stands as stands
+use Rattle.mr_pages.specs.Stands.{Placed, tree_of, trees_of, link_of, whole_tree}
+use Rattle.mr_pages.specs.Walking.{child_link}
+use Rattle.mr_batch.specs.Changes.{Changes}
+use Rattle.mr_batch.specs.Directory.{Entries as Directed}
+use Rattle.mr_store.specs.Kept.{Entries}
+use Rattle.mr_store.specs.Stored.{IsStore}
+use Rattle.mr_edit.specs.Causes.{HasEditCause}
+use Rattle.mr_edit.specs.Changing.{CanReplay}
+use Rattle.mr_draft.specs.Draft.{Drawn, drawn, DraftOf, IsTop, IsOff, Copies, CopyFails, CanApply, Applies, KeepsDraft}
+use Rattle.mr_edit.specs.Outcome.{NeverMap}
+use Rattle.mr_edit.specs.Replayed.{Replays}
+use Rattle.mr_edit.specs.Shelves.{HasShelfCause}
+use Rattle.mr_draft.specs.Sheets.{zeros, book_on, HasPages, ArePages, HasCopied, CopyStops, KeepsSheets}
+use Rattle.mr_edit.specs.declared.error.EditErr.{EditErr}
+use Rattle.mr_edit.specs.Counted.{ReplaysWithin}
+use Rattle.mr_edit.specs.Reads.{reads_along}
+use Rattle.mr_edit.specs.declared.error.EditErr.TheVariants as errors
+use Rattle.mr_draft.proofs.Copies.{copy_draft}
+use Rattle.mr_draft.proofs.ReadPages.{book_size}
+use Rattle.mr_edit.proofs.Room.{few_nodes}
+use Rattle.mr_draft.proofs.Seals.{unsealed_front, unsealed_none, unsealed_pages}
+
+-- ---- a copy
+
+pub moved : (Q : Shelved → List ℕ → MapHead → Type 0) (a b : Shelved) (m n : List ℕ) (g h : MapHead) → a ≡ b → m ≡ n →
+    g ≡ h → Q a m g → Q b n h
+moved Q a b m n g h p q r x = subst (λ s. Q s n h) p (subst (λ k. Q a k h) q (subst (λ k. Q a m k) r x))
+
+module _ (hash : List ℕ → List ℕ) (h : MapHead) (es : Entries) (cap : ℕ) (old name : List ℕ)
+    (before after : Shelved) where
+  pub copies : IsStore hash before.files old h es cap → HasCopied old name h.pages (max 1 h.pages) before after →
+      Copies hash old h before name (drawn after name h.pages h.free h.root h.count h.batch)
+  copies store c = record {
+    of_tree = copy_draft hash h es cap old name before after store c;
+    named = refl;
+    at_batch = refl;
+    paged = refl;
+    root = refl;
+    free = refl;
+    count = refl;
+    bytes = zeros page_size ++ c.nodes;
+    unsealed = unsealed_front hash (zeros page_size ++ c.nodes)
+        (c.nodes, [], sym (append-nil (zeros page_size ++ c.nodes)));
+    files = c.files;
+    quiet = c.quiet;
+    more = c.more;
+    few = omega (arith, c.few);
+  }
+
+  pub copy_fails : (e : EditErr) → CopyStops name h.pages before after e → CopyFails hash h before name after e
+  copy_fails e c = record {
+    left = elim c.left [
+      | inl same ↦ inl same
+      | inr set ↦ inr (set.0, unsealed_front hash set.0 set.1, set.2)
+    ];
+    cause = c.cause;
+    untold = c.untold;
+    later = c.later;
+    more = c.more;
+    few = c.few;
+  }
+
+-- ---- what stays of a file under edit
+
+unsealed_at : (hash : List ℕ → List ℕ) (name bytes : List ℕ) (pages : ℕ) (before after : Option Files) →
+    IsChanged (with_file name) bytes before after → ArePages after name pages →
+    Leaves (IsUnsealed first_form hash) name before after
+unsealed_at hash name bytes pages None after put are = inr ([], unsealed_none hash, put)
+unsealed_at hash name bytes pages (Some files) after put are =
+    let there : told_bytes after name ≡ Some bytes = ap (λ o. told_bytes o name) put
+    ∙ file-with_file name bytes files in
+    inr (
+      bytes,
+      unsealed_pages hash pages bytes (subst (λ o. IfSome o (HasPages pages)) there are.have),
+      put,
+    )
+
+pub keeps_draft : (hash : List ℕ → List ℕ) (d e : Drawn) →
+    KeepsSheets d.name e.name d.pages e.pages d.shelf e.shelf → ArePages e.shelf.files e.name e.pages →
+    KeepsDraft hash d e
+keeps_draft hash d e k are = record {
+  name = k.name;
+  pages = k.pages;
+  left = elim k.files [
+    | inl same ↦ inl same
+    | inr set ↦ unsealed_at hash d.name set.0 e.pages d.shelf.files e.shelf.files set.2
+        (subst (λ n. ArePages e.shelf.files n e.pages) k.name are)
+  ];
+  faults = k.faults;
+  reads = k.reads;
+}
+
+-- ---- a batch
+
+pub blames_none : (P : Type 0) (before after : ℕ) (e : EditErr) → P → HasEditCause before after e → NeverMap e P →
+    HasShelfCause before after e
+blames_none P before after (errors.Map fault) p cause never = never p
+blames_none P before after errors.Missing p cause never = cause
+blames_none P before after errors.Fault p cause never = cause
+blames_none P before after errors.NoMemory p cause never = tt
+
+module _ (hash : List ℕ → List ℕ) (d : Drawn) (dir : Directed) (b : Changes) where
+  pub can_replay : (t : Tree) → CanApply hash d dir b t →
+      CanReplay hash (book_on d.shelf.files d.name d.pages) d.free d.root dir b
+  can_replay t can = record {
+    map = record { tree = t; draft = can.draft.drafted; well = can.draft.well; directory = can.directory };
+    held = d.batch;
+    admissible = can.admissible;
+  }
+
+  pub applied : (e : Drawn) (dir' : Directed) →
+      Replays (by One hash) (book_on d.shelf.files d.name d.pages) d.free d.root dir
+      (book_on e.shelf.files e.name e.pages) e.free e.root dir' b → e.count ≡ length dir' →
+      Applies hash d dir b e dir'
+  applied e dir' replays counted t can =
+      let told = book_on d.shelf.files d.name d.pages in
+      let size = book_size d.shelf.files d.name d.pages can.draft.drafted.book can.draft.drafted.is in
+      let n = replays t d.batch d.pages d.pages (nodes t) (record {
+        reaches = record {
+          draft = can.draft.drafted;
+          no_fewer = omega (arith, size);
+          no_more = omega (arith, size);
+        };
+        well = can.draft.well;
+        directory = can.directory;
+      }) can.admissible in
+      let after = book_size e.shelf.files e.name e.pages n.reaches.draft.book n.reaches.draft.is in
+      record {
+        draft = record {
+          drafted = n.reaches.draft;
+          well = n.well;
+          counted = counted ∙ n.directory.count;
+        };
+        directory = n.directory;
+        no_fewer = omega (arith, n.reaches.no_fewer, after);
+        no_more = omega (arith, n.reaches.no_more, after);
+      }
+
+  -- and what it reads
+  pub applied_within : (r r' : ℕ) → ReplaysWithin (by One hash) (book_on d.shelf.files d.name d.pages) d.free d.root dir
+      b
+      r r' → (t : Tree) → CanApply hash d dir b t → r' ≤ r + reads_along t b.list
+  applied_within r r' within t can =
+      let size = book_size d.shelf.files d.name d.pages can.draft.drafted.book can.draft.drafted.is in
+      within t d.batch d.pages d.pages (nodes t) (record {
+        reaches = record {
+          draft = can.draft.drafted;
+          no_fewer = omega (arith, size);
+          no_more = omega (arith, size);
+        };
+        well = can.draft.well;
+        directory = can.directory;
+      }) can.admissible
+
+some_node : (P : Placed) → 1 ≤ nodes (tree_of P)
+some_node (stands.Leaf p rs) = omega (arith, fold-Leaf ℕ nodes_step rs)
+some_node (stands.Inner p Ps) = omega (arith, fold-Inner ℕ nodes_step (trees_of Ps))
+
+-- a draft's count fits its root
+pub is_top : (hash : List ℕ → List ℕ) (d : Drawn) (t : Tree) → DraftOf hash d t → IsTop d.count d.root
+is_top hash d t of = at d.root of.drafted.placed of.drafted.root_is of.drafted.tree
+  where
+    at : (r : Option Child) (po : Option Placed) → option_map child_link r ≡ option_map (link_of (by One hash)) po →
+        whole_tree po ≡ t → IsTop d.count r
+    at None None said same = of.counted ∙ ap (λ u. length (records u)) (sym same) ∙ ap length records-Empty
+    at None (Some P) said same =
+        let no : ◌≡◌ {A = Option Link} None (Some (link_of (by One hash) P)) = said in absurd cc
+    at (Some c) None said same = let no : ◌≡◌ {A = Option Link} (Some (child_link c)) None = said in absurd cc
+    at (Some c) (Some P) said same =
+        let few = few_nodes t (record { one_level = of.well.one_level; filled = of.well.filled }) in
+        let one = subst (λ u. 1 ≤ nodes u) same (some_node P) in
+        (omega (arith, few, one, of.counted), omega (arith, of.counted, of.well.few))
+
+pub off_none : {A : Type 0} (Q : EditErr → Type 0) (r : Result A EditErr) (count : ℕ) (top : Option Child) →
+    IfErr r (IsOff count top) → IsTop count top → IfErr r Q
+off_none Q (Ok a) count top off fits = tt
+off_none Q (Err (errors.Map fault)) count top off fits = absurd (off.1 fits)
+off_none Q (Err errors.Missing) count top off fits = absurd off
+off_none Q (Err errors.Fault) count top off fits = absurd off
+off_none Q (Err errors.NoMemory) count top off fits = absurd off
+
+pub on_any : {A E P : Type 0} (r : Result A E) → P → OnOk r P
+on_any (Ok a) p = p
+on_any (Err e) p = tt

@@ -1,0 +1,11 @@
+pub mod Listings
+pub mod Gathering
+pub mod Overwrites
+pub mod ZeroPages
+pub mod Filed
+pub mod Copied
+pub mod Copies
+pub mod Seals
+pub mod ReadPages
+pub mod NodesKept
+pub mod Ends

@@ -1,0 +1,174 @@
+-- The pages of a file after one of them was written, in part or whole, and after one was added.
+use Rattle.std.proofs.Common.{◌≡◌, ◌≢◌, ℕ, ◌+◌, ◌-◌, ◌*◌, ◌<◌, ◌≤◌, ◌^◌, Bool, true, false, List, ◌++◌, length, take, drop, inl, inr, refl, sym, ap, subst, ◌∙◌, append_assoc, length-append, length-drop, take-append-drop, arith}
+use Rattle.std.specs.Prelude.{◌==◌, if◌then◌else◌, Some, None, option_map}
+use Rattle.std.proofs.lemmas.Bool.{cases_lt, eq-eqb, eqb-true}
+use Rattle.std.proofs.lemmas.List.{take-append-le, drop-append-le, drop-drop, take_at, drop_at, length-take-le}
+use Rattle.std.proofs.lemmas.List.Elements.{All-append, All-take, All-drop}
+use Rattle.std.proofs.Math.Seq.{drop-append-add}
+use Rattle.mr_record.specs.Bytes.{AreBytes}
+use Rattle.mr_outside.specs.Files.{replaced}
+use Rattle.mr_pages.specs.PageBytes.{page_size, first_form}
+use Rattle.mr_pages.specs.File.{page_at}
+use Rattle.mr_edit.specs.Book.{Book, with_sheet}
+use Rattle.mr_draft.specs.Sheets.{sheet_of, book_in, zeros, HasPages, ChangesPage}
+use Rattle.mr_draft.proofs.ZeroPages.{bytes_zeros}
+
+-- ---- a piece of a list of which another piece was replaced
+
+module _ (size : ℕ) (held : List ℕ) where
+  -- before it
+  before_it : (k n : ℕ) (rest : List ℕ) → k + size ≤ n → n ≤ length held →
+      take size (drop k (take n held ++ rest)) ≡ take size (drop k (take n held))
+  before_it k n rest room within =
+      let front : List ℕ = take n held in
+      let long : length front ≡ n = length-take-le n held within in
+      ap (take size) (drop-append-le k front rest (omega (arith, long, room)))
+      ∙ take-append-le size (drop k front) rest (omega (arith, long, room, length-drop k front))
+
+  pub piece_before : (k n : ℕ) (rest : List ℕ) → k + size ≤ n → n ≤ length held →
+      take size (drop k (take n held ++ rest)) ≡ take size (drop k held)
+  piece_before k n rest room within =
+      before_it k n rest room within ∙ sym (before_it k n (drop n held) room within)
+      ∙ ap (λ xs. take size (drop k xs)) (take-append-drop n held)
+
+-- behind it
+pub piece_behind : (held front : List ℕ) (k n : ℕ) → n + length front ≤ k → n ≤ length held →
+    drop k (take n held ++ front ++ drop (n + length front) held) ≡ drop k held
+piece_behind held front k n past within =
+    let all : List ℕ = take n held ++ front in
+    let more : ℕ = k - (n + length front) in
+    let long : length all ≡ n + length front =
+    length-append (take n held) front ∙ ap (λ m. m + length front) (length-take-le n held within) in
+    let at : k ≡ length all + more = omega (arith, long, past) in
+    let there : (n + length front) + more ≡ k = omega (arith, past) in
+    ap (λ j. drop j (all ++ drop (n + length front) held)) at
+    ∙ drop-append-add all (drop (n + length front) held) more
+    ∙ drop-drop more (n + length front) held
+    ∙ ap (λ j. drop j held) there
+
+-- and itself
+pub piece_here : (held front rest : List ℕ) (n : ℕ) → n ≤ length held →
+    take (length front) (drop n (take n held ++ front ++ rest)) ≡ front
+piece_here held front rest n within =
+    ap (λ xs. take (length front) (drop n xs)) (append_assoc (take n held) front rest)
+    ∙ ap (take (length front)) (drop_at (take n held) (front ++ rest) n (length-take-le n held within))
+    ∙ take_at front rest (length front) refl
+
+pub length_replaced : (n : ℕ) (front held : List ℕ) → n + length front ≤ length held →
+    length (replaced n front held) ≡ length held
+length_replaced n front held room =
+    omega (
+      arith,
+      room,
+      length-append (take n held ++ front) (drop (n + length front) held),
+      length-append (take n held) front,
+      length-take-le n held (omega (arith, room)),
+      length-drop (n + length front) held,
+    )
+
+pub bytes_replaced : (n : ℕ) (front held : List ℕ) → AreBytes front → AreBytes held → AreBytes (replaced n front held)
+bytes_replaced n front held new old =
+    All-append (λ b. b < 2 ^ 8) (take n held ++ front) (drop (n + length front) held)
+    (All-append (λ b. b < 2 ^ 8) (take n held) front (All-take (λ b. b < 2 ^ 8) n held old) new)
+    (All-drop (λ b. b < 2 ^ 8) (n + length front) held old)
+
+-- ---- a page is written
+
+module _ (pages page : ℕ) (held front : List ℕ) (have : HasPages pages held) (low : 1 ≤ page) (within : page < pages)
+    (short : length front ≤ page_size) where
+  abbrev after : List ℕ
+  after = replaced (page * page_size) front held
+
+  room : page * page_size + length front ≤ length held
+  room = omega (arith, have.long, within, short)
+
+  start : page * page_size ≤ length held
+  start = omega (arith, room)
+
+  same_length : length after ≡ length held
+  same_length = length_replaced (page * page_size) front held room
+
+  pub other_page : (q : ℕ) → q ≢ page → page_at first_form after q ≡ page_at first_form held q
+  other_page q other = elim (cases_lt q page) [
+    | inl before ↦
+        ap (λ xs. take page_size (drop (q * page_size) xs))
+        (append_assoc (take (page * page_size) held) front (drop (page * page_size + length front) held))
+        ∙ piece_before page_size held (q * page_size) (page * page_size)
+        (front ++ drop (page * page_size + length front) held)
+        (omega (arith, before)) start
+    | inr past ↦
+        let behind : page < q = omega (arith, past, other) in
+        ap (take page_size)
+        (piece_behind held front (q * page_size) (page * page_size) (omega (arith, behind, short)) start)
+  ]
+
+  pub has_replaced : AreBytes front → HasPages pages after
+  has_replaced new = record {
+    some = have.some;
+    few = have.few;
+    are = bytes_replaced (page * page_size) front held new have.are;
+    long = omega (arith, have.long, same_length);
+    blank = other_page 0 (λ e. omega (arith, e, low)) ∙ have.blank;
+  }
+
+  pub this_page : length front ≡ page_size → page_at first_form after page ≡ front
+  this_page whole =
+      ap (λ n. take n (drop (page * page_size) after)) (sym whole)
+      ∙ piece_here held front (drop (page * page_size + length front) held) (page * page_size) start
+
+  same_test : (length after == pages * page_size) ≡ (length held == pages * page_size)
+  same_test = ap (λ n. n == pages * page_size) same_length
+
+  sheet_after : length front ≡ page_size → (q : ℕ) → sheet_of (page_at first_form after q)
+      ≡ (if q == page then sheet_of front else sheet_of (page_at first_form held q))
+  sheet_after whole q = at (q == page) refl
+    where
+      at : (b : Bool) → (q == page) ≡ b → sheet_of (page_at first_form after q)
+          ≡ (if b then sheet_of front else sheet_of (page_at first_form held q))
+      at true e = ap (λ p. sheet_of (page_at first_form after p)) (eqb-true q page e) ∙ ap sheet_of (this_page whole)
+      at false e = ap sheet_of (other_page q (λ same. no (sym e ∙ eq-eqb q page same)))
+        where
+          no : false ≡ true → ⊥
+          no h = cc
+
+  -- the pages as they are read then
+  pub book_put : length front ≡ page_size →
+      book_in pages after ≡ option_map (with_sheet page (sheet_of front)) (book_in pages held)
+  book_put whole =
+      ap (λ b. if b then Some (told_book after) else None) same_test ∙ at (length held == pages * page_size)
+    where
+      told_book : List ℕ → Book
+      told_book bytes = record { size = pages; sheet = λ p. sheet_of (page_at first_form bytes p) }
+
+      at : (b : Bool) → (if b then Some (told_book after) else None)
+          ≡ option_map (with_sheet page (sheet_of front)) (if b then Some (told_book held) else None)
+      at true = λ i. Some (record { size = pages; sheet = λ q. sheet_after whole q i })
+      at false = refl
+
+  -- and whatever was written of it
+  pub book_others : ChangesPage page (book_in pages held) (book_in pages after)
+  book_others = at (length held == pages * page_size) same_test
+    where
+      told_book : List ℕ → Book
+      told_book bytes = record { size = pages; sheet = λ p. sheet_of (page_at first_form bytes p) }
+
+      at : (b : Bool) → (length after == pages * page_size) ≡ b →
+          ChangesPage page (if b then Some (told_book held) else None) (book_in pages after)
+      at true e = subst (λ t. ChangesPage page (Some (told_book held)) (if t then Some (told_book after) else None))
+          (sym e) (told_book held, refl, λ q other. ap sheet_of (other_page q other))
+      at false e = subst (λ t. ChangesPage page None (if t then Some (told_book after) else None)) (sym e) tt
+
+-- ---- a front of what was to be written
+
+pub front_bytes : (whole front rest : List ℕ) → whole ≡ front ++ rest → AreBytes whole → AreBytes front
+front_bytes whole front rest is all =
+    subst AreBytes (ap (take (length front)) is ∙ take_at front rest (length front) refl)
+    (All-take (λ b. b < 2 ^ 8) (length front) whole all)
+
+pub front_short : (whole front rest : List ℕ) → whole ≡ front ++ rest → length whole ≡ page_size →
+    length front ≤ page_size
+front_short whole front rest is size = omega (arith, size, ap length is, length-append front rest)
+
+pub front_zeros : (whole front rest : List ℕ) → whole ≡ front ++ rest → whole ≡ zeros page_size → AreBytes front
+front_zeros whole front rest is zero_page =
+    front_bytes whole front rest is (subst AreBytes (sym zero_page) (bytes_zeros page_size))

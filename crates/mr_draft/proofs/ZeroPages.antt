@@ -1,0 +1,213 @@
+-- What is read of zeros: no node, and no free page; and what of the pages that spell these.
+use Rattle.std.proofs.Common.{◌≡◌, ℕ, zero, suc, ◌+◌, ◌*◌, ◌-◌, ◌<◌, ◌≤◌, ◌^◌, Bool, true, false, List, [], ◌∷◌, ◌++◌, length, take, drop, replicate, inl, inr, refl, sym, ap, ◌∙◌, append-nil, add-one, length-append, length-drop, arith}
+use Rattle.std.specs.Prelude.{◌==◌, if◌then◌else◌, Option, Some, None, option_map}
+use Rattle.std.proofs.lemmas.Bool.{cases_lt, eq-eqb, eqb-true, ne_eqb}
+use Rattle.std.proofs.lemmas.List.{take-append-le, drop-append-le, drop-replicate, drop_all, length-replicate}
+use Rattle.std.proofs.lemmas.List.Elements.{All-append, All-nil, All-cons}
+use Rattle.std.proofs.Math.Seq.{drop-append-add}
+use Rattle.mr_record.specs.Bytes.{AreBytes}
+use Rattle.mr_tree.specs.declared.tree.Tree.TheOpen.{Empty, Leaf, Inner}
+use Rattle.mr_pages.specs.declared.layout.Layout.{Layout}
+use Rattle.mr_pages.specs.Page.{Node, IsNode, page_limit}
+use Rattle.mr_pages.specs.PageBytes.{page_size, first_form, first_layout, node_in, node_page, free_in, free_page}
+use Rattle.mr_pages.specs.File.{page_at}
+use Rattle.mr_pages.proofs.HeadLaws.{free_again}
+use Rattle.mr_pages.proofs.PageLaws.{node_again}
+use Rattle.mr_edit.specs.Book.{Sheet, Book, node_sheet, free_sheet, longer}
+use Rattle.mr_draft.specs.Sheets.{sheet_of, book_in, zeros, HasPages, LosesPages}
+
+-- what is neither
+abbrev pub no_sheet : Sheet
+no_sheet = record { node = None; free = None }
+
+none_both : (b : Bool) → ◌≡◌ {A = Option Node} (if b then None else None) None
+none_both true = refl
+none_both false = refl
+
+-- ---- the first byte tells
+
+node_of_zero : (layout : Layout) (rest : List ℕ) → node_in layout (0 ∷ rest) ≡ None
+node_of_zero layout rest = none_both (length (0 ∷ rest) == layout.size)
+
+node_of_none : (layout : Layout) → node_in layout [] ≡ None
+node_of_none layout = none_both (length {A = ℕ} [] == layout.size)
+
+node_of_free : (layout : Layout) (size next : ℕ) → node_in layout (free_page size next) ≡ None
+node_of_free layout size next = none_both (length (free_page size next) == layout.size)
+
+free_of_zero : (size : ℕ) (rest : List ℕ) → free_in size (0 ∷ rest) ≡ None
+free_of_zero size rest = refl
+
+free_of_none : (size : ℕ) → free_in size [] ≡ None
+free_of_none size = refl
+
+free_of_node : (size : ℕ) (layout : Layout) (n : Node) → IsNode n → free_in size (node_page layout n) ≡ None
+free_of_node size layout Empty is = absurd is
+free_of_node size layout (Leaf rs) is = refl
+free_of_node size layout (Inner links) is = refl
+
+sheet_of_zeros : (n : ℕ) → sheet_of (replicate n 0) ≡ no_sheet
+unfolding sheet_of
+sheet_of_zeros zero = λ i. record { node = node_of_none first_layout i; free = free_of_none page_size i }
+sheet_of_zeros (suc n) = λ i. record {
+  node = node_of_zero first_layout (replicate n 0) i;
+  free = free_of_zero page_size (replicate n 0) i;
+}
+
+pub sheet_of_node : (n : Node) → IsNode n → sheet_of (first_form.node_page n) ≡ node_sheet n
+unfolding sheet_of
+sheet_of_node n is = λ i. record {
+  node = node_again first_layout n (omega arith) is i;
+  free = free_of_node page_size first_layout n is i;
+}
+
+pub sheet_of_free : (next : ℕ) → next < 2 ^ 32 → sheet_of (first_form.free_page next) ≡ free_sheet next
+unfolding sheet_of
+sheet_of_free next low = λ i. record {
+  node = node_of_free first_layout page_size next i;
+  free = free_again page_size next low i;
+}
+
+-- ---- a piece of zeros is zeros
+
+record AreZeros (xs : List ℕ) : Type 0 where
+  count : ℕ
+  is : xs ≡ replicate count 0
+
+take_zeros : (n m : ℕ) → AreZeros (take n (replicate m 0))
+take_zeros zero m = record { count = 0; is = refl }
+take_zeros (suc n) zero = record { count = 0; is = refl }
+take_zeros (suc n) (suc m) =
+    let rest = take_zeros n m in
+    record { count = suc rest.count; is = ap (λ xs. 0 ∷ xs) rest.is }
+
+piece_of_zeros : (n k m : ℕ) → AreZeros (take n (drop k (replicate m 0)))
+piece_of_zeros n k m =
+    let z = take_zeros n (m - k) in
+    record { count = z.count; is = ap (take n) (drop-replicate {X = ℕ} k m 0) ∙ z.is }
+
+pub sheet_in_zeros : (n k m : ℕ) → sheet_of (take n (drop k (zeros m))) ≡ no_sheet
+unfolding zeros
+sheet_in_zeros n k m =
+    let z = piece_of_zeros n k m in ap sheet_of z.is ∙ sheet_of_zeros z.count
+
+pub sheet_none : sheet_of [] ≡ no_sheet
+sheet_none = sheet_of_zeros 0
+
+pub length_zeros : (n : ℕ) → length (zeros n) ≡ n
+unfolding zeros
+length_zeros n = length-replicate {A = ℕ} n 0
+
+replicated : (n : ℕ) → AreBytes (replicate n 0)
+replicated zero = All-nil (λ b. b < 2 ^ 8)
+replicated (suc n) = All-cons (λ b. b < 2 ^ 8) 0 (replicate n 0) (omega arith) (replicated n)
+
+pub bytes_zeros : (n : ℕ) → AreBytes (zeros n)
+unfolding zeros
+bytes_zeros n = replicated n
+
+-- ---- pages behind the end
+
+module _ (held : List ℕ) (pages : ℕ) where
+  -- a page of the front stays
+  pub page_of_front : (more : List ℕ) (q : ℕ) → q * page_size + page_size ≤ length held →
+      page_at first_form (held ++ more) q ≡ page_at first_form held q
+  page_of_front more q within =
+      ap (take page_size) (drop-append-le (q * page_size) held more (omega (arith, within)))
+      ∙ take-append-le page_size (drop (q * page_size) held) more
+      (omega (arith, within, length-drop (q * page_size) held))
+
+  pub sheet_behind : length held ≡ pages * page_size → (q : ℕ) → pages ≤ q →
+      sheet_of (page_at first_form held q) ≡ no_sheet
+  sheet_behind exact q past =
+      ap (λ xs. sheet_of (take page_size xs)) (drop_all (q * page_size) held (omega (arith, exact, past))) ∙ sheet_none
+
+  sheet_more : length held ≡ pages * page_size → (q : ℕ) → sheet_of (page_at first_form (held ++ zeros page_size) q)
+      ≡ sheet_of (page_at first_form held q)
+  sheet_more exact q = elim (cases_lt q pages) [
+    | inl within ↦ ap sheet_of (page_of_front (zeros page_size) q (omega (arith, exact, within)))
+    | inr past ↦
+        let more : ℕ = q * page_size - length held in
+        let at : q * page_size ≡ length held + more = omega (arith, exact, past) in
+        ap (λ k. sheet_of (take page_size (drop k (held ++ zeros page_size)))) at
+        ∙ ap (λ xs. sheet_of (take page_size xs)) (drop-append-add held (zeros page_size) more)
+        ∙ sheet_in_zeros page_size more page_size ∙ sym (sheet_behind exact q past)
+  ]
+
+  module _ (have : HasPages pages held) where
+    pub has_grown : (front : List ℕ) → AreBytes front → HasPages pages (held ++ front)
+    has_grown front new = record {
+      some = have.some;
+      few = have.few;
+      are = All-append (λ b. b < 2 ^ 8) held front have.are new;
+      long = omega (arith, have.long, length-append held front);
+      blank = page_of_front front 0 (omega (arith, have.long, have.some)) ∙ have.blank;
+    }
+
+    pub has_more : pages < page_limit → HasPages (pages + 1) (held ++ zeros page_size)
+    has_more few = record {
+      some = omega arith;
+      few = omega (arith, few);
+      are = All-append (λ b. b < 2 ^ 8) held (zeros page_size) have.are (bytes_zeros page_size);
+      long = omega (arith, have.long, length-append held (zeros page_size), length_zeros page_size);
+      blank = page_of_front (zeros page_size) 0 (omega (arith, have.long, have.some)) ∙ have.blank;
+    }
+
+  same_test : (length (held ++ zeros page_size) == (pages + 1) * page_size) ≡ (length held == pages * page_size)
+  same_test = at (length held == pages * page_size) refl
+    where
+      at : (b : Bool) → (length held == pages * page_size) ≡ b →
+          (length (held ++ zeros page_size) == (pages + 1) * page_size) ≡ b
+      at true e =
+          let exact : length held ≡ pages * page_size = eqb-true (length held) (pages * page_size) e in
+          eq-eqb (length (held ++ zeros page_size)) ((pages + 1) * page_size)
+          (omega (arith, exact, length-append held (zeros page_size), length_zeros page_size))
+      at false e = ne_eqb (length (held ++ zeros page_size)) ((pages + 1) * page_size) (λ same.
+          no (sym e ∙ eq-eqb (length held) (pages * page_size)
+          (omega (arith, same, length-append held (zeros page_size), length_zeros page_size))))
+        where
+          no : false ≡ true → ⊥
+          no h = cc
+
+  pub book_more : book_in (pages + 1) (held ++ zeros page_size) ≡ option_map longer (book_in pages held)
+  book_more =
+      ap (λ b. if b then Some (record {
+        size = pages + 1;
+        sheet = λ p. sheet_of (page_at first_form (held ++ zeros page_size) p);
+      }) else None) same_test
+      ∙ at (length held == pages * page_size) refl
+    where
+      at : (b : Bool) → (length held == pages * page_size) ≡ b →
+          ◌≡◌ {A = Option Book}
+          (if b then Some (record {
+            size = pages + 1;
+            sheet = λ p. sheet_of (page_at first_form (held ++ zeros page_size) p);
+          }) else None)
+          (option_map longer (if b then Some (record {
+            size = pages;
+            sheet = λ p. sheet_of (page_at first_form held p);
+          }) else None))
+      at true e =
+          let exact : length held ≡ pages * page_size = eqb-true (length held) (pages * page_size) e in
+          λ i. Some (record { size = add-one pages i; sheet = λ q. sheet_more exact q i })
+      at false e = refl
+
+  pub book_loses : (front : List ℕ) → pages * page_size ≤ length held →
+      LosesPages (book_in pages held) (book_in pages (held ++ front))
+  book_loses front long = at (length (held ++ front) == pages * page_size) refl
+    where
+      none : (xs : List ℕ) → length xs ≡ 0 → xs ≡ []
+      none [] e = refl
+      none (x ∷ xs) e = absurd (omega (arith, e))
+
+      at : (b : Bool) → (length (held ++ front) == pages * page_size) ≡ b →
+          LosesPages (book_in pages held) (book_in pages (held ++ front))
+      at true e =
+          let exact : length (held ++ front) ≡ pages * page_size =
+          eqb-true (length (held ++ front)) (pages * page_size) e in
+          let empty : front ≡ [] = none front (omega (arith, exact, long, length-append held front)) in
+          inr (ap (λ xs. book_in pages (held ++ xs)) empty ∙ ap (book_in pages) (append-nil held))
+      at false e = inl (ap (λ b. if b then Some (record {
+        size = pages;
+        sheet = λ p. sheet_of (page_at first_form (held ++ front) p);
+      }) else None) e)

@@ -1,0 +1,9 @@
+use Rattle.std.proofs.Common.{sym, subst}
+use Rattle.mr_draft.specs.Listing.{Gathers}
+use Rattle.mr_draft.proofs.Gathering.{made_gathers}
+use Rattle.mr_draft.proofs.listing.gathered.Goals as goal
+
+pub returns-in-Ok-clause-lists : goal.returns-in-Ok-clause-lists
+returns-in-Ok-clause-lists c =
+    subst (Gathers c.args.all.items) (sym c.over.ensures)
+    (made_gathers c.args.all.items c.in-Ok.rects c.in-Ok.ensures)

@@ -1,0 +1,173 @@
+-- A draft of a map: a copy of its file on whose pages changes are made, until it is sealed.
+use Rattle.std.specs.Prelude.{◌≡◌, ◌⊎◌, ℕ, ◌+◌, ◌*◌, ◌<◌, ◌≤◌, max, List, [], ◌∷◌, length, Option, Some, None, option_map, IfSome}
+use Rattle.mr_record.specs.declared.version.Version.TheVariants.{One}
+use Rattle.mr_outside.specs.Files.{with_file}
+use Rattle.mr_outside.specs.State.{Shelved}
+use Rattle.mr_outside.specs.Writing.{IsChanged}
+use Rattle.mr_tree.specs.Digest.{by, root}
+use Rattle.mr_tree.specs.Limits.{count_limit}
+use Rattle.mr_tree.specs.Tree.{records}
+use Rattle.mr_tree.specs.WellFormed.{WellFormed}
+use Rattle.mr_tree.specs.declared.child.Child.{Child}
+use Rattle.mr_tree.specs.declared.tree.Tree.{Tree}
+use Rattle.mr_pages.specs.Law.{IsMap}
+use Rattle.mr_pages.specs.Page.{Head}
+use Rattle.mr_pages.specs.PageBytes.{page_size, first_form}
+use Rattle.mr_pages.specs.Saved.{IsUnsealed, Leaves}
+use Rattle.mr_pages.specs.Source.{told_bytes}
+use Rattle.mr_pages.specs.Walking.{child_link}
+use Rattle.mr_pages.specs.declared.head.MapHead.{MapHead}
+use Rattle.mr_pages.specs.declared.rule.MapRule.TheVariants as rule
+use Rattle.mr_store.specs.Stored.{stands_for}
+use Rattle.mr_batch.specs.Applied.{IsAdmissible}
+use Rattle.mr_batch.specs.Changes.{Changes}
+use Rattle.mr_batch.specs.Directory.{Entries, IsDirectoryOf}
+use Rattle.mr_batch.specs.Peak.{peak}
+use Rattle.mr_batch.specs.Replay.{replay}
+use Rattle.mr_edit.specs.Drafted.{Drafted}
+use Rattle.mr_draft.specs.Sheets.{book_on}
+use Rattle.mr_edit.specs.Shelves.{HasShelfCause}
+use Rattle.mr_edit.specs.declared.error.EditErr.{EditErr}
+use Rattle.mr_edit.specs.declared.error.EditErr.TheVariants as errors
+
+-- what is known of a draft at one moment
+pub record Drawn : Type 0 where
+  -- the shelf, and the file on it
+  pub shelf : Shelved
+  pub name : List ℕ
+  -- how many pages the file has, and the first free one
+  pub pages : ℕ
+  pub free : ℕ
+  pub root : Option Child
+  -- of records
+  pub count : ℕ
+  pub batch : ℕ
+
+abbrev pub drawn : Shelved → (name : List ℕ) → (pages free : ℕ) → Option Child →
+    (count batch : ℕ) → Drawn
+drawn shelf name pages free root count batch = record {
+  shelf = shelf;
+  name = name;
+  pages = pages;
+  free = free;
+  root = root;
+  count = count;
+  batch = batch;
+}
+
+-- what page 0 is to say
+abbrev pub head_in_draft : Drawn → Head
+head_in_draft d = record {
+  batch = d.batch;
+  count = d.count;
+  pages = d.pages;
+  root = option_map child_link d.root;
+  free = d.free;
+}
+
+-- the draft stands for this tree, which is well formed
+pub record DraftOf (hash : List ℕ → List ℕ) (d : Drawn) (t : Tree) : Type 0 where
+  pub drafted : Drafted (by One hash) (book_on d.shelf.files d.name d.pages) d.free d.root t
+  pub well : WellFormed t
+  pub counted : d.count ≡ length (records t)
+
+-- a map may have so many records and this root
+abbrev pub IsTop : (count : ℕ) → Option Child → Type 0
+IsTop count None = count ≡ 0
+IsTop count (Some c) = (0 < count) × (count ≤ count_limit)
+
+-- it may not, and a page is blamed for it
+abbrev pub IsOff : (count : ℕ) → Option Child → EditErr → Type 0
+IsOff count root (errors.Map fault) = (fault.rule ≡ rule.Page) × (IsTop count root → ⊥)
+IsOff count root e = ⊥
+
+-- ---- a map is copied
+
+-- The map whose page 0 says this was copied: the draft is of its tree, where that is told, and has
+-- its batch, its root, its count, its first free page and as many pages; the file that was made is
+-- not sealed, and each other file is as before. There were no more reads than pages.
+pub record Copies (hash : List ℕ → List ℕ) (name : List ℕ) (h : MapHead) (before : Shelved)
+    (new : List ℕ) (d : Drawn) : Type 0 where
+  pub of_tree : IfSome (stands_for h (told_bytes before.files name)).tree (DraftOf hash d)
+  pub named : d.name ≡ new
+  pub at_batch : d.batch ≡ h.batch
+  pub paged : d.pages ≡ h.pages
+  pub root : d.root ≡ h.root
+  pub free : d.free ≡ h.free
+  pub count : d.count ≡ h.count
+  pub bytes : List ℕ
+  pub unsealed : IsUnsealed first_form hash bytes
+  pub files : IsChanged (with_file new) bytes before.files d.shelf.files
+  pub quiet : d.shelf.faults ≡ before.faults
+  pub more : before.reads ≤ d.shelf.reads
+  pub few : d.shelf.reads ≤ before.reads + h.pages
+
+-- It was not: the files are as before, or the one that was made is not sealed. That a file is
+-- missing comes only where none is told.
+pub record CopyFails (hash : List ℕ → List ℕ) (h : MapHead) (before : Shelved) (new : List ℕ)
+    (after : Shelved) (e : EditErr) : Type 0 where
+  pub left : Leaves (IsUnsealed first_form hash) new before.files after.files
+  pub cause : HasShelfCause before.faults after.faults e
+  pub untold : e ≡ errors.Missing → before.files ≡ None
+  pub later : before.faults ≤ after.faults
+  pub more : before.reads ≤ after.reads
+  pub few : after.reads ≤ before.reads + h.pages
+
+-- ---- a batch is applied
+
+-- the draft is of this tree, of which this is the directory, and the batch may be applied to it
+pub record CanApply (hash : List ℕ → List ℕ) (d : Drawn) (dir : Entries) (b : Changes)
+    (t : Tree) : Type 0 where
+  pub draft : DraftOf hash d t
+  pub directory : IsDirectoryOf dir (records t)
+  pub admissible : IsAdmissible (records t) d.batch b
+
+-- The draft is then of the tree after the batch, and the directory is that tree's. There are no
+-- fewer pages, and no more than there were, or than the most nodes so far and page 0.
+pub record Applied (hash : List ℕ → List ℕ) (before : Drawn) (b : Changes) (t : Tree)
+    (after : Drawn) (dir : Entries) : Type 0 where
+  pub draft : DraftOf hash after (replay t (b ∷ []))
+  pub directory : IsDirectoryOf dir (records (replay t (b ∷ [])))
+  pub no_fewer : before.pages ≤ after.pages
+  pub no_more : after.pages ≤ max before.pages (peak t b + 1)
+
+abbrev pub Applies : (List ℕ → List ℕ) → (before : Drawn) → (dir : Entries) → Changes →
+    (after : Drawn) → (dir' : Entries) → Type 0
+Applies hash before dir b after dir' =
+    (t : Tree) → CanApply hash before dir b t → Applied hash before b t after dir'
+
+-- Whatever was answered, the file is not sealed, and each other file is as before.
+pub record KeepsDraft (hash : List ℕ → List ℕ) (before after : Drawn) : Type 0 where
+  pub name : after.name ≡ before.name
+  pub pages : before.pages ≤ after.pages
+  pub left : Leaves (IsUnsealed first_form hash) before.name before.shelf.files after.shelf.files
+  pub faults : before.shelf.faults ≤ after.shelf.faults
+  pub reads : before.shelf.reads ≤ after.shelf.reads
+
+-- ---- a draft is sealed
+
+-- the file of these bytes stands for the draft's tree at its batch, and has as many pages
+pub record IsSealed (hash : List ℕ → List ℕ) (d : Drawn) (t : Tree) (bytes : List ℕ) : Type 0 where
+  pub map : IsMap first_form hash bytes t d.batch
+  pub size : length bytes ≡ d.pages * page_size
+
+-- The file now stands for whatever tree the draft was of, and this is the map's root digest.
+pub record Seals (hash : List ℕ → List ℕ) (d : Drawn) (digest : List ℕ) (after : Shelved)
+    : Type 0 where
+  pub bytes : List ℕ
+  pub files : IsChanged (with_file d.name) bytes d.shelf.files after.files
+  pub map : (t : Tree) → DraftOf hash d t → IsSealed hash d t bytes
+  pub digest_is : (t : Tree) → DraftOf hash d t → digest ≡ root (by One hash) t d.batch
+  pub quiet : after.faults ≡ d.shelf.faults
+
+-- what a seal that is refused may leave: no map yet, or all
+abbrev pub MayBeSealed : (List ℕ → List ℕ) → Drawn → (bytes : List ℕ) → Type 0
+MayBeSealed hash d bytes =
+    IsUnsealed first_form hash bytes ⊎ ((t : Tree) → DraftOf hash d t → IsSealed hash d t bytes)
+
+-- It was not sealed.
+pub record SealFails (hash : List ℕ → List ℕ) (d : Drawn) (after : Shelved) (e : EditErr)
+    : Type 0 where
+  pub left : Leaves (MayBeSealed hash d) d.name d.shelf.files after.files
+  pub cause : HasShelfCause d.shelf.faults after.faults e
+  pub later : d.shelf.faults ≤ after.faults

@@ -1,0 +1,4 @@
+pub mod Listing
+pub mod Sheets
+pub mod SheetLaws
+pub mod Draft

@@ -1,0 +1,125 @@
+//! A file of pages under edit on a shelf, with a cache of node pages.
+
+ghost use Rattle.std.specs.Prelude.{◌≡◌};
+ghost use Rattle.std.specs.String.{string_bytes};
+ghost use Rattle.std.proofs.Props.{props};
+ghost use Rattle.mr_draft.specs.Sheets.{book_on, IsSheets, KeepsSheets};
+
+use crate::keeping::{free_page, show_node, write_node};
+use crate::pages::{add_page, next_free};
+use lru::LruCache;
+use mr_edit::{EditErr, PageFile};
+use mr_outside::Shelf;
+use mr_store::Kept;
+use mr_tree::{Child, Hashes, NodeView};
+use std::alloc::Global;
+use std::marker::PhantomData;
+
+/// A file of a shelf whose pages are read and written one by one, but for page 0, which is zeros.
+/// It keeps up to 256 nodes, and checks each that it reads against what its parent says of it.
+pub struct Sheets<S: Shelf, H: Hashes> {
+    pub(crate) alloc: Global,
+    pub(crate) shelf: S,
+    pub(crate) name: String,
+    pub(crate) pages: u32,
+    pub(crate) cache: LruCache<u32, Kept>,
+    pub(crate) hash: PhantomData<H>,
+    ghost sheets: { IsSheets H.of (S.state shelf).files (string_bytes name) pages cache.entries
+        cache.cap } by { Prim.hlevel props },
+}
+
+impl<S: Shelf, H: Hashes> PageFile for Sheets<S, H> {
+    ghost use Rattle.mr_draft.specs.SheetLaws.{sheets_self, sheets_on};
+
+    type Hash = H;
+
+    ghost told = { λ s. book_on (S.state s.shelf).files (string_bytes s.name) s.pages };
+
+    ghost faults = { λ s. (S.state s.shelf).faults };
+
+    ghost reads = { λ s. (S.state s.shelf).reads };
+
+    ghost kept = { λ s t. KeepsSheets (string_bytes s.name) (string_bytes t.name) s.pages t.pages
+        (S.state s.shelf) (S.state t.shelf) };
+
+    fn read(&mut self, child: &Child, into: &mut NodeView) -> Result<(), EditErr> {
+        show_node::<H, S>(
+            self.alloc,
+            &mut self.shelf,
+            self.name.as_str(),
+            self.pages,
+            &mut self.cache,
+            child,
+            into,
+        )
+    }
+
+    fn read_free(&mut self, page: u32) -> Result<u32, EditErr> {
+        next_free::<S>(&mut self.shelf, self.name.as_str(), self.pages, page)
+    }
+
+    fn write(&mut self, child: &Child, view: &NodeView) -> Result<(), EditErr> {
+        write_node::<H, S>(
+            self.alloc,
+            &mut self.shelf,
+            self.name.as_str(),
+            self.pages,
+            &mut self.cache,
+            child,
+            view,
+        )
+    }
+
+    fn write_free(&mut self, page: u32, next: u32) -> Result<(), EditErr> {
+        free_page::<H, S>(
+            &mut self.shelf,
+            self.name.as_str(),
+            self.pages,
+            &mut self.cache,
+            page,
+            next,
+        )
+    }
+
+    fn grow(&mut self) -> Result<u32, EditErr> {
+        let page = self.pages;
+        add_page::<S>(&mut self.shelf, self.name.as_str(), page)?;
+        self.pages = page + 1;
+        Ok(page)
+    }
+
+    ghost kept_self = { λ s. sheets_self _ _ _ };
+
+    ghost kept_on = { λ s t u. sheets_on _ _ _ _ _ _ _ _ _ };
+
+    ghost kept_faults = { λ s t k. k.faults };
+}
+
+impl<S: Shelf, H: Hashes> Sheets<S, H> {
+    // The shelf, the file's name on it, and how many pages it has.
+    pub(crate) fn into_parts(self) -> (S, String, u32)
+        ensures shelf { result.0 ≡ self.shelf }
+        ensures name { result.1 ≡ self.name }
+        ensures pages { result.2 ≡ self.pages }
+        ensures sheets { IsSheets H.of (S.state self.shelf).files (string_bytes self.name)
+            self.pages self.cache.entries self.cache.cap }
+    {
+        let Sheets {
+            alloc: _,
+            shelf,
+            name,
+            pages,
+            cache: _,
+            hash: _,
+        } = self;
+        (shelf, name, pages)
+    }
+
+    // The shelf, as it stands.
+    pub(crate) fn close(self) -> S
+        ensures { result ≡ self.shelf }
+    {
+        let (shelf, _name, _pages) = self.into_parts();
+        shelf
+    }
+}

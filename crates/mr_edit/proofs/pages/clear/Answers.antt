@@ -1,7 +1,0 @@
-use Rattle.std.proofs.Common.{replicate, ap, ◌∙◌}
-use Rattle.mr_edit.specs.Sheets.{zeros}
-use Rattle.mr_edit.proofs.pages.clear.Goals as goal
-
-pub returns : goal.returns
-unfolding zeros
-returns c = c.clear_all.ensures ∙ ap (λ n. replicate n 0) c.requires
