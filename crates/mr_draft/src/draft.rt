@@ -212,11 +212,7 @@ impl<S: Shelf, H: Hashes> Draft<S, H> {
             count: _,
             batch: _,
         } = self;
-        let Desk {
-            file,
-            free: _,
-            hints: _,
-        } = desk;
+        let Desk { file, .. } = desk;
         file.close()
     }
 }

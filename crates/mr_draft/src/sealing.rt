@@ -136,11 +136,7 @@ impl<S: Shelf, H: Hashes> Draft<S, H> {
             count,
             batch,
         } = self;
-        let Desk {
-            file,
-            free,
-            hints: _,
-        } = desk;
+        let Desk { file, free, .. } = desk;
         let (shelf, name, pages) = file.into_parts();
         let head = MapHead {
             level: level_of_root(&root),
