@@ -12,7 +12,7 @@ use Rattle.mr_tree.specs.Digest.{Scheme}
 use Rattle.mr_tree.specs.declared.tree.Tree.{Tree}
 use Rattle.mr_query.specs.declared.query.Query.{Query}
 use Rattle.mr_proof.specs.Honest.{proof}
-use Rattle.mr_bundle.specs.Bundle.{AreRead, IsBundleOf, IsShort, bundle_of, bytes_of, end_at, go_on, held_in, part_at, part_bytes, parts, parts_from, size_at}
+use Rattle.mr_bundle.specs.Bundle.{AreRead, Cutting, IsBundleOf, IsFrontOf, IsShort, bundle_of, bytes_of, end_at, go_on, held_in, part_at, part_bytes, parts, parts_from, size_at, stopped_at}
 use Rattle.mr_bundle.specs.Proofs.{bundle, proofs}
 use Rattle.mr_bundle.specs.declared.reading.Part.{Part}
 use Rattle.mr_bundle.specs.declared.reading.Parts.{Parts}
@@ -155,7 +155,77 @@ leaves bytes (suc queries) at fits low whole =
     step bytes queries at fits (part_at bytes at) refl whole
     (λ next low whole. leaves bytes queries next fits low whole)
 
+-- ---- up to where reading stopped
+
+-- what is left from a place on begins with the bundle of these parts, up to where reading stopped
+record Runs (bytes : List ℕ) (at : ℕ) (x : Cutting) : Type 0 where
+  within : stopped_at bytes x.broken ≤ length bytes
+  short : All IsShort (held_in bytes x.list)
+  spelled : drop at bytes ≡ bundle_of (held_in bytes x.list) ++ drop (stopped_at bytes x.broken) bytes
+
+-- no part more
+runs_out : (bytes : List ℕ) (at : ℕ) (broken : Option ℕ) → stopped_at bytes broken ≤ length bytes
+    → drop at bytes ≡ drop (stopped_at bytes broken) bytes → Runs bytes at (record { list = []; broken = broken })
+unfolding bundle_of
+runs_out bytes at broken within same = record { within = within; short = All-nil IsShort; spelled = same }
+
+runs_step : (bytes : List ℕ) (queries at : ℕ) → IsBytes bytes → at ≤ length bytes → (o : Option Part)
+    → part_at bytes at ≡ o
+    → ((next : ℕ) → next ≤ length bytes → Runs bytes next (parts_from bytes queries next))
+    → Runs bytes at (go_on at o (parts_from bytes queries))
+unfolding bundle_of
+runs_step bytes queries at fits low None found rest = runs_out bytes at (Some at) low refl
+runs_step bytes queries at fits low (Some part) found rest =
+    let one = part_is bytes at part fits found in
+    let others = rest part.end one.place in
+    let held = held_in bytes (parts_from bytes queries part.end).list in
+    let end = stopped_at bytes (parts_from bytes queries part.end).broken in
+    record {
+      within = others.within;
+      short = All-cons IsShort (bytes_of bytes part) held one.short others.short;
+      spelled = one.spelled ∙ ap (λ r. part_bytes (bytes_of bytes part) ++ r) others.spelled
+          ∙ sym (append_assoc (part_bytes (bytes_of bytes part)) (bundle_of held) (drop end bytes));
+    }
+
+runs : (bytes : List ℕ) (queries at : ℕ) → IsBytes bytes → at ≤ length bytes
+    → Runs bytes at (parts_from bytes queries at)
+unfolding parts_from
+runs bytes zero at fits low = elim (cases_lt at (length bytes)) [
+  | inl some ↦ subst (λ o. Runs bytes at (record { list = []; broken = o })) (sym (some_left at (length bytes) some))
+      (runs_out bytes at (Some at) low refl)
+  | inr past ↦ subst (λ o. Runs bytes at (record { list = []; broken = o })) (sym (none_left at (length bytes) past))
+      (runs_out bytes at None (omega arith)
+      (drop_all at bytes past ∙ sym (drop_all (length bytes) bytes (omega arith))))
+]
+runs bytes (suc queries) at fits low =
+    runs_step bytes queries at fits low (part_at bytes at) refl (λ next low. runs bytes queries next fits low)
+
+front_is : (bytes : List ℕ) (x : Cutting) → Runs bytes 0 x → IsFrontOf bytes x.list x.broken
+front_is bytes x is =
+    let end = stopped_at bytes x.broken in
+    let held = bundle_of (held_in bytes x.list) in
+    let all : bytes ≡ held ++ drop end bytes = is.spelled in
+    let size : length bytes ≡ length (held ++ drop end bytes) = ap length all in
+    let low : end ≤ length bytes = is.within in
+    let long : length held ≡ end = omega (arith, size, length-append held (drop end bytes), length-drop end bytes, low)
+    in
+    record {
+      short = is.short;
+      front = ap (take end) all ∙ take_at held (drop end bytes) end long;
+      place = sym long;
+    }
+
 -- ---- the answer
+
+pub answer_front : {E : Type 0} (bytes : List ℕ) (queries : ℕ) (answer : Result Parts E) → IsBytes bytes
+    → IfOk answer (λ p. p.list ≡ (parts bytes queries).list)
+    → IfOk answer (λ p. p.broken ≡ (parts bytes queries).broken)
+    → IfOk answer (λ p. IsFrontOf bytes p.list p.broken)
+answer_front bytes queries (Ok p) fits list broken =
+    let all = front_is bytes (parts bytes queries) (runs bytes queries 0 fits (omega arith)) in
+    subst (λ (l : List Part). IsFrontOf bytes l p.broken) (sym list)
+    (subst (λ (o : Option ℕ). IsFrontOf bytes (parts bytes queries).list o) (sym broken) all)
+answer_front bytes queries (Err e) fits list broken = tt
 
 pub answer_written : {E : Type 0} (bytes : List ℕ) (queries : ℕ) (answer : Result Parts E) → IsBytes bytes
     → IfOk answer (λ p. p.list ≡ (parts bytes queries).list)

@@ -1,3 +1,4 @@
 pub mod Bundles
 pub mod Cutting
+pub mod Refusals
 pub mod Zipped

@@ -78,6 +78,18 @@ pub record IsBundleOf (bytes : List ℕ) (queries : ℕ) (proofs : List (List �
   pub short : All IsShort proofs
   pub spelled : bytes ≡ bundle_of proofs
 
+-- where reading stopped, or behind the last byte
+abbrev pub stopped_at : List ℕ → (broken : Option ℕ) → ℕ
+stopped_at bytes None = length bytes
+stopped_at bytes (Some at) = at
+
+-- The bytes before that are the bundle of what the parts hold: all of them where nothing is broken,
+-- and else those of the parts that are whole, so that the place is the length of their bundle.
+pub record IsFrontOf (bytes : List ℕ) (list : List Part) (broken : Option ℕ) : Type 0 where
+  pub short : All IsShort (held_in bytes list)
+  pub front : take (stopped_at bytes broken) bytes ≡ bundle_of (held_in bytes list)
+  pub place : stopped_at bytes broken ≡ length (bundle_of (held_in bytes list))
+
 -- nothing is broken, and these proofs are what the parts hold
 pub record AreRead (bytes : List ℕ) (list : List Part) (broken : Option ℕ)
     (proofs : List (List ℕ)) : Type 0 where

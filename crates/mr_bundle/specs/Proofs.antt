@@ -1,8 +1,10 @@
 -- The proofs for many queries on one map.
-use Rattle.std.specs.Prelude.{ℕ, List, map}
+use Rattle.std.specs.Prelude.{◌≡◌, ⊤, ℕ, List, map, Option, Some}
 use Rattle.mr_tree.specs.Digest.{Scheme, by}
 use Rattle.mr_tree.specs.Nodes.{top_version}
 use Rattle.mr_tree.specs.Snapshot.{tree_of}
+use Rattle.mr_tree.specs.declared.nodes.NodesErr.{NodesErr}
+use Rattle.mr_tree.specs.declared.nodes.NodesErr.TheVariants as errors
 use Rattle.mr_tree.specs.declared.nodes.Top.{Top}
 use Rattle.mr_tree.specs.declared.stored.Stored.{Stored}
 use Rattle.mr_tree.specs.declared.tree.Tree.{Tree}
@@ -21,3 +23,12 @@ bundle s t batch queries = bundle_of (proofs s t batch queries)
 -- the honest proof on the map whose nodes and head these are
 abbrev pub proof_in : (List ℕ → List ℕ) → List Stored → Top → Query → List ℕ
 proof_in hash nodes top q = proof (by (top_version top) hash) (tree_of nodes top) top.batch q
+
+-- a refusal is answered as it was given
+abbrev pub as_given : NodesErr → NodesErr
+as_given e = e
+
+-- what is answered is the last that a fetch refused, unless memory ran out
+abbrev pub IsLastRefusal : (last : Option NodesErr) → NodesErr → Type 0
+IsLastRefusal last errors.NoMemory = ⊤
+IsLastRefusal last e = last ≡ Some e

@@ -2,12 +2,12 @@
 
 ghost use Rattle.std.specs.Prelude.{◌≡◌, ◌≤◌, ◌<◌, ◌^◌, ◌+◌, ◌*◌, ℕ, List, length, map, All, IfOk, IfErr, IfSome, OnOk};
 ghost use Rattle.mr_tree.specs.Digest.{by};
-ghost use Rattle.mr_tree.specs.Nodes.{HasSomeCause};
+ghost use Rattle.mr_tree.specs.Nodes.{HasSomeCause, TellsRefusal};
 ghost use Rattle.mr_query.specs.Word.{IsAskable};
 ghost use Rattle.mr_proof.specs.Honest.{proof as honest_proof, opened};
 ghost use Rattle.mr_prove.specs.Causes.{rounds};
 ghost use Rattle.mr_bundle.specs.Bundle.{IsShort};
-ghost use Rattle.mr_bundle.specs.Proofs.{proof_in};
+ghost use Rattle.mr_bundle.specs.Proofs.{proof_in, as_given, IsLastRefusal};
 
 use crate::Text;
 use mr_halves::{Work, in_halves};
@@ -39,6 +39,9 @@ pub fn proof_of_nodes<N: Nodes>(
     ensures cause { IfErr result (HasSomeCause (N.stands nodes.old) (N.faults nodes.old)
         (N.faults nodes.new)) }
     ensures quiet { OnOk result (N.faults nodes.new ≡ N.faults nodes.old) }
+    // Told or not, what a fetch refused is what is answered.
+    ensures refused { IfErr result (IsLastRefusal (N.refusal nodes.new)) }
+    ensures answered { TellsRefusal as_given (N.refusal nodes.old) (N.refusal nodes.new) result }
 {
     let mut out = Text::new(alloc);
     match prove(alloc, nodes, query, &mut out) {

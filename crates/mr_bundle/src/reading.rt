@@ -1,7 +1,7 @@
 //! The parts of a bundle.
 
 ghost use Rattle.std.specs.Prelude.{◌≡◌, ◌≤◌, List, ℕ, length, All, IfOk, IfSome, None};
-ghost use Rattle.mr_bundle.specs.Bundle.{AreRead, IsBundleOf, LiesIn, held_in, part_at as whole_at, parts};
+ghost use Rattle.mr_bundle.specs.Bundle.{AreRead, IsBundleOf, IsFrontOf, LiesIn, held_in, part_at as whole_at, parts};
 
 use mr_outside::Items;
 use mr_record::u32_of_bytes;
@@ -76,8 +76,8 @@ fn cut_parts(alloc: Global, bytes: &[u8], queries: usize) -> Result<Parts, Alloc
 /// The parts of a bundle for so many queries. Part `i` is whole where four bytes of length and as
 /// many bytes as they say are there; the first part that is not breaks the bundle, and that part
 /// and all later ones are missing. Bytes that are left behind the last part break it too. So a
-/// bundle that is not broken is the one spelling of the proofs that its parts hold. It refuses for
-/// want of memory alone.
+/// bundle that is not broken is the one spelling of the proofs that its parts hold, and one that is
+/// begins with that of its whole parts, up to where it breaks. It refuses for want of memory alone.
 pub fn read_bundle(alloc: Global, bytes: &[u8], queries: usize) -> Result<Parts, AllocError>
     ensures list { IfOk result (λ p. p.list ≡ (parts bytes.now queries).list) }
     ensures broken { IfOk result (λ p. p.broken ≡ (parts bytes.now queries).broken) }
@@ -87,6 +87,8 @@ pub fn read_bundle(alloc: Global, bytes: &[u8], queries: usize) -> Result<Parts,
         → IsBundleOf bytes.now queries (held_in bytes.now p.list)) }
     ensures read { (proofs : List (List ℕ)) → IsBundleOf bytes.now queries proofs
         → IfOk result (λ p. AreRead bytes.now p.list p.broken proofs) }
+    // Broken or not.
+    ensures front { IfOk result (λ p. IsFrontOf bytes.now p.list p.broken) }
 {
     cut_parts(alloc, bytes, queries)
 }

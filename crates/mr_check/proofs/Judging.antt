@@ -3,9 +3,9 @@ use Rattle.std.proofs.Common.{◌≡◌, ◌≢◌, ℕ, ◌+◌, ◌<◌, Bool,
 use Rattle.std.specs.Prelude.{not, bytes_eq, filter}
 use Rattle.std.proofs.lemmas.Bool.{cases_Bool, le-ltb}
 use Rattle.mr_record.specs.declared.record.Record.{Record}
-use Rattle.mr_query.specs.declared.query.Query.{Query}
 use Rattle.mr_query.specs.Scan.{scan}
-use Rattle.mr_query.specs.Word.{IsAskable}
+use Rattle.mr_query.specs.Word.{IsQuery}
+use Rattle.mr_query.specs.declared.query.Query.{Query}
 use Rattle.mr_proof.specs.declared.head.Head.{Head}
 use Rattle.mr_proof.specs.declared.head.Kind.{Kind}
 use Rattle.mr_proof.specs.declared.rule.Rule.TheVariants as rule
@@ -14,14 +14,16 @@ use Rattle.mr_proof.specs.declared.want.Want.{Want}
 use Rattle.mr_proof.specs.declared.want.Want.TheVariants as want
 use Rattle.mr_proof.specs.Cut.{Cut}
 use Rattle.mr_proof.specs.Spelling.{Said, said, opened_records}
-use Rattle.mr_proof.specs.Tight.{asks, kind_of}
+use Rattle.mr_proof.specs.Tight.{Question, IsLawful, around_of, question}
 use Rattle.mr_proof.specs.Accepted.{root_found}
 use Rattle.mr_proof.specs.Grammar.{Grammar, whole}
 use Rattle.mr_proof.specs.Layout.{fault, Stand, field_at}
 use Rattle.mr_proof.specs.Refused.{has_other_radius}
-use Rattle.mr_proof.specs.Reading.{◌>>=◌, ending, checked, verdict}
+use Rattle.mr_proof.specs.Reading.{ending, checked, verdict}
 use Rattle.mr_proof.specs.Halves.{IsSettled}
-use Rattle.mr_proof.proofs.Laws.{other_asked, scan_asked}
+use Rattle.mr_proof.proofs.Laws.{other_asked, scan_asked, radius_stands, is_lawful}
+use Rattle.mr_proof.proofs.Soundness.{shows_from}
+use Rattle.mr_record.proofs.Encodings.{IsBytes}
 use Rattle.mr_proof.proofs.Values.{same_bytes, bytes_same}
 use Rattle.mr_check.specs.declared.frame.Frame.{Frame}
 use Rattle.mr_check.specs.declared.frame.Stack.{Stack}
@@ -35,10 +37,12 @@ use Rattle.mr_check.specs.declared.fed.Fed.{Fed}
 use Rattle.mr_check.specs.declared.fed.Fed.TheVariants as fed
 use Rattle.mr_proof.specs.Handed.{handed_out}
 use Rattle.mr_check.specs.Stops.{Stop, waits, fails, stop_of}
-use Rattle.mr_proof.specs.Feeding.{IsUnsettled, IsFinal, Ends}
+use Rattle.mr_proof.specs.Feeding.{IsUnsettled, IsFinal, HandsOut, Ends}
+use Rattle.mr_check.specs.declared.outline.Outline.{Outline}
+use Rattle.mr_check.specs.Judged.{Closing}
 use Rattle.mr_check.specs.Answers.{taken_of, Feeds}
 use Rattle.mr_check.specs.Stages.{head_want, want_at, room_in}
-use Rattle.mr_check.specs.Tallies.{no_tally}
+use Rattle.mr_check.specs.Counting.{no_counts}
 use Rattle.mr_check.specs.Standing.{asked, IsOpen, AtEnd}
 use Rattle.mr_check.specs.Reads.{want_of, StandsAt, StandsBy, FedBy, FaultFed, found_at, EndsAt}
 use Rattle.mr_check.proofs.Stopping.{ends_at, checked_stop, fault_settled}
@@ -52,37 +56,21 @@ same_fault f g e = cc
 
 -- ---- a fault
 
-checked_fails : (hash : List ℕ → List ℕ) (root : List ℕ) (q : Query) (bytes : List ℕ) (f : Fault)
-    → checked hash root q bytes ≡ Err f → verdict hash root q bytes ≡ Err f
-unfolding verdict
-checked_fails hash root q bytes f e = rw e refl
-
-pub verdict_fails : (hash : List ℕ → List ℕ) (root : List ℕ) (q : Query) (bytes : List ℕ) (f : Fault)
-    → stop_of q bytes ≡ fails f → verdict hash root q bytes ≡ Err f
-verdict_fails hash root q bytes f e =
-    checked_fails hash root q bytes f
+pub checked_fails : (hash : List ℕ → List ℕ) (root : List ℕ) (q : Question) (bytes : List ℕ) (f : Fault)
+    → stop_of q bytes ≡ fails f → checked hash root q bytes ≡ Err f
+checked_fails hash root q bytes f e =
     (checked_stop hash root q bytes ∙ ap (λ (z : Stop Said). ends_at (ending hash root q) z) e)
 
-pub final : (hash : List ℕ → List ℕ) (root : List ℕ) (q : Query) (s piece : List ℕ) (f : Fault)
+pub final : (hash : List ℕ → List ℕ) (root : List ℕ) (q : Question) (s piece : List ℕ) (f : Fault)
     → stop_of q (s ++ piece) ≡ fails f → handed_out q (s ++ piece) ≡ handed_out q s
     → IsFinal hash root q s piece f
 final hash root q s piece f e quiet = record {
   settled = fault_settled q (s ++ piece) f e;
-  all = λ more. verdict_fails hash root q ((s ++ piece) ++ more) f (stays q (s ++ piece) more f e).0;
+  all = λ more. checked_fails hash root q ((s ++ piece) ++ more) f (stays q (s ++ piece) more f e).0;
   none = quiet;
 }
 
 -- ---- no fault so far
-
-not_answered : {A B : Type 0} (r : Result A Fault) (m : A → B) (f : Fault) → (r >>= λ x. Ok (m x)) ≡ Err f → r ≡ Err f
-not_answered (Ok x) m f e = absurd cc
-not_answered (Err g) m f e = ap (λ (h : Fault). Err h) (same_fault g f e)
-
-verdict_checked : (hash : List ℕ → List ℕ) (root : List ℕ) (q : Query) (bytes : List ℕ) (f : Fault)
-    → verdict hash root q bytes ≡ Err f → checked hash root q bytes ≡ Err f
-unfolding verdict
-verdict_checked hash root q bytes f e =
-    not_answered (checked hash root q bytes) (λ x. (asks q).answer (opened_records x.part)) f e
 
 -- the ending of bytes that reach the last field and end there
 ends_unsettled : (c d : Bool) (w r f : Fault) (x : Said) → (IsSettled w.rule → ⊥) → (IsSettled r.rule → ⊥)
@@ -93,42 +81,42 @@ ends_unsettled true false w r f x no_w no_r e settled = absurd cc
 ends_unsettled false d w r f x no_w no_r e settled =
     no_w (subst (λ (h : Fault). IsSettled h.rule) (sym (same_fault w f e)) settled)
 
-ending_unsettled : (hash : List ℕ → List ℕ) (root : List ℕ) (q : Query) (x : Said) (s : Stand) (f : Fault)
+ending_unsettled : (hash : List ℕ → List ℕ) (root : List ℕ) (q : Question) (x : Said) (s : Stand) (f : Fault)
     → length s.rest ≡ 0 → ending hash root q x s ≡ Err f → IsSettled f.rule → ⊥
 unfolding ending
 ending_unsettled hash root q x s f none e settled =
     let nothing : ltb 0 (length s.rest) ≡ false = le-ltb 0 (length s.rest) (omega arith) in
     ends_unsettled (bytes_eq (root_found hash x.head x.part) root)
-    (has_other_radius q x.head.radius (opened_records x.part))
+    (has_other_radius q.around x.head.radius (opened_records x.part))
     (fault (rule.WrongRoot (root_found hash x.head x.part)) (s.at + length s.rest))
     (fault rule.WrongRadius (s.at + length s.rest)) f x (λ h. h) (λ h. h) (rw nothing at e) settled
 
-checked_waits : (hash : List ℕ → List ℕ) (root : List ℕ) (q : Query) (bytes : List ℕ) (g : Grammar Said) (t : Stand)
+checked_waits : (hash : List ℕ → List ℕ) (root : List ℕ) (q : Question) (bytes : List ℕ) (g : Grammar Said) (t : Stand)
     → stop_of q bytes ≡ waits g t → checked hash root q bytes ≡ ends_at (ending hash root q) (waits g t)
 checked_waits hash root q bytes g t e =
     checked_stop hash root q bytes ∙ ap (λ (z : Stop Said). ends_at (ending hash root q) z) e
 
-unsettled_by : {H : Type 0} (hash : List ℕ → List ℕ) (holds : H → List ℕ → Type 0) (root : List ℕ) (q : Query)
+unsettled_by : {H : Type 0} (hash : List ℕ → List ℕ) (holds : H → List ℕ → Type 0) (root : List ℕ) (q : Question)
     (r : Reader H) (bytes : List ℕ) (w : Option Want) → want_of r ≡ w → length r.held < room_in w
     → StandsAt hash holds q r bytes → IsUnsettled hash root q bytes
 unsettled_by hash holds root q r bytes None ends short at = λ f e settled.
     let i = stands_in hash holds q r bytes None ends at in
     ending_unsettled hash root q (said r.machine.head i.part) (record { at = r.at; last = i.last; rest = r.held }) f
-    (omega arith) (sym (checked_waits hash root q bytes _ _ i.stops) ∙ verdict_checked hash root q bytes f e) settled
+    (omega arith) (sym (checked_waits hash root q bytes _ _ i.stops) ∙ e) settled
 unsettled_by hash holds root q r bytes (Some w) wants short at = λ f e settled.
     let i = stands_in hash holds q r bytes (Some w) wants at in
     let same : fault rule.Short r.at ≡ f = same_fault {A = Said} (fault rule.Short r.at) f
-    (sym (checked_waits hash root q bytes _ _ i.stops) ∙ verdict_checked hash root q bytes f e) in
+    (sym (checked_waits hash root q bytes _ _ i.stops) ∙ e) in
     subst (λ (h : Fault). IsSettled h.rule) (sym same) settled
 
-pub unsettled : {H : Type 0} (hash : List ℕ → List ℕ) (holds : H → List ℕ → Type 0) (root : List ℕ) (q : Query)
+pub unsettled : {H : Type 0} (hash : List ℕ → List ℕ) (holds : H → List ℕ → Type 0) (root : List ℕ) (q : Question)
     (r : Reader H) (bytes : List ℕ) → length r.held < room_in (want_of r) → StandsAt hash holds q r bytes
     → IsUnsettled hash root q bytes
 unsettled hash holds root q r bytes short at = unsettled_by hash holds root q r bytes (want_of r) refl short at
 
 -- ---- a piece
 
-pub fed_feeds : {H : Type 0} (hash : List ℕ → List ℕ) (holds : H → List ℕ → Type 0) (root : List ℕ) (q : Query)
+pub fed_feeds : {H : Type 0} (hash : List ℕ → List ℕ) (holds : H → List ℕ → Type 0) (root : List ℕ) (q : Question)
     (r : Reader H) (s piece : List ℕ) (result : Fed) → length r.held < room_in (want_of r)
     → FedBy hash holds q s piece r result → Feeds hash root q s piece result
 fed_feeds hash holds root q r s piece fed.More short b = (unsettled hash holds root q r (s ++ piece) short b.0, b.1)
@@ -136,7 +124,7 @@ fed_feeds hash holds root q r s piece (fed.Found n x) short b =
     (unsettled hash holds root q r (s ++ take n piece) short b.0, b.1)
 fed_feeds hash holds root q r s piece (fed.Fault f) short b = final hash root q s piece f b.0 b.1
 
-pub fed_stands : {H : Type 0} (hash : List ℕ → List ℕ) (holds : H → List ℕ → Type 0) (q : Query) (r : Reader H)
+pub fed_stands : {H : Type 0} (hash : List ℕ → List ℕ) (holds : H → List ℕ → Type 0) (q : Question) (r : Reader H)
     (s piece : List ℕ) (z : Option Fault) (result : Fed) → FaultFed z result → FedBy hash holds q s piece r result
     → StandsBy hash holds q r z (s ++ taken_of result piece)
 fed_stands hash holds q r s piece z fed.More is b =
@@ -146,18 +134,18 @@ fed_stands hash holds q r s piece z (fed.Found n x) is b =
 fed_stands hash holds q r s piece z (fed.Fault f) is b =
     subst (λ (y : Option Fault). StandsBy hash holds q r y (s ++ piece)) (sym is) b.0
 
-pub fault_known : {H : Type 0} (hash : List ℕ → List ℕ) (holds : H → List ℕ → Type 0) (q : Query) (r : Reader H)
+pub fault_known : {H : Type 0} (hash : List ℕ → List ℕ) (holds : H → List ℕ → Type 0) (q : Question) (r : Reader H)
     (s : List ℕ) (z : Option Fault) (f : Fault) → z ≡ Some f → StandsBy hash holds q r z s → stop_of q s ≡ fails f
 fault_known hash holds q r s z f is b = subst (λ (y : Option Fault). StandsBy hash holds q r y s) is b
 
-pub fault_stands : {H : Type 0} (hash : List ℕ → List ℕ) (holds : H → List ℕ → Type 0) (q : Query) (r : Reader H)
+pub fault_stands : {H : Type 0} (hash : List ℕ → List ℕ) (holds : H → List ℕ → Type 0) (q : Question) (r : Reader H)
     (s more : List ℕ) (z : Option Fault) (f : Fault) → z ≡ Some f → StandsBy hash holds q r z s
     → StandsBy hash holds q r z (s ++ more)
 fault_stands hash holds q r s more z f is b =
     subst (λ (y : Option Fault). StandsBy hash holds q r y (s ++ more)) (sym is)
     (stays q s more f (fault_known hash holds q r s z f is b)).0
 
-pub fault_final : {H : Type 0} (hash : List ℕ → List ℕ) (holds : H → List ℕ → Type 0) (root : List ℕ) (q : Query)
+pub fault_final : {H : Type 0} (hash : List ℕ → List ℕ) (holds : H → List ℕ → Type 0) (root : List ℕ) (q : Question)
     (r : Reader H) (s piece : List ℕ) (z : Option Fault) (f : Fault) → z ≡ Some f → StandsBy hash holds q r z s
     → IsFinal hash root q s piece f
 fault_final hash holds root q r s piece z f is b =
@@ -166,14 +154,14 @@ fault_final hash holds root q r s piece z f is b =
 
 -- ---- nothing fed
 
-abbrev fresh : {H : Type 0} → Query → Stack (Frame H) → Gathering H → Record → Reader H
+abbrev fresh : {H : Type 0} → Question → Stack (Frame H) → Gathering H → Record → Reader H
 fresh q s x one = record {
   machine = record {
-    head = record { kind = kind_of q; batch = 0; count = 0; radius = None; level = 0 };
+    head = record { kind = q.kind; batch = 0; count = 0; radius = None; level = 0 };
     stage = stage.Head field.Magic;
     frames = s;
     leaf = record { node = x; left = 0 };
-    tally = no_tally;
+    tally = no_counts;
     latest = one;
   };
   held = [];
@@ -181,15 +169,16 @@ fresh q s x one = record {
   fault = None;
 }
 
-pub none_out : (q : Query) → handed_out q [] ≡ []
+pub none_out : (q : Question) → handed_out q [] ≡ []
 unfolding handed_out field_at
 none_out q = refl
 
-pub fresh_stands : {H : Type 0} (hash : List ℕ → List ℕ) (holds : H → List ℕ → Type 0) (q : Query) (s : Stack (Frame H))
+pub fresh_stands : {H : Type 0} (hash : List ℕ → List ℕ) (holds : H → List ℕ → Type 0) (q : Question)
+    (s : Stack (Frame H))
     (x : Gathering H) (one : Record) → s.list.items ≡ [] → StandsAt hash holds q (fresh q s x one) []
 unfolding stop_of
 fresh_stands hash holds q s x one none = record {
-  next = whole (asks q).kind (asks q).region;
+  next = whole q.kind q.way;
   last = 0;
   stops = refl;
   waits = record {
@@ -207,15 +196,14 @@ fresh_stands hash holds q s x one none = record {
 
 -- ---- the end
 
-pub end_short : {H : Type 0} (hash : List ℕ → List ℕ) (holds : H → List ℕ → Type 0) (root : List ℕ) (q : Query)
+pub end_short : {H : Type 0} (hash : List ℕ → List ℕ) (holds : H → List ℕ → Type 0) (root : List ℕ) (q : Question)
     (r : Reader H) (bytes : List ℕ) (w : Want) → want_of r ≡ Some w → StandsAt hash holds q r bytes
-    → verdict hash root q bytes ≡ Err (fault rule.Short r.at)
+    → checked hash root q bytes ≡ Err (fault rule.Short r.at)
 end_short hash holds root q r bytes w wants at =
-    let i = stands_in hash holds q r bytes (Some w) wants at in
-    checked_fails hash root q bytes (fault rule.Short r.at) (checked_waits hash root q bytes _ _ i.stops)
+    let i = stands_in hash holds q r bytes (Some w) wants at in checked_waits hash root q bytes _ _ i.stops
 
 -- behind the last field
-record Ended {H : Type 0} (hash : List ℕ → List ℕ) (root : List ℕ) (q : Query) (r : Reader H) (node : Entry)
+record Ended {H : Type 0} (hash : List ℕ → List ℕ) (root : List ℕ) (q : Question) (r : Reader H) (node : Entry)
     (bytes : List ℕ) : Type 0 where
   part : Option Cut
   stand : Stand
@@ -224,7 +212,7 @@ record Ended {H : Type 0} (hash : List ℕ → List ℕ) (root : List ℕ) (q : 
   there : checked hash root q bytes ≡ ending hash root q (said r.machine.head part) stand
   at_end : AtEnd hash q r.machine.head r.machine.tally node (handed_out q bytes) part
 
-ended : {H : Type 0} (hash : List ℕ → List ℕ) (holds : H → List ℕ → Type 0) (root : List ℕ) (q : Query)
+ended : {H : Type 0} (hash : List ℕ → List ℕ) (holds : H → List ℕ → Type 0) (root : List ℕ) (q : Question)
     (r : Reader H) (node : Entry) (bytes : List ℕ) → r.machine.stage ≡ stage.End node
     → length r.held < room_in (want_of r) → StandsAt hash holds q r bytes → Ended hash root q r node bytes
 ended hash holds root q r node bytes is short at =
@@ -248,7 +236,7 @@ not_same xs ys ne = elim (cases_Bool (bytes_eq xs ys)) [
   | inr f ↦ f
 ]
 
-ends_wrong_root : (hash : List ℕ → List ℕ) (root : List ℕ) (q : Query) (x : Said) (s : Stand)
+ends_wrong_root : (hash : List ℕ → List ℕ) (root : List ℕ) (q : Question) (x : Said) (s : Stand)
     → length s.rest ≡ 0 → root_found hash x.head x.part ≢ root
     → ending hash root q x s ≡ Err (fault (rule.WrongRoot (root_found hash x.head x.part)) (s.at + length s.rest))
 unfolding ending
@@ -258,9 +246,9 @@ ends_wrong_root hash root q x s none ne =
     in
     rw (nothing, other) refl
 
-ends_wrong_radius : (hash : List ℕ → List ℕ) (root : List ℕ) (q : Query) (x : Said) (s : Stand)
+ends_wrong_radius : (hash : List ℕ → List ℕ) (root : List ℕ) (q : Question) (x : Said) (s : Stand)
     → length s.rest ≡ 0 → root_found hash x.head x.part ≡ root
-    → has_other_radius q x.head.radius (opened_records x.part) ≡ true
+    → has_other_radius q.around x.head.radius (opened_records x.part) ≡ true
     → ending hash root q x s ≡ Err (fault rule.WrongRadius (s.at + length s.rest))
 unfolding ending
 ends_wrong_radius hash root q x s none same wrong =
@@ -269,9 +257,9 @@ ends_wrong_radius hash root q x s none same wrong =
     same in
     rw (nothing, right, wrong) refl
 
-ends_well : (hash : List ℕ → List ℕ) (root : List ℕ) (q : Query) (x : Said) (s : Stand)
+ends_well : (hash : List ℕ → List ℕ) (root : List ℕ) (q : Question) (x : Said) (s : Stand)
     → length s.rest ≡ 0 → root_found hash x.head x.part ≡ root
-    → has_other_radius q x.head.radius (opened_records x.part) ≡ false → ending hash root q x s ≡ Ok x
+    → has_other_radius q.around x.head.radius (opened_records x.part) ≡ false → ending hash root q x s ≡ Ok x
 unfolding ending
 ends_well hash root q x s none same right =
     let nothing : ltb 0 (length s.rest) ≡ false = le-ltb 0 (length s.rest) (omega arith) in
@@ -279,66 +267,99 @@ ends_well hash root q x s none same right =
     same in
     rw (nothing, held, right) refl
 
-accepted : (hash : List ℕ → List ℕ) (root : List ℕ) (q : Query) (bytes : List ℕ) (x : Said)
-    → checked hash root q bytes ≡ Ok x → verdict hash root q bytes ≡ Ok (scan (opened_records x.part) q)
-unfolding verdict
-accepted hash root q bytes x e = rw e refl
-
 -- of the records that were handed out, and of all that are opened, the radius is another or not alike
-other_alike : (q : Query) (h : Head) (given : List Record) (part : Option Cut)
+other_alike : (q : Question) (h : Head) (given : List Record) (part : Option Cut) → IsLawful q
     → given ≡ filter (asked q h) (opened_records part)
-    → has_other_radius q h.radius given ≡ has_other_radius q h.radius (opened_records part)
-other_alike q h given part kept =
-    ap (has_other_radius q h.radius) kept ∙ other_asked q h.radius (opened_records part)
+    → has_other_radius q.around h.radius given ≡ has_other_radius q.around h.radius (opened_records part)
+other_alike q h given part law kept =
+    ap (has_other_radius q.around h.radius) kept ∙ other_asked q h.radius (opened_records part) law
 
-pub end_last : {X H : Type 0} (hash : List ℕ → List ℕ) (holds : H → List ℕ → Type 0) (root : List ℕ) (q : Query)
-    (r : Reader H) (node : Entry) (bytes : List ℕ) (result : Result X Fault) → r.machine.stage ≡ stage.End node
-    → length r.held < room_in (want_of r) → IsAskable q → EndsAt hash root q r node result
-    → StandsAt hash holds q r bytes → Ends hash root q bytes result
-end_last hash holds root q r node bytes (Ok x) is short may ends at =
+pub end_last : {H : Type 0} (hash : List ℕ → List ℕ) (holds : H → List ℕ → Type 0) (root : List ℕ) (q : Question)
+    (r : Reader H) (node : Entry) (bytes : List ℕ) (result : Result Outline Fault) → r.machine.stage ≡ stage.End node
+    → length r.held < room_in (want_of r) → IsLawful q → EndsAt hash root q r node result
+    → StandsAt hash holds q r bytes → Closing hash root q bytes result
+end_last hash holds root q r node bytes (Ok o) is short law ends at =
     let z = ended hash holds root q r node bytes is short at in
     let h = r.machine.head in
     let same : root_found hash h z.part ≡ root = ap hash (sym z.at_end.root) ∙ ends.0 in
-    let given_right = ends.1 (handed_out q bytes) z.at_end.tally may in
-    let right : has_other_radius q h.radius (opened_records z.part) ≡ false =
-    sym (other_alike q h (handed_out q bytes) z.part z.at_end.kept) ∙ given_right in
+    let given_right = ends.1 (handed_out q bytes) z.at_end.tally in
+    let right : has_other_radius q.around h.radius (opened_records z.part) ≡ false =
+    sym (other_alike q h (handed_out q bytes) z.part law z.at_end.kept) ∙ given_right in
     let there : checked hash root q bytes ≡ Ok (said h z.part) =
     z.there ∙ ends_well hash root q (said h z.part) z.stand z.empty same right in
     record {
-      head = h;
-      part = z.part;
-      is_read = there;
-      all = z.at_end.kept;
-      answer = accepted hash root q bytes (said h z.part) there
-          ∙ ap (λ (rs : List Record). Ok rs) (sym (scan_asked q h.radius (opened_records z.part) may right)
-          ∙ ap (λ (rs : List Record). scan rs q) (sym z.at_end.kept));
+      said = said h z.part;
+      hands = record { is_read = there; all = z.at_end.kept };
+      outline = record {
+        head = ap (λ (x : Outline). x.head) ends.2;
+        rect = ap (λ (x : Outline). x.rect) ends.2
+            ∙ z.at_end.rect;
+      };
     }
-end_last hash holds root q r node bytes (Err f) is short may (inl wrong) at =
+end_last hash holds root q r node bytes (Err f) is short law (inl wrong) at =
     let z = ended hash holds root q r node bytes is short at in
     let h = r.machine.head in
     let found : root_found hash h z.part ≡ found_at hash h node = ap hash (sym z.at_end.root) in
     let ne : root_found hash h z.part ≢ root = λ e. wrong.1 (sym found ∙ e) in
-    checked_fails hash root q bytes f
-    (z.there ∙ ends_wrong_root hash root q (said h z.part) z.stand z.empty ne
+    z.there ∙ ends_wrong_root hash root q (said h z.part) z.stand z.empty ne
     ∙ (λ i. Err (fault (rule.WrongRoot (found i)) (z.place i)))
-    ∙ ap (λ (g : Fault). Err g) (sym wrong.0))
-end_last hash holds root q r node bytes (Err f) is short may (inr wrong) at =
+    ∙ ap (λ (g : Fault). Err g) (sym wrong.0)
+end_last hash holds root q r node bytes (Err f) is short law (inr wrong) at =
     let z = ended hash holds root q r node bytes is short at in
     let h = r.machine.head in
     let same : root_found hash h z.part ≡ root = ap hash (sym z.at_end.root) ∙ wrong.1 in
-    let given_wrong = wrong.2 (handed_out q bytes) z.at_end.tally may in
-    let other : has_other_radius q h.radius (opened_records z.part) ≡ true =
-    sym (other_alike q h (handed_out q bytes) z.part z.at_end.kept) ∙ given_wrong in
-    checked_fails hash root q bytes f
-    (z.there ∙ ends_wrong_radius hash root q (said h z.part) z.stand z.empty same other
+    let given_wrong = wrong.2 (handed_out q bytes) z.at_end.tally in
+    let other : has_other_radius q.around h.radius (opened_records z.part) ≡ true =
+    sym (other_alike q h (handed_out q bytes) z.part law z.at_end.kept) ∙ given_wrong in
+    z.there ∙ ends_wrong_radius hash root q (said h z.part) z.stand z.empty same other
     ∙ (λ i. Err (fault rule.WrongRadius (z.place i)))
-    ∙ ap (λ (g : Fault). Err g) (sym wrong.0))
+    ∙ ap (λ (g : Fault). Err g) (sym wrong.0)
 
-pub end_fault : {H : Type 0} (hash : List ℕ → List ℕ) (holds : H → List ℕ → Type 0) (root : List ℕ) (q : Query)
+pub end_fault : {H : Type 0} (hash : List ℕ → List ℕ) (holds : H → List ℕ → Type 0) (root : List ℕ) (q : Question)
     (r : Reader H) (bytes : List ℕ) (z : Option Fault) (f : Fault) → z ≡ Some f → StandsBy hash holds q r z bytes
-    → verdict hash root q bytes ≡ Err f
+    → checked hash root q bytes ≡ Err f
 end_fault hash holds root q r bytes z f is b =
-    verdict_fails hash root q bytes f (fault_known hash holds q r bytes z f is b)
+    checked_fails hash root q bytes f (fault_known hash holds q r bytes z f is b)
+
+-- ---- queries
+
+-- what it asks accepted, the query is answered
+pub accepted : (hash : List ℕ → List ℕ) (root : List ℕ) (q : Query) (bytes : List ℕ) (x : Said)
+    → checked hash root (question q) bytes ≡ Ok x → verdict hash root q bytes ≡ Ok (scan (opened_records x.part) q)
+unfolding verdict
+accepted hash root q bytes x e = rw e refl
+
+-- a fault of what it asks is that of the query
+pub refused : (hash : List ℕ → List ℕ) (root : List ℕ) (q : Query) (bytes : List ℕ) (f : Fault)
+    → checked hash root (question q) bytes ≡ Err f → verdict hash root q bytes ≡ Err f
+unfolding verdict
+refused hash root q bytes f e = rw e refl
+
+-- the radius of accepted bytes is right
+right_of : (hash : List ℕ → List ℕ) (root : List ℕ) (q : Query) (bytes : List ℕ) (x : Said) → IsQuery q
+    → IsBytes bytes → checked hash root (question q) bytes ≡ Ok x
+    → has_other_radius (around_of q) x.head.radius (opened_records x.part) ≡ false
+right_of hash root q bytes x is fits e =
+    radius_stands (question q) x.head.radius (opened_records x.part) (is_lawful q is)
+    (shows_from hash root (question q) bytes x (is_lawful q is) fits e).tight.radius
+
+pub handed_scan : (hash : List ℕ → List ℕ) (root : List ℕ) (q : Query) (bytes : List ℕ) (x : Said)
+    → IsQuery q → IsBytes bytes → HandsOut hash root (question q) bytes x
+    → verdict hash root q bytes ≡ Ok (scan (handed_out (question q) bytes) q)
+handed_scan hash root q bytes x is fits h =
+    accepted hash root q bytes x h.is_read
+    ∙ ap (λ (rs : List Record). Ok rs) (sym (scan_asked q x.head.radius (opened_records x.part) is
+    (right_of hash root q bytes x is fits h.is_read)) ∙ ap (λ (rs : List Record). scan rs q) (sym h.all))
+
+pub query_ends : (hash : List ℕ → List ℕ) (root : List ℕ) (q : Query) (bytes : List ℕ)
+    (result : Result Outline Fault) → IsQuery q → IsBytes bytes → Closing hash root (question q) bytes result
+    → Ends hash root q bytes result
+query_ends hash root q bytes (Ok o) is fits c = record {
+  said = c.said;
+  hands = c.hands;
+  answer = handed_scan hash root q bytes c.said is fits c.hands;
+}
+query_ends hash root q bytes (Err f) is fits c = refused hash root q bytes f c
 
 -- before the last field one is under way
 pub some_want : (k : Kind) (s : Stage) → ((x : Entry) → s ≡ stage.End x → ⊥) → (w : Want) × (want_at k s ≡ Some w)

@@ -6,7 +6,7 @@ pub mod Nodes
 pub mod Stepping
 pub mod Whole
 pub mod Turning
-pub mod Tallying
+pub mod CountingLaws
 pub mod Pieces
 pub mod Judging
 pub mod Bytes

@@ -6,27 +6,27 @@ use Rattle.mr_record.specs.declared.record.Record.{Record}
 use Rattle.mr_tree.specs.Digest.{root_preimage}
 use Rattle.mr_tree.specs.declared.entry.Entry.{Entry}
 use Rattle.mr_tree.specs.declared.gathering.Gathering.{Gathering}
-use Rattle.mr_query.specs.declared.query.Query.{Query}
 use Rattle.mr_proof.specs.declared.head.Head.{Head}
 use Rattle.mr_proof.specs.declared.rule.Rule.{Rule}
 use Rattle.mr_proof.specs.declared.rule.Rule.TheVariants as rule
 use Rattle.mr_proof.specs.declared.want.Want.TheVariants as want
 use Rattle.mr_proof.specs.Cut.{Cut, rect, digest}
 use Rattle.mr_proof.specs.Spelling.{Said, said, version_of}
-use Rattle.mr_proof.specs.Tight.{seen_at, seen, met_by}
+use Rattle.mr_proof.specs.declared.way.Way.{Way}
+use Rattle.mr_proof.specs.Tight.{seen_at, seen, met_by, Question}
 use Rattle.mr_proof.specs.Grammar.{Grammar, done, reads, tag_in}
 use Rattle.mr_proof.proofs.Preimages.{entry-rect}
 use Rattle.mr_check.specs.declared.frame.Frame.{Frame}
 use Rattle.mr_check.specs.declared.frame.Stack.{Stack}
 use Rattle.mr_check.specs.declared.stage.Stage.TheVariants as stage
-use Rattle.mr_check.specs.declared.tally.Tally.{Tally}
+use Rattle.mr_check.specs.declared.radius_counts.RadiusCounts.{RadiusCounts}
 use Rattle.mr_check.specs.declared.machine.Machine.{Machine}
 use Rattle.mr_check.specs.Stops.{past_notes}
 use Rattle.mr_check.specs.Standing.{Open, after, node_next, region_of, asked, scheme, AreFrames, IsRead, WaitsPast, Closes}
 use Rattle.mr_check.proofs.Opening.{Adds, IsClosing, grown, one_on, stays_open, closed, said_closed, rect_closed, records_closed, records_on, item_waits, after_more, after_last, past_met, past_missed}
 
 -- the root node
-pub closed_root : {H : Type 0} (hash : List ℕ → List ℕ) (holds : H → List ℕ → Type 0) (q : Query) (m : Machine H)
+pub closed_root : {H : Type 0} (hash : List ℕ → List ℕ) (holds : H → List ℕ → Type 0) (q : Question) (m : Machine H)
     (s : Stack (Frame H)) (node : Entry) (given : List Record) (os : List Open) (P : Cut)
     → IsRead hash holds q m.head [] m.tally node given os P
     → WaitsPast hash holds q (record m { frames = s; stage = stage.End node }) given
@@ -47,6 +47,7 @@ closed_root hash holds q m s node given [] P r =
         is_open = record {
           root = λ i. root_preimage (version_of m.head) m.head.batch m.head.count (record
               { level = at i; rect = place i; digest = same i });
+          rect = place;
           kept = r.kept;
           tally = r.tally;
         };
@@ -55,7 +56,7 @@ closed_root hash holds q m s node given [] P r =
 closed_root hash holds q m s node given (o ∷ os) P r = absurd r.frames
 
 -- a child with others behind it
-pub closed_child : {H : Type 0} (hash : List ℕ → List ℕ) (holds : H → List ℕ → Type 0) (q : Query) (m : Machine H)
+pub closed_child : {H : Type 0} (hash : List ℕ → List ℕ) (holds : H → List ℕ → Type 0) (q : Question) (m : Machine H)
     (s : Stack (Frame H)) (f : Frame H) (n : Gathering H) (fs : List (Frame H)) (node : Entry) (given : List Record)
     (os : List Open) (P : Cut) → Adds holds f.node n node → 0 < f.left
     → reverse s.list.items ≡ record { node = n; left = f.left - 1 } ∷ fs
@@ -93,8 +94,8 @@ closed_child hash holds q m s f n fs node given (o ∷ os) P adds some there r =
     }
 
 -- the last child of a node that the region misses
-pub missed_parent : {H : Type 0} (hash : List ℕ → List ℕ) (holds : H → List ℕ → Type 0) (q : Query) (h : Head)
-    (t : Tally) (f : Frame H) (n : Gathering H) (fs : List (Frame H)) (node x : Entry) (given : List Record)
+pub missed_parent : {H : Type 0} (hash : List ℕ → List ℕ) (holds : H → List ℕ → Type 0) (q : Question) (h : Head)
+    (t : RadiusCounts) (f : Frame H) (n : Gathering H) (fs : List (Frame H)) (node x : Entry) (given : List Record)
     (os : List Open) (P : Cut) → Adds holds f.node n node → f.left ≡ 0
     → IsClosing (scheme hash h) holds n (node.level + 1) x
     → met_by (region_of q h) (option_map seen_at x.rect) ≡ false
@@ -112,15 +113,15 @@ missed_parent hash holds q h t f n fs node x given (o ∷ os) P adds none c miss
     ap past_notes (after_last region h v o os P whole) ∙ past_missed region (closed o P) (after region h (v + 1) os)
     here
 
-closes_as : {H : Type 0} (hash : List ℕ → List ℕ) (holds : H → List ℕ → Type 0) (q : Query) (m : Machine H)
+closes_as : {H : Type 0} (hash : List ℕ → List ℕ) (holds : H → List ℕ → Type 0) (q : Question) (m : Machine H)
     (given : List Record) (g k : Grammar Said) (result : Option Rule) → past_notes g ≡ past_notes k
     → Closes hash holds q m given k result → Closes hash holds q m given g result
 closes_as hash holds q m given g k None e w = record { next = w.next; past = e ∙ w.past; waits = w.waits }
 closes_as hash holds q m given g k (Some d) e w = e ∙ w
 
 -- the last child of a node that the region meets, which is then whole itself
-pub closed_parent : {H : Type 0} (hash : List ℕ → List ℕ) (holds : H → List ℕ → Type 0) (q : Query) (h : Head)
-    (t : Tally) (m : Machine H) (f : Frame H) (n : Gathering H) (fs : List (Frame H)) (node x : Entry)
+pub closed_parent : {H : Type 0} (hash : List ℕ → List ℕ) (holds : H → List ℕ → Type 0) (q : Question) (h : Head)
+    (t : RadiusCounts) (m : Machine H) (f : Frame H) (n : Gathering H) (fs : List (Frame H)) (node x : Entry)
     (given : List Record) (result : Option Rule) (os : List Open) (P : Cut) → Adds holds f.node n node → f.left ≡ 0
     → IsClosing (scheme hash h) holds n (node.level + 1) x
     → met_by (region_of q h) (option_map seen_at x.rect) ≡ true

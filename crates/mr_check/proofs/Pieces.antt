@@ -2,13 +2,13 @@
 use Rattle.std.proofs.Common.{◌≡◌, ℕ, ◌-◌, ◌+◌, ◌≤◌, List, [], ◌∷◌, ◌++◌, length, take, drop, None, sym, ap, subst, ◌∙◌, append_assoc, arith}
 use Rattle.std.proofs.lemmas.List.{append-nil, take-append-drop, take-take, drop-take}
 use Rattle.mr_record.specs.declared.record.Record.{Record}
-use Rattle.mr_query.specs.declared.query.Query.{Query}
 use Rattle.mr_proof.specs.declared.rule.Fault.{Fault}
 use Rattle.mr_check.specs.declared.reader.Reader.{Reader}
 use Rattle.mr_check.specs.declared.reader.Turn.TheVariants as turns
 use Rattle.mr_check.specs.declared.fed.Fed.TheVariants as fed
 use Rattle.mr_proof.specs.Handed.{handed_out}
 use Rattle.mr_check.specs.Stops.{stop_of}
+use Rattle.mr_proof.specs.Tight.{Question}
 use Rattle.mr_check.specs.Reads.{FitsReader, StandsAt, Turns, FedBy, SoFar}
 
 -- the front of a list, and then the front of what is left
@@ -17,7 +17,7 @@ take_both at n xs =
     (λ i. sym (take-take at (at + n) xs (omega arith)) i ++ sym (drop-take at n xs) i)
     ∙ take-append-drop at (take (at + n) xs)
 
-pub begins : {H : Type 0} (hash : List ℕ → List ℕ) (holds : H → List ℕ → Type 0) (q : Query) (r : Reader H)
+pub begins : {H : Type 0} (hash : List ℕ → List ℕ) (holds : H → List ℕ → Type 0) (q : Question) (r : Reader H)
     (piece : List ℕ) → FitsReader r → r.fault ≡ None → SoFar hash holds q r r piece 0
 begins hash holds q r piece fits none = record {
   within = omega arith;
@@ -36,7 +36,7 @@ whole : (s piece : List ℕ) (at : ℕ) → (s ++ take at piece) ++ drop at piec
 whole s piece at =
     append_assoc s (take at piece) (drop at piece) ∙ ap (λ (x : List ℕ). s ++ x) (take-append-drop at piece)
 
-pub took : {H : Type 0} (hash : List ℕ → List ℕ) (holds : H → List ℕ → Type 0) (q : Query) (old r new : Reader H)
+pub took : {H : Type 0} (hash : List ℕ → List ℕ) (holds : H → List ℕ → Type 0) (q : Question) (old r new : Reader H)
     (piece rest : List ℕ) (at n : ℕ) → rest ≡ drop at piece → SoFar hash holds q old r piece at → FitsReader new
     → new.fault ≡ None → at + n ≤ length piece
     → ((s : List ℕ) → StandsAt hash holds q r s → Turns hash holds q s rest new (turns.Took n))
@@ -55,7 +55,8 @@ took hash holds q old r new piece rest at n is so fits none within turn = record
       ap (handed_out q) (sym place) ∙ t.1 ∙ so.quiet s here;
 }
 
-pub all_taken : {H : Type 0} (hash : List ℕ → List ℕ) (holds : H → List ℕ → Type 0) (q : Query) (old r new : Reader H)
+pub all_taken : {H : Type 0} (hash : List ℕ → List ℕ) (holds : H → List ℕ → Type 0) (q : Question)
+    (old r new : Reader H)
     (piece rest : List ℕ) (at : ℕ) → rest ≡ drop at piece → SoFar hash holds q old r piece at
     → ((s : List ℕ) → StandsAt hash holds q r s → Turns hash holds q s rest new turns.More)
     → (s : List ℕ) → StandsAt hash holds q old s → FedBy hash holds q s piece new fed.More
@@ -66,7 +67,7 @@ all_taken hash holds q old r new piece rest at is so turn s here =
       ap (handed_out q) (sym place) ∙ t.1 ∙ so.quiet s here,
     )
 
-pub found : {H : Type 0} (hash : List ℕ → List ℕ) (holds : H → List ℕ → Type 0) (q : Query) (old r new : Reader H)
+pub found : {H : Type 0} (hash : List ℕ → List ℕ) (holds : H → List ℕ → Type 0) (q : Question) (old r new : Reader H)
     (piece rest : List ℕ) (at n : ℕ) → rest ≡ drop at piece → 1 ≤ n → SoFar hash holds q old r piece at
     → ((s : List ℕ) → StandsAt hash holds q r s → Turns hash holds q s rest new (turns.Found n))
     → (s : List ℕ) → StandsAt hash holds q old s → FedBy hash holds q s piece new
@@ -85,7 +86,7 @@ found hash holds q old r new piece rest at n is some so turn s here =
       },
     )
 
-pub broken : {H : Type 0} (hash : List ℕ → List ℕ) (holds : H → List ℕ → Type 0) (q : Query) (old r new : Reader H)
+pub broken : {H : Type 0} (hash : List ℕ → List ℕ) (holds : H → List ℕ → Type 0) (q : Question) (old r new : Reader H)
     (piece rest : List ℕ) (at : ℕ) (f : Fault) → rest ≡ drop at piece → SoFar hash holds q old r piece at
     → ((s : List ℕ) → StandsAt hash holds q r s → Turns hash holds q s rest new (turns.Broken f))
     → (s : List ℕ) → StandsAt hash holds q old s → FedBy hash holds q s piece new (fed.Fault f)

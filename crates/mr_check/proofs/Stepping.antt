@@ -11,7 +11,6 @@ use Rattle.mr_tree.specs.Gathers.{Gathers, Piece, of_record}
 use Rattle.mr_tree.specs.declared.entry.Entry.{Entry}
 use Rattle.mr_tree.specs.declared.gathering.Gathering.{Gathering}
 use Rattle.mr_tree.proofs.Gathered.{leaf_gathered}
-use Rattle.mr_query.specs.declared.query.Query.{Query}
 use Rattle.mr_proof.specs.declared.head.Head.{Head}
 use Rattle.mr_proof.specs.declared.rule.Rule.{Rule}
 use Rattle.mr_proof.specs.declared.rule.Rule.TheVariants as rule
@@ -21,32 +20,33 @@ use Rattle.mr_proof.specs.Fields.{pruned_tag}
 use Rattle.mr_proof.specs.Cut.{Cut, Cuts, Pruned, Leaf, Inner, entry_shown, rect}
 use Rattle.mr_proof.specs.declared.shown.Shown.{Shown}
 use Rattle.mr_proof.specs.Spelling.{Said, said}
-use Rattle.mr_proof.specs.Tight.{Seen, seen_at, seen, met_by, asks}
+use Rattle.mr_proof.specs.declared.way.Way.{Way}
+use Rattle.mr_proof.specs.Tight.{Seen, seen_at, seen, met_by, Question, opens_at, keeps_at}
 use Rattle.mr_proof.specs.Grammar.{Grammar, done, reads, notes, opens, number_in, tag_in, bytes_in, some_records, opened, some_items, item, part}
 use Rattle.mr_check.specs.declared.frame.Frame.{Frame}
 use Rattle.mr_check.specs.declared.frame.Stack.{Stack}
 use Rattle.mr_check.specs.declared.stage.HeadField.{HeadField}
 use Rattle.mr_check.specs.declared.stage.Stage.{Stage}
 use Rattle.mr_check.specs.declared.stage.Stage.TheVariants as stage
-use Rattle.mr_check.specs.declared.tally.Tally.{Tally}
+use Rattle.mr_check.specs.declared.radius_counts.RadiusCounts.{RadiusCounts}
 use Rattle.mr_check.specs.declared.machine.Machine.{Machine}
 use Rattle.mr_check.specs.declared.machine.Stepped.TheVariants as stepped
 use Rattle.mr_check.specs.Stops.{past_notes, noted}
-use Rattle.mr_check.specs.Tallies.{Counts}
+use Rattle.mr_check.specs.Counting.{Counts}
 use Rattle.mr_check.specs.Heads.{head_left}
 use Rattle.mr_check.specs.Standing.{Open, Above, after, after_record, node_next, shown_next, stage_of, stage_behind, opened_item, behind_number, behind_sides, behind_length, head_next, region_of, asked, frames_of, AreFrames, IsLeaf, so_far, scheme, InTree, InHead, IsRead, LeafRead, Waits, WaitsPast, Steps, Closes, stepped_by, found_by, plus}
 use Rattle.mr_check.proofs.Opening.{IsClosing, item_waits, after_quiet, past_met, past_missed}
 
 -- ---- a step from what it waits for
 
-waits_on : {H : Type 0} (hash : List ℕ → List ℕ) (holds : H → List ℕ → Type 0) (q : Query) (m : Machine H)
+waits_on : {H : Type 0} (hash : List ℕ → List ℕ) (holds : H → List ℕ → Type 0) (q : Question) (m : Machine H)
     (given : List Record) (g next : Grammar Said) → noted g ≡ [] → past_notes g ≡ Ok next
     → Waits hash holds q m given next → Steps hash holds q m given g stepped.On
 waits_on hash holds q m given g next quiet past waits =
     (quiet, record { next = next; past = past; waits = waits })
 
 -- a close gives a step
-pub close_steps : {H : Type 0} (hash : List ℕ → List ℕ) (holds : H → List ℕ → Type 0) (q : Query) (m : Machine H)
+pub close_steps : {H : Type 0} (hash : List ℕ → List ℕ) (holds : H → List ℕ → Type 0) (q : Question) (m : Machine H)
     (given : List Record) (g : Grammar Said) (broken : Option Rule) → noted g ≡ []
     → Closes hash holds q m given g broken → Steps hash holds q m given g (stepped_by broken)
 close_steps hash holds q m given g None quiet w = (quiet, w)
@@ -54,15 +54,15 @@ close_steps hash holds q m given g (Some d) quiet w = w
 
 -- ---- the head
 
-behind_head : {H : Type 0} (hash : List ℕ → List ℕ) (holds : H → List ℕ → Type 0) (q : Query) (m : Machine H)
+behind_head : {H : Type 0} (hash : List ℕ → List ℕ) (holds : H → List ℕ → Type 0) (q : Question) (m : Machine H)
     (given : List Record) (h : Head) → h.kind ≡ m.head.kind
     → InHead q m.head (frames_of m) m.tally given
-    → Steps hash holds q (record m { head = h; stage = stage_behind h None }) given (part (asks q).region h) stepped.On
+    → Steps hash holds q (record m { head = h; stage = stage_behind h None }) given (part q.way h) stepped.On
 behind_head hash holds q m given h kind is = elim (cases_Bool (eqb h.count 0)) [
   | inl t ↦
       let none : h.count ≡ 0 = eqb-true h.count 0 t in
       let here : stage_behind h None ≡ stage.End no_entry = rw t refl in
-      let there : part (asks q).region h ≡ done (said h None) = rw t refl in
+      let there : part q.way h ≡ done (said h None) = rw t refl in
       let steps : Steps hash holds q (record m { head = h; stage = stage.End no_entry }) given (done (said h None))
       stepped.On =
       waits_on hash holds q (record m { head = h; stage = stage.End no_entry }) given (done (said h None))
@@ -70,14 +70,20 @@ behind_head hash holds q m given h kind is = elim (cases_Bool (eqb h.count 0)) [
         above = record { nodes = []; records = [] };
         whole = None;
         waits = refl;
-        is_open = record { root = rw none refl; kept = is.nothing; tally = rw is.nothing (is.tally h.radius) };
+        is_open = record {
+          root = rw none refl;
+          rect = refl;
+          kept = is.nothing;
+          tally = rw is.nothing
+              (is.tally h.radius);
+        };
       }) in
       rw (here, there) steps
   | inr f ↦
       let here : stage_behind h None ≡ stage.Tag h.level = rw f refl in
-      let region = (asks q).region h.radius in
+      let region = q.way h.radius in
       let next = after region h h.level [] in
-      let there : part (asks q).region h ≡ reads (want.Tag h.level) (λ t. node_next region h.level next (tag_in t)) =
+      let there : part q.way h ≡ reads (want.Tag h.level) (λ t. node_next region h.level next (tag_in t)) =
       (rw f refl) ∙ item_waits region h.level next in
       let g = reads (want.Tag h.level) (λ t. node_next region h.level next (tag_in t)) in
       let steps : Steps hash holds q (record m { head = h; stage = stage.Tag h.level }) given g stepped.On =
@@ -98,14 +104,14 @@ behind_head hash holds q m given h kind is = elim (cases_Bool (eqb h.count 0)) [
       rw (here, there) steps
 ]
 
-behind_left : {H : Type 0} (hash : List ℕ → List ℕ) (holds : H → List ℕ → Type 0) (q : Query) (m : Machine H)
+behind_left : {H : Type 0} (hash : List ℕ → List ℕ) (holds : H → List ℕ → Type 0) (q : Question) (m : Machine H)
     (given : List Record) (h : Head) (next : Option HeadField) → h.kind ≡ m.head.kind
     → InHead q m.head (frames_of m) m.tally given
     → Steps hash holds q (record m { head = h; stage = stage_behind h next }) given
-    (head_left (asks q).region h next) stepped.On
+    (head_left q.way h next) stepped.On
 behind_left hash holds q m given h None kind is = behind_head hash holds q m given h kind is
 behind_left hash holds q m given h (Some f) kind is =
-    let g = head_left (asks q).region h (Some f) in
+    let g = head_left q.way h (Some f) in
     waits_on hash holds q (record m { head = h; stage = stage.Head f }) given g g refl refl (record {
       above = record { nodes = []; records = [] };
       whole = None;
@@ -113,19 +119,19 @@ behind_left hash holds q m given h (Some f) kind is =
       is_open = record { kind = kind ∙ is.kind; frames = is.frames; nothing = is.nothing; tally = is.tally };
     })
 
-pub headed : {H : Type 0} (hash : List ℕ → List ℕ) (holds : H → List ℕ → Type 0) (q : Query) (m : Machine H)
+pub headed : {H : Type 0} (hash : List ℕ → List ℕ) (holds : H → List ℕ → Type 0) (q : Question) (m : Machine H)
     (given : List Record) (h : Head) (next : Option HeadField) (at : HeadField) (v : Field) → h.kind ≡ m.head.kind
-    → ((region : Option ℕ → Seen → Bool) → head_next region m.head at v ≡ head_left region h next)
+    → ((region : Option ℕ → Seen → Way) → head_next region m.head at v ≡ head_left region h next)
     → InHead q m.head (frames_of m) m.tally given
     → Steps hash holds q (record m { head = h; stage = stage_behind h next }) given
-    (head_next (asks q).region m.head at v) stepped.On
+    (head_next q.way m.head at v) stepped.On
 headed hash holds q m given h next at v kind goes is =
     subst (λ (g : Grammar Said). Steps hash holds q (record m { head = h; stage = stage_behind h next }) given g
-    stepped.On) (sym (goes (asks q).region)) (behind_left hash holds q m given h next kind is)
+    stepped.On) (sym (goes q.way)) (behind_left hash holds q m given h next kind is)
 
 -- ---- items
 
-opened_steps : {H : Type 0} (hash : List ℕ → List ℕ) (holds : H → List ℕ → Type 0) (q : Query) (m : Machine H)
+opened_steps : {H : Type 0} (hash : List ℕ → List ℕ) (holds : H → List ℕ → Type 0) (q : Question) (m : Machine H)
     (v : ℕ) (given : List Record) (a : Above) → a.records ≡ []
     → InTree hash holds q m.head (frames_of m) m.tally v given a
     → Steps hash holds q (record m { stage = (if v == 0 then stage.Records else stage.Entries (v - 1)) }) given
@@ -155,7 +161,7 @@ opened_steps hash holds q m (suc w) given a none is =
     (subst (λ (x : Grammar Said). Steps hash holds q (record m { stage = stage.Entries w }) given x stepped.On) same
     steps)
 
-pub tagged : {H : Type 0} (hash : List ℕ → List ℕ) (holds : H → List ℕ → Type 0) (q : Query) (m : Machine H)
+pub tagged : {H : Type 0} (hash : List ℕ → List ℕ) (holds : H → List ℕ → Type 0) (q : Question) (m : Machine H)
     (v t : ℕ) (given : List Record) (a : Above) → a.records ≡ []
     → InTree hash holds q m.head (frames_of m) m.tally v given a
     → Steps hash holds q (record m { stage = stage_of v t }) given
@@ -169,12 +175,12 @@ tagged hash holds q m v t given a none is = elim (cases_Bool (eqb t pruned_tag))
   | inr o ↦ rw o (opened_steps hash holds q m v given a none is)
 ]
 
-pub shown_met : (region : Seen → Bool) (r : Rectangle) (next : Cut → Grammar Said) → region (seen_at r) ≡ true
+pub shown_met : (region : Seen → Way) (r : Rectangle) (next : Cut → Grammar Said) → opens_at region r ≡ true
     → past_notes (shown_next region next r) ≡ Err rule.Hidden
 shown_met region r next met = rw met refl
 
-pub shown_missed : {H : Type 0} (hash : List ℕ → List ℕ) (holds : H → List ℕ → Type 0) (q : Query) (m : Machine H)
-    (v : ℕ) (r : Rectangle) (given : List Record) (a : Above) → region_of q m.head (seen_at r) ≡ false
+pub shown_missed : {H : Type 0} (hash : List ℕ → List ℕ) (holds : H → List ℕ → Type 0) (q : Question) (m : Machine H)
+    (v : ℕ) (r : Rectangle) (given : List Record) (a : Above) → opens_at (region_of q m.head) r ≡ false
     → a.records ≡ [] → InTree hash holds q m.head (frames_of m) m.tally v given a
     → Steps hash holds q (record m { stage = stage.Digest v r }) given
     (shown_next (region_of q m.head) (after (region_of q m.head) m.head v a.nodes) r) stepped.On
@@ -185,8 +191,8 @@ shown_missed hash holds q m v r given a missed none is =
     waits_on hash holds q (record m { stage = stage.Digest v r }) given (shown_next (region_of q m.head) next r) g refl
     past (record { above = a; whole = None; waits = refl; is_open = (none, is) })
 
-pub pruned_read : {H : Type 0} (hash : List ℕ → List ℕ) (holds : H → List ℕ → Type 0) (q : Query) (h : Head)
-    (fs : List (Frame H)) (t : Tally) (v : ℕ) (part : Shown) (x : Entry) (given : List Record) (a : Above)
+pub pruned_read : {H : Type 0} (hash : List ℕ → List ℕ) (holds : H → List ℕ → Type 0) (q : Question) (h : Head)
+    (fs : List (Frame H)) (t : RadiusCounts) (v : ℕ) (part : Shown) (x : Entry) (given : List Record) (a : Above)
     → x ≡ entry_shown v part → a.records ≡ [] → InTree hash holds q h fs t v given a
     → IsRead hash holds q h fs t x given a.nodes (Pruned part)
 pruned_read hash holds q h fs t v part x given a says none is =
@@ -200,14 +206,14 @@ pruned_read hash holds q h fs t v part x given a says none is =
     }
 
 -- what a node of this level that was read whole leads to, where it is said of by its own level
-pub closed_at : {H : Type 0} (hash : List ℕ → List ℕ) (holds : H → List ℕ → Type 0) (q : Query) (m : Machine H)
-    (h : Head) (given : List Record) (region : Seen → Bool) (v w : ℕ) (os : List Open) (P : Cut) (broken : Option Rule)
+pub closed_at : {H : Type 0} (hash : List ℕ → List ℕ) (holds : H → List ℕ → Type 0) (q : Question) (m : Machine H)
+    (h : Head) (given : List Record) (region : Seen → Way) (v w : ℕ) (os : List Open) (P : Cut) (broken : Option Rule)
     → w ≡ v → Closes hash holds q m given (after region h w os P) broken
     → Closes hash holds q m given (after region h v os P) broken
 closed_at hash holds q m h given region v w os P broken e c =
     subst (λ (k : ℕ). Closes hash holds q m given (after region h k os P) broken) e c
 
-pub inner_opened : {H : Type 0} (hash : List ℕ → List ℕ) (holds : H → List ℕ → Type 0) (q : Query) (m : Machine H)
+pub inner_opened : {H : Type 0} (hash : List ℕ → List ℕ) (holds : H → List ℕ → Type 0) (q : Question) (m : Machine H)
     (s : Stack (Frame H)) (x : Gathering H) (w n : ℕ) (given : List Record) (a : Above) → 1 ≤ n
     → Gathers (holds x.hasher) x.rect (inner_tag ∷ (w + 1) ∷ n ∷ []) []
     → reverse s.list.items ≡ record { node = x; left = n - 1 } ∷ frames_of m
@@ -254,20 +260,20 @@ inner_opened hash holds q m s x w n given a some gathers there none is =
 
 -- ---- records
 
-record_waits : (region : Seen → Bool) (h : Head) (n : ℕ) (os : List Open) (rs : List Record) (r : Record)
+record_waits : (region : Seen → Way) (h : Head) (n : ℕ) (os : List Open) (rs : List Record) (r : Record)
     → some_records region (suc n) (λ ts. opened region (Leaf (rs ++ r ∷ ts)) (after region h 0 os))
     ≡ reads want.Number (λ v. behind_number (after_record region h n os (rs ++ r ∷ [])) (number_in v))
 record_waits region h n os rs r =
-    λ j. reads want.Number (λ v. behind_number (λ (x : Record). notes (opens x (region (seen_at x.rect)))
+    λ j. reads want.Number (λ v. behind_number (λ (x : Record). notes (opens x (keeps_at region x.rect))
     (some_records region n (λ ts. opened region (Leaf (sym (append_assoc rs (r ∷ []) (x ∷ ts)) j))
     (after region h 0 os)))) (number_in v))
 
-first_waits : (region : Seen → Bool) (h : Head) (n : ℕ) (os : List Open)
+first_waits : (region : Seen → Way) (h : Head) (n : ℕ) (os : List Open)
     → some_records region (suc n) (λ ts. opened region (Leaf ts) (after region h 0 os))
     ≡ reads want.Number (λ v. behind_number (after_record region h n os []) (number_in v))
 first_waits region h n os = refl
 
-pub leaf_opened : {H : Type 0} (hash : List ℕ → List ℕ) (holds : H → List ℕ → Type 0) (q : Query) (m : Machine H)
+pub leaf_opened : {H : Type 0} (hash : List ℕ → List ℕ) (holds : H → List ℕ → Type 0) (q : Question) (m : Machine H)
     (x : Gathering H) (n : ℕ) (given : List Record) (a : Above) → 1 ≤ n
     → Gathers (holds x.hasher) x.rect (leaf_tag ∷ n ∷ []) []
     → a.records ≡ [] → InTree hash holds q m.head (frames_of m) m.tally 0 given a
@@ -299,7 +305,7 @@ leaf_opened hash holds q m x n given a some gathers none is =
     })
 
 -- a record that is met is handed out
-pub kept_more : (q : Query) (h : Head) (met : Bool) (given rs : List Record) (r : Record) → met ≡ asked q h r
+pub kept_more : (q : Question) (h : Head) (met : Bool) (given rs : List Record) (r : Record) → met ≡ asked q h r
     → given ≡ filter (asked q h) rs → plus met given r ≡ filter (asked q h) (rs ++ r ∷ [])
 kept_more q h true given rs r met kept =
     let one : filter (asked q h) (r ∷ []) ≡ r ∷ [] = rw (sym met) refl in
@@ -311,7 +317,7 @@ kept_more q h false given rs r met kept =
     ∙ sym (filter-append (asked q h) rs (r ∷ []))
 
 -- a step that hands out the record where it is met
-found_steps : {H : Type 0} (hash : List ℕ → List ℕ) (holds : H → List ℕ → Type 0) (q : Query) (m : Machine H)
+found_steps : {H : Type 0} (hash : List ℕ → List ℕ) (holds : H → List ℕ → Type 0) (q : Question) (m : Machine H)
     (given : List Record) (met : Bool) (r : Record) (g : Grammar Said) → m.latest ≡ r → noted g ≡ []
     → WaitsPast hash holds q m (plus met given r) g
     → Steps hash holds q m given (notes (opens r met) g) (found_by None met)
@@ -340,10 +346,10 @@ added holds m n r rs k j e adds is =
     subst (λ (x : ℕ × List Piece). Gathers (holds n.hasher) n.rect (leaf_tag ∷ x.0 ∷ []) x.1)
     (λ i. (e i, sym (map-append of_record rs (r ∷ [])) i)) (adds (leaf_tag ∷ k ∷ []) (map of_record rs) is)
 
-pub record_on : {H : Type 0} (hash : List ℕ → List ℕ) (holds : H → List ℕ → Type 0) (q : Query) (m : Machine H)
-    (n : Gathering H) (t : Tally) (met : Bool) (given : List Record) (a : Above)
+pub record_on : {H : Type 0} (hash : List ℕ → List ℕ) (holds : H → List ℕ → Type 0) (q : Question) (m : Machine H)
+    (n : Gathering H) (t : RadiusCounts) (met : Bool) (given : List Record) (a : Above)
     → AddsRecord holds m.leaf.node n m.latest → 0 < m.leaf.left → met ≡ asked q m.head m.latest
-    → Counts q m.head.radius (plus met given m.latest) t
+    → Counts q.around m.head.radius (plus met given m.latest) t
     → IsLeaf holds m.leaf a.records → InTree hash holds q m.head (frames_of m) m.tally 0 given a
     → Steps hash holds q (record m {
       leaf = record { node = n; left = m.leaf.left - 1 };
@@ -389,10 +395,10 @@ record_on hash holds q m n t met given a adds some is_met counts leaf is =
     (found_steps hash holds q after_it given met r (some_records region left X) refl (ap noted reads_on) w)
 
 -- the last record of a leaf
-pub leaf_read : {H : Type 0} (hash : List ℕ → List ℕ) (holds : H → List ℕ → Type 0) (q : Query) (h : Head)
-    (fs : List (Frame H)) (old new : Tally) (f : Frame H) (n : Gathering H) (met : Bool) (r : Record)
+pub leaf_read : {H : Type 0} (hash : List ℕ → List ℕ) (holds : H → List ℕ → Type 0) (q : Question) (h : Head)
+    (fs : List (Frame H)) (old new : RadiusCounts) (f : Frame H) (n : Gathering H) (met : Bool) (r : Record)
     (given : List Record) (a : Above) → AddsRecord holds f.node n r → f.left ≡ 0 → met ≡ asked q h r
-    → Counts q h.radius (plus met given r) new
+    → Counts q.around h.radius (plus met given r) new
     → IsLeaf holds f a.records → InTree hash holds q h fs old 0 given a
     → LeafRead hash holds q h fs new (record { node = n; left = f.left }) (plus met given r) a r
 leaf_read hash holds q h fs old new f n met r given a adds none is_met counts leaf is =
@@ -408,8 +414,8 @@ leaf_read hash holds q h fs old new f n met r given a adds none is_met counts le
       tally = counts;
     }
 
-pub leaf_said : {H : Type 0} (hash : List ℕ → List ℕ) (holds : H → List ℕ → Type 0) (q : Query) (h : Head)
-    (fs : List (Frame H)) (t : Tally) (f : Frame H) (x : Entry) (given : List Record) (a : Above) (r : Record)
+pub leaf_said : {H : Type 0} (hash : List ℕ → List ℕ) (holds : H → List ℕ → Type 0) (q : Question) (h : Head)
+    (fs : List (Frame H)) (t : RadiusCounts) (f : Frame H) (x : Entry) (given : List Record) (a : Above) (r : Record)
     → IsClosing (scheme hash h) holds f.node 0 x
     → LeafRead hash holds q h fs t f given a r
     → IsRead hash holds q h fs t x given a.nodes (Leaf (a.records ++ r ∷ []))
@@ -424,8 +430,8 @@ leaf_said hash holds q h fs t f x given a r c is =
       tally = is.tally;
     }
 
-leaf_rect : {H : Type 0} (hash : List ℕ → List ℕ) (holds : H → List ℕ → Type 0) (q : Query) (h : Head)
-    (fs : List (Frame H)) (t : Tally) (f : Frame H) (x : Entry) (given : List Record) (a : Above) (r : Record)
+leaf_rect : {H : Type 0} (hash : List ℕ → List ℕ) (holds : H → List ℕ → Type 0) (q : Question) (h : Head)
+    (fs : List (Frame H)) (t : RadiusCounts) (f : Frame H) (x : Entry) (given : List Record) (a : Above) (r : Record)
     (b : Bool)
     → IsClosing (scheme hash h) holds f.node 0 x
     → met_by (region_of q h) (option_map seen_at x.rect) ≡ b
@@ -436,8 +442,8 @@ leaf_rect hash holds q h fs t f x given a r b c met is =
     sym (ap (λ (y : Entry). y.rect) (leaf_said hash holds q h fs t f x given a r c is).says) in
     ap (λ (z : Option Rectangle). met_by (region_of q h) (option_map seen_at z)) (sym place) ∙ met
 
-pub leaf_missed : {H : Type 0} (hash : List ℕ → List ℕ) (holds : H → List ℕ → Type 0) (q : Query) (h : Head)
-    (fs : List (Frame H)) (t : Tally) (f : Frame H) (x : Entry) (given : List Record) (a : Above) (r : Record)
+pub leaf_missed : {H : Type 0} (hash : List ℕ → List ℕ) (holds : H → List ℕ → Type 0) (q : Question) (h : Head)
+    (fs : List (Frame H)) (t : RadiusCounts) (f : Frame H) (x : Entry) (given : List Record) (a : Above) (r : Record)
     → IsClosing (scheme hash h) holds f.node 0 x
     → met_by (region_of q h) (option_map seen_at x.rect) ≡ false
     → LeafRead hash holds q h fs t f given a r
@@ -446,7 +452,7 @@ leaf_missed hash holds q h fs t f x given a r c missed is =
     past_missed (region_of q h) (Leaf (a.records ++ r ∷ [])) (after (region_of q h) h 0 a.nodes)
     (leaf_rect hash holds q h fs t f x given a r false c missed is)
 
-leaf_found : {H : Type 0} (hash : List ℕ → List ℕ) (holds : H → List ℕ → Type 0) (q : Query) (m : Machine H)
+leaf_found : {H : Type 0} (hash : List ℕ → List ℕ) (holds : H → List ℕ → Type 0) (q : Question) (m : Machine H)
     (given : List Record) (met : Bool) (r : Record) (g k : Grammar Said) (broken : Option Rule) → m.latest ≡ r
     → noted g ≡ [] → past_notes g ≡ past_notes k
     → Closes hash holds q m (plus met given r) k broken
@@ -455,8 +461,9 @@ leaf_found hash holds q m given met r g k None same quiet e w =
     found_steps hash holds q m given met r g same quiet (record { next = w.next; past = e ∙ w.past; waits = w.waits })
 leaf_found hash holds q m given met r g k (Some d) same quiet e w = e ∙ w
 
-pub leaf_closed : {H : Type 0} (hash : List ℕ → List ℕ) (holds : H → List ℕ → Type 0) (q : Query) (h : Head)
-    (fs : List (Frame H)) (t : Tally) (m : Machine H) (f : Frame H) (x : Entry) (met : Bool) (given : List Record)
+pub leaf_closed : {H : Type 0} (hash : List ℕ → List ℕ) (holds : H → List ℕ → Type 0) (q : Question) (h : Head)
+    (fs : List (Frame H)) (t : RadiusCounts) (m : Machine H) (f : Frame H) (x : Entry) (met : Bool)
+    (given : List Record)
     (a : Above) (r : Record) (broken : Option Rule) → m.latest ≡ r → IsClosing (scheme hash h) holds f.node 0 x
     → met_by (region_of q h) (option_map seen_at x.rect) ≡ true → met ≡ asked q h r
     → ((os : List Open) (P : Cut) → IsRead hash holds q h fs t x (plus met given r) os P
@@ -476,7 +483,7 @@ leaf_closed hash holds q h fs t m f x met given a r broken same c meets is_met b
     (behind_it a.nodes (Leaf all) (leaf_said hash holds q h fs t f x (plus met given r) a r c is))))
 
 -- a field of a record that is not its last
-pub sides_on : {H : Type 0} (hash : List ℕ → List ℕ) (holds : H → List ℕ → Type 0) (q : Query) (m : Machine H)
+pub sides_on : {H : Type 0} (hash : List ℕ → List ℕ) (holds : H → List ℕ → Type 0) (q : Question) (m : Machine H)
     (n : ℕ) (given : List Record) (a : Above) → IsLeaf holds m.leaf a.records
     → InTree hash holds q m.head (frames_of m) m.tally 0 given a
     → Steps hash holds q (record m { stage = stage.Sides n }) given
@@ -486,7 +493,7 @@ sides_on hash holds q m n given a leaf is =
     waits_on hash holds q (record m { stage = stage.Sides n }) given g g refl refl
     (record { above = a; whole = None; waits = refl; is_open = (leaf, is) })
 
-pub length_on : {H : Type 0} (hash : List ℕ → List ℕ) (holds : H → List ℕ → Type 0) (q : Query) (m : Machine H)
+pub length_on : {H : Type 0} (hash : List ℕ → List ℕ) (holds : H → List ℕ → Type 0) (q : Question) (m : Machine H)
     (n : ℕ) (r : Rectangle) (given : List Record) (a : Above) → IsLeaf holds m.leaf a.records
     → InTree hash holds q m.head (frames_of m) m.tally 0 given a
     → Steps hash holds q (record m { stage = stage.Length n r }) given
@@ -496,7 +503,7 @@ length_on hash holds q m n r given a leaf is =
     waits_on hash holds q (record m { stage = stage.Length n r }) given g g refl refl
     (record { above = a; whole = None; waits = refl; is_open = (leaf, is) })
 
-pub payload_on : {H : Type 0} (hash : List ℕ → List ℕ) (holds : H → List ℕ → Type 0) (q : Query) (m : Machine H)
+pub payload_on : {H : Type 0} (hash : List ℕ → List ℕ) (holds : H → List ℕ → Type 0) (q : Question) (m : Machine H)
     (n : ℕ) (r : Rectangle) (l : ℕ) (given : List Record) (a : Above) → 0 < l → IsLeaf holds m.leaf a.records
     → InTree hash holds q m.head (frames_of m) m.tally 0 given a
     → Steps hash holds q (record m { stage = stage.Payload n r l }) given

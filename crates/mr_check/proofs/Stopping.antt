@@ -4,7 +4,6 @@ use Rattle.std.specs.Prelude.{not, ◌&&◌}
 use Rattle.std.proofs.lemmas.Bool.{cases_Bool, ltb-true, ltb-false, le-ltb, lt-ltb}
 use Rattle.std.proofs.lemmas.List.{length-append, take-append-le, drop-append-le}
 use Rattle.mr_record.specs.declared.record.Record.{Record}
-use Rattle.mr_query.specs.declared.query.Query.{Query}
 use Rattle.mr_proof.specs.declared.rule.Rule.{Rule}
 use Rattle.mr_proof.specs.declared.rule.Rule.TheVariants as rule
 use Rattle.mr_proof.specs.declared.rule.Fault.{Fault}
@@ -13,7 +12,8 @@ use Rattle.mr_proof.specs.declared.want.Want.TheVariants as want
 use Rattle.mr_proof.specs.declared.field.Field.{Field}
 use Rattle.mr_proof.specs.Limits.{place_limit}
 use Rattle.mr_proof.specs.Fields.{size_of, field_of, only_if}
-use Rattle.mr_proof.specs.Tight.{asks}
+use Rattle.mr_proof.specs.declared.way.Way.{Way}
+use Rattle.mr_proof.specs.Tight.{Question}
 use Rattle.mr_proof.specs.Grammar.{Grammar, must, opens, done, reads, notes, whole}
 use Rattle.mr_proof.specs.Layout.{fault, Stand, start, behind, field_or_fault, field_at}
 use Rattle.mr_proof.specs.Refused.{rank}
@@ -175,15 +175,15 @@ walk_stop e trails (notes (must r true) next) s = walk_stop e trails next s
 walk_stop e trails (notes (must r false) next) s = refl
 walk_stop e trails (notes (opens r met) next) s = walk_stop e trails next s
 
-ending_trails : (hash : List ℕ → List ℕ) (root : List ℕ) (q : Query) → Trails (ending hash root q)
+ending_trails : (hash : List ℕ → List ℕ) (root : List ℕ) (q : Question) → Trails (ending hash root q)
 unfolding ending
 ending_trails hash root q x s some = let t : ltb 0 (length s.rest) ≡ true = lt-ltb 0 (length s.rest) some in rw t refl
 
-pub checked_stop : (hash : List ℕ → List ℕ) (root : List ℕ) (q : Query) (bytes : List ℕ)
+pub checked_stop : (hash : List ℕ → List ℕ) (root : List ℕ) (q : Question) (bytes : List ℕ)
     → checked hash root q bytes ≡ ends_at (ending hash root q) (stop_of q bytes)
 unfolding checked stop_of
 checked_stop hash root q bytes =
-    walk_stop (ending hash root q) (ending_trails hash root q) (whole (asks q).kind (asks q).region) (start bytes)
+    walk_stop (ending hash root q) (ending_trails hash root q) (whole q.kind q.way) (start bytes)
 
 -- ---- a fault at which reading stops is settled
 
@@ -246,7 +246,7 @@ stop_settled {A} n (notes (must r false) next) sized s f e =
     stop_fault {A = A} (fault r s.last) f e (judged_settled r sized.0)
 stop_settled n (notes (opens r met) next) sized s f e = stop_settled n next sized s f e
 
-pub fault_settled : (q : Query) (bytes : List ℕ) (f : Fault) → stop_of q bytes ≡ fails f → IsSettled f.rule
+pub fault_settled : (q : Question) (bytes : List ℕ) (f : Fault) → stop_of q bytes ≡ fails f → IsSettled f.rule
 unfolding stop_of
 fault_settled q bytes f e =
-    stop_settled 0 (whole (asks q).kind (asks q).region) (sized_whole (asks q).kind (asks q).region) (start bytes) f e
+    stop_settled 0 (whole q.kind q.way) (sized_whole q.kind q.way) (start bytes) f e

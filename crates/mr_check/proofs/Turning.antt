@@ -4,7 +4,6 @@ use Rattle.std.proofs.lemmas.Bool.{ltb-true, ltb-false}
 use Rattle.std.proofs.lemmas.List.{append-nil, length-append, take-append-drop, take-append-le, take_all, take-take, length-take-le}
 use Rattle.mr_record.specs.Record.{record_bytes}
 use Rattle.mr_record.specs.declared.record.Record.{Record}
-use Rattle.mr_query.specs.declared.query.Query.{Query}
 use Rattle.mr_proof.specs.declared.rule.Rule.{Rule}
 use Rattle.mr_proof.specs.declared.rule.Rule.TheVariants as rule
 use Rattle.mr_proof.specs.declared.rule.Fault.{Fault}
@@ -16,7 +15,8 @@ use Rattle.mr_proof.specs.Limits.{place_limit}
 use Rattle.mr_proof.specs.Fields.{size_of, field_of}
 use Rattle.mr_proof.specs.Cut.{Cut}
 use Rattle.mr_proof.specs.Spelling.{Said, said}
-use Rattle.mr_proof.specs.Tight.{Seen, asks}
+use Rattle.mr_proof.specs.declared.way.Way.{Way}
+use Rattle.mr_proof.specs.Tight.{Seen, Question}
 use Rattle.mr_proof.specs.Grammar.{Grammar, done, reads, number_in, whole}
 use Rattle.mr_proof.specs.Layout.{fault, Stand, start}
 use Rattle.mr_check.specs.declared.stage.Stage.{Stage}
@@ -35,25 +35,25 @@ use Rattle.mr_check.proofs.Noting.{read_stop, read_handed, broken_stop, broken_h
 
 -- ---- in front of the field under way
 
-left_stop : (region : Option ℕ → Seen → Bool) (h : Head) (left : ℕ) (a : Above) (p : Option Cut) (w : Option Want)
+left_stop : (region : Option ℕ → Seen → Way) (h : Head) (left : ℕ) (a : Above) (p : Option Cut) (w : Option Want)
     (s : Stage) (at last : ℕ) → 1 ≤ room_in w → at + size_in w ≤ place_limit
     → stop (left_at region h left a p w s) (at_place at last) ≡ waits (left_at region h left a p w s) (at_place at last)
 left_stop region h left a p None s at last some within = end_stop (said h p) (at_place at last) refl
 left_stop region h left a p (Some w) s at last some within =
     short_stop w (next_at region h left a s) (at_place at last) within some
 
-left_fixed : (region : Option ℕ → Seen → Bool) (h : Head) (left : ℕ) (a : Above) (p : Option Cut) (w : Option Want)
+left_fixed : (region : Option ℕ → Seen → Way) (h : Head) (left : ℕ) (a : Above) (p : Option Cut) (w : Option Want)
     (s : Stage) (at : ℕ) → at + size_in w ≤ place_limit → is_fixed (left_at region h left a p w s) at ≡ false
 left_fixed region h left a p None s at within = refl
 left_fixed region h left a p (Some w) s at within = short_fixed w (next_at region h left a s) at within
 
-left_handed : (region : Option ℕ → Seen → Bool) (h : Head) (left : ℕ) (a : Above) (p : Option Cut) (w : Option Want)
+left_handed : (region : Option ℕ → Seen → Way) (h : Head) (left : ℕ) (a : Above) (p : Option Cut) (w : Option Want)
     (s : Stage) (at last : ℕ) → 1 ≤ room_in w → handed (left_at region h left a p w s) (at_place at last) ≡ []
 left_handed region h left a p None s at last some = refl
 left_handed region h left a p (Some w) s at last some =
     short_handed w (next_at region h left a s) (at_place at last) some
 
-left_long : (region : Option ℕ → Seen → Bool) (h : Head) (left : ℕ) (a : Above) (p : Option Cut) (w : Option Want)
+left_long : (region : Option ℕ → Seen → Way) (h : Head) (left : ℕ) (a : Above) (p : Option Cut) (w : Option Want)
     (s : Stage) (at last : ℕ) → at ≤ place_limit → place_limit < at + size_in w
     → (stop (left_at region h left a p w s) (at_place at last) ≡ fails (fault rule.Long at))
     × (is_fixed (left_at region h left a p w s) at ≡ true)
@@ -66,12 +66,12 @@ left_long region h left a p (Some w) s at last low past = (
 -- ---- behind a field
 
 -- the next field ends past the limit
-pub behind_long : {H : Type 0} (hash : List ℕ → List ℕ) (holds : H → List ℕ → Type 0) (q : Query) (r : Reader H)
+pub behind_long : {H : Type 0} (hash : List ℕ → List ℕ) (holds : H → List ℕ → Type 0) (q : Question) (r : Reader H)
     (given : List Record) (g : Grammar Said) (last : ℕ) → 1 ≤ room_in (want_of r) → r.at ≤ place_limit
     → ltb place_limit (r.at + size_in (want_of r)) ≡ true → WaitsPast hash holds q r.machine given g
     → (handed g (at_place r.at last) ≡ []) × (stop g (at_place r.at last) ≡ fails (fault rule.Long r.at))
 behind_long hash holds q r given g last some low long w =
-    let region = (asks q).region in
+    let region = q.way in
     let m = r.machine in
     let a = w.waits.above in
     let p = w.waits.whole in
@@ -87,13 +87,13 @@ behind_long hash holds q r given g last some low long w =
     )
 
 -- it does not
-pub behind_short : {H : Type 0} (hash : List ℕ → List ℕ) (holds : H → List ℕ → Type 0) (q : Query) (r : Reader H)
+pub behind_short : {H : Type 0} (hash : List ℕ → List ℕ) (holds : H → List ℕ → Type 0) (q : Question) (r : Reader H)
     (given : List Record) (g : Grammar Said) (last : ℕ) → 1 ≤ room_in (want_of r)
     → ltb place_limit (r.at + size_in (want_of r)) ≡ false → r.held ≡ []
     → WaitsPast hash holds q r.machine given g
     → (handed g (at_place r.at last) ≡ noted g) × WaitsBehind hash holds q given r.at last r g
 behind_short hash holds q r given g last some short empty w =
-    let region = (asks q).region in
+    let region = q.way in
     let m = r.machine in
     let a = w.waits.above in
     let p = w.waits.whole in
@@ -119,32 +119,32 @@ behind_short hash holds q r given g last some short empty w =
 -- ---- turns
 
 -- reading goes on where it waited
-goes_on : (q : Query) (s more : List ℕ) (g : Grammar Said) (t : Stand) → stop_of q s ≡ waits g t
+goes_on : (q : Question) (s more : List ℕ) (g : Grammar Said) (t : Stand) → stop_of q s ≡ waits g t
     → stop_of q (s ++ more) ≡ stop g (longer more t)
 unfolding stop_of
 goes_on q s more g t e =
-    stop_more more (whole (asks q).kind (asks q).region) (start s) ∙ ap (λ (z : Stop Said). resume z more) e
+    stop_more more (whole q.kind q.way) (start s) ∙ ap (λ (z : Stop Said). resume z more) e
 
-hands_on : (q : Query) (s more : List ℕ) (g : Grammar Said) (t : Stand) → stop_of q s ≡ waits g t
+hands_on : (q : Question) (s more : List ℕ) (g : Grammar Said) (t : Stand) → stop_of q s ≡ waits g t
     → handed_out q (s ++ more) ≡ handed_out q s ++ handed g (longer more t)
 unfolding handed_out stop_of
 hands_on q s more g t e =
-    handed_more more (whole (asks q).kind (asks q).region) (start s)
-    ∙ ap (λ (z : Stop Said). handed (whole (asks q).kind (asks q).region) (start s) ++ handed_on z more) e
+    handed_more more (whole q.kind q.way) (start s)
+    ∙ ap (λ (z : Stop Said). handed (whole q.kind q.way) (start s) ++ handed_on z more) e
 
 -- a fault stays, and nothing more is handed out
-pub stays : (q : Query) (s more : List ℕ) (f : Fault) → stop_of q s ≡ fails f
+pub stays : (q : Question) (s more : List ℕ) (f : Fault) → stop_of q s ≡ fails f
     → (stop_of q (s ++ more) ≡ fails f) × (handed_out q (s ++ more) ≡ handed_out q s)
 unfolding handed_out stop_of
 stays q s more f e = (
-  stop_more more (whole (asks q).kind (asks q).region) (start s) ∙ ap (λ (z : Stop Said). resume z more) e,
-  handed_more more (whole (asks q).kind (asks q).region) (start s)
-      ∙ ap (λ (z : Stop Said). handed (whole (asks q).kind (asks q).region) (start s) ++ handed_on z more) e
-      ∙ append-nil (handed (whole (asks q).kind (asks q).region) (start s)),
+  stop_more more (whole q.kind q.way) (start s) ∙ ap (λ (z : Stop Said). resume z more) e,
+  handed_more more (whole q.kind q.way) (start s)
+      ∙ ap (λ (z : Stop Said). handed (whole q.kind q.way) (start s) ++ handed_on z more) e
+      ∙ append-nil (handed (whole q.kind q.way) (start s)),
 )
 
 -- the field that is under way, of a reader that stands
-pub record StandsIn {H : Type 0} (hash : List ℕ → List ℕ) (holds : H → List ℕ → Type 0) (q : Query) (r : Reader H)
+pub record StandsIn {H : Type 0} (hash : List ℕ → List ℕ) (holds : H → List ℕ → Type 0) (q : Question) (r : Reader H)
     (s : List ℕ) (g : Above → Option Cut → Grammar Said) : Type 0 where
   pub above : Above
   pub part : Option Cut
@@ -152,36 +152,36 @@ pub record StandsIn {H : Type 0} (hash : List ℕ → List ℕ) (holds : H → L
   pub stops : stop_of q s ≡ waits (g above part) (record { at = r.at; last = last; rest = r.held })
   pub is_open : IsOpen hash holds q r.machine r.machine.stage (handed_out q s) above part
 
-pub stands_in : {H : Type 0} (hash : List ℕ → List ℕ) (holds : H → List ℕ → Type 0) (q : Query) (r : Reader H)
+pub stands_in : {H : Type 0} (hash : List ℕ → List ℕ) (holds : H → List ℕ → Type 0) (q : Question) (r : Reader H)
     (s : List ℕ) (w : Option Want) → want_of r ≡ w → StandsAt hash holds q r s
-    → StandsIn hash holds q r s (λ a p. left_at (asks q).region r.machine.head r.machine.leaf.left a p w
+    → StandsIn hash holds q r s (λ a p. left_at q.way r.machine.head r.machine.leaf.left a p w
     r.machine.stage)
 stands_in hash holds q r s w e at = record {
   above = at.waits.above;
   part = at.waits.whole;
   last = at.last;
   stops = at.stops ∙ ap (λ (g : Grammar Said). waits g (record { at = r.at; last = at.last; rest = r.held }))
-      (at.waits.waits ∙ ap (λ (z : Option Want). left_at (asks q).region r.machine.head r.machine.leaf.left
+      (at.waits.waits ∙ ap (λ (z : Option Want). left_at q.way r.machine.head r.machine.leaf.left
       at.waits.above at.waits.whole z r.machine.stage) e);
   is_open = at.waits.is_open;
 }
 
 -- the piece is less than what the field lacks
-pub turn_more : {H : Type 0} (hash : List ℕ → List ℕ) (holds : H → List ℕ → Type 0) (q : Query) (r : Reader H)
+pub turn_more : {H : Type 0} (hash : List ℕ → List ℕ) (holds : H → List ℕ → Type 0) (q : Question) (r : Reader H)
     (w : Want) (s piece held : List ℕ) → want_of r ≡ Some w → r.at + size_of w ≤ place_limit
     → held ≡ r.held ++ piece → length (r.held ++ piece) < size_of w → StandsAt hash holds q r s
     → StandsAt hash holds q (record r { held = held }) (s ++ piece) × (handed_out q (s ++ piece) ≡ handed_out q s)
 turn_more hash holds q r w s piece held wants within more less at =
     let i = stands_in hash holds q r s (Some w) wants at in
     let t : Stand = record { at = r.at; last = i.last; rest = r.held } in
-    let next = next_at (asks q).region r.machine.head r.machine.leaf.left i.above r.machine.stage in
+    let next = next_at q.way r.machine.head r.machine.leaf.left i.above r.machine.stage in
     let quiet : handed_out q (s ++ piece) ≡ handed_out q s =
     hands_on q s piece (reads w next) t i.stops
     ∙ ap (λ (rs : List Record). handed_out q s ++ rs) (short_handed w next (longer piece t) less)
     ∙ append-nil (handed_out q s) in
-    let same : reads w next ≡ left_at (asks q).region r.machine.head r.machine.leaf.left i.above i.part
+    let same : reads w next ≡ left_at q.way r.machine.head r.machine.leaf.left i.above i.part
     (want_of r) r.machine.stage =
-    ap (λ (z : Option Want). left_at (asks q).region r.machine.head r.machine.leaf.left i.above i.part z
+    ap (λ (z : Option Want). left_at q.way r.machine.head r.machine.leaf.left i.above i.part z
     r.machine.stage) (sym wants) in (
       record {
         next = reads w next;
@@ -199,7 +199,7 @@ rejoined : (s front back piece : List ℕ) → front ++ back ≡ piece → (s ++
 rejoined s front back piece e = append_assoc s front back ∙ ap (λ (x : List ℕ). s ++ x) e
 
 -- a fault that the front of a piece shows is that of the whole piece
-fault_on : (q : Query) (s front back piece : List ℕ) (f : Fault) → front ++ back ≡ piece
+fault_on : (q : Question) (s front back piece : List ℕ) (f : Fault) → front ++ back ≡ piece
     → stop_of q (s ++ front) ≡ fails f → handed_out q (s ++ front) ≡ handed_out q s
     → (stop_of q (s ++ piece) ≡ fails f) × (handed_out q (s ++ piece) ≡ handed_out q s)
 fault_on q s front back piece f e stops quiet =
@@ -210,7 +210,7 @@ fault_on q s front back piece f e stops quiet =
     )
 
 -- the bytes of the field break its rule
-pub turn_broken : {H : Type 0} (hash : List ℕ → List ℕ) (holds : H → List ℕ → Type 0) (q : Query) (r : Reader H)
+pub turn_broken : {H : Type 0} (hash : List ℕ → List ℕ) (holds : H → List ℕ → Type 0) (q : Question) (r : Reader H)
     (w : Want) (s front back piece : List ℕ) (d : Rule) → want_of r ≡ Some w → r.at + size_of w ≤ place_limit
     → front ++ back ≡ piece → length (r.held ++ front) ≡ size_of w → field_of w (r.held ++ front) ≡ Err d
     → StandsAt hash holds q r s
@@ -218,7 +218,7 @@ pub turn_broken : {H : Type 0} (hash : List ℕ → List ℕ) (holds : H → Lis
 turn_broken hash holds q r w s front back piece d wants within parts long broken at =
     let i = stands_in hash holds q r s (Some w) wants at in
     let t : Stand = record { at = r.at; last = i.last; rest = r.held } in
-    let next = next_at (asks q).region r.machine.head r.machine.leaf.left i.above r.machine.stage in
+    let next = next_at q.way r.machine.head r.machine.leaf.left i.above r.machine.stage in
     fault_on q s front back piece (fault d r.at) parts
     (goes_on q s front (reads w next) t i.stops ∙ broken_stop w next t front d within long broken)
     (hands_on q s front (reads w next) t i.stops
@@ -226,7 +226,7 @@ turn_broken hash holds q r w s front back piece d wants within parts long broken
     ∙ append-nil (handed_out q s))
 
 -- where the front of a piece ends a field, by what stands behind it
-settled : {H : Type 0} (hash : List ℕ → List ℕ) (holds : H → List ℕ → Type 0) (q : Query) (r : Reader H)
+settled : {H : Type 0} (hash : List ℕ → List ℕ) (holds : H → List ℕ → Type 0) (q : Question) (r : Reader H)
     (s given : List ℕ) (rs : List Record) (g : Grammar Said) (at last : ℕ)
     → stop_of q given ≡ stop g (at_place at last) → handed_out q given ≡ rs
     → WaitsBehind hash holds q rs at last r g → StandsAt hash holds q r given
@@ -237,7 +237,7 @@ settled hash holds q r s given rs g at last stops out w = record {
   waits = subst (λ (xs : List Record). Waits hash holds q r.machine xs w.next) (sym out) w.waits;
 }
 
-turn_behind : {H : Type 0} (hash : List ℕ → List ℕ) (holds : H → List ℕ → Type 0) (q : Query) (r : Reader H)
+turn_behind : {H : Type 0} (hash : List ℕ → List ℕ) (holds : H → List ℕ → Type 0) (q : Question) (r : Reader H)
     (s piece back : List ℕ) (n at last : ℕ) (g : Grammar Said) (turn : Turn) → take n piece ++ back ≡ piece
     → stop_of q (s ++ take n piece) ≡ stop g (at_place at last)
     → handed_out q (s ++ take n piece) ≡ handed_out q s ++ handed g (at_place at last)
@@ -264,18 +264,18 @@ turn_behind hash holds q r s piece back n at last g (turns.Broken f) parts stops
     (out ∙ ap (λ (rs : List Record). handed_out q s ++ rs) b.0 ∙ append-nil (handed_out q s))
 
 -- the field is whole and breaks no rule of its own
-pub turn_whole : {H : Type 0} (hash : List ℕ → List ℕ) (holds : H → List ℕ → Type 0) (q : Query) (r new : Reader H)
+pub turn_whole : {H : Type 0} (hash : List ℕ → List ℕ) (holds : H → List ℕ → Type 0) (q : Question) (r new : Reader H)
     (w : Want) (s piece : List ℕ) (n z : ℕ) (v : Field) (turn : Turn) → want_of r ≡ Some w
     → r.at + size_of w ≤ place_limit → 1 ≤ n → n ≤ length piece → length r.held + n ≡ size_of w → z ≡ size_of w
     → field_of w (r.held ++ take n piece) ≡ Ok v
     → ((given : List Record) (a : Above) (p : Option Cut) → IsOpen hash holds q r.machine r.machine.stage given a p
     → Behind hash holds q given (r.at + z) r.at n new
-    (next_at (asks q).region r.machine.head r.machine.leaf.left a r.machine.stage v) turn)
+    (next_at q.way r.machine.head r.machine.leaf.left a r.machine.stage v) turn)
     → StandsAt hash holds q r s → Turns hash holds q s piece new turn
 turn_whole hash holds q r new w s piece n z v turn wants within some fits size same value behind at =
     let i = stands_in hash holds q r s (Some w) wants at in
     let t : Stand = record { at = r.at; last = i.last; rest = r.held } in
-    let next = next_at (asks q).region r.machine.head r.machine.leaf.left i.above r.machine.stage in
+    let next = next_at q.way r.machine.head r.machine.leaf.left i.above r.machine.stage in
     let front = take n piece in
     let taken : length front ≡ n = length-take-le n piece fits in
     let fewer : length (take (n - 1) piece) ≡ n - 1 = length-take-le (n - 1) piece (omega arith) in
@@ -297,14 +297,14 @@ turn_whole hash holds q r new w s piece n z v turn wants within some fits size s
 -- ---- a whole record
 
 -- before one, reading waits at its number
-record_waits : {H : Type 0} (hash : List ℕ → List ℕ) (holds : H → List ℕ → Type 0) (q : Query) (r : Reader H)
+record_waits : {H : Type 0} (hash : List ℕ → List ℕ) (holds : H → List ℕ → Type 0) (q : Question) (r : Reader H)
     (s : List ℕ) → r.machine.stage ≡ stage.Number → r.held ≡ [] → StandsAt hash holds q r s
-    → StandsIn hash holds q r s (λ a p. left_at (asks q).region r.machine.head r.machine.leaf.left a p
+    → StandsIn hash holds q r s (λ a p. left_at q.way r.machine.head r.machine.leaf.left a p
     (Some want.Number) r.machine.stage)
 record_waits hash holds q r s is none at =
     stands_in hash holds q r s (Some want.Number) (ap (λ (z : Stage). want_at r.machine.head.kind z) is) at
 
-pub turn_record : {H : Type 0} (hash : List ℕ → List ℕ) (holds : H → List ℕ → Type 0) (q : Query) (r new : Reader H)
+pub turn_record : {H : Type 0} (hash : List ℕ → List ℕ) (holds : H → List ℕ → Type 0) (q : Question) (r new : Reader H)
     (s piece : List ℕ) (n : ℕ) (one : Record) (turn : Turn) → IsWhole r piece one n
     → ((given : List Record) (a : Above) (p : Option Cut) → IsOpen hash holds q r.machine stage.Number given a p
     → Behind hash holds q given (r.at + n) (last_field r.at one) n new
@@ -317,7 +317,7 @@ turn_record hash holds q r new s piece n one turn w behind at =
     let g = reads want.Number (λ v. behind_number X (number_in v)) in
     let t : Stand = record { at = r.at; last = i.last; rest = [] } in
     let stops : stop_of q s ≡ waits g t = i.stops ∙ (λ j. waits
-    (reads want.Number (next_at (asks q).region r.machine.head
+    (reads want.Number (next_at q.way r.machine.head
     r.machine.leaf.left i.above (w.stage j))) (record { at = r.at; last = i.last; rest = w.held j })) in
     let is_open : IsOpen hash holds q r.machine stage.Number (handed_out q s) i.above i.part =
     subst (λ (z : Stage). IsOpen hash holds q r.machine z (handed_out q s) i.above i.part) w.stage i.is_open in
@@ -348,7 +348,7 @@ turn_record hash holds q r new s piece n one turn w behind at =
 
 -- ---- behind the last field
 
-pub turn_trailing : {H : Type 0} (hash : List ℕ → List ℕ) (holds : H → List ℕ → Type 0) (q : Query) (r : Reader H)
+pub turn_trailing : {H : Type 0} (hash : List ℕ → List ℕ) (holds : H → List ℕ → Type 0) (q : Question) (r : Reader H)
     (s piece : List ℕ) → want_of r ≡ None → 0 < length piece → StandsAt hash holds q r s
     → (stop_of q (s ++ piece) ≡ fails (fault rule.Trailing r.at)) × (handed_out q (s ++ piece) ≡ handed_out q s)
 turn_trailing hash holds q r s piece ends some at =
@@ -360,7 +360,7 @@ turn_trailing hash holds q r s piece ends some at =
       hands_on q s piece (done x) t i.stops ∙ append-nil (handed_out q s),
     )
 
-pub turn_none : {H : Type 0} (hash : List ℕ → List ℕ) (holds : H → List ℕ → Type 0) (q : Query) (r : Reader H)
+pub turn_none : {H : Type 0} (hash : List ℕ → List ℕ) (holds : H → List ℕ → Type 0) (q : Question) (r : Reader H)
     (s piece : List ℕ) → length piece ≡ 0 → StandsAt hash holds q r s
     → StandsAt hash holds q r (s ++ piece) × (handed_out q (s ++ piece) ≡ handed_out q s)
 turn_none hash holds q r s [] none at =

@@ -2,8 +2,8 @@
 use Rattle.std.specs.Prelude.{◌≡◌, ℕ, ◌≤◌, ⊤, List, ◌++◌, take, Result, Ok, Err}
 use Rattle.std.specs.Global.{Vec}
 use Rattle.mr_record.specs.declared.record.Record.{Record}
-use Rattle.mr_query.specs.declared.query.Query.{Query}
 use Rattle.mr_proof.specs.declared.rule.Fault.{Fault}
+use Rattle.mr_proof.specs.Tight.{Question}
 use Rattle.mr_proof.specs.Handed.{handed_out}
 use Rattle.mr_proof.specs.Feeding.{IsUnsettled, Completes, IsFinal}
 use Rattle.mr_check.specs.declared.error.CheckErr.{CheckErr}
@@ -30,7 +30,7 @@ TakesFrom long _ = ⊤
 -- What is answered for a piece that is fed behind these bytes: a fault just where the verdict of
 -- the bytes so far is one that stays, and a record that is handed out where its last byte was
 -- taken.
-abbrev pub Feeds : (List ℕ → List ℕ) → List ℕ → Query → List ℕ → List ℕ → Fed → Type 0
+abbrev pub Feeds : (List ℕ → List ℕ) → List ℕ → Question → List ℕ → List ℕ → Fed → Type 0
 Feeds hash root q so_far piece fed.More =
     IsUnsettled hash root q (so_far ++ piece)
     × (handed_out q (so_far ++ piece) ≡ handed_out q so_far)

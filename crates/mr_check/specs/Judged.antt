@@ -1,70 +1,134 @@
--- What a judge stands for. It does not keep the bytes that it was fed, so contracts go by a
--- relation between a judge and a byte string, which is known by what they say of it.
-use Rattle.std.specs.Prelude.{◌≡◌, ◌≤◌, ℕ, List, ◌++◌, length, take, ⊤, Result, Ok, Err}
+-- What a verifier and a judge stand for. They do not keep the bytes that they were fed, so
+-- contracts go
+-- by a relation between them and a byte string, which is known by what they say of it.
+use Rattle.std.specs.Prelude.{◌≡◌, ◌≤◌, ℕ, List, ◌++◌, length, take, filter, vec_capacity, ⊤, Result, Ok, Err}
 use Rattle.mr_record.specs.Bytes.{AreBytes}
 use Rattle.mr_record.specs.declared.record.Record.{Record}
-use Rattle.mr_query.specs.Word.{IsAskable}
+use Rattle.mr_query.specs.Word.{IsQuery}
 use Rattle.mr_query.specs.declared.query.Query.{Query}
+use Rattle.mr_proof.specs.declared.rule.Fault.{Fault}
+use Rattle.mr_proof.specs.Spelling.{Said, opened_records}
+use Rattle.mr_proof.specs.Tight.{Question, question, keeps_at, IsLawful}
 use Rattle.mr_proof.specs.Handed.{handed_out}
-use Rattle.mr_proof.specs.Feeding.{IsUnsettled}
-use Rattle.mr_proof.specs.Reading.{verdict}
+use Rattle.mr_proof.specs.Feeding.{IsUnsettled, HandsOut}
+use Rattle.mr_proof.specs.Reading.{checked}
 use Rattle.mr_check.specs.declared.error.CheckErr.{CheckErr}
 use Rattle.mr_check.specs.declared.error.CheckErr.TheVariants as errors
 use Rattle.mr_tree.specs.declared.hash.Hashes.{Ghosts}
+use Rattle.mr_check.specs.declared.verifier.Verifier.{Verifier}
+use Rattle.mr_check.specs.declared.outline.Outline.{Outline}
+use Rattle.mr_check.specs.declared.outline.Collected.{Collected}
+use Rattle.mr_check.specs.declared.collector.Collector.{Collector}
 use Rattle.mr_check.specs.declared.intake.Intake.{Intake}
 use Rattle.mr_check.specs.declared.judge.Judge.{Judge}
+use Rattle.mr_check.specs.Standing.{rect_round}
 use Rattle.mr_check.specs.Reads.{StandsBy}
 
--- the judge was fed these bytes as a proof for the query, against the root digest
-pub record StandsFor {H : Type 0} {G : Ghosts H} (hash : List ℕ → List ℕ)
-    (holds : H → List ℕ → Type 0) (root : List ℕ) (q : Query) (j : Judge H G)
+-- ---- whatever is asked
+
+-- the verifier was fed these bytes as a proof of what is asked, against the root digest; and from
+-- the beginning on it has room for the seven nodes that may be open above a leaf, and no more
+pub record WasFed {H : Type 0} {G : Ghosts H} (hash : List ℕ → List ℕ)
+    (holds : H → List ℕ → Type 0) (root : List ℕ) (q : Question) (w : Verifier H G)
     (bytes : List ℕ) : Type 0 where
-  pub held_root : j.root ≡ root
-  pub asked : j.query ≡ q
-  pub askable : IsAskable q
+  pub held_root : w.root ≡ root
+  pub lawful : IsLawful q
   pub fed : AreBytes bytes
-  pub stands : StandsBy hash holds q j.reader j.reader.fault bytes
+  pub room : vec_capacity w.reader.machine.frames.list ≡ 7
+  pub stands : StandsBy hash holds q w.reader w.reader.fault bytes
+
+-- it is the outline of this head and cut
+pub record IsOutline (x : Said) (o : Outline) : Type 0 where
+  pub head : o.head ≡ x.head
+  pub rect : o.rect ≡ rect_round x.part
+
+-- the bytes are accepted, with this outline, and the records handed out are all that are not left
+-- out
+pub record EndsWell (hash : List ℕ → List ℕ) (root : List ℕ) (q : Question) (bytes : List ℕ)
+    (o : Outline) : Type 0 where
+  pub said : Said
+  pub hands : HandsOut hash root q bytes said
+  pub outline : IsOutline said o
+
+-- what is answered at the end of the bytes
+abbrev pub Closing : (List ℕ → List ℕ) → List ℕ → Question → List ℕ → Result Outline Fault → Type 0
+Closing hash root q bytes (Ok o) = EndsWell hash root q bytes o
+Closing hash root q bytes (Err f) = checked hash root q bytes ≡ Err f
 
 -- ---- a proof that is taken piece by piece, with the records that are handed out
 
--- the proof is taken so far: its judge stands for these bytes, and the records that were kept are
+-- the proof is taken so far: its verifier stands for these bytes, and the records that were kept
+-- are
 -- those that they hand out
 pub record Took {H : Type 0} {G : Ghosts H} (hash : List ℕ → List ℕ) (holds : H → List ℕ → Type 0)
-    (root : List ℕ) (q : Query) (j : Judge H G) (kept : List Record) (bytes : List ℕ) : Type 0 where
-  pub stands : StandsFor hash holds root q j bytes
-  pub handed : kept ≡ handed_out q bytes
+    (root : List ℕ) (q : Question) (w : Verifier H G) (kept : List Record) (bytes : List ℕ) : Type 0
+  where
+    pub stands : WasFed hash holds root q w bytes
+    pub handed : kept ≡ handed_out q bytes
 
 -- all strings that begin with these bytes have this fault, unless memory ran out
-abbrev pub IsStopped : (List ℕ → List ℕ) → List ℕ → Query → List ℕ → CheckErr → Type 0
+abbrev pub IsStopped : (List ℕ → List ℕ) → List ℕ → Question → List ℕ → CheckErr → Type 0
 IsStopped hash root q bytes (errors.Fault f) =
-    (more : List ℕ) → verdict hash root q (bytes ++ more) ≡ Err f
+    (more : List ℕ) → checked hash root q (bytes ++ more) ≡ Err f
 IsStopped hash root q bytes errors.NoMemory = ⊤
 
 -- these bytes were taken, and have no fault that stays; or that is so
 abbrev pub TakesPiece : {X H : Type 0} {G : Ghosts H} → (List ℕ → List ℕ) → (H → List ℕ → Type 0)
-    → List ℕ → Query → Judge H G → List Record → List ℕ → Result X CheckErr → Type 0
-TakesPiece hash holds root q j kept bytes (Ok x) = Took hash holds root q j kept bytes
+    → List ℕ → Question → Verifier H G → List Record → List ℕ → Result X CheckErr → Type 0
+TakesPiece hash holds root q w kept bytes (Ok x) = Took hash holds root q w kept bytes
     × IsUnsettled hash root q bytes
-TakesPiece hash holds root q j kept bytes (Err e) = IsStopped hash root q bytes e
+TakesPiece hash holds root q w kept bytes (Err e) = IsStopped hash root q bytes e
 
 -- whatever was taken before the piece. This serves private functions.
 abbrev pub Takes : {X H : Type 0} {G : Ghosts H} → (List ℕ → List ℕ) → (H → List ℕ → Type 0)
-    → Judge H G → Judge H G → List ℕ → List Record → List Record → Result X CheckErr → Type 0
-Takes hash holds before after piece old new result = (root : List ℕ) (q : Query) (bytes : List ℕ)
+    → Question → Verifier H G → Verifier H G → List ℕ → List Record → List Record
+    → Result X CheckErr
+    → Type 0
+Takes hash holds q before after piece old new result = (root : List ℕ) (bytes : List ℕ)
     → Took hash holds root q before old bytes
     → TakesPiece hash holds root q after new (bytes ++ piece) result
 
 -- so far of the piece was taken. This serves private functions.
 pub record TookSoFar {H : Type 0} {G : Ghosts H} (hash : List ℕ → List ℕ)
-    (holds : H → List ℕ → Type 0)
-    (first now : Judge H G) (piece : List ℕ) (at : ℕ) (old kept : List Record) : Type 0 where
+    (holds : H → List ℕ → Type 0) (q : Question)
+    (first now : Verifier H G) (piece : List ℕ) (at : ℕ) (old kept : List Record) : Type 0 where
   pub within : at ≤ length piece
-  pub so : (root : List ℕ) (q : Query) (bytes : List ℕ) → Took hash holds root q first old bytes
+  pub so : (root : List ℕ) (bytes : List ℕ) → Took hash holds root q first old bytes
       → Took hash holds root q now kept (bytes ++ take at piece)
+
+-- this much of the proof was gathered in, of what is asked and against the root digest
+abbrev pub HasCollected : {H : Type 0} {G : Ghosts H} → (List ℕ → List ℕ) → (H → List ℕ → Type 0)
+    → List ℕ → Question → Collector H G → List ℕ → Type 0
+HasCollected hash holds root q h bytes = Took hash holds root q h.verifier h.kept.items bytes
+
+-- the head and cut of accepted bytes: their outline, and the records that are not left out
+pub record IsCollected (x : Said) (q : Question) (o : Collected) : Type 0 where
+  pub outline : IsOutline x o.outline
+  pub records : o.records.items
+      ≡ filter (λ (r : Record). keeps_at (q.way x.head.radius) r.rect) (opened_records x.part)
+
+-- what is answered for bytes: their verdict, unless memory ran out
+abbrev pub Collects : (List ℕ → List ℕ) → List ℕ → Question → List ℕ → Result Collected CheckErr
+    → Type 0
+Collects hash root q bytes (Ok o) = (x : Said) × (checked hash root q bytes ≡ Ok x)
+    × IsCollected x q o
+Collects hash root q bytes (Err (errors.Fault f)) = checked hash root q bytes ≡ Err f
+Collects hash root q bytes (Err errors.NoMemory) = ⊤
+
+-- ---- queries
+
+-- the judge was fed these bytes as a proof for the query, against the root digest
+pub record StandsFor {H : Type 0} {G : Ghosts H} (hash : List ℕ → List ℕ)
+    (holds : H → List ℕ → Type 0) (root : List ℕ) (q : Query) (j : Judge H G)
+    (bytes : List ℕ) : Type 0 where
+  pub asked : j.query ≡ q
+  pub is : IsQuery q
+  pub verifiers : WasFed hash holds root (question q) j.verifier bytes
 
 -- this much of the proof was taken in, for the query and against the root digest
 pub record IsTaken {H : Type 0} {G : Ghosts H} (hash : List ℕ → List ℕ)
     (holds : H → List ℕ → Type 0)
     (root : List ℕ) (q : Query) (i : Intake H G) (bytes : List ℕ) : Type 0 where
   pub asked : i.query ≡ q
-  pub took : Took hash holds root q i.judge i.kept.items bytes
+  pub is : IsQuery q
+  pub took : HasCollected hash holds root (question q) i.collector bytes

@@ -1,7 +1,7 @@
 pub mod Answers
 pub mod Stops
 pub mod Popping
-pub mod Tallies
+pub mod Counting
 pub mod Stages
 pub mod Standing
 pub mod Heads

@@ -4,8 +4,7 @@ use Rattle.std.specs.Prelude.{◌≡◌, ◌≢◌, ◌⊎◌, Bool, true, false
 use Rattle.mr_record.specs.Record.{IsRecord, record_bytes}
 use Rattle.mr_record.specs.declared.record.Record.{Record}
 use Rattle.mr_tree.specs.Digest.{root_preimage}
-use Rattle.mr_query.specs.Word.{IsAskable}
-use Rattle.mr_query.specs.declared.query.Query.{Query}
+use Rattle.mr_proof.specs.Tight.{Question}
 use Rattle.mr_proof.specs.declared.rule.Rule.TheVariants as rule
 use Rattle.mr_proof.specs.Refused.{has_other_radius}
 use Rattle.mr_proof.specs.declared.rule.Fault.{Fault}
@@ -20,13 +19,14 @@ use Rattle.mr_check.specs.declared.reader.Reader.{Reader}
 use Rattle.mr_check.specs.declared.reader.Turn.{Turn}
 use Rattle.mr_check.specs.declared.reader.Turn.TheVariants as turns
 use Rattle.mr_check.specs.declared.fed.Fed.{Fed}
+use Rattle.mr_check.specs.declared.outline.Outline.{Outline}
 use Rattle.mr_check.specs.declared.fed.Fed.TheVariants as fed
 use Rattle.mr_proof.specs.Handed.{handed, handed_out}
 use Rattle.mr_proof.specs.Feeding.{Completes}
 use Rattle.mr_check.specs.Stops.{waits, fails, stop, at_place, stop_of}
 use Rattle.mr_check.specs.Stages.{want_at, size_in, room_in, FitsStage}
 use Rattle.mr_tree.specs.declared.entry.Entry.{Entry}
-use Rattle.mr_check.specs.Tallies.{Counts}
+use Rattle.mr_check.specs.Counting.{Counts}
 use Rattle.mr_check.specs.Standing.{Waits}
 
 -- the field under way of a reader, if any is
@@ -40,7 +40,8 @@ pub record FitsReader {H : Type 0} (r : Reader H) : Type 0 where
   pub place : r.at + size_in (want_of r) ≤ place_limit
 
 -- the reader stands where the reading of these bytes waits
-pub record StandsAt {H : Type 0} (hash : List ℕ → List ℕ) (holds : H → List ℕ → Type 0) (q : Query)
+pub record StandsAt {H : Type 0} (hash : List ℕ → List ℕ) (holds : H → List ℕ → Type 0)
+    (q : Question)
     (r : Reader H) (bytes : List ℕ) : Type 0 where
   pub next : Grammar Said
   pub last : ℕ
@@ -48,13 +49,13 @@ pub record StandsAt {H : Type 0} (hash : List ℕ → List ℕ) (holds : H → L
   pub waits : Waits hash holds q r.machine (handed_out q bytes) next
 
 -- or it knows the fault with which that ends
-abbrev pub StandsBy : {H : Type 0} → (List ℕ → List ℕ) → (H → List ℕ → Type 0) → Query → Reader H
+abbrev pub StandsBy : {H : Type 0} → (List ℕ → List ℕ) → (H → List ℕ → Type 0) → Question → Reader H
     → Option Fault → List ℕ → Type 0
 StandsBy hash holds q r None bytes = StandsAt hash holds q r bytes
 StandsBy hash holds q r (Some f) bytes = stop_of q bytes ≡ fails f
 
 -- what a turn comes to, for the bytes before it
-abbrev pub Turns : {H : Type 0} → (List ℕ → List ℕ) → (H → List ℕ → Type 0) → Query → List ℕ
+abbrev pub Turns : {H : Type 0} → (List ℕ → List ℕ) → (H → List ℕ → Type 0) → Question → List ℕ
     → List ℕ → Reader H → Turn → Type 0
 Turns hash holds q s piece r turns.More =
     StandsAt hash holds q r (s ++ piece) × (handed_out q (s ++ piece) ≡ handed_out q s)
@@ -87,15 +88,17 @@ FaultOf fault _ = fault ≡ None
 -- behind a field, where this is to be read, reading stops at a field that is under way; these
 -- records were handed out before
 pub record WaitsBehind {H : Type 0} (hash : List ℕ → List ℕ) (holds : H → List ℕ → Type 0)
-    (q : Query) (given : List Record) (at last : ℕ) (r : Reader H) (g : Grammar Said) : Type 0 where
-  pub next : Grammar Said
-  pub stops : stop g (at_place at last) ≡ waits next (at_place at last)
-  pub waits : Waits hash holds q r.machine given next
-  pub at_field : r.at ≡ at
-  pub empty : r.held ≡ []
+    (q : Question) (given : List Record) (at last : ℕ) (r : Reader H) (g : Grammar Said) : Type 0
+  where
+    pub next : Grammar Said
+    pub stops : stop g (at_place at last) ≡ waits next (at_place at last)
+    pub waits : Waits hash holds q r.machine given next
+    pub at_field : r.at ≡ at
+    pub empty : r.held ≡ []
 
 -- what a field of which so many bytes were taken comes to
-abbrev pub Behind : {H : Type 0} → (List ℕ → List ℕ) → (H → List ℕ → Type 0) → Query → List Record
+abbrev pub Behind : {H : Type 0} → (List ℕ → List ℕ) → (H → List ℕ → Type 0) → Question
+    → List Record
     → ℕ → ℕ → ℕ → Reader H → Grammar Said → Turn → Type 0
 Behind hash holds q given at last n r g turns.More = ⊥
 Behind hash holds q given at last n r g (turns.Took taken) =
@@ -107,7 +110,7 @@ Behind hash holds q given at last n r g (turns.Broken f) =
     (handed g (at_place at last) ≡ []) × (stop g (at_place at last) ≡ fails f)
 
 -- what the turns on a piece come to, for the bytes before it
-abbrev pub FedBy : {H : Type 0} → (List ℕ → List ℕ) → (H → List ℕ → Type 0) → Query → List ℕ
+abbrev pub FedBy : {H : Type 0} → (List ℕ → List ℕ) → (H → List ℕ → Type 0) → Question → List ℕ
     → List ℕ → Reader H → Fed → Type 0
 FedBy hash holds q s piece r fed.More =
     StandsAt hash holds q r (s ++ piece) × (handed_out q (s ++ piece) ≡ handed_out q s)
@@ -121,7 +124,7 @@ FaultFed fault (fed.Fault f) = fault ≡ Some f
 FaultFed fault _ = fault ≡ None
 
 -- so far of a piece was read, and no record of it was handed out
-pub record SoFar {H : Type 0} (hash : List ℕ → List ℕ) (holds : H → List ℕ → Type 0) (q : Query)
+pub record SoFar {H : Type 0} (hash : List ℕ → List ℕ) (holds : H → List ℕ → Type 0) (q : Question)
     (old new : Reader H) (piece : List ℕ) (at : ℕ) : Type 0 where
   pub within : at ≤ length piece
   pub fits : FitsReader new
@@ -151,16 +154,17 @@ abbrev pub found_at : (List ℕ → List ℕ) → Head → Entry → List ℕ
 found_at hash h node = hash (root_preimage (version_of h) h.batch h.count node)
 
 -- whether the radius is another than that of these records is this
-abbrev pub OtherRadius : {H : Type 0} → Query → Reader H → Bool → Type 0
+abbrev pub OtherRadius : {H : Type 0} → Question → Reader H → Bool → Type 0
 OtherRadius q r is =
-    (rs : List Record) → Counts q r.machine.head.radius rs r.machine.tally → IsAskable q
-    → has_other_radius q r.machine.head.radius rs ≡ is
+    (rs : List Record) → Counts q.around r.machine.head.radius rs r.machine.tally
+    → has_other_radius q.around r.machine.head.radius rs ≡ is
 
 -- what is answered behind the last field, where this is said of the root node
-abbrev pub EndsAt : {X H : Type 0} → (List ℕ → List ℕ) → List ℕ → Query → Reader H → Entry
-    → Result X Fault → Type 0
-EndsAt hash root q r node (Ok x) =
+abbrev pub EndsAt : {H : Type 0} → (List ℕ → List ℕ) → List ℕ → Question → Reader H → Entry
+    → Result Outline Fault → Type 0
+EndsAt hash root q r node (Ok o) =
     (found_at hash r.machine.head node ≡ root) × OtherRadius q r false
+    × (o ≡ record { head = r.machine.head; rect = node.rect })
 EndsAt hash root q r node (Err f) =
     ((f ≡ fault (rule.WrongRoot (found_at hash r.machine.head node)) r.at)
     × (found_at hash r.machine.head node ≢ root))

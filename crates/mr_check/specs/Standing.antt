@@ -9,8 +9,7 @@ use Rattle.mr_tree.specs.Tree.{first_level}
 use Rattle.mr_tree.specs.Digest.{Scheme, by, leaf_tag, inner_tag, no_entry, root_preimage}
 use Rattle.mr_tree.specs.Gathers.{Gathers, Piece, of_record, of_entry}
 use Rattle.mr_tree.specs.declared.entry.Entry.{Entry}
-use Rattle.mr_query.specs.declared.query.Query.{Query}
-use Rattle.mr_query.specs.Region.{reaches}
+use Rattle.mr_proof.specs.declared.way.Way.{Way}
 use Rattle.mr_proof.specs.declared.head.Kind.{Kind}
 use Rattle.mr_proof.specs.declared.head.Head.{Head}
 use Rattle.mr_proof.specs.declared.rule.Rule.{Rule}
@@ -19,9 +18,9 @@ use Rattle.mr_proof.specs.declared.want.Want.{Want}
 use Rattle.mr_proof.specs.declared.want.Want.TheVariants as want
 use Rattle.mr_proof.specs.declared.field.Field.{Field}
 use Rattle.mr_proof.specs.Fields.{pruned_tag}
-use Rattle.mr_proof.specs.Cut.{Cut, Cuts, Pruned, Leaf, Inner, first, entry, records}
+use Rattle.mr_proof.specs.Cut.{Cut, Cuts, Pruned, Leaf, Inner, first, rect, entry, records}
 use Rattle.mr_proof.specs.Spelling.{Said, said, version_of, opened_records}
-use Rattle.mr_proof.specs.Tight.{Seen, seen_at, asks, kind_of}
+use Rattle.mr_proof.specs.Tight.{Seen, opens_at, keeps_at, Question}
 use Rattle.mr_proof.specs.Accepted.{root_bytes}
 use Rattle.mr_proof.specs.Grammar.{Grammar, must, opens, done, reads, notes, number_in, wide_in, tag_in, rect_in, bytes_in, payload, some_records, opened, leaf, some_items, inner, pruned, item, radius, level, part}
 use Rattle.mr_check.specs.declared.frame.Frame.{Frame}
@@ -29,13 +28,13 @@ use Rattle.mr_check.specs.declared.stage.HeadField.{HeadField}
 use Rattle.mr_check.specs.declared.stage.HeadField.TheVariants as field
 use Rattle.mr_check.specs.declared.stage.Stage.{Stage}
 use Rattle.mr_check.specs.declared.stage.Stage.TheVariants as stage
-use Rattle.mr_check.specs.declared.tally.Tally.{Tally}
+use Rattle.mr_check.specs.declared.radius_counts.RadiusCounts.{RadiusCounts}
 use Rattle.mr_check.specs.declared.machine.Machine.{Machine}
 use Rattle.mr_check.specs.declared.machine.Stepped.{Stepped}
 use Rattle.mr_check.specs.declared.machine.Stepped.TheVariants as stepped
 use Rattle.mr_check.specs.Stops.{past_notes, noted}
 use Rattle.mr_check.specs.Stages.{want_at, FitsStage}
-use Rattle.mr_check.specs.Tallies.{Counts}
+use Rattle.mr_check.specs.Counting.{Counts}
 
 -- ---- what follows a node and a record
 
@@ -50,23 +49,23 @@ abbrev pub with_front : List Cut → Cuts → Cuts
 with_front [] Ps = Ps
 with_front (P ∷ front) Ps = first P (with_front front Ps)
 
-abbrev pub region_of : Query → Head → Seen → Bool
-region_of q h = (asks q).region h.radius
+abbrev pub region_of : Question → Head → Seen → Way
+region_of q h = q.way h.radius
 
-abbrev pub asked : Query → Head → Record → Bool
-asked q h r = reaches q h.radius r.rect
+abbrev pub asked : Question → Head → Record → Bool
+asked q h r = keeps_at (q.way h.radius) r.rect
 
 -- what follows a node of this level below these open nodes, its parent first
-abbrev pub after : (Seen → Bool) → Head → ℕ → List Open → Cut → Grammar Said
+abbrev pub after : (Seen → Way) → Head → ℕ → List Open → Cut → Grammar Said
 after region h level [] P = done (said h (Some P))
 after region h level (o ∷ os) P =
     some_items (item region level) o.left (λ Ps.
     opened region (Inner (with_front o.front (first P Ps))) (after region h (level + 1) os))
 
 -- what follows a record of a leaf, behind these and with so many more to come
-abbrev pub after_record : (Seen → Bool) → Head → ℕ → List Open → List Record → Record → Grammar Said
+abbrev pub after_record : (Seen → Way) → Head → ℕ → List Open → List Record → Record → Grammar Said
 after_record region h left os rs r =
-    notes (opens r (region (seen_at r.rect))) (some_records region left (λ ts.
+    notes (opens r (keeps_at region r.rect)) (some_records region left (λ ts.
     opened region (Leaf (rs ++ r ∷ ts)) (after region h 0 os)))
 
 -- ---- what follows the field under way
@@ -74,17 +73,17 @@ after_record region h left os rs r =
 abbrev pub head_so : Kind → ℕ → ℕ → Option ℕ → ℕ → Head
 head_so k b c r l = record { kind = k; batch = b; count = c; radius = r; level = l }
 
-abbrev pub after_radius : (Option ℕ → Seen → Bool) → Kind → ℕ → ℕ → Option ℕ → Grammar Said
+abbrev pub after_radius : (Option ℕ → Seen → Way) → Kind → ℕ → ℕ → Option ℕ → Grammar Said
 after_radius region k b c r = level c (λ l. part region (head_so k b c r l))
 
-abbrev pub after_count : (Option ℕ → Seen → Bool) → Kind → ℕ → ℕ → Grammar Said
+abbrev pub after_count : (Option ℕ → Seen → Way) → Kind → ℕ → ℕ → Grammar Said
 after_count region k b c = radius k (λ r. after_radius region k b c r)
 
-abbrev pub after_kind : (Option ℕ → Seen → Bool) → Kind → Grammar Said
+abbrev pub after_kind : (Option ℕ → Seen → Way) → Kind → Grammar Said
 after_kind region k =
     reads want.Batch (λ b. reads want.Count (λ c. after_count region k (number_in b) (number_in c)))
 
-abbrev pub head_next : (Option ℕ → Seen → Bool) → Head → HeadField → Field → Grammar Said
+abbrev pub head_next : (Option ℕ → Seen → Way) → Head → HeadField → Field → Grammar Said
 head_next region h field.Magic v =
     reads want.Version (λ _. reads (want.Kind h.kind) (λ _. after_kind region h.kind))
 head_next region h field.Version v = reads (want.Kind h.kind) (λ _. after_kind region h.kind)
@@ -100,7 +99,7 @@ head_next region h field.Level v =
     part region (head_so h.kind h.batch h.count h.radius (number_in v))
 
 -- an opened node behind its tag
-abbrev pub opened_item : (Seen → Bool) → ℕ → (Cut → Grammar Said) → Grammar Said
+abbrev pub opened_item : (Seen → Way) → ℕ → (Cut → Grammar Said) → Grammar Said
 opened_item region zero next = leaf region next
 opened_item region (suc w) next = inner region (item region w) next
 
@@ -110,14 +109,14 @@ stage_of level t =
     if t == pruned_tag then stage.Shown level else if level == 0 then stage.Records
     else stage.Entries (level - 1)
 
-abbrev pub node_next : (Seen → Bool) → ℕ → (Cut → Grammar Said) → ℕ → Grammar Said
+abbrev pub node_next : (Seen → Way) → ℕ → (Cut → Grammar Said) → ℕ → Grammar Said
 node_next region v next t =
     if t == pruned_tag then pruned region next else opened_item region v next
 
 -- a pruned part behind its rectangle
-abbrev pub shown_next : (Seen → Bool) → (Cut → Grammar Said) → Rectangle → Grammar Said
+abbrev pub shown_next : (Seen → Way) → (Cut → Grammar Said) → Rectangle → Grammar Said
 shown_next region next r =
-    notes (must rule.Hidden (not (region (seen_at r)))) (reads want.Digest (λ d.
+    notes (must rule.Hidden (not (opens_at region r))) (reads want.Digest (λ d.
     next (Pruned (record { rect = r; digest = bytes_in d }))))
 
 -- a record behind its number, behind its rectangle too, and behind its length too
@@ -136,7 +135,7 @@ pub record Above : Type 0 where
   pub records : List Record
 
 -- what follows the field under way, by its value
-abbrev pub next_at : (Option ℕ → Seen → Bool) → Head → ℕ → Above → Stage → Field → Grammar Said
+abbrev pub next_at : (Option ℕ → Seen → Way) → Head → ℕ → Above → Stage → Field → Grammar Said
 next_at region h left a (stage.Head f) v = head_next region h f v
 next_at region h left a (stage.Tag l) v =
     node_next (region h.radius) l (after (region h.radius) h l a.nodes) (tag_in v)
@@ -162,7 +161,7 @@ next_at region h left a (stage.Payload n r l) v =
 next_at region h left a (stage.End node) v = done (said h None)
 
 -- what is still to be read
-abbrev pub left_at : (Option ℕ → Seen → Bool) → Head → ℕ → Above → Option Cut → Option Want → Stage
+abbrev pub left_at : (Option ℕ → Seen → Way) → Head → ℕ → Above → Option Cut → Option Want → Stage
     → Grammar Said
 left_at region h left a whole None s = done (said h whole)
 left_at region h left a whole (Some w) s = reads w (next_at region h left a s)
@@ -217,42 +216,51 @@ so_far (o ∷ os) = so_far os ++ flat_map records o.front
 
 -- the records of the leaf before this one, and this one, which is the last, were read; with it
 -- these were handed out
-pub record LeafRead {H : Type 0} (hash : List ℕ → List ℕ) (holds : H → List ℕ → Type 0) (q : Query)
-    (h : Head) (fs : List (Frame H)) (t : Tally) (leaf : Frame H) (given : List Record) (a : Above)
+pub record LeafRead {H : Type 0} (hash : List ℕ → List ℕ) (holds : H → List ℕ → Type 0)
+    (q : Question)
+    (h : Head) (fs : List (Frame H)) (t : RadiusCounts) (leaf : Frame H) (given : List Record)
+    (a : Above)
     (r : Record) : Type 0 where
   pub gathers : Gathers (holds leaf.node.hasher) leaf.node.rect
       (leaf_tag ∷ length (a.records ++ r ∷ []) ∷ []) (map of_record (a.records ++ r ∷ []))
   pub depth : length a.nodes ≡ h.level
   pub frames : AreFrames (scheme hash h) holds 0 fs a.nodes
   pub kept : given ≡ filter (asked q h) (so_far a.nodes ++ (a.records ++ r ∷ []))
-  pub tally : Counts q h.radius given t
+  pub tally : Counts q.around h.radius given t
 
 -- below the open nodes a node of this level is under way; of all records so far these were handed
 -- out
-pub record InTree {H : Type 0} (hash : List ℕ → List ℕ) (holds : H → List ℕ → Type 0) (q : Query)
-    (h : Head) (fs : List (Frame H)) (t : Tally) (v : ℕ) (given : List Record)
+pub record InTree {H : Type 0} (hash : List ℕ → List ℕ) (holds : H → List ℕ → Type 0) (q : Question)
+    (h : Head) (fs : List (Frame H)) (t : RadiusCounts) (v : ℕ) (given : List Record)
     (a : Above) : Type 0 where
   pub depth : v + length a.nodes ≡ h.level
   pub frames : AreFrames (scheme hash h) holds v fs a.nodes
   pub kept : given ≡ filter (asked q h) (so_far a.nodes ++ a.records)
-  pub tally : Counts q h.radius given t
+  pub tally : Counts q.around h.radius given t
 
 -- in the head
-pub record InHead {H : Type 0} (q : Query) (h : Head) (fs : List (Frame H)) (t : Tally)
+pub record InHead {H : Type 0} (q : Question) (h : Head) (fs : List (Frame H)) (t : RadiusCounts)
     (given : List Record) : Type 0 where
-  pub kind : h.kind ≡ kind_of q
+  pub kind : h.kind ≡ q.kind
   pub frames : fs ≡ []
   pub nothing : given ≡ []
-  pub tally : (radius : Option ℕ) → Counts q radius [] t
+  pub tally : (radius : Option ℕ) → Counts q.around radius [] t
+
+-- the rectangle round the map of which a cut is
+abbrev pub rect_round : Option Cut → Option Rectangle
+rect_round None = None
+rect_round (Some P) = rect P
 
 -- behind the last field
-pub record AtEnd (hash : List ℕ → List ℕ) (q : Query) (h : Head) (t : Tally) (node : Entry)
+pub record AtEnd (hash : List ℕ → List ℕ) (q : Question) (h : Head) (t : RadiusCounts)
+    (node : Entry)
     (given : List Record) (whole : Option Cut) : Type 0 where
   pub root : root_preimage (version_of h) h.batch h.count node ≡ root_bytes hash h whole
+  pub rect : node.rect ≡ rect_round whole
   pub kept : given ≡ filter (asked q h) (opened_records whole)
-  pub tally : Counts q h.radius given t
+  pub tally : Counts q.around h.radius given t
 
-abbrev pub IsOpen : {H : Type 0} → (List ℕ → List ℕ) → (H → List ℕ → Type 0) → Query → Machine H
+abbrev pub IsOpen : {H : Type 0} → (List ℕ → List ℕ) → (H → List ℕ → Type 0) → Question → Machine H
     → Stage → List Record → Above → Option Cut → Type 0
 IsOpen hash holds q m (stage.Head f) given a whole = InHead q m.head (frames_of m) m.tally given
 IsOpen hash holds q m (stage.Tag v) given a whole =
@@ -273,33 +281,33 @@ IsOpen hash holds q m _ given a whole =
 
 -- a cut of a node was read, of which this is said, and the records handed out are those of it and
 -- of what was read before
-pub record IsRead {H : Type 0} (hash : List ℕ → List ℕ) (holds : H → List ℕ → Type 0) (q : Query)
-    (h : Head) (fs : List (Frame H)) (t : Tally) (node : Entry) (given : List Record)
+pub record IsRead {H : Type 0} (hash : List ℕ → List ℕ) (holds : H → List ℕ → Type 0) (q : Question)
+    (h : Head) (fs : List (Frame H)) (t : RadiusCounts) (node : Entry) (given : List Record)
     (os : List Open) (P : Cut) : Type 0 where
   pub says : entry (scheme hash h) node.level P ≡ node
   pub depth : node.level + length os ≡ h.level
   pub frames : AreFrames (scheme hash h) holds node.level fs os
   pub kept : given ≡ filter (asked q h) (so_far os ++ records P)
-  pub tally : Counts q h.radius given t
+  pub tally : Counts q.around h.radius given t
 
 -- The machine waits for this, and these records were handed out.
-pub record Waits {H : Type 0} (hash : List ℕ → List ℕ) (holds : H → List ℕ → Type 0) (q : Query)
+pub record Waits {H : Type 0} (hash : List ℕ → List ℕ) (holds : H → List ℕ → Type 0) (q : Question)
     (m : Machine H) (given : List Record) (g : Grammar Said) : Type 0 where
   pub above : Above
   pub whole : Option Cut
-  pub waits : g ≡ left_at (asks q).region m.head m.leaf.left above whole
+  pub waits : g ≡ left_at q.way m.head m.leaf.left above whole
       (want_at m.head.kind m.stage) m.stage
   pub is_open : IsOpen hash holds q m m.stage given above whole
 
 -- past the notes here it waits for what comes next
 pub record WaitsPast {H : Type 0} (hash : List ℕ → List ℕ) (holds : H → List ℕ → Type 0)
-    (q : Query) (m : Machine H) (given : List Record) (g : Grammar Said) : Type 0 where
+    (q : Question) (m : Machine H) (given : List Record) (g : Grammar Said) : Type 0 where
   pub next : Grammar Said
   pub past : past_notes g ≡ Ok next
   pub waits : Waits hash holds q m given next
 
 -- what a step comes to, where this stands behind the field
-abbrev pub Steps : {H : Type 0} → (List ℕ → List ℕ) → (H → List ℕ → Type 0) → Query → Machine H
+abbrev pub Steps : {H : Type 0} → (List ℕ → List ℕ) → (H → List ℕ → Type 0) → Question → Machine H
     → List Record → Grammar Said → Stepped → Type 0
 Steps hash holds q m given g stepped.On = (noted g ≡ []) × WaitsPast hash holds q m given g
 Steps hash holds q m given g stepped.Found =
@@ -307,7 +315,7 @@ Steps hash holds q m given g stepped.Found =
 Steps hash holds q m given g (stepped.Broken rule) = past_notes g ≡ Err rule
 
 -- what comes of a node that was read whole
-abbrev pub Closes : {H : Type 0} → (List ℕ → List ℕ) → (H → List ℕ → Type 0) → Query → Machine H
+abbrev pub Closes : {H : Type 0} → (List ℕ → List ℕ) → (H → List ℕ → Type 0) → Question → Machine H
     → List Record → Grammar Said → Option Rule → Type 0
 Closes hash holds q m given g None = WaitsPast hash holds q m given g
 Closes hash holds q m given g (Some rule) = past_notes g ≡ Err rule

@@ -5,8 +5,9 @@ ghost use Rattle.mr_record.specs.declared.version.Version.{Version};
 ghost use Rattle.mr_tree.specs.Digest.{by};
 ghost use Rattle.mr_proof.specs.declared.rule.Fault.{Fault};
 ghost use Rattle.mr_query.specs.Word.{IsAskable};
-ghost use Rattle.mr_proof.specs.Tight.{asks};
+ghost use Rattle.mr_proof.specs.Tight.{question};
 ghost use Rattle.mr_proof.specs.Accepted.{Proves};
+ghost use Rattle.mr_proof.specs.Feeding.{HandsOpened};
 ghost use Rattle.mr_proof.specs.Refused.{IsRefused};
 ghost use Rattle.mr_proof.specs.Reading.{verdict};
 ghost use Rattle.mr_proof.specs.Halves.{AcceptsJust, RefusesJust, OneHalf, SpellsOne, FindsPair, StaysRefused, AcceptsHonest};
@@ -14,9 +15,9 @@ ghost use Rattle.mr_proof.specs.Headline.{Headline, AcceptedIsHonest, OthersFail
 ghost use Rattle.mr_check.specs.declared.error.CheckErr.TheVariants as errors;
 ghost use Rattle.mr_check.specs.Answers.{Checks};
 
-use crate::{CheckErr, Intake};
-use mr_proof::{accepted_is_honest, honest_is_accepted};
-use mr_query::Query;
+use crate::{CheckErr, answer_of, check_question};
+use mr_proof::{accepted_is_honest, honest_is_accepted, query_is_lawful};
+use mr_query::{Query, is_query};
 use mr_record::Record;
 use mr_tree::Hashes;
 use std::alloc::Global;
@@ -31,9 +32,10 @@ fn answered_by<H: Hashes>(
     requires { IsAskable q.now }
     ensures { Checks result (verdict H.of root.now q.now proof.now) }
 {
-    let intake = Intake::<H>::new(alloc, root, q)?;
-    let taken = intake.take(proof)?;
-    taken.end()
+    is_query(q);
+    query_is_lawful(q);
+    let opened = check_question::<H, Query>(alloc, root, q, proof)?;
+    Ok(answer_of(opened, q)?)
 }
 
 /// The records that the proof proves to be the answer to the query on the map with this root
@@ -59,7 +61,7 @@ pub fn check<H: Hashes>(
     // What an answer is worth: the bytes prove it; they are the honest proof of the map with this
     // root, and it is the answer of a scan, or the hash function has a collision. The honest proof
     // is accepted, and any other string is refused or shows a collision.
-    ensures proved { IfOk result (λ v. Proves H.of root.now (asks q.now) proof.now v.items) }
+    ensures proved { IfOk result (λ v. Proves H.of root.now q.now proof.now v.items) }
     ensures complete { (v : Version) → AcceptsHonest (by v H.of) q.now }
     ensures headline { (v : Version) → Headline (by v H.of) q.now proof.now }
     ensures accepted { (v : Version) → AcceptedIsHonest (by v H.of) q.now proof.now }
@@ -67,12 +69,15 @@ pub fn check<H: Hashes>(
     // Why a proof is refused: the fault is the first rule that it breaks, and stays so behind
     // whatever follows.
     ensures broken { (f : Fault) → result ≡ Err (errors.Fault f)
-        → IsRefused H.of root.now q.now proof.now f }
-    ensures longer { StaysRefused H.of root.now q.now proof.now }
-    // What the bytes spell: one head and cut at most, which reading finds.
+        → IsRefused H.of root.now (question q.now) proof.now f }
+    ensures longer { StaysRefused H.of root.now (question q.now) proof.now }
+    // What the bytes spell: one head and cut at most, which reading finds, and of which the opened
+    // records are handed out.
     ensures one_pair { SpellsOne proof.now }
     ensures pair { FindsPair proof.now }
+    ensures handed { HandsOpened (question q.now) proof.now }
 {
+    is_query(q);
     honest_is_accepted::<H>(q);
     accepted_is_honest::<H>(q, proof);
     answered_by::<H>(alloc, root, q, proof)

@@ -9,39 +9,34 @@ ghost use Rattle.mr_check.specs.Standing.{frames_of, Open, IsRead, Closes, Close
 use crate::frame::{pop, push};
 use crate::machine::Machine;
 use crate::stage::Stage;
-use mr_proof::{Head, Rule};
-use mr_query::{Area, Query};
+use mr_proof::{AsQuestion, Head, Rule};
 use mr_tree::{Entry, Hashes};
 
-// The area of the query, by the squared radius that the head says.
-pub(crate) fn area_of(q: &Query, head: &Head) -> Area
-    ensures { result ≡ record { query = q.now; radius = head.now.radius } }
-{
-    Area {
-        query: *q,
-        radius: head.radius,
-    }
-}
-
-// Whether the region meets the node.
-pub(crate) fn meets(q: &Query, head: &Head, node: &Entry) -> bool
-    ensures { result ≡ met_by (region_of q.now head.now) (option_map seen_at node.now.rect) }
+// Whether the node is to be opened.
+pub(crate) fn meets<A: AsQuestion>(q: &A, head: &Head, node: &Entry) -> bool
+    ensures { result ≡ met_by (region_of (A.question q.now) head.now)
+        (option_map seen_at node.now.rect) }
 {
     match node.rect {
         None => false,
-        Some(rect) => area_of(q, head).meets(&rect),
+        Some(rect) => q.way(head.radius, &rect).is_open(),
     }
 }
 
 // A node was read whole: what its last field leads to, or the rule that this breaks.
-pub(crate) fn close<H: Hashes>(q: &Query, m: &mut Machine<H>, node: &Entry) -> Option<Rule>
+pub(crate) fn close<H: Hashes, A: AsQuestion>(
+    q: &A,
+    m: &mut Machine<H>,
+    node: &Entry,
+) -> Option<Rule>
     requires { vec_len m.old.frames.list + node.now.level ≤ 7 }
     ensures fits { CloseFits m.new.head.kind m.new.stage (vec_len m.new.frames.list) result }
     ensures kept { m.new.latest ≡ m.old.latest }
     ensures closes { (given : List types.Record) (os : List Open) (P : Cut)
-        → IsRead H.of H.holds q.now m.old.head (frames_of m.old) m.old.tally node.now given os P
-        → Closes H.of H.holds q.now m.new given
-        (after (region_of q.now m.old.head) m.old.head node.now.level os P) result }
+        → IsRead H.of H.holds (A.question q.now) m.old.head (frames_of m.old) m.old.tally node.now
+        given os P
+        → Closes H.of H.holds (A.question q.now) m.new given
+        (after (region_of (A.question q.now) m.old.head) m.old.head node.now.level os P) result }
 {
     match pop(&mut m.frames) {
         None => {

@@ -6,18 +6,18 @@ ghost use Rattle.mr_check.specs.Reads.{FitsReader, StandsAt, FedBy, FaultFed};
 
 use crate::fed::Fed;
 use crate::reader::{Reader, Turn, advance};
-use mr_query::Query;
+use mr_proof::AsQuestion;
 use mr_tree::Hashes;
 
 // The fields of a piece, up to the first record of the region or the first fault.
-pub(crate) fn read_piece<H: Hashes>(q: &Query, r: &mut Reader<H>, piece: &[u8]) -> Fed
+pub(crate) fn read_piece<H: Hashes, A: AsQuestion>(q: &A, r: &mut Reader<H>, piece: &[u8]) -> Fed
     requires fits { FitsReader r.old }
     requires none { r.old.fault ≡ None }
     ensures fits { FitsReader r.new }
     ensures fault { FaultFed r.new.fault result }
     ensures taken { TakesFrom (length piece.now) result }
-    ensures fed { (s : List ℕ) → StandsAt H.of H.holds q.now r.old s
-        → FedBy H.of H.holds q.now s piece.now r.new result }
+    ensures fed { (s : List ℕ) → StandsAt H.of H.holds (A.question q.now) r.old s
+        → FedBy H.of H.holds (A.question q.now) s piece.now r.new result }
 {
     let mut at = 0;
     loop {

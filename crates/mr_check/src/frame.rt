@@ -18,7 +18,7 @@ pub(crate) struct Frame<H: Hashes> {
 #[derive(Drop)]
 pub(crate) struct Stack<F> {
     pub(crate) list: Vec<F>,
-    ghost room: { 7 ≤ vec_capacity list },
+    ghost room: { vec_capacity list ≡ 7 },
 }
 
 pub(crate) fn no_frames<F>(alloc: Global) -> Result<Stack<F>, AllocError>
@@ -34,7 +34,9 @@ pub(crate) fn push<F>(stack: &mut Stack<F>, frame: F)
     ensures items { reverse stack.new.list.items ≡ frame ∷ reverse stack.old.list.items }
     ensures len { vec_len stack.new.list ≡ vec_len stack.old.list + 1 }
 {
-    match stack.list.push(frame) {
+    // `insert` says that it works in place where there is room, which `push` leaves open
+    let end = stack.list.len();
+    match stack.list.insert(end, frame) {
         Ok(()) => {}
         Err(_) => unreachable!(),
     }

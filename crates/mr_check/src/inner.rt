@@ -6,13 +6,12 @@ ghost use Rattle.mr_proof.specs.Cut.{Pruned, Inner, Leaf};
 ghost use Rattle.mr_proof.specs.Grammar.{item, some_items, some_records, opened};
 ghost use Rattle.mr_check.specs.Standing.{frames_of, Above, InTree, Steps, StepFits, after, node_next, region_of, shown_next, stage_of, stepped_by};
 
-use crate::closing::{area_of, close};
+use crate::closing::close;
 use crate::frame::{Frame, push};
 use crate::machine::{Machine, Stepped};
 use crate::stage::Stage;
 use mr_geom::Rect;
-use mr_proof::{Rule, Shown};
-use mr_query::Query;
+use mr_proof::{AsQuestion, Rule, Shown};
 use mr_tree::{Gathering, Hashes};
 
 // The stage behind a tag.
@@ -30,28 +29,43 @@ fn stage_of(level: u8, tag: u8) -> Stage
 }
 
 // The tag of an item of this level.
-pub(crate) fn tagged<H: Hashes>(q: &Query, m: &mut Machine<H>, level: u8, tag: u8) -> Stepped
+pub(crate) fn tagged<H: Hashes, A: AsQuestion>(
+    q: &A,
+    m: &mut Machine<H>,
+    level: u8,
+    tag: u8,
+) -> Stepped
     requires { vec_len m.old.frames.list + level ≤ 7 }
     ensures fits { StepFits m.new.head.kind m.new.stage (vec_len m.new.frames.list) result }
     ensures steps { (given : List types.Record) (a : Above) → a.records ≡ []
-        → InTree H.of H.holds q.now m.old.head (frames_of m.old) m.old.tally level given a
-        → Steps H.of H.holds q.now m.new given (node_next (region_of q.now m.old.head) level
-        (after (region_of q.now m.old.head) m.old.head level a.nodes) tag) result }
+        → InTree H.of H.holds (A.question q.now) m.old.head (frames_of m.old) m.old.tally level
+        given a
+        → Steps H.of H.holds (A.question q.now) m.new given (node_next
+        (region_of (A.question q.now) m.old.head) level
+        (after (region_of (A.question q.now) m.old.head) m.old.head level a.nodes) tag) result }
 {
     m.stage = stage_of(level, tag);
     Stepped::On
 }
 
 // The rectangle of a pruned part.
-pub(crate) fn shown<H: Hashes>(q: &Query, m: &mut Machine<H>, level: u8, rect: &Rect) -> Stepped
+pub(crate) fn shown<H: Hashes, A: AsQuestion>(
+    q: &A,
+    m: &mut Machine<H>,
+    level: u8,
+    rect: &Rect,
+) -> Stepped
     requires { vec_len m.old.frames.list + level ≤ 7 }
     ensures fits { StepFits m.new.head.kind m.new.stage (vec_len m.new.frames.list) result }
     ensures steps { (given : List types.Record) (a : Above) → a.records ≡ []
-        → InTree H.of H.holds q.now m.old.head (frames_of m.old) m.old.tally level given a
-        → Steps H.of H.holds q.now m.new given (shown_next (region_of q.now m.old.head)
-        (after (region_of q.now m.old.head) m.old.head level a.nodes) rect.now) result }
+        → InTree H.of H.holds (A.question q.now) m.old.head (frames_of m.old) m.old.tally level
+        given a
+        → Steps H.of H.holds (A.question q.now) m.new given
+        (shown_next (region_of (A.question q.now) m.old.head)
+        (after (region_of (A.question q.now) m.old.head) m.old.head level a.nodes) rect.now)
+        result }
 {
-    if area_of(q, &m.head).meets(rect) {
+    if q.way(m.head.radius, rect).is_open() {
         return Stepped::Broken(Rule::Hidden);
     }
     m.stage = Stage::Digest(level, *rect);
@@ -68,12 +82,19 @@ fn stepped(broken: Option<Rule>) -> Stepped
 }
 
 // A pruned part of this level, with its digest.
-pub(crate) fn pruned<H: Hashes>(q: &Query, m: &mut Machine<H>, level: u8, part: &Shown) -> Stepped
+pub(crate) fn pruned<H: Hashes, A: AsQuestion>(
+    q: &A,
+    m: &mut Machine<H>,
+    level: u8,
+    part: &Shown,
+) -> Stepped
     requires { vec_len m.old.frames.list + level ≤ 7 }
     ensures fits { StepFits m.new.head.kind m.new.stage (vec_len m.new.frames.list) result }
     ensures steps { (given : List types.Record) (a : Above) → a.records ≡ []
-        → InTree H.of H.holds q.now m.old.head (frames_of m.old) m.old.tally level given a
-        → Steps H.of H.holds q.now m.new given (after (region_of q.now m.old.head) m.old.head level
+        → InTree H.of H.holds (A.question q.now) m.old.head (frames_of m.old) m.old.tally level
+        given a
+        → Steps H.of H.holds (A.question q.now) m.new given (after
+        (region_of (A.question q.now) m.old.head) m.old.head level
         a.nodes (Pruned part.now)) result }
 {
     let node = part.entry(level);
@@ -81,8 +102,8 @@ pub(crate) fn pruned<H: Hashes>(q: &Query, m: &mut Machine<H>, level: u8, part: 
 }
 
 // The number of children of an inner node, which are of this level.
-pub(crate) fn opened_inner<H: Hashes>(
-    q: &Query,
+pub(crate) fn opened_inner<H: Hashes, A: AsQuestion>(
+    q: &A,
     m: &mut Machine<H>,
     below: u8,
     entries: u8,
@@ -91,11 +112,12 @@ pub(crate) fn opened_inner<H: Hashes>(
     requires some { 1 ≤ entries }
     ensures fits { StepFits m.new.head.kind m.new.stage (vec_len m.new.frames.list) result }
     ensures steps { (given : List types.Record) (a : Above) → a.records ≡ []
-        → InTree H.of H.holds q.now m.old.head (frames_of m.old) m.old.tally (below + 1) given a
-        → Steps H.of H.holds q.now m.new given
-        (some_items (item (region_of q.now m.old.head) below) entries
-        (λ Ps. opened (region_of q.now m.old.head) (Inner Ps)
-        (after (region_of q.now m.old.head) m.old.head (below + 1) a.nodes))) result }
+        → InTree H.of H.holds (A.question q.now) m.old.head (frames_of m.old) m.old.tally
+        (below + 1) given a
+        → Steps H.of H.holds (A.question q.now) m.new given
+        (some_items (item (region_of (A.question q.now) m.old.head) below) entries
+        (λ Ps. opened (region_of (A.question q.now) m.old.head) (Inner Ps)
+        (after (region_of (A.question q.now) m.old.head) m.old.head (below + 1) a.nodes))) result }
 {
     let frame = Frame {
         node: Gathering::<H>::inner(below + 1, entries),
@@ -107,16 +129,20 @@ pub(crate) fn opened_inner<H: Hashes>(
 }
 
 // The number of records of a leaf.
-pub(crate) fn opened_leaf<H: Hashes>(q: &Query, m: &mut Machine<H>, entries: u8) -> Stepped
+pub(crate) fn opened_leaf<H: Hashes, A: AsQuestion>(
+    q: &A,
+    m: &mut Machine<H>,
+    entries: u8,
+) -> Stepped
     requires levels { vec_len m.old.frames.list ≤ 7 }
     requires some { 1 ≤ entries }
     ensures fits { StepFits m.new.head.kind m.new.stage (vec_len m.new.frames.list) result }
     ensures steps { (given : List types.Record) (a : Above) → a.records ≡ []
-        → InTree H.of H.holds q.now m.old.head (frames_of m.old) m.old.tally 0 given a
-        → Steps H.of H.holds q.now m.new given
-        (some_records (region_of q.now m.old.head) entries
-        (λ rs. opened (region_of q.now m.old.head) (Leaf rs)
-        (after (region_of q.now m.old.head) m.old.head 0 a.nodes))) result }
+        → InTree H.of H.holds (A.question q.now) m.old.head (frames_of m.old) m.old.tally 0 given a
+        → Steps H.of H.holds (A.question q.now) m.new given
+        (some_records (region_of (A.question q.now) m.old.head) entries
+        (λ rs. opened (region_of (A.question q.now) m.old.head) (Leaf rs)
+        (after (region_of (A.question q.now) m.old.head) m.old.head 0 a.nodes))) result }
 {
     m.leaf = Frame {
         node: Gathering::<H>::leaf(entries),

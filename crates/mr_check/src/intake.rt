@@ -1,50 +1,38 @@
 //! The check of a proof that comes in pieces.
 
-ghost use Rattle.std.specs.Prelude.{◌++◌, [], List, ℕ, IfOk, IfErr};
+ghost use Rattle.std.specs.Prelude.{◌≡◌, ◌++◌, [], List, ℕ, IfOk, IfErr};
 ghost use Rattle.mr_query.specs.Word.{IsAskable};
+ghost use Rattle.mr_query.specs.Scan.{scan};
 ghost use Rattle.mr_query.specs.declared.query.Query as queries;
+ghost use Rattle.mr_proof.specs.Tight.{question};
 ghost use Rattle.mr_proof.specs.Feeding.{IsUnsettled};
 ghost use Rattle.mr_proof.specs.Reading.{verdict};
 ghost use Rattle.mr_check.specs.Answers.{Checks};
-ghost use Rattle.mr_check.specs.Judged.{Took, Takes, IsStopped};
+ghost use Rattle.mr_check.specs.Judged.{IsStopped};
 
 use crate::arranging::arrange;
-use crate::{CheckErr, Fed, Judge};
-use mr_query::{Query, answer};
+use crate::{CheckErr, Collected, Collector};
+use mr_proof::query_is_lawful;
+use mr_query::{Query, answer, is_query};
 use mr_record::Record;
 use mr_tree::Hashes;
 use std::alloc::{AllocError, Global};
 
-/// A proof that is checked as it comes, for one query against one root digest: its judge, and the
-/// records that were handed out so far. The bytes are not kept.
+/// A proof that is checked as it comes, for one query against one root digest, with the records
+/// that were handed out so far. The bytes are not kept.
 #[derive(Drop)]
 pub struct Intake<H: Hashes> {
-    judge: Judge<H>,
     query: Query,
-    kept: Vec<Record>,
+    collector: Collector<H>,
 }
 
-// Feeds a piece, and keeps the records that it hands out.
-fn gather<H: Hashes>(
-    judge: &mut Judge<H>,
-    piece: &[u8],
-    kept: &mut Vec<Record>,
-) -> Result<(), CheckErr>
-    ensures { Takes H.of H.holds judge.old judge.new piece.now kept.old.items kept.new.items
-        result }
+/// The answer to the query, of what a proof for it shows.
+pub fn answer_of(opened: Collected, q: &Query) -> Result<Vec<Record>, AllocError>
+    ensures { IfOk result (λ v. v.items ≡ scan opened.records.items q.now) }
 {
-    let mut at = 0;
-    loop {
-        let (_, rest) = piece.split_at(at);
-        match judge.feed(rest) {
-            Fed::More => return Ok(()),
-            Fed::Found { taken, item } => {
-                kept.push(item)?;
-                at += taken;
-            }
-            Fed::Fault(fault) => return Err(CheckErr::Fault(fault)),
-        }
-    }
+    let mut kept = opened.records;
+    arrange(&mut kept, q)?;
+    answer(kept, q)
 }
 
 impl<H: Hashes> Intake<H> {
@@ -56,11 +44,12 @@ impl<H: Hashes> Intake<H> {
         requires { IsAskable q.now }
         ensures { IfOk result (λ i. IsTaken H.of H.holds root.now q.now i []) }
     {
-        let judge = Judge::<H>::new(alloc, root, q)?;
+        is_query(q);
+        query_is_lawful(q);
+        let collector = Collector::<H>::new(alloc, root, q)?;
         Ok(Intake {
-            judge,
             query: *q,
-            kept: Vec::new(alloc),
+            collector,
         })
     }
 
@@ -71,14 +60,14 @@ impl<H: Hashes> Intake<H> {
         ensures taken { IfOk result (λ i. (root : List ℕ) (q : queries.Query) (bytes : List ℕ)
             → IsTaken H.of H.holds root q self bytes
             → IsTaken H.of H.holds root q i (bytes ++ piece.now)
-            × IsUnsettled H.of root q (bytes ++ piece.now)) }
+            × IsUnsettled H.of root (question q) (bytes ++ piece.now)) }
         ensures refused { IfErr result (λ e. (root : List ℕ) (q : queries.Query) (bytes : List ℕ)
             → IsTaken H.of H.holds root q self bytes
-            → IsStopped H.of root q (bytes ++ piece.now) e) }
+            → IsStopped H.of root (question q) (bytes ++ piece.now) e) }
     {
-        let mut intake = self;
-        gather(&mut intake.judge, piece, &mut intake.kept)?;
-        Ok(intake)
+        let query = self.query;
+        let collector = self.collector.take(&query, piece)?;
+        Ok(Intake { query, collector })
     }
 
     /// What `check` answers for the bytes that were taken.
@@ -87,9 +76,8 @@ impl<H: Hashes> Intake<H> {
             → IsTaken H.of H.holds root q self bytes
             → Checks result (verdict H.of root q bytes) }
     {
-        self.judge.end()?;
-        let mut kept = self.kept;
-        arrange(&mut kept, &self.query)?;
-        Ok(answer(kept, &self.query)?)
+        let query = self.query;
+        let opened = self.collector.end(&query)?;
+        Ok(answer_of(opened, &query)?)
     }
 }

@@ -2,30 +2,30 @@
 
 ghost use Rattle.std.specs.Prelude.{◌≡◌, ◌≤◌, [], List, vec_len};
 ghost use Rattle.mr_record.specs.declared.record.Record as types;
-ghost use Rattle.mr_check.specs.Tallies.{Counts};
+ghost use Rattle.mr_check.specs.Counting.{Counts};
 ghost use Rattle.mr_check.specs.Standing.{frames_of, Above, InTree, IsLeaf, LeafRead, Steps, StepFits, after_record, asked, region_of, found_by, plus, behind_length};
 ghost use Rattle.mr_record.specs.Record.{payload_limit};
 
-use crate::closing::{area_of, close, meets};
+use crate::closing::{close, meets};
 use crate::frame::Frame;
 use crate::machine::{Machine, Stepped};
+use crate::radius_counts::{RadiusCounts, count};
 use crate::stage::Stage;
-use crate::tally::{Tally, count};
 use mr_geom::Rect;
-use mr_proof::{Head, Rule};
-use mr_query::Query;
+use mr_proof::{AsQuestion, Head, Rule};
 use mr_record::{Payload, Record};
 use mr_tree::{Gathering, Hashes};
 use std::mem;
 
 // Whether the record is handed out; if so, it is counted.
-fn counted(q: &Query, head: &Head, tally: &mut Tally, one: &Record) -> bool
-    ensures met { result ≡ asked q.now head.now one.now }
-    ensures tally { (given : List types.Record) → Counts q.now head.now.radius given tally.old
-        → Counts q.now head.now.radius (plus result given one.now) tally.new }
+fn counted<A: AsQuestion>(q: &A, head: &Head, tally: &mut RadiusCounts, one: &Record) -> bool
+    ensures met { result ≡ asked (A.question q.now) head.now one.now }
+    ensures tally { (given : List types.Record) → Counts (A.question q.now).around head.now.radius
+        given tally.old
+        → Counts (A.question q.now).around head.now.radius (plus result given one.now) tally.new }
 {
-    if area_of(q, head).meets(&one.rect) {
-        count(tally, q, head.radius, one);
+    if q.way(head.radius, &one.rect).is_kept() {
+        count(tally, q.around(), head.radius, one);
         true
     } else {
         false
@@ -53,14 +53,16 @@ fn found(broken: Option<Rule>, met: bool) -> Stepped
 }
 
 // The last record of the open leaf was read.
-fn last<H: Hashes>(q: &Query, m: &mut Machine<H>, met: bool) -> Stepped
+fn last<H: Hashes, A: AsQuestion>(q: &A, m: &mut Machine<H>, met: bool) -> Stepped
     requires { vec_len m.old.frames.list ≤ 7 }
     ensures fits { StepFits m.new.head.kind m.new.stage (vec_len m.new.frames.list) result }
     ensures steps { (given : List types.Record) (a : Above)
-        → met ≡ asked q.now m.old.head m.old.latest
-        → LeafRead H.of H.holds q.now m.old.head (frames_of m.old) m.old.tally m.old.leaf
+        → met ≡ asked (A.question q.now) m.old.head m.old.latest
+        → LeafRead H.of H.holds (A.question q.now) m.old.head (frames_of m.old) m.old.tally
+        m.old.leaf
         (plus met given m.old.latest) a m.old.latest
-        → Steps H.of H.holds q.now m.new given (after_record (region_of q.now m.old.head) m.old.head
+        → Steps H.of H.holds (A.question q.now) m.new given (after_record
+        (region_of (A.question q.now) m.old.head) m.old.head
         0 a.nodes a.records m.old.latest) result }
 {
     let leaf = taken(&mut m.leaf);
@@ -72,12 +74,13 @@ fn last<H: Hashes>(q: &Query, m: &mut Machine<H>, met: bool) -> Stepped
 }
 
 // One more record of the open leaf was read.
-pub(crate) fn record<H: Hashes>(q: &Query, m: &mut Machine<H>) -> Stepped
+pub(crate) fn record<H: Hashes, A: AsQuestion>(q: &A, m: &mut Machine<H>) -> Stepped
     requires { vec_len m.old.frames.list ≤ 7 }
     ensures fits { StepFits m.new.head.kind m.new.stage (vec_len m.new.frames.list) result }
     ensures steps { (given : List types.Record) (a : Above) → IsLeaf H.holds m.old.leaf a.records
-        → InTree H.of H.holds q.now m.old.head (frames_of m.old) m.old.tally 0 given a
-        → Steps H.of H.holds q.now m.new given (after_record (region_of q.now m.old.head) m.old.head
+        → InTree H.of H.holds (A.question q.now) m.old.head (frames_of m.old) m.old.tally 0 given a
+        → Steps H.of H.holds (A.question q.now) m.new given (after_record
+        (region_of (A.question q.now) m.old.head) m.old.head
         m.old.leaf.left a.nodes a.records m.old.latest) result }
 {
     let met = counted(q, &m.head, &mut m.tally, &m.latest);
@@ -91,8 +94,8 @@ pub(crate) fn record<H: Hashes>(q: &Query, m: &mut Machine<H>) -> Stepped
 }
 
 // The length of a payload.
-pub(crate) fn sized<H: Hashes>(
-    q: &Query,
+pub(crate) fn sized<H: Hashes, A: AsQuestion>(
+    q: &A,
     m: &mut Machine<H>,
     number: u64,
     rect: &Rect,
@@ -102,9 +105,10 @@ pub(crate) fn sized<H: Hashes>(
     requires few { length ≤ payload_limit }
     ensures fits { StepFits m.new.head.kind m.new.stage (vec_len m.new.frames.list) result }
     ensures steps { (given : List types.Record) (a : Above) → IsLeaf H.holds m.old.leaf a.records
-        → InTree H.of H.holds q.now m.old.head (frames_of m.old) m.old.tally 0 given a
-        → Steps H.of H.holds q.now m.new given (behind_length (after_record
-        (region_of q.now m.old.head) m.old.head m.old.leaf.left a.nodes a.records) number
+        → InTree H.of H.holds (A.question q.now) m.old.head (frames_of m.old) m.old.tally 0 given a
+        → Steps H.of H.holds (A.question q.now) m.new given (behind_length (after_record
+        (region_of (A.question q.now) m.old.head) m.old.head m.old.leaf.left a.nodes a.records)
+        number
         rect.now length) result }
 {
     if length > 0 {

@@ -1,8 +1,8 @@
 //! What is kept of a proof between two fields.
 
 use crate::frame::{Frame, Stack};
+use crate::radius_counts::RadiusCounts;
 use crate::stage::Stage;
-use crate::tally::Tally;
 use mr_proof::{Head, Rule};
 use mr_record::Record;
 use mr_tree::Hashes;
@@ -16,7 +16,7 @@ pub(crate) struct Machine<H: Hashes> {
     pub(crate) stage: Stage,
     pub(crate) frames: Stack<Frame<H>>,
     pub(crate) leaf: Frame<H>,
-    pub(crate) tally: Tally,
+    pub(crate) tally: RadiusCounts,
     pub(crate) latest: Record,
 }
 

@@ -2,12 +2,11 @@
 
 ghost use Rattle.std.specs.Prelude.{◌≡◌, ◌+◌, ◌≤◌, ◌++◌, ◌∷◌, [], ℕ, List, Option, Some, None, length, nat_lt, vec_len, IfOk, IfSome};
 ghost use Rattle.mr_record.specs.declared.record.Record as types;
-ghost use Rattle.mr_query.specs.declared.query.Query as queries;
+ghost use Rattle.mr_proof.specs.Tight.{Question};
 ghost use Rattle.mr_proof.specs.Limits.{place_limit};
 ghost use Rattle.mr_proof.specs.Fields.{size_of, field_of, FitsPayload, HasForm};
 ghost use Rattle.mr_proof.specs.Cut.{Cut};
 ghost use Rattle.mr_proof.specs.Spelling.{Said};
-ghost use Rattle.mr_proof.specs.Tight.{asks};
 ghost use Rattle.mr_proof.specs.Grammar.{Grammar};
 ghost use Rattle.mr_check.specs.declared.reader.Turn.TheVariants as turns;
 ghost use Rattle.mr_check.specs.Stops.{noted};
@@ -21,8 +20,7 @@ use crate::machine::{Machine, Stepped};
 use crate::stage::{Stage, want_at};
 use crate::step::step;
 use mr_outside::Buffer;
-use mr_proof::{Fault, Field, PLACE_LIMIT, Rule, Want, read_field};
-use mr_query::Query;
+use mr_proof::{AsQuestion, Fault, Field, PLACE_LIMIT, Rule, Want, read_field};
 use mr_record::{PAYLOAD_LIMIT, Record, read_record};
 use mr_tree::{Entry, Hashes};
 
@@ -109,7 +107,7 @@ fn goes_on<H: Hashes>(r: &mut Reader<H>, taken: usize) -> Turn
     ensures fits { FitsReader r.new }
     ensures fault { FaultOf r.new.fault result }
     ensures takes { TakesJust taken result }
-    ensures behind { (q : queries.Query) (given : List types.Record) (g : Grammar Said) (last : ℕ)
+    ensures behind { (q : Question) (given : List types.Record) (g : Grammar Said) (last : ℕ)
         → noted g ≡ [] → WaitsPast H.of H.holds q r.old.machine given g
         → Behind H.of H.holds q given r.old.at last taken r.new g result }
 {
@@ -130,7 +128,7 @@ fn hands_out<H: Hashes>(r: &mut Reader<H>, taken: usize) -> Turn
     ensures fits { FitsReader r.new }
     ensures fault { FaultOf r.new.fault result }
     ensures takes { TakesJust taken result }
-    ensures behind { (q : queries.Query) (given : List types.Record) (g : Grammar Said) (last : ℕ)
+    ensures behind { (q : Question) (given : List types.Record) (g : Grammar Said) (last : ℕ)
         → noted g ≡ r.old.machine.latest ∷ []
         → WaitsPast H.of H.holds q r.old.machine (given ++ r.old.machine.latest ∷ []) g
         → Behind H.of H.holds q given r.old.at last taken r.new g result }
@@ -153,7 +151,7 @@ fn behind<H: Hashes>(r: &mut Reader<H>, stepped: Stepped, last: usize, taken: us
     ensures fits { FitsReader r.new }
     ensures fault { FaultOf r.new.fault result }
     ensures takes { TakesJust taken result }
-    ensures behind { (q : queries.Query) (given : List types.Record) (g : Grammar Said)
+    ensures behind { (q : Question) (given : List types.Record) (g : Grammar Said)
         → Steps H.of H.holds q r.old.machine given g stepped
         → Behind H.of H.holds q given r.old.at last taken r.new g result }
 {
@@ -165,8 +163,8 @@ fn behind<H: Hashes>(r: &mut Reader<H>, stepped: Stepped, last: usize, taken: us
 }
 
 // A field was read, with so many bytes of a piece, which are its last.
-fn behind_field<H: Hashes>(
-    q: &Query,
+fn behind_field<H: Hashes, A: AsQuestion>(
+    q: &A,
     r: &mut Reader<H>,
     field: &Field,
     size: usize,
@@ -182,9 +180,9 @@ fn behind_field<H: Hashes>(
     ensures fault { FaultOf r.new.fault result }
     ensures takes { TakesJust taken result }
     ensures behind { (given : List types.Record) (a : Above) (whole : Option Cut)
-        → IsOpen H.of H.holds q.now r.old.machine r.old.machine.stage given a whole
-        → Behind H.of H.holds q.now given (r.old.at + size) r.old.at taken r.new
-        (next_at (asks q.now).region r.old.machine.head r.old.machine.leaf.left a
+        → IsOpen H.of H.holds (A.question q.now) r.old.machine r.old.machine.stage given a whole
+        → Behind H.of H.holds (A.question q.now) given (r.old.at + size) r.old.at taken r.new
+        (next_at (A.question q.now).way r.old.machine.head r.old.machine.leaf.left a
         r.old.machine.stage field.now) result }
 {
     let last = r.at;
@@ -194,15 +192,15 @@ fn behind_field<H: Hashes>(
 }
 
 // The field that is under way, as far as the piece has it.
-fn next_field<H: Hashes>(q: &Query, r: &mut Reader<H>, want: &Want, piece: &[u8]) -> Turn
+fn next_field<H: Hashes, A: AsQuestion>(q: &A, r: &mut Reader<H>, want: &Want, piece: &[u8]) -> Turn
     requires fits { FitsReader r.old }
     requires wants { want_of r.old ≡ Some want.now }
     requires none { r.old.fault ≡ None }
     ensures fits { FitsReader r.new }
     ensures fault { FaultOf r.new.fault result }
     ensures takes { TakesSome (length piece.now) result }
-    ensures turns { (s : List ℕ) → StandsAt H.of H.holds q.now r.old s
-        → Turns H.of H.holds q.now s piece.now r.new result }
+    ensures turns { (s : List ℕ) → StandsAt H.of H.holds (A.question q.now) r.old s
+        → Turns H.of H.holds (A.question q.now) s piece.now r.new result }
 {
     let size = want.size();
     let missing = size - r.held.as_slice().len();
@@ -228,7 +226,7 @@ fn at_end<H: Hashes>(r: &mut Reader<H>, piece: &[u8]) -> Turn
     ensures fits { FitsReader r.new }
     ensures fault { FaultOf r.new.fault result }
     ensures takes { TakesSome (length piece.now) result }
-    ensures turns { (q : queries.Query) (s : List ℕ) → StandsAt H.of H.holds q r.old s
+    ensures turns { (q : Question) (s : List ℕ) → StandsAt H.of H.holds q r.old s
         → Turns H.of H.holds q s piece.now r.new result }
 {
     if piece.is_empty() {
@@ -239,14 +237,14 @@ fn at_end<H: Hashes>(r: &mut Reader<H>, piece: &[u8]) -> Turn
 }
 
 // The next field, as far as the piece has it.
-fn by_field<H: Hashes>(q: &Query, r: &mut Reader<H>, piece: &[u8]) -> Turn
+fn by_field<H: Hashes, A: AsQuestion>(q: &A, r: &mut Reader<H>, piece: &[u8]) -> Turn
     requires fits { FitsReader r.old }
     requires none { r.old.fault ≡ None }
     ensures fits { FitsReader r.new }
     ensures fault { FaultOf r.new.fault result }
     ensures takes { TakesSome (length piece.now) result }
-    ensures turns { (s : List ℕ) → StandsAt H.of H.holds q.now r.old s
-        → Turns H.of H.holds q.now s piece.now r.new result }
+    ensures turns { (s : List ℕ) → StandsAt H.of H.holds (A.question q.now) r.old s
+        → Turns H.of H.holds (A.question q.now) s piece.now r.new result }
 {
     match want_at(r.machine.head.kind, &r.machine.stage) {
         None => at_end(r, piece),
@@ -286,8 +284,8 @@ fn last_field(at: usize, one: &Record) -> usize
 }
 
 // That record was read.
-fn behind_record<H: Hashes>(
-    q: &Query,
+fn behind_record<H: Hashes, A: AsQuestion>(
+    q: &A,
     r: &mut Reader<H>,
     one: &Record,
     size: usize,
@@ -299,8 +297,8 @@ fn behind_record<H: Hashes>(
     ensures fits { FitsReader r.new }
     ensures fault { FaultOf r.new.fault result }
     ensures takes { TakesSome (length piece.now) result }
-    ensures turns { (s : List ℕ) → StandsAt H.of H.holds q.now r.old s
-        → Turns H.of H.holds q.now s piece.now r.new result }
+    ensures turns { (s : List ℕ) → StandsAt H.of H.holds (A.question q.now) r.old s
+        → Turns H.of H.holds (A.question q.now) s piece.now r.new result }
 {
     let last = last_field(r.at, one);
     r.at += size;
@@ -310,14 +308,14 @@ fn behind_record<H: Hashes>(
 }
 
 // The next record or the next field, as far as the piece has it.
-pub(crate) fn advance<H: Hashes>(q: &Query, r: &mut Reader<H>, piece: &[u8]) -> Turn
+pub(crate) fn advance<H: Hashes, A: AsQuestion>(q: &A, r: &mut Reader<H>, piece: &[u8]) -> Turn
     requires fits { FitsReader r.old }
     requires none { r.old.fault ≡ None }
     ensures fits { FitsReader r.new }
     ensures fault { FaultOf r.new.fault result }
     ensures takes { TakesSome (length piece.now) result }
-    ensures turns { (s : List ℕ) → StandsAt H.of H.holds q.now r.old s
-        → Turns H.of H.holds q.now s piece.now r.new result }
+    ensures turns { (s : List ℕ) → StandsAt H.of H.holds (A.question q.now) r.old s
+        → Turns H.of H.holds (A.question q.now) s piece.now r.new result }
 {
     match whole_record(r, piece) {
         None => by_field(q, r, piece),

@@ -7,6 +7,8 @@ use Rattle.mr_tree.specs.Nodes.{Standing, IsTop}
 use Rattle.mr_tree.specs.declared.nodes.Top.{Top}
 use Rattle.mr_tree.specs.declared.tree.Tree.{Tree}
 use Rattle.mr_query.specs.declared.query.Query.{Query}
+use Rattle.mr_proof.specs.Tight.{kind_of}
+use Rattle.mr_proof.specs.Halves.{IsQueried}
 use Rattle.mr_proof.specs.declared.head.Head.{Head}
 use Rattle.mr_proof.specs.Cut.{Cut, Cuts, Pruned, Leaf, Inner, count_of, opened_nodes, all_opened}
 use Rattle.mr_proof.specs.Spelling.{cut_bytes, cuts_bytes, part_bytes, FitsCut, FitCuts, IsSpelled}
@@ -16,7 +18,6 @@ use Rattle.mr_proof.proofs.Pairs.{pair_found}
 use Rattle.mr_clash.specs.Finding.{opened_said, opened_by, opened_accepted, root_at}
 use Rattle.mr_clash.specs.Steps.{is_pruned, FetchesItem, FetchesChildren}
 use Rattle.mr_clash.proofs.Taking.{drop_cuts, next_cut}
-use Rattle.mr_clash.proofs.Whole.{verdict_is}
 
 -- an item that is not pruned opens its node
 pub opened_one : (P : Cut) → is_pruned P ≡ false → 1 ≤ opened_nodes P
@@ -64,18 +65,3 @@ fetched_root h (Some P) bytes v w before old new spelled some one level here few
 pub none_fetched : (o : Option Tree) (n : ℕ) (bound : Tree → ℕ) → IfSome o (λ t. n ≤ n + bound t)
 none_fetched None n bound = tt
 none_fetched (Some t) n bound = omega arith
-
--- and for those that are accepted what they open
-pub few_fetched : (hash : List ℕ → List ℕ) (s : Standing) (top : Top) (q : Query) (bytes root : List ℕ)
-    (answer : List Record) (h : Head) (P : Option Cut) (old new : ℕ) → IsTop hash s top → root ≡ hash (root_at top)
-    → verdict hash root q bytes ≡ Ok answer → IsSpelled h P bytes → new ≤ old + opened_of P
-    → IfSome s.tree (λ t. new ≤ old + opened_accepted (by s.version hash) t s.batch q bytes)
-few_fetched hash s top q bytes root answer h P old new is e exact spelled few = by_tree s.tree refl
-  where
-    by_tree : (o : Option Tree) → s.tree ≡ o
-        → IfSome o (λ t. new ≤ old + opened_accepted (by s.version hash) t s.batch q bytes)
-    by_tree None told = tt
-    by_tree (Some t) told =
-        let is_verdict = ap (λ v. opened_by v bytes) (verdict_is hash s top q bytes root is e t told ∙ exact) in
-        let is_pair = ap opened_said (pair_found h P bytes spelled) in
-        omega (arith, is_verdict, is_pair, few)

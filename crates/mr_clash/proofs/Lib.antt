@@ -7,3 +7,4 @@ pub mod Rows
 pub mod Roots
 pub mod Whole
 pub mod Fetches
+pub mod AuditOutcomes

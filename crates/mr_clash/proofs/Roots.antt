@@ -15,9 +15,9 @@ use Rattle.mr_proof.specs.declared.head.Head.{Head}
 use Rattle.mr_proof.specs.Cut.{Cut, rect, digest, entry}
 use Rattle.mr_proof.specs.Spelling.{version_of, cut_bytes, part_bytes, FitsCut, IsSpelled}
 use Rattle.mr_proof.specs.Accepted.{root_bytes, root_found}
-use Rattle.mr_proof.specs.Clash.{Pair, differ, or_else, node_clash, part_clash, pair_clash, if_said, clash}
+use Rattle.mr_proof.specs.Clash.{Pair, differ, or_else, node_clash, part_clash, pair_clash, if_said, clash_of}
 use Rattle.mr_proof.proofs.Full.{IsThere}
-use Rattle.mr_proof.proofs.Pairs.{pair_found}
+use Rattle.mr_proof.proofs.Pairs.{pair_found_of}
 use Rattle.mr_proof.proofs.Preimages.{entry-rect}
 use Rattle.mr_proof.proofs.SameNodes.{named_cut}
 use Rattle.mr_proof.proofs.SameRoots.{same_root, empty_filled}
@@ -135,19 +135,20 @@ some_records hash s top c is root = by_count top.count refl
 -- ---- the whole
 
 clash_spelled : (h : Scheme) (t : Tree) (batch : ℕ) (head : Head) (P : Option Cut) (bytes : List ℕ)
-    → IsSpelled head P bytes → clash h t batch bytes
+    → IsSpelled head P bytes → clash_of head.kind h t batch bytes
     ≡ or_else (differ (digests.root_bytes h t batch) (Some (root_bytes h.of head P))) (part_clash h head.level t P)
 clash_spelled h t batch head P bytes spelled =
-    ap (λ o. if_said o (pair_clash h t batch)) (pair_found head P bytes spelled)
+    ap (λ o. if_said o (pair_clash h t batch)) (pair_found_of head.kind head P bytes refl spelled)
 
 told_of : (hash : List ℕ → List ℕ) (s : Standing) (top : Top) (h : Head) (P : Option Cut) (bytes : List ℕ)
     (pair : Option Pair) → IsTop hash s top → IsSpelled h P bytes
     → ((t : Tree) → s.tree ≡ Some t
     → pair ≡ or_else (differ (root_at top) (Some (root_bytes hash h P))) (part_clash (scheme hash) h.level t P))
-    → IfSome s.tree (λ t. pair ≡ clash (by s.version hash) t s.batch bytes)
+    → IfSome s.tree (λ t. pair ≡ clash_of h.kind (by s.version hash) t s.batch bytes)
 told_of hash s top h P bytes pair is spelled so = by_tree s.tree refl
   where
-    by_tree : (o : Option Tree) → s.tree ≡ o → IfSome o (λ t. pair ≡ clash (by s.version hash) t s.batch bytes)
+    by_tree : (o : Option Tree) → s.tree ≡ o → IfSome o (λ t. pair ≡ clash_of h.kind (by s.version hash) t s.batch
+        bytes)
     by_tree None told = tt
     by_tree (Some t) told =
         so t told
@@ -160,7 +161,7 @@ told_of hash s top h P bytes pair is spelled so = by_tree s.tree refl
 -- the strings of the roots differ
 pub roots_differ : (hash : List ℕ → List ℕ) (s : Standing) (top : Top) (h : Head) (P : Option Cut) (bytes : List ℕ)
     (p : Pair) → IsTop hash s top → IsSpelled h P bytes → root_found hash h P ≡ hash (root_at top)
-    → Some p ≡ differ (root_at top) (Some (root_bytes hash h P)) → ComparedMap hash s bytes (Some p)
+    → Some p ≡ differ (root_at top) (Some (root_bytes hash h P)) → ComparedMap hash s h.kind bytes (Some p)
 roots_differ hash s top h P bytes p is spelled held d = record {
   collides = node_collides hash (root_at top) (root_bytes hash h P) (hash (root_at top)) (Some p) refl (sym held) d;
   told = told_of hash s top h P bytes (Some p) is spelled
@@ -171,7 +172,7 @@ roots_differ hash s top h P bytes p is spelled held d = record {
 pub nodes_compared : (hash : List ℕ → List ℕ) (s : Standing) (top : Top) (c : Child) (h : Head) (P : Cut)
     (bytes : List ℕ) (pair : Option Pair) → IsTop hash s top → top.root ≡ Some c → IsSpelled h (Some P) bytes
     → None ≡ differ (root_at top) (Some (root_bytes hash h (Some P))) → h.level ≡ c.level
-    → Compared hash s c.id c.level P pair → ComparedMap hash s bytes pair
+    → Compared hash s c.id c.level P pair → ComparedMap hash s h.kind bytes pair
 nodes_compared hash s top c h P bytes pair is root spelled d level so = record {
   collides = so.collides;
   told = told_of hash s top h (Some P) bytes pair is spelled (λ t told.
@@ -275,8 +276,8 @@ pub map_compared : (hash : List ℕ → List ℕ) (s : Standing) (top : Top) (h 
     (w : Walked) (roots pair : Option Pair) → IsTop hash s top → IsSpelled h P bytes
     → root_found hash h P ≡ hash (root_at top) → roots ≡ differ (root_at top) (Some (root_bytes hash h P))
     → WalkedRoot hash s top h P bytes w → pair ≡ or_else roots (option_map pair_of w.clash)
-    → ComparedMap hash s bytes pair
+    → ComparedMap hash s h.kind bytes pair
 map_compared hash s top h P bytes w None pair is spelled held d walked e =
-    subst (ComparedMap hash s bytes) (sym e) (walked.compared d)
+    subst (ComparedMap hash s h.kind bytes) (sym e) (walked.compared d)
 map_compared hash s top h P bytes w (Some p) pair is spelled held d walked e =
-    subst (ComparedMap hash s bytes) (sym e) (roots_differ hash s top h P bytes p is spelled held d)
+    subst (ComparedMap hash s h.kind bytes) (sym e) (roots_differ hash s top h P bytes p is spelled held d)

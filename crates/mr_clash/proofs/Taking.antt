@@ -114,23 +114,21 @@ all_records rs rest i all bytes le so = (
 -- ---- a radius
 
 -- a flag and a radius were passed over
-pub radius_passed : (k : Kind) (r : Option ℕ) (rest : List ℕ) (b flag : ℕ) (before mid after : List ℕ)
-    → b ≡ kind_byte k → before ≡ radius_bytes k r ++ rest → b ≡ 75
+pub radius_passed : (r : Option ℕ) (rest : List ℕ) (flag : ℕ) (before mid after : List ℕ)
+    → before ≡ radius_bytes kind.K r ++ rest
     → ((x : ℕ) (behind : List ℕ) → before ≡ x ∷ behind → (flag ≡ x) × (mid ≡ behind)) → flag ≡ 1
     → ((x behind : List ℕ) → length x ≡ 16 → mid ≡ x ++ behind → after ≡ behind) → after ≡ rest
-radius_passed kind.W r rest b flag before mid after is here of byte one took = absurd (omega (arith, is, of))
-radius_passed kind.K None rest b flag before mid after is here of byte one took =
+radius_passed None rest flag before mid after here byte one took =
     let t = byte 0 rest here in absurd (omega (arith, t.0, one))
-radius_passed kind.K (Some n) rest b flag before mid after is here of byte one took =
+radius_passed (Some n) rest flag before mid after here byte one took =
     let t = byte 1 (to_be_bytes w128 n ++ rest) here in took (to_be_bytes w128 n) rest refl t.1
 
 -- a flag that says that there is none
-pub flag_passed : (k : Kind) (r : Option ℕ) (rest : List ℕ) (b flag : ℕ) (before mid : List ℕ)
-    → b ≡ kind_byte k → before ≡ radius_bytes k r ++ rest → b ≡ 75
+pub flag_passed : (r : Option ℕ) (rest : List ℕ) (flag : ℕ) (before mid : List ℕ)
+    → before ≡ radius_bytes kind.K r ++ rest
     → ((x : ℕ) (behind : List ℕ) → before ≡ x ∷ behind → (flag ≡ x) × (mid ≡ behind)) → (flag ≡ 1 → ⊥) → mid ≡ rest
-flag_passed kind.W r rest b flag before mid is here of byte none = absurd (omega (arith, is, of))
-flag_passed kind.K None rest b flag before mid is here of byte none = (byte 0 rest here).1
-flag_passed kind.K (Some n) rest b flag before mid is here of byte none =
+flag_passed None rest flag before mid here byte none = (byte 0 rest here).1
+flag_passed (Some n) rest flag before mid here byte none =
     absurd (none (byte 1 (to_be_bytes w128 n ++ rest) here).0)
 
 -- ---- cuts

@@ -1,5 +1,5 @@
 -- What an audit finds.
-use Rattle.std.proofs.Common.{◌≡◌, ℕ, ◌<◌, ◌^◌, List, refl, sym, ap, subst, ◌∙◌, arith}
+use Rattle.std.proofs.Common.{◌≡◌, ℕ, ◌+◌, ◌<◌, ◌≤◌, ◌^◌, List, refl, sym, ap, subst, ◌∙◌, arith}
 use Rattle.std.specs.Prelude.{Option, Some, None, IfSome, Result, Ok, Err, IfOk}
 use Rattle.mr_tree.specs.Tree.{records}
 use Rattle.mr_tree.specs.Digest.{Scheme, by}
@@ -20,106 +20,130 @@ use Rattle.mr_proof.specs.Halves.{AcceptsHonest}
 use Rattle.mr_proof.specs.Headline.{IsHonest, AcceptedIsHonest, HonestIsQuiet}
 use Rattle.mr_proof.specs.Honest.{proof}
 use Rattle.mr_proof.specs.Reading.{verdict}
-use Rattle.mr_check.specs.declared.error.CheckErr.{CheckErr}
-use Rattle.mr_check.specs.declared.error.CheckErr.TheVariants as errors
-use Rattle.mr_check.specs.Answers.{Checks}
-use Rattle.mr_clash.specs.Finding.{finding_by, finding_of, found, root_at, IsSound, FindsFor, FindsHonest, Collides}
-use Rattle.mr_clash.specs.Causes.{AuditCauses}
-use Rattle.mr_clash.specs.declared.error.AuditErr.{AuditErr}
+use Rattle.mr_check.proofs.Gathering.{answered}
+use Rattle.mr_check.proofs.Judging.{accepted, refused}
+use Rattle.mr_clash.specs.Finding.{finding_of, found, root_at, IsSound, FindsFor, FindsHonest, FetchesFew, Collides, opened_said, opened_by, opened_accepted}
+use Rattle.mr_clash.specs.AuditOutcomes.{IsAuditOutcome, AuditOutcomeFor, AuditOutcomeCollides, opened_checked, opened_checked_by, FetchesFor, FindsOf}
+use Rattle.mr_clash.specs.declared.outcome.AuditOutcome.{AuditOutcome}
+use Rattle.mr_clash.specs.declared.outcome.AuditOutcome.TheVariants as outcomes
 use Rattle.mr_clash.specs.declared.finding.Finding.{Finding}
 use Rattle.mr_clash.specs.declared.finding.Finding.TheVariants as findings
-use Rattle.mr_proof.specs.Clash.{Pair, clash, NoneAnd}
-use Rattle.mr_clash.specs.Steps.{Refuses}
-use Rattle.mr_clash.proofs.Roots.{root_told}
+use Rattle.mr_proof.specs.declared.head.Kind.{Kind}
+use Rattle.mr_proof.specs.Spelling.{Said, opened_records, IsSpelled}
+use Rattle.mr_proof.specs.Tight.{kind_of, question}
+use Rattle.mr_proof.specs.Reading.{checked}
+use Rattle.mr_proof.specs.Halves.{IsQueried}
+use Rattle.mr_proof.proofs.Pairs.{kind_spelled, pair_found}
+use Rattle.mr_query.specs.declared.query.Query.TheVariants.{Window, Nearest}
+use Rattle.mr_proof.specs.Clash.{Pair, clash_of, clash, NoneAnd}
+use Rattle.mr_record.proofs.Encodings.{IsBytes}
+use Rattle.mr_query.specs.Word.{IsQuery}
+use Rattle.mr_proof.proofs.Laws.{is_lawful}
+use Rattle.mr_proof.proofs.Soundness.{shows_from}
 
 -- ---- findings
 
--- bytes that are not accepted
-module _ (hash : List ℕ → List ℕ) (s : Standing) (top : Top) (q : Query) (bytes root : List ℕ) (is : IsTop hash s top)
-    (e : root ≡ hash (root_at top)) where
-  pub verdict_is : (t : Tree) → s.tree ≡ Some t → verdict hash (digests.root (by s.version hash) t s.batch) q bytes
-      ≡ verdict hash root q bytes
-  verdict_is t told =
-      ap (λ r. verdict hash r q bytes) (sym (e ∙ ap hash (root_told hash s top t is told)))
+pub queried : (q : Query) → IsQueried (kind_of q)
+queried (Window w) = tt
+queried (Nearest p k) = tt
 
-  pub told_refused : (error : CheckErr) (r : Result Finding AuditErr) → Checks (Err error) (verdict hash root q bytes)
-      → Refuses error r → IfSome s.tree (λ t. IfOk r (λ v. v ≡ found (by s.version hash) t s.batch q bytes))
-  told_refused error r exact refuses = by_tree s.tree refl error exact refuses
-    where
-      by_tree : (o : Option Tree) → s.tree ≡ o → (error : CheckErr) → Checks (Err error) (verdict hash root q bytes)
-          → Refuses error r → IfSome o (λ t. IfOk r (λ v. v ≡ found (by s.version hash) t s.batch q bytes))
-      by_tree None told error exact refuses = tt
-      by_tree (Some t) told (errors.Fault f) exact refuses =
-          subst (λ (r : Result Finding AuditErr). IfOk r (λ v. v ≡ found (by s.version hash) t s.batch q bytes))
-          (sym refuses)
-          (sym (ap (λ r. finding_of r (clash (by s.version hash) t s.batch bytes)) (verdict_is t told ∙ exact)))
-      by_tree (Some t) told errors.NoMemory exact refuses =
-          subst (λ (r : Result Finding AuditErr). IfOk r (λ v. v ≡ found (by s.version hash) t s.batch q bytes))
-          (sym refuses) tt
+-- ---- of what bytes are worth
 
--- told or not
-pub judged_refused : (hash : List ℕ → List ℕ) (s : Standing) (top : Top) (q : Query) (bytes root : List ℕ)
-    (error : CheckErr) (r : Result Finding AuditErr) → IsTop hash s top → root ≡ hash (root_at top)
-    → Checks (Err error) (verdict hash root q bytes) → Refuses error r → IfOk r (FindsFor hash s q bytes)
-judged_refused hash s top q bytes root (errors.Fault f) r is e exact refuses =
-    subst (λ (r : Result Finding AuditErr). IfOk r (FindsFor hash s q bytes)) (sym refuses)
-    (top, is, None, sym (ap (λ v. finding_of v None) (ap (λ x. verdict hash x q bytes) (sym e) ∙ exact)))
-judged_refused hash s top q bytes root errors.NoMemory r is e exact refuses =
-    subst (λ (r : Result Finding AuditErr). IfOk r (FindsFor hash s q bytes)) (sym refuses) tt
+module _ (q : Query) (bytes : List ℕ) (is : IsQuery q) (fits : IsBytes bytes) where
+  spelled_by : (hash : List ℕ → List ℕ) (root : List ℕ) (x : Said) → checked hash root (question q) bytes ≡ Ok x
+      → (x.head.kind ≡ kind_of q) × IsSpelled x.head x.part bytes
+  spelled_by hash root x e =
+      let shows = shows_from hash root (question q) bytes x (is_lawful q is) fits e in (shows.kind, shows.spelled)
 
-pub judged_accepted : (hash : List ℕ → List ℕ) (s : Standing) (top : Top) (q : Query) (bytes root : List ℕ)
-    (answer : List Record) (pair : Option Pair) (finding : Finding) → IsTop hash s top → root ≡ hash (root_at top)
-    → verdict hash root q bytes ≡ Ok answer → finding ≡ finding_by answer pair → FindsFor hash s q bytes finding
-judged_accepted hash s top q bytes root answer pair finding is e exact found_by = (
-  top,
-  is,
-  pair,
-  found_by ∙ sym (ap (λ v. finding_of v pair) (ap (λ x. verdict hash x q bytes) (sym e) ∙ exact)),
-)
+  -- bytes that are accepted for the query have its kind
+  same_clash : (s : Scheme) (t : Tree) (b : ℕ) (x : Said)
+      → checked s.of (digests.root s t b) (question q) bytes ≡ Ok x
+      → clash s t b bytes ≡ clash_of (kind_of q) s t b bytes
+  same_clash s t b x e =
+      let p = spelled_by s.of (digests.root s t b) x e in
+      ap (λ (k : Kind). clash_of k s t b bytes)
+      (kind_spelled x.head x.part bytes (subst IsQueried (sym p.0) (queried q)) p.1 ∙ p.0)
 
-pub refused_causes : (s : Standing) (n : ℕ) (error : CheckErr) (r : Result Finding AuditErr) → Refuses error r
-    → AuditCauses s n n r
-refused_causes s n (errors.Fault f) r refuses =
-    subst (AuditCauses s n n) (sym refuses) (record { cause = tt; faults = omega arith; quiet = refl })
-refused_causes s n errors.NoMemory r refuses =
-    subst (AuditCauses s n n) (sym refuses) (record { cause = tt; faults = omega arith; quiet = tt })
+  found_from : (s : Scheme) (t : Tree) (b : ℕ) (w : AuditOutcome) (v : Finding)
+      → IsAuditOutcome s t b (question q) bytes w
+      → FindsOf q w v → v ≡ found s t b q bytes
+  found_from s t b (outcomes.Refused f) v outcome of =
+      of ∙ sym (ap (λ r. finding_of r (clash s t b bytes)) (refused s.of (digests.root s t b) q bytes f outcome))
+  found_from s t b (outcomes.Honest o) v outcome of =
+      let exact = answered s.of (digests.root s t b) q bytes o of.0 is fits (outcome.0, outcome.1, outcome.2) of.2 in
+      let none = same_clash s t b outcome.0 outcome.1 ∙ outcome.3 in
+      of.1 ∙ sym (λ i. finding_of (exact i) (none i))
+  found_from s t b (outcomes.Collision owned shown) v outcome of =
+      let exact = accepted s.of (digests.root s t b) q bytes outcome.0 outcome.1 in
+      let some = same_clash s t b outcome.0 outcome.1 ∙ outcome.2 in
+      of ∙ sym (λ i. finding_of (exact i) (some i))
 
-pub refused_collides : (hash : List ℕ → List ℕ) (error : CheckErr) (r : Result Finding AuditErr) → Refuses error r
-    → IfOk r (Collides hash)
-refused_collides hash (errors.Fault f) r refuses =
-    subst (λ (r : Result Finding AuditErr). IfOk r (Collides hash)) (sym refuses) tt
-refused_collides hash errors.NoMemory r refuses =
-    subst (λ (r : Result Finding AuditErr). IfOk r (Collides hash)) (sym refuses) tt
+  pub told_from : (s : Scheme) (o : Option Tree) (b : ℕ) (w : AuditOutcome) (v : Finding)
+      → IfSome o (λ t. IsAuditOutcome s t b (question q) bytes w) → FindsOf q w v
+      → IfSome o (λ t. v ≡ found s t b q bytes)
+  told_from s None b w v outcome of = tt
+  told_from s (Some t) b w v outcome of = found_from s t b w v outcome of
 
--- bytes that are accepted
-pub told_accepted : (hash : List ℕ → List ℕ) (s : Standing) (top : Top) (q : Query) (bytes root : List ℕ)
-    (answer : List Record) (pair : Option Pair) (finding : Finding) → IsTop hash s top → root ≡ hash (root_at top)
-    → verdict hash root q bytes ≡ Ok answer → IfSome s.tree (λ t. pair ≡ clash (by s.version hash) t s.batch bytes)
-    → finding ≡ finding_by answer pair → IfSome s.tree (λ t. finding ≡ found (by s.version hash) t s.batch q bytes)
-told_accepted hash s top q bytes root answer pair finding is e exact told found_by = by_tree s.tree refl told
-  where
-    by_tree : (o : Option Tree) → s.tree ≡ o → IfSome o (λ t. pair ≡ clash (by s.version hash) t s.batch bytes)
-        → IfSome o (λ t. finding ≡ found (by s.version hash) t s.batch q bytes)
-    by_tree None is_told own = tt
-    by_tree (Some t) is_told own =
-        found_by ∙ ap (finding_by answer) own
-        ∙ sym (ap (λ r. finding_of r (clash (by s.version hash) t s.batch bytes))
-        (verdict_is hash s top q bytes root is e t is_told ∙ exact))
+  pub judged_from : (hash : List ℕ → List ℕ) (s : Standing) (w : AuditOutcome) (v : Finding)
+      → AuditOutcomeFor hash s (question q) bytes w → FindsOf q w v → FindsFor hash s q bytes v
+  judged_from hash s (outcomes.Refused f) v (top, at, pair, outcome) of = (
+    top,
+    at,
+    pair,
+    of ∙ sym (ap (λ r. finding_of r pair) (refused hash (hash (root_at top)) q bytes f outcome)),
+  )
+  judged_from hash s (outcomes.Honest o) v (top, at, pair, outcome) of =
+      let exact = answered hash (hash (root_at top)) q bytes o of.0 is fits (outcome.0, outcome.1, outcome.2) of.2 in
+      (top, at, pair, of.1 ∙ sym (λ i. finding_of (exact i) (outcome.3 i)))
+  judged_from hash s (outcomes.Collision owned shown) v (top, at, pair, outcome) of =
+      let exact = accepted hash (hash (root_at top)) q bytes outcome.0 outcome.1 in
+      (top, at, pair, of ∙ sym (λ i. finding_of (exact i) (outcome.2 i)))
+
+  -- accepted bytes open what they spell
+  opened_alike : (hash : List ℕ → List ℕ) (root : List ℕ) (r : Result Said Fault)
+      → checked hash root (question q) bytes ≡ r → opened_checked r ≡ opened_by (verdict hash root q bytes) bytes
+  opened_alike hash root (Ok x) e =
+      let p = spelled_by hash root x e in
+      sym (ap (λ v. opened_by v bytes) (accepted hash root q bytes x e)
+      ∙ ap opened_said (pair_found x.head x.part bytes (subst IsQueried (sym p.0) (queried q)) p.1))
+  opened_alike hash root (Err f) e = sym (ap (λ v. opened_by v bytes) (refused hash root q bytes f e))
+
+  pub fetched_from : (s : Scheme) (o : Option Tree) (b before after : ℕ)
+      → IfSome o (λ t. after ≤ before + opened_checked_by s t b (question q) bytes)
+      → IfSome o (λ t. after ≤ before + opened_accepted s t b q bytes)
+  fetched_from s None b before after few = tt
+  fetched_from s (Some t) b before after few =
+      let root = digests.root s t b in
+      let same = opened_alike s.of root (checked s.of root (question q) bytes) refl in omega (arith, few, same)
+
+  pub few_from : (hash : List ℕ → List ℕ) (s : Standing) (before after : ℕ)
+      → FetchesFor hash s (question q) bytes before after → FetchesFew hash s q bytes before after
+  few_from hash s before after few =
+      let root = hash (root_at few.0) in
+      let same = opened_alike hash root (checked hash root (question q) bytes) refl in
+      (few.0, few.1, omega (arith, few.2, same))
+
+pub finding_collides : (hash : List ℕ → List ℕ) (q : Query) (w : AuditOutcome) (v : Finding)
+    → AuditOutcomeCollides hash w
+    → FindsOf q w v → Collides hash v
+finding_collides hash q (outcomes.Refused f) v collides of = subst (Collides hash) (sym of) tt
+finding_collides hash q (outcomes.Honest o) v collides of = subst (Collides hash) (sym of.1) tt
+finding_collides hash q (outcomes.Collision owned shown) v collides of = subst (Collides hash) (sym of) collides
 
 module _ (h : Scheme) (q : Query) (t : Tree) (b : ℕ) (bytes : List ℕ) (well : WellFormed t)
-    (low : b < 2 ^ 64) (accepts : AcceptsHonest h q) (worth : AcceptedIsHonest h q bytes)
+    (low : b < 2 ^ 64) (accepts : AcceptsHonest h q) (outcome : AcceptedIsHonest h q bytes)
     (quiet : HonestIsQuiet h q) where
-  abbrev Own : List Record → Type 0
-  Own answer = IsHonest h t b q bytes answer
+  abbrev Honest : List Record → Type 0
+  Honest answer = IsHonest h t b q bytes answer
 
   sound_own : (r : Result (List Record) Fault) (o : Option Pair) (v : Finding)
       → verdict h.of (digests.root h t b) q bytes ≡ r → clash h t b bytes ≡ o → v ≡ finding_of r o
-      → (answer : List Record) → v ≡ findings.Sound answer → Own answer
+      → (answer : List Record) → v ≡ findings.Sound answer → Honest answer
   sound_own (Err f) o v e d is answer sound = absurd cc
   sound_own (Ok rs) (Some p) v e d is answer sound = absurd cc
   sound_own (Ok rs) None v e d is answer sound =
       let same : rs ≡ answer = same_answer rs answer (sym is ∙ sound) in
-      subst Own same (none_and (clash h t b bytes) d (worth t b rs well low e))
+      subst Honest same (none_and (clash h t b bytes) d (outcome t b rs well low e))
     where
       same_answer : (rs answer : List Record) → findings.Sound rs ≡ findings.Sound answer → rs ≡ answer
       same_answer rs answer e = cc
@@ -157,19 +181,18 @@ finds_prop h t b q bytes (findings.Sound answer) = hlevel (props, set row.coded)
 finds_prop h t b q bytes (findings.Collision owned shown) = hlevel (props, set row.coded)
 
 -- so of a finding by a told tree, which is well formed
-pub honest_told : {E : Type 0} (hash : List ℕ → List ℕ) (q : Query) (bytes : List ℕ) (s : Standing) (top : Top)
-    (r : Result Finding E) → IsTop hash s top → top.batch < 2 ^ 64 → AcceptsHonest (by s.version hash) q
+pub honest_told : (hash : List ℕ → List ℕ) (q : Query) (bytes : List ℕ) (s : Standing) (top : Top)
+    (v : Finding) → IsTop hash s top → top.batch < 2 ^ 64 → AcceptsHonest (by s.version hash) q
     → AcceptedIsHonest (by s.version hash) q bytes → HonestIsQuiet (by s.version hash) q
     → IfSome s.tree (λ t. ∥ WellFormed t ∥₁)
-    → IfSome s.tree (λ t. IfOk r (λ v. v ≡ found (by s.version hash) t s.batch q bytes))
-    → IfSome s.tree (λ t. IfOk r (λ v. FindsHonest (by s.version hash) t s.batch q bytes v))
-honest_told hash q bytes s top r is low accepts worth quiet wells told = by_tree s.tree r wells told
+    → IfSome s.tree (λ t. v ≡ found (by s.version hash) t s.batch q bytes)
+    → IfSome s.tree (λ t. FindsHonest (by s.version hash) t s.batch q bytes v)
+honest_told hash q bytes s top v is low accepts outcome quiet wells told = by_tree s.tree wells told
   where
-    by_tree : {E : Type 0} (o : Option Tree) (r : Result Finding E) → IfSome o (λ t. ∥ WellFormed t ∥₁)
-        → IfSome o (λ t. IfOk r (λ v. v ≡ found (by s.version hash) t s.batch q bytes))
-        → IfSome o (λ t. IfOk r (λ v. FindsHonest (by s.version hash) t s.batch q bytes v))
-    by_tree None r wells told = tt
-    by_tree (Some t) (Err e) wells told = tt
-    by_tree (Some t) (Ok v) wells told = ∥∥₁_elim wells (finds_prop (by s.version hash) t s.batch q bytes v) (λ well.
-        finds_honest (by s.version hash) q t s.batch bytes well (subst (λ n. n < 2 ^ 64) is.batch low) accepts worth
+    by_tree : (o : Option Tree) → IfSome o (λ t. ∥ WellFormed t ∥₁)
+        → IfSome o (λ t. v ≡ found (by s.version hash) t s.batch q bytes)
+        → IfSome o (λ t. FindsHonest (by s.version hash) t s.batch q bytes v)
+    by_tree None wells told = tt
+    by_tree (Some t) wells told = ∥∥₁_elim wells (finds_prop (by s.version hash) t s.batch q bytes v) (λ well.
+        finds_honest (by s.version hash) q t s.batch bytes well (subst (λ n. n < 2 ^ 64) is.batch low) accepts outcome
         quiet v told)

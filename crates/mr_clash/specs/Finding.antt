@@ -1,5 +1,5 @@
 -- What the audit of a proof finds.
-use Rattle.std.specs.Prelude.{◌≡◌, ◌↔◌, ℕ, List, Option, Some, None, Result, Ok, Err, ⊤}
+use Rattle.std.specs.Prelude.{◌≡◌, ◌↔◌, ℕ, ◌+◌, ◌≤◌, List, Option, Some, None, Result, Ok, Err, ⊤}
 use Rattle.mr_record.specs.declared.record.Record.{Record}
 use Rattle.mr_tree.specs.Tree.{records}
 use Rattle.mr_tree.specs.Digest.{Scheme, root, root_preimage}
@@ -78,3 +78,9 @@ opened_by (Ok answer) bytes = opened_in bytes
 -- of bytes that are accepted against the root of the map with this tree at this batch
 abbrev pub opened_accepted : Scheme → Tree → (batch : ℕ) → Query → List ℕ → ℕ
 opened_accepted s t batch q bytes = opened_by (verdict s.of (root s t batch) q bytes) bytes
+
+-- told or not, between these counts: by the verdict against the root digest of what a map that
+-- stands so says of itself
+abbrev pub FetchesFew : (List ℕ → List ℕ) → Standing → Query → List ℕ → (before after : ℕ) → Type 0
+FetchesFew hash s q bytes before after = (top : Top) × IsTop hash s top
+    × (after ≤ before + opened_by (verdict hash (hash (root_at top)) q bytes) bytes)

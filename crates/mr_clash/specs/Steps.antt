@@ -14,11 +14,12 @@ use Rattle.mr_tree.specs.declared.child.Child.{Child}
 use Rattle.mr_tree.specs.declared.nodes.Top.{Top}
 use Rattle.mr_tree.specs.declared.tree.Tree.{Tree}
 use Rattle.mr_proof.specs.declared.head.Head.{Head}
+use Rattle.mr_proof.specs.declared.head.Kind.{Kind}
 use Rattle.mr_proof.specs.Cut.{Cut, Cuts, Pruned, Leaf, Inner, count_of, entry, entries, preimage, opened_nodes, all_opened}
 use Rattle.mr_proof.specs.Spelling.{version_of, cut_bytes, cuts_bytes, part_bytes, FitsCut, FitCuts, IsSpelled}
 use Rattle.mr_proof.specs.Accepted.{root_bytes, root_found}
 use Rattle.mr_proof.specs.Honest.{opened_of}
-use Rattle.mr_proof.specs.Clash.{Pair, differ, or_else, node_clash, children_clash, clash, IsCollision}
+use Rattle.mr_proof.specs.Clash.{Pair, differ, or_else, node_clash, children_clash, clash_of, IsCollision}
 use Rattle.mr_check.specs.declared.error.CheckErr.{CheckErr}
 use Rattle.mr_check.specs.declared.error.CheckErr.TheVariants as errors
 use Rattle.mr_clash.specs.declared.error.AuditErr.{AuditErr}
@@ -171,10 +172,10 @@ ComparesRoots hash top said x result =
     → IfOk result (λ o. option_map pair_of o ≡ differ (root_at top) (Some (root_bytes hash h P)))
 
 -- what was found of the map and the head and cut that bytes spell
-pub record ComparedMap (hash : List ℕ → List ℕ) (s : Standing) (bytes : List ℕ)
+pub record ComparedMap (hash : List ℕ → List ℕ) (s : Standing) (k : Kind) (bytes : List ℕ)
     (pair : Option Pair) : Type 0 where
   pub collides : IfSome pair (IsCollision hash)
-  pub told : IfSome s.tree (λ t. pair ≡ clash (by s.version hash) t s.batch bytes)
+  pub told : IfSome s.tree (λ t. pair ≡ clash_of k (by s.version hash) t s.batch bytes)
 
 -- the root item was passed over beside no node
 abbrev pub PassesRoot : {E : Type 0} → (List ℕ → List ℕ) → ℕ → List ℕ → Result Walked E → Type 0
@@ -188,7 +189,7 @@ pub record WalkedRoot (hash : List ℕ → List ℕ) (s : Standing) (top : Top) 
     (P : Option Cut) (bytes : List ℕ) (w : Walked) : Type 0 where
   pub root : root_preimage (version_of h) h.batch h.count w.entry ≡ root_bytes hash h P
   pub compared : None ≡ differ (root_at top) (Some (root_bytes hash h P))
-      → ComparedMap hash s bytes (option_map pair_of w.clash)
+      → ComparedMap hash s h.kind bytes (option_map pair_of w.clash)
 
 abbrev pub WalksRoot : {E : Type 0} → (List ℕ → List ℕ) → Standing → Top → Said → List ℕ
     → Result Walked E → Type 0
@@ -197,16 +198,12 @@ WalksRoot hash s top said before result =
     → said.level ≡ h.level → before ≡ part_bytes P
     → IfOk result (λ w. WalkedRoot hash s top h P bytes w)
 
-abbrev pub ComparesMap : {E : Type 0} → (List ℕ → List ℕ) → Standing → Top → List ℕ
+abbrev pub ComparesMap : {E : Type 0} → (List ℕ → List ℕ) → Standing → Top → Kind → List ℕ
     → Result (Option Clash) E → Type 0
-ComparesMap hash s top bytes result =
-    (h : Head) (P : Option Cut) → IsSpelled h P bytes → root_found hash h P ≡ hash (root_at top)
-    → IfOk result (λ o. ComparedMap hash s bytes (option_map pair_of o))
-
--- what is answered where the check of a proof answers this error
-abbrev pub Refuses : CheckErr → Result Finding AuditErr → Type 0
-Refuses (errors.Fault f) result = result ≡ Ok (findings.Refused f)
-Refuses errors.NoMemory result = result ≡ Err audits.NoMemory
+ComparesMap hash s top k bytes result =
+    (h : Head) (P : Option Cut) → h.kind ≡ k → IsSpelled h P bytes
+    → root_found hash h P ≡ hash (root_at top)
+    → IfOk result (λ o. ComparedMap hash s k bytes (option_map pair_of o))
 
 -- ---- how many nodes are fetched, between these counts
 
@@ -232,6 +229,6 @@ FetchesRoot said before now later = (h : Head) (P : Option Cut) (bytes : List �
     → later ≤ now + opened_of P
 
 -- and of all of it
-abbrev pub FetchesMap : (bytes : List ℕ) → (now later : ℕ) → Type 0
-FetchesMap bytes now later = (h : Head) (P : Option Cut) → IsSpelled h P bytes
+abbrev pub FetchesMap : Kind → (bytes : List ℕ) → (now later : ℕ) → Type 0
+FetchesMap k bytes now later = (h : Head) (P : Option Cut) → h.kind ≡ k → IsSpelled h P bytes
     → later ≤ now + opened_of P

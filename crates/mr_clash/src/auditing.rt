@@ -8,27 +8,28 @@ ghost use Rattle.mr_tree.specs.declared.nodes.Top as tops;
 ghost use Rattle.mr_tree.specs.declared.tree.Tree as trees;
 ghost use Rattle.mr_query.specs.Word.{IsAskable};
 ghost use Rattle.mr_clash.specs.Causes.{AuditCauses, IsHandedOn, of_nodes};
-ghost use Rattle.mr_clash.specs.Finding.{found, finding_by as by_pair, opened_accepted, root_at, Collides, FindsFor, FindsHonest};
-ghost use Rattle.mr_clash.specs.Steps.{left, pair_of, ComparesMap, ComparesRoots, FetchesMap, FetchesRoot, PassesRoot, Refuses, WalksRoot};
+ghost use Rattle.mr_clash.specs.Finding.{found, opened_accepted, root_at, Collides, FindsFor, FindsHonest, FetchesFew};
+ghost use Rattle.mr_clash.specs.AuditOutcomes.{FindsOf};
+ghost use Rattle.mr_clash.specs.Steps.{left, pair_of, ComparesMap, ComparesRoots, FetchesMap, FetchesRoot, PassesRoot, WalksRoot};
 
 use crate::finding::{Clash, clash_of, first_of};
 use crate::items::pass_item;
+use crate::outcome::{AuditOutcome, audit_question};
 use crate::rest::Rest;
 use crate::root::{Said, read_head, root_string};
 use crate::walked::Walked;
 use crate::walking::{digests_are_sized, walk};
 use crate::{AuditErr, Finding};
-use mr_check::{CheckErr, check};
+use mr_check::answer_of;
 use mr_geom::Rect;
 use mr_outside::Items;
-use mr_proof::accepted_is_honest;
-use mr_query::Query;
-use mr_record::Record;
+use mr_proof::{Kind, accepted_is_honest, honest_is_accepted, query_is_lawful};
+use mr_query::{Query, is_query};
 use mr_tree::{Entry, Hashes, NodeView, Nodes, Top, root_digest};
 use std::alloc::{AllocError, Global};
 
 // The root digest of the map.
-fn root_of<H: Hashes>(top: &Top) -> [u8; 32]
+pub(crate) fn root_of<H: Hashes>(top: &Top) -> [u8; 32]
     ensures { result ≡ H.of (root_at top.now) }
 {
     root_digest::<H>(top.version(), top.batch, top.count, &top.root_entry())
@@ -50,7 +51,7 @@ fn compare_roots(
 }
 
 // What the types tell of their values.
-fn are_words(_batch: u64, _count: u64)
+pub(crate) fn are_words(_batch: u64, _count: u64)
     ensures batch { _batch < 2 ^ 64 }
     ensures count { _count < 2 ^ 64 }
 {}
@@ -113,11 +114,12 @@ fn walk_root<N: Nodes>(
     }
 }
 
-// The first pair of the map and the head and cut that these bytes spell.
-fn compare_map<N: Nodes>(
+// The first pair of the map and the head and cut of this kind that these bytes spell.
+pub(crate) fn compare_map<N: Nodes>(
     alloc: Global,
     nodes: &mut N,
     top: &Top,
+    kind: Kind,
     proof: &[u8],
 ) -> Result<Option<Clash>, AuditErr>
     requires { IsTop N.Hash.of (N.stands nodes.old) top.now }
@@ -126,33 +128,27 @@ fn compare_map<N: Nodes>(
         result }
     ensures refused { IfErr result (IsHandedOn (N.refusal nodes.new)) }
     ensures answered { TellsRefusal of_nodes (N.refusal nodes.old) (N.refusal nodes.new) result }
-    ensures compared { ComparesMap N.Hash.of (N.stands nodes.old) top.now proof.now result }
-    ensures fetched { FetchesMap proof.now (N.fetches nodes.old) (N.fetches nodes.new) }
+    ensures compared { ComparesMap N.Hash.of (N.stands nodes.old) top.now kind proof.now result }
+    ensures fetched { FetchesMap kind proof.now (N.fetches nodes.old) (N.fetches nodes.new) }
 {
     let mut from = Rest { bytes: proof };
-    let said = read_head(&mut from);
+    let said = read_head(kind, &mut from);
     let node = walk_root(alloc, nodes, top, &said, &mut from)?;
     let roots = compare_roots(alloc, top, &said, &node.entry)?;
     Ok(first_of(roots, node.clash))
 }
 
-// The finding of bytes that are not accepted.
-fn refusal(error: CheckErr) -> Result<Finding, AuditErr>
-    ensures { Refuses error result }
+// The finding of bytes for a query, by what they are worth.
+fn finding_of(outcome: AuditOutcome, q: &Query) -> Result<Finding, AllocError>
+    ensures { IfOk result (FindsOf q.now outcome) }
 {
-    match error {
-        CheckErr::Fault(fault) => Ok(Finding::Refused(fault)),
-        CheckErr::NoMemory => Err(AuditErr::NoMemory),
-    }
-}
-
-// The finding of bytes that are accepted with this answer.
-fn finding_by(answer: Vec<Record>, pair: Option<Clash>) -> Finding
-    ensures { result ≡ by_pair answer.items (option_map pair_of pair) }
-{
-    match pair {
-        None => Finding::Sound(Items::of(answer)),
-        Some(clash) => Finding::Collision(Items::of(clash.owned), Items::of(clash.shown)),
+    match outcome {
+        AuditOutcome::Refused(fault) => Ok(Finding::Refused(fault)),
+        AuditOutcome::Honest(opened) => {
+            let answer = answer_of(opened, q)?;
+            Ok(Finding::Sound(Items::of(answer)))
+        }
+        AuditOutcome::Collision(owned, shown) => Ok(Finding::Collision(owned, shown)),
     }
 }
 
@@ -188,19 +184,20 @@ pub fn audit<N: Nodes>(
     ensures judged { IfOk result (λ v.
         FindsFor N.Hash.of (N.stands nodes.old) q.now proof.now v) }
     ensures collides { IfOk result (λ v. Collides N.Hash.of v) }
-    // No more nodes are fetched than accepted bytes open, and none for bytes that are refused.
+    // No more nodes are fetched than accepted bytes open, and none for bytes that are refused: by
+    // the verdict against the root digest of what `top` says, and where the tree is told, of that.
+    ensures fetches { FetchesFew N.Hash.of (N.stands nodes.old) q.now proof.now
+        (N.fetches nodes.old) (N.fetches nodes.new) }
     ensures fetched { IfSome (N.stands nodes.old).tree (λ t. N.fetches nodes.new ≤
         N.fetches nodes.old + opened_accepted (by (N.stands nodes.old).version N.Hash.of) t
         (N.stands nodes.old).batch q.now proof.now) }
 {
+    is_query(q);
+    query_is_lawful(q);
+    honest_is_accepted::<N::Hash>(q);
     accepted_is_honest::<N::Hash>(q, proof);
     let top = nodes.top();
     are_words(top.batch, top.count);
-    match check::<N::Hash>(alloc, &root_of::<N::Hash>(&top), q, proof) {
-        Err(error) => refusal(error),
-        Ok(answer) => {
-            let pair = compare_map(alloc, nodes, &top, proof)?;
-            Ok(finding_by(answer, pair))
-        }
-    }
+    let outcome = audit_question(alloc, nodes, q, proof)?;
+    Ok(finding_of(outcome, q)?)
 }

@@ -3,14 +3,12 @@
 ghost use Rattle.std.specs.Prelude.{◌≡◌, ◌++◌, ℕ, List, Option, IfOk};
 ghost use Rattle.std.specs.Int.{w64, to_be_bytes};
 ghost use Rattle.mr_tree.specs.Digest.{root_preimage};
-ghost use Rattle.mr_proof.specs.Fields.{kind_byte};
 ghost use Rattle.mr_proof.specs.Spelling.{head_bytes, radius_bytes, level_bytes, FitsHead};
-ghost use Rattle.mr_proof.specs.declared.head.Kind as kinds;
 ghost use Rattle.mr_proof.specs.declared.head.Head as heads;
 ghost use Rattle.mr_clash.specs.Steps.{left, SaysOf};
 
 use crate::rest::{Rest, byte, number, take};
-use mr_proof::VERSION;
+use mr_proof::{Kind, VERSION};
 use mr_record::Version;
 use mr_tree::{Entry, root_encoded};
 use std::alloc::{AllocError, Global};
@@ -25,15 +23,17 @@ pub(crate) struct Said {
 }
 
 // Passes over the flag and the squared radius of a proof of this kind.
-fn pass_radius(kind: u8, from: &mut Rest<'_>)
-    ensures { (k : kinds.Kind) (r : Option ℕ) (rest : List ℕ) → kind ≡ kind_byte k
-        → left from.old ≡ radius_bytes k r ++ rest → left from.new ≡ rest }
+fn pass_radius(kind: Kind, from: &mut Rest<'_>)
+    ensures { (r : Option ℕ) (rest : List ℕ) → left from.old ≡ radius_bytes kind r ++ rest
+        → left from.new ≡ rest }
 {
-    if kind != b'K' {
-        return;
-    }
-    if byte(from) == 1 {
-        let _radius = take(from, 16);
+    match kind {
+        Kind::W | Kind::Choice(_) => {}
+        Kind::K => {
+            if byte(from) == 1 {
+                let _radius = take(from, 16);
+            }
+        }
     }
 }
 
@@ -48,14 +48,13 @@ fn read_level(count: u64, from: &mut Rest<'_>) -> u8
     byte(from)
 }
 
-// The head that stands next.
-pub(crate) fn read_head(from: &mut Rest<'_>) -> Said
-    ensures { (h : heads.Head) (rest : List ℕ) → FitsHead h → left from.old ≡ head_bytes h ++ rest
-        → SaysOf h rest result (left from.new) }
+// The head of a proof of this kind that stands next.
+pub(crate) fn read_head(kind: Kind, from: &mut Rest<'_>) -> Said
+    ensures { (h : heads.Head) (rest : List ℕ) → h.kind ≡ kind → FitsHead h
+        → left from.old ≡ head_bytes h ++ rest → SaysOf h rest result (left from.new) }
 {
-    // four bytes of magic, and that of the version, so far the only one
-    let _magic = take(from, 5);
-    let kind = byte(from);
+    // four bytes of magic, and those of the version, so far the only one, and of the kind
+    let _magic = take(from, 6);
     let batch = number(from);
     let count = number(from);
     pass_radius(kind, from);

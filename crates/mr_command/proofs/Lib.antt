@@ -15,5 +15,6 @@ pub mod Audits
 pub mod Served
 pub mod Bundles
 pub mod Piecewise
+pub mod Refusals
 pub mod Drafts
 pub mod Applied

@@ -11,6 +11,7 @@ use Rattle.mr_record.specs.Bytes.{AreBytes}
 use Rattle.mr_tree.specs.declared.hash.Hashes.{Ghosts}
 use Rattle.mr_query.specs.declared.query.Query.{Query}
 use Rattle.mr_proof.specs.Feeding.{IsUnsettled}
+use Rattle.mr_proof.specs.Tight.{question}
 use Rattle.mr_proof.specs.Reading.{verdict}
 use Rattle.mr_check.specs.Judged.{IsTaken}
 use Rattle.mr_check.specs.declared.intake.Intake.{Intake}
@@ -18,6 +19,7 @@ use Rattle.mr_plan.specs.Plan.{IsInput, IsAbsent}
 use Rattle.mr_outside.specs.Reading.{FillsFront, GivesFrom}
 use Rattle.mr_check.specs.Answers.{Checks}
 use Rattle.mr_check.specs.Judged.{IsStopped}
+use Rattle.mr_check.proofs.Judging.{refused}
 use Rattle.mr_check.specs.declared.error.CheckErr.{CheckErr}
 use Rattle.mr_check.specs.declared.error.CheckErr.TheVariants as errors
 use Rattle.std.proofs.Common.{length-take-le, length-drop}
@@ -116,12 +118,13 @@ module _ {H : Type 0} {G : Ghosts H} (hash : List ℕ → List ℕ) (holds : H �
   -- and that no fault is fixed by what was read then
   pub piece_unsettled : (i j : Intake H G) (at wanted count : ℕ) (had : HasTaken hash holds root q told name size at i)
       → TakesNext hash holds root q told name at wanted had.front (Ok (j, count))
-      → OfFile told name ⊥ (λ bytes. IsUnsettled hash root q (take (at + count) bytes))
+      → OfFile told name ⊥ (λ bytes. IsUnsettled hash root (question q) (take (at + count) bytes))
   unfolding piece_taken
   piece_unsettled i j at wanted count had next =
       let now = piece_taken i j at wanted count had next in
       OfFile-map told name _ _
-      (λ all h. subst (IsUnsettled hash root q) (h.front_is ∙ ap (λ n. take n all) now.long) next.3) now.whole
+      (λ all h. subst (IsUnsettled hash root (question q)) (h.front_is ∙ ap (λ n. take n all) now.long) next.3)
+      now.whole
 
   -- all of it is taken, since it is as long as the file, or since less came than was asked for
   pub file_taken : (i : Intake H G) (at : ℕ) → size ≤ at → HasTaken hash holds root q told name size at i
@@ -211,6 +214,8 @@ came_piece told name at wanted count before after behind room same fills gives a
 -- a piece with which the proof has a fault
 pub next_stops : (hash : List ℕ → List ℕ) (root : List ℕ) (q : Query) (told : Option Files) (name : List ℕ)
     (at wanted count : ℕ) (front piece : List ℕ) → IsPiece told name at wanted count piece → (e : CheckErr)
-    → IsStopped hash root q (front ++ piece) e → StopsNext hash root q told name at wanted front (stop_of_check e)
-next_stops hash root q told name at wanted count front piece is (errors.Fault f) stopped = (count, piece, is, stopped)
+    → IsStopped hash root (question q) (front ++ piece) e → StopsNext hash root q told name at wanted front
+    (stop_of_check e)
+next_stops hash root q told name at wanted count front piece is (errors.Fault f) stopped =
+    (count, piece, is, λ more. refused hash root q ((front ++ piece) ++ more) f (stopped more))
 next_stops hash root q told name at wanted count front piece is errors.NoMemory stopped = tt

@@ -8,6 +8,7 @@ use Rattle.mr_outside.specs.State.{Shelved}
 use Rattle.mr_outside.specs.Told.{OfFile, OfFiles}
 use Rattle.mr_query.specs.declared.query.Query.{Query}
 use Rattle.mr_proof.specs.Feeding.{IsUnsettled}
+use Rattle.mr_proof.specs.Tight.{question}
 use Rattle.mr_command.specs.Counting.{pieces_of, reads_taken, IsToFault}
 use Rattle.mr_command.specs.Ending.{Blames, Came, Comes, ReadsOnce}
 use Rattle.mr_plan.specs.Outcome.{Outcome}
@@ -45,7 +46,8 @@ pub record HasRead (hash : List ℕ → List ℕ) (root : List ℕ) (q : Query) 
   pub pieces : ℕ
   pub few : now ≤ before + pieces
   pub most : pieces ≤ piece_count size
-  pub last : (pieces ≤ 1) ⊎ OfFile told name ⊥ (λ bytes. IsUnsettled hash root q (take ((pieces - 1) * 65536) bytes))
+  pub last : (pieces ≤ 1) ⊎ OfFile told name ⊥ (λ bytes. IsUnsettled hash root (question q)
+      (take ((pieces - 1) * 65536) bytes))
 
 pub to_fault : (hash : List ℕ → List ℕ) (root : List ℕ) (q : Query) (told : Option Files) (name : List ℕ)
     (size before now : ℕ) → OfFile told name ⊥ (λ bytes. size ≡ length bytes)
@@ -55,7 +57,7 @@ to_fault hash root q (Some files) name size before now long read = by_found (fil
   where
     by_found : (o : Option (List ℕ)) → MatchOption o ⊥ (λ bytes. size ≡ length bytes)
         → (read.pieces ≤ 1)
-        ⊎ MatchOption o ⊥ (λ bytes. IsUnsettled hash root q (take ((read.pieces - 1) * 65536) bytes))
+        ⊎ MatchOption o ⊥ (λ bytes. IsUnsettled hash root (question q) (take ((read.pieces - 1) * 65536) bytes))
         → (n : ℕ) × (now ≤ before + n) × (n ≤ pieces_of o) × IsToFault hash root q o n
     by_found None long last = absurd long
     by_found (Some bytes) long last =
@@ -66,7 +68,7 @@ pub record ReadTo (hash : List ℕ → List ℕ) (root : List ℕ) (q : Query) (
     (size at before now : ℕ) : Type 0 where
   pub read : HasRead hash root q told name size before now
   pub place : (at ≡ read.pieces * 65536) ⊎ (size ≤ at)
-  pub all : (at ≡ 0) ⊎ OfFile told name ⊥ (λ bytes. IsUnsettled hash root q (take at bytes))
+  pub all : (at ≡ 0) ⊎ OfFile told name ⊥ (λ bytes. IsUnsettled hash root (question q) (take at bytes))
 
 module _ (hash : List ℕ → List ℕ) (root : List ℕ) (q : Query) (told : Option Files) (name : List ℕ)
     (size before : ℕ) where
@@ -89,7 +91,7 @@ module _ (hash : List ℕ → List ℕ) (root : List ℕ) (q : Query) (told : Op
         most = omega (arith, here, left);
         last = elim so.all [
           | inl first ↦ inl (omega (arith, first, here))
-          | inr none ↦ inr (subst (λ k. OfFile told name ⊥ (λ bytes. IsUnsettled hash root q (take k bytes)))
+          | inr none ↦ inr (subst (λ k. OfFile told name ⊥ (λ bytes. IsUnsettled hash root (question q) (take k bytes)))
               (place_is here) none)
         ];
       },
@@ -108,7 +110,7 @@ module _ (hash : List ℕ → List ℕ) (root : List ℕ) (q : Query) (told : Op
   -- which fixes no fault
   pub more_read : (at now later wanted count : ℕ) → at < size → later ≤ now + 1 → wanted ≡ min (size - at) 65536
       → wanted ≤ count → count ≤ wanted
-      → OfFile told name ⊥ (λ bytes. IsUnsettled hash root q (take (at + count) bytes))
+      → OfFile told name ⊥ (λ bytes. IsUnsettled hash root (question q) (take (at + count) bytes))
       → ReadTo hash root q told name size at before now → ReadTo hash root q told name size (at + count) before later
   more_read at now later wanted count left one wanted_is most least none so =
       let more = one_more at now later left one so in

@@ -16,6 +16,7 @@ use Rattle.mr_batch.specs.BatchText.{batch_of_text}
 use Rattle.mr_batch.specs.Changes.{Changes}
 use Rattle.mr_query.specs.declared.query.Query.{Query}
 use Rattle.mr_proof.specs.Feeding.{IsUnsettled}
+use Rattle.mr_proof.specs.Tight.{question}
 use Rattle.mr_proof.specs.Honest.{opened}
 use Rattle.mr_prove.specs.Causes.{rounds}
 use Rattle.mr_clash.specs.Finding.{opened_accepted}
@@ -111,7 +112,7 @@ AllowsPages (applying hash old batch new) files n =
 abbrev pub IsToFault : (List ℕ → List ℕ) → (root : List ℕ) → Query → Input → ℕ → Type 0
 IsToFault hash root q None n = ⊤
 IsToFault hash root q (Some bytes) n =
-    (n ≤ 1) ⊎ IsUnsettled hash root q (take ((n - 1) * 65536) bytes)
+    (n ≤ 1) ⊎ IsUnsettled hash root (question q) (take ((n - 1) * 65536) bytes)
 
 -- so many reads: each input once, and no more where the command stops
 abbrev pub AllowsReads : Plan → Files → ℕ → Type 0

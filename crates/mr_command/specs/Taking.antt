@@ -10,6 +10,7 @@ use Rattle.mr_tree.specs.declared.hash.Hashes.{Ghosts}
 use Rattle.mr_query.specs.declared.query.Query.{Query}
 use Rattle.mr_proof.specs.declared.rule.Fault.{Fault}
 use Rattle.mr_proof.specs.Feeding.{IsUnsettled}
+use Rattle.mr_proof.specs.Tight.{question}
 use Rattle.mr_proof.specs.Reading.{verdict}
 use Rattle.mr_check.specs.Judged.{IsTaken}
 use Rattle.mr_check.specs.declared.intake.Intake.{Intake}
@@ -63,7 +64,8 @@ abbrev pub TakesNext : {H : Type 0} {G : Ghosts H} → (List ℕ → List ℕ) �
     → Result (Intake H G × ℕ) Stop → Type 0
 TakesNext hash holds root q told name at wanted front (Ok next) =
     (piece : List ℕ) × IsPiece told name at wanted next.1 piece
-    × IsTaken hash holds root q next.0 (front ++ piece) × IsUnsettled hash root q (front ++ piece)
+    × IsTaken hash holds root q next.0 (front ++ piece) × IsUnsettled hash root (question q)
+    (front ++ piece)
 TakesNext hash holds root q told name at wanted front (Err e) =
     StopsNext hash root q told name at wanted front e
 

@@ -1,6 +1,6 @@
 //! The command `apply`.
 
-ghost use Rattle.std.specs.Prelude.{◌≡◌, ◌≢◌, List, ℕ, length, IfSome, Ok};
+ghost use Rattle.std.specs.Prelude.{◌≡◌, ◌≢◌, ◌<◌, ◌^◌, List, ℕ, IfSome, Ok};
 ghost use Rattle.std.specs.String.{string_bytes};
 ghost use Rattle.mr_batch.specs.Answer.{Answers};
 ghost use Rattle.mr_batch.specs.BatchText.{batch_of_text};
@@ -77,12 +77,16 @@ fn uncopied(alloc: Global, name: &str, error: &EditErr) -> Result<Ending, Halt>
 
 // The ending over a root digest.
 fn say_root(alloc: Global, digest: &[u8; 32]) -> Result<Ending, Halt>
-    ensures size { length digest.now ≡ 32 }
-    ensures gives { GivesOrStops (prints (line_on digest.now)) result }
+    ensures { GivesOrStops (prints (line_on digest.now)) result }
 {
     let line = digest_line(alloc, digest)?;
     Ok(Ending::line(alloc, Status::Done, line))
 }
+
+// What the type tells of its values.
+fn is_word(_number: u64)
+    ensures { _number < 2 ^ 64 }
+{}
 
 // The ending over a map that was written, by its root digest, or over one that was not.
 fn say_sealed(alloc: Global, map: &str, sealed: &Result<[u8; 32], EditErr>) -> Result<Ending, Halt>
@@ -123,6 +127,7 @@ fn change<H: Hash32, S: Shelf>(
             match draft.apply_batch(&mut dir, batch) {
                 Err(error) => (unchanged(alloc, map, &error), draft.close()),
                 Ok(()) => {
+                    is_word(batch.number());
                     let (shelf, sealed) = draft.seal();
                     (say_sealed(alloc, map, &sealed), shelf)
                 }

@@ -2,9 +2,10 @@
 
 ghost use Rattle.std.specs.Prelude.{◌≡◌, ◌≤◌, ◌+◌, IfOk, IfErr, IfSome, OnOk};
 ghost use Rattle.mr_tree.specs.Digest.{by};
-ghost use Rattle.mr_tree.specs.Nodes.{HasSomeCause};
+ghost use Rattle.mr_tree.specs.Nodes.{HasSomeCause, TellsRefusal};
 ghost use Rattle.mr_query.specs.Word.{IsAskable};
-ghost use Rattle.mr_clash.specs.Finding.{found, opened_accepted, Collides, FindsFor};
+ghost use Rattle.mr_clash.specs.Finding.{found, opened_accepted, Collides, FetchesFew, FindsFor};
+ghost use Rattle.mr_bundle.specs.Proofs.{as_given};
 ghost use Rattle.mr_command.specs.Ending.{SaysRefusal};
 ghost use Rattle.mr_plan.specs.Found.{as_map_error};
 
@@ -34,8 +35,11 @@ pub(crate) fn finding_of_nodes<N: Nodes>(
     ensures fetched { IfSome (N.stands nodes.old).tree (λ t. N.fetches nodes.new ≤
         N.fetches nodes.old + opened_accepted (by (N.stands nodes.old).version N.Hash.of) t
         (N.stands nodes.old).batch query.now bytes.now) }
+    ensures fetches { FetchesFew N.Hash.of (N.stands nodes.old) query.now bytes.now
+        (N.fetches nodes.old) (N.fetches nodes.new) }
     ensures cause { IfErr result (HasSomeCause (N.stands nodes.old) (N.faults nodes.old)
         (N.faults nodes.new)) }
+    ensures answered { TellsRefusal as_given (N.refusal nodes.old) (N.refusal nodes.new) result }
     ensures quiet { OnOk result (N.faults nodes.new ≡ N.faults nodes.old) }
 {
     match audit(alloc, nodes, query, bytes) {

@@ -1,10 +1,14 @@
 -- What a command may come to that reads pages of a map again, over files that are not told: by the
 -- next read a page may be another one. Over files that are told none ever is.
-use Rattle.std.specs.Prelude.{◌≡◌, ◌≢◌, ◌⊎◌, ⊤, ℕ, List, length, Some, Ok, Err}
+use Rattle.std.specs.Prelude.{◌≡◌, ◌≢◌, ◌⊎◌, ◌↔◌, ⊤, ℕ, ◌^◌, ◌<◌, ◌≤◌, List, Option, Some, IfSome, IsNone, Ok, Err}
 use Rattle.mr_record.specs.Bytes.{AreBytes}
 use Rattle.mr_record.specs.declared.record.Record.{Record}
 use Rattle.mr_record.specs.declared.text_fault.TextFault.{TextFault}
-use Rattle.mr_tree.specs.Nodes.{Standing}
+use Rattle.mr_record.specs.declared.version.Version.TheVariants.{One}
+use Rattle.mr_tree.specs.Digest.{root_preimage}
+use Rattle.mr_tree.specs.Limits.{count_limit, level_limit}
+use Rattle.mr_tree.specs.Nodes.{Standing, root_entry}
+use Rattle.mr_tree.specs.declared.child.Child.{Child}
 use Rattle.mr_tree.specs.WellFormed.{WellFormed}
 use Rattle.mr_pages.specs.declared.opening.Opened.{Opened}
 use Rattle.mr_pages.specs.Opening.{SomeBytes}
@@ -77,9 +81,20 @@ IsBadBatch said = (text : List ℕ) × AreBytes text × ((batch : Changes)
     × (batch_of_text text ≡ Ok batch) × ((rs : List Record) × (held : ℕ) × ((fault : BatchFault)
     × (batch_fault rs held batch ≡ Some fault) × (said ≡ ends BadBatch (bad_batch_line fault)))))
 
--- some 32 bytes are printed as a root, and the file has some bytes
-abbrev pub IsSomeRoot : (new : List ℕ) → Outcome → Type 0
-IsSomeRoot new said = (digest : List ℕ) × (length digest ≡ 32)
+-- the root digest of some batch, count and root node that a map may have
+pub record IsRootOfSome (hash : List ℕ → List ℕ) (digest : List ℕ) : Type 0 where
+  pub batch : ℕ
+  pub low : batch < 2 ^ 64
+  pub count : ℕ
+  pub few : count ≤ count_limit
+  pub root : Option Child
+  pub none : (count ≡ 0) ↔ IsNone root
+  pub level : IfSome root (λ (c : Child). c.level ≤ level_limit)
+  pub is : digest ≡ hash (root_preimage One batch count (root_entry root))
+
+-- such a digest is printed, and the file has some bytes
+abbrev pub IsSomeRoot : (List ℕ → List ℕ) → (new : List ℕ) → Outcome → Type 0
+IsSomeRoot hash new said = (digest : List ℕ) × IsRootOfSome hash digest
     × ((bytes : List ℕ) × (said ≡ say_text (digest_line digest) new bytes))
 
 -- what is said of a map of which not all reads give the same bytes: that it is refused; else some
@@ -95,4 +110,4 @@ MaySay (serving hash map script bundle) said = IsRefused hash map said
     ⊎ ((held : Opened) × ∥ WellFormed held.tree ∥₁ × (text : List ℕ) × AreBytes text
     × (said ≡ say_serve_of hash bundle held (queries_of_text text)))
 MaySay (applying hash old batch new) said = IsRefused hash old said ⊎ (said ≡ says_missing batch)
-    ⊎ IsBadText said ⊎ IsBadBatch said ⊎ IsSomeRoot new said
+    ⊎ IsBadText said ⊎ IsBadBatch said ⊎ IsSomeRoot hash new said

@@ -1,6 +1,6 @@
 -- The honest proof is accepted, with the answer of a scan of the tree.
 use Rattle.std.proofs.Common.{◌≡◌, ℕ, ◌+◌, ◌-◌, ◌<◌, ◌≤◌, ◌^◌, Bool, true, false, eqb, List, [], ◌∷◌, ◌++◌, map, length, Option, Some, None, refl, sym, ap, subst, ◌∙◌, inl, inr, arith}
-use Rattle.std.specs.Prelude.{IfSome}
+use Rattle.std.specs.Prelude.{IfSome, filter}
 use Rattle.std.specs.List.{AllByRecursion}
 use Rattle.std.specs.Int.{w64, to_be_bytes}
 use Rattle.std.proofs.lemmas.List.{length-append}
@@ -26,23 +26,24 @@ use Rattle.mr_tree.proofs.Slim.{slim_tree}
 use Rattle.mr_query.specs.Word.{IsQuery}
 use Rattle.mr_query.specs.declared.query.Query.{Query}
 use Rattle.mr_query.specs.Scan.{scan}
+use Rattle.mr_proof.specs.declared.way.Way.{Way}
 use Rattle.mr_proof.specs.declared.head.Kind.{Kind}
 use Rattle.mr_proof.specs.declared.head.Kind.TheVariants as kind
 use Rattle.mr_proof.specs.declared.shown.Shown.{Shown}
 use Rattle.mr_proof.specs.Cut as cut
 use Rattle.mr_proof.specs.Cut.{Cut, Cuts, Pruned, Leaf, Inner, no_more, first, count_of, entry, entries, CutOf, CutsOf}
 use Rattle.mr_proof.specs.Spelling.{version_of, FitsCut, FitCuts, FitsShown, FitsLeaf, FitsInner, FitsHead, FitsPart, head_bytes, cut_bytes, part_bytes, radius_bytes, level_bytes, opened_records, IsSpelled}
-use Rattle.mr_proof.specs.Tight.{Seen, Asks, asks, IsTight, IsTightCut}
-use Rattle.mr_proof.specs.Accepted.{root_bytes, root_found, Proves}
-use Rattle.mr_proof.specs.Honest.{region_of, honest_cut, honest_head, honest_part, proof}
-use Rattle.mr_proof.specs.Halves.{IsHonestProof, AcceptsHonest}
+use Rattle.mr_proof.specs.Tight.{Seen, opens_at, Question, radius_by, IsLawful, question, IsTight, IsTightCut}
+use Rattle.mr_proof.specs.Accepted.{root_bytes, root_found, Shows}
+use Rattle.mr_proof.specs.Honest.{ways_of, honest_cut, honest_head, honest_part, honest_said, proof_for, proof}
+use Rattle.mr_proof.specs.Halves.{AcceptsHonestProof, IsHonestProof, AcceptsHonest}
 use Rattle.mr_proof.proofs.Full.{IsFull, IsFullNode, there_tree, some_record, not_full_empty, empty_or_full}
 use Rattle.mr_proof.proofs.HonestCut.{meets, known_out, honest_cuts, honest_missed, pruned_shown, honest_met, honest_good, some_part, no_part}
-use Rattle.mr_proof.proofs.KeptRecords.{kept}
-use Rattle.mr_proof.proofs.Laws.{askable, SameAsked, IsLocal, is_local, radius_fits}
+use Rattle.mr_proof.proofs.KeptRecords.{narrow_misses, kept}
+use Rattle.mr_proof.proofs.Laws.{is_lawful, same_radius, same_answer, radius_fits}
 use Rattle.mr_proof.proofs.HonestSize.{cut_short}
 use Rattle.mr_proof.proofs.PreimageBytes.{IsSized, digest_are_bytes}
-use Rattle.mr_proof.proofs.Completeness.{verdict_from}
+use Rattle.mr_proof.proofs.Completeness.{checked_from, verdict_from}
 use Rattle.mr_proof.proofs.Preimages.{entry-rect, root_by}
 use Rattle.mr_proof.proofs.Values.{word_long, wide_long}
 
@@ -97,7 +98,7 @@ mutual
 
 -- ---- the honest cut has each value in its range
 
-missed_fits : (s : Scheme) (region : Seen → Bool) → IsSized s.of → (v : ℕ) (t : Tree) → IsFull t
+missed_fits : (s : Scheme) (region : Seen → Way) → IsSized s.of → (v : ℕ) (t : Tree) → IsFull t
     → IsSlim t → meets region t ≡ false → FitsCut v (honest_cut s region t)
 missed_fits s region h v t full slim f =
     let p = there_tree t full in
@@ -112,23 +113,23 @@ missed_fits s region h v t full slim f =
     } in
     subst (FitsCut v) (sym is) fine
 
-abbrev Fit : Scheme → (Seen → Bool) → Tree → Type 0
+abbrev Fit : Scheme → (Seen → Way) → Tree → Type 0
 Fit s region t = IsFull t → IsSlim t → every-Tree HasOneLevel t → (v : ℕ) → level t ≡ v
     → FitsCut v (honest_cut s region t)
 
-count_cuts : (s : Scheme) (region : Seen → Bool) (ts : List Tree)
+count_cuts : (s : Scheme) (region : Seen → Way) (ts : List Tree)
     → count_of (honest_cuts s region ts) ≡ length ts
 count_cuts s region [] = refl
 count_cuts s region (t ∷ ts) = let rest = count_cuts s region ts in omega arith
 
-all_fit : (s : Scheme) (region : Seen → Bool) (ts : List Tree) → AllByRecursion (Fit s region) ts
+all_fit : (s : Scheme) (region : Seen → Way) (ts : List Tree) → AllByRecursion (Fit s region) ts
     → AllByRecursion IsFull ts → AllByRecursion IsSlim ts → Even ts → (v : ℕ) → Levels v ts
     → FitCuts v (honest_cuts s region ts)
 all_fit s region [] all full slim even v e = tt
 all_fit s region (t ∷ ts) all full slim even v e =
     (all.0 full.0 slim.0 even.0 v e.0, all_fit s region ts all.1 full.1 slim.1 even.1 v e.1)
 
-leaf_fits : (s : Scheme) (region : Seen → Bool) (rs : List Record) → IsFull (tree.Leaf rs)
+leaf_fits : (s : Scheme) (region : Seen → Way) (rs : List Record) → IsFull (tree.Leaf rs)
     → IsSlim (tree.Leaf rs) → (v : ℕ) → level (tree.Leaf rs) ≡ v → meets region (tree.Leaf rs) ≡ true
     → FitsCut v (honest_cut s region (tree.Leaf rs))
 leaf_fits s region rs full slim v e m =
@@ -141,7 +142,7 @@ leaf_fits s region rs full slim v e m =
     } in
     subst (FitsCut v) (sym (honest_met s region (tree.Leaf rs) (node.Leaf rs) (tree.outs-Leaf rs) m)) fine
 
-inner_fits : (s : Scheme) (region : Seen → Bool) (ts : List Tree) → AllByRecursion (Fit s region) ts
+inner_fits : (s : Scheme) (region : Seen → Way) (ts : List Tree) → AllByRecursion (Fit s region) ts
     → IsFull (tree.Inner ts) → IsSlim (tree.Inner ts) → every-Tree HasOneLevel (tree.Inner ts) → (v : ℕ)
     → level (tree.Inner ts) ≡ v → meets region (tree.Inner ts) ≡ true
     → FitsCut v (honest_cut s region (tree.Inner ts))
@@ -157,7 +158,7 @@ inner_fits s region ts all full slim even v e m =
     subst (FitsCut v) (sym (honest_met s region (tree.Inner ts) (node.Inner ts) (tree.outs-Inner ts) m))
     (fine, below)
 
-honest_fits : (s : Scheme) (region : Seen → Bool) → IsSized s.of → (t : Tree) → Fit s region t
+honest_fits : (s : Scheme) (region : Seen → Way) → IsSized s.of → (t : Tree) → Fit s region t
 honest_fits s region h = tree_induction (Fit s region)
     (λ full slim even v e. absurd (not_full_empty full))
     (λ rs full slim even v e. elim (cases_Bool (meets region (tree.Leaf rs))) [
@@ -179,12 +180,13 @@ level_short count v = elim (cases_Bool (eqb count 0)) [
 
 radius_short : (k : Kind) (r : Option ℕ) → length (radius_bytes k r) ≤ 17
 radius_short kind.W r = omega arith
+radius_short (kind.Choice letter) r = omega arith
 radius_short kind.K None = omega arith
 radius_short kind.K (Some n) = omega (arith, wide_long n)
 
-head_short : (a : Asks) (t : Tree) (b : ℕ) → length (head_bytes (honest_head a t b)) ≤ 40
+head_short : (a : Question) (t : Tree) (b : ℕ) → length (head_bytes (honest_head a t b)) ≤ 40
 head_short a t b =
-    let far = radius_bytes a.kind (a.radius (records t)) in
+    let far = radius_bytes a.kind (radius_by a.around (records t)) in
     let last = level_bytes (length (records t)) (level t) in
     omega (
       arith,
@@ -193,7 +195,7 @@ head_short a t b =
       length-append far last,
       word_long b,
       word_long (length (records t)),
-      radius_short a.kind (a.radius (records t)),
+      radius_short a.kind (radius_by a.around (records t)),
       level_short (length (records t)) (level t),
     )
 
@@ -203,7 +205,7 @@ head_short a t b =
 one_version : (v w : Version) → v ≡ w
 one_version One One = refl
 
-pub root_same : (s : Scheme) (a : Asks) (t : Tree) (b : ℕ) (P : Option Cut) → WellFormed t
+pub root_same : (s : Scheme) (a : Question) (t : Tree) (b : ℕ) (P : Option Cut) → WellFormed t
     → FitsPart (honest_head a t b) P → IfSome P (λ C. CutOf s C t)
     → digests.root_bytes s t b ≡ root_bytes s.of (honest_head a t b) P
 root_same s a t b None well fit c =
@@ -220,120 +222,123 @@ root_same s a t b (Some P) well fit c =
 -- ---- the honest proof
 
 -- what is shown of the honest proof, whose cut this is
-record IsOwn (s : Scheme) (t : Tree) (b : ℕ) (q : Query) (P : Option Cut) : Type 0 where
-  same : honest_part s (asks q) t ≡ P
-  spelled : IsSpelled (honest_head (asks q) t b) P (proof s t b q)
-  tight : IsTight (asks q) (honest_head (asks q) t b) P
+record OwnCut (s : Scheme) (t : Tree) (b : ℕ) (a : Question) (P : Option Cut) : Type 0 where
+  same : honest_part s a t ≡ P
+  spelled : IsSpelled (honest_head a t b) P (proof_for s a t b)
+  tight : IsTight a (honest_head a t b) P
   cut : IfSome P (λ C. CutOf s C t)
-  held : root_found s.of (honest_head (asks q) t b) P ≡ root s t b
-  scanned : scan (records t) q ≡ scan (opened_records P) q
-  short : length (proof s t b q) < 2 ^ 30
+  held : root_found s.of (honest_head a t b) P ≡ root s t b
+  opened : filter (λ (r : Record). opens_at (ways_of a t) r.rect) (records t)
+      ≡ filter (λ (r : Record). opens_at (ways_of a t) r.rect) (opened_records P)
+  short : length (proof_for s a t b) < 2 ^ 30
 
--- the honest cut of a tree with records has the radius and the answer of all of them
-opened_same : (s : Scheme) (a : Asks) → IsLocal a → (t : Tree) (P : Cut) → IsFull t → CutOf s P t
-    → IsTightCut (region_of a t) P → SameAsked a (records t) (cut.records P)
-opened_same s a law t P full c tight =
-    law.same (records t) (cut.records P)
-    (sym (kept s (region_of a t) (law.misses (a.radius (records t))) P t full c tight))
-
-filled_own : (s : Scheme) → IsSized s.of → (t : Tree) (b : ℕ) (q : Query) → IsQuery q → WellFormed t
-    → IsFull t → b < 2 ^ 64 → IsOwn s t b q (Some (honest_cut s (region_of (asks q) t) t))
-filled_own s h t b q is well full low =
-    let region = region_of (asks q) t in
-    let head = honest_head (asks q) t b in
+filled_own : (s : Scheme) → IsSized s.of → (t : Tree) (b : ℕ) (a : Question) → IsLawful a → WellFormed t
+    → IsFull t → b < 2 ^ 64 → OwnCut s t b a (Some (honest_cut s (ways_of a t) t))
+filled_own s h t b a law well full low =
+    let region = ways_of a t in
+    let head = honest_head a t b in
     let P = honest_cut s region t in
     let good = honest_good s region t full in
     let some = some_record t full in
-    let same = some_part s (asks q) t some in
+    let same = some_part s a t some in
     let few = well.few in
     let fits = honest_fits s region h t full (slim_tree t well) well.one_level (level t) refl in
     let whole = ap (λ (o : Option Cut). head_bytes head ++ part_bytes o) same in
-    let front = head_short (asks q) t b in
+    let front = head_short a t b in
     let behind = cut_short s (level t) P t full fits good.cut in
-    let size : length (proof s t b q) ≡ length (head_bytes head) + length (cut_bytes P) =
+    let size : length (proof_for s a t b) ≡ length (head_bytes head) + length (cut_bytes P) =
     ap length whole ∙ length-append (head_bytes head) (cut_bytes P) in
     let shallow : FitsHead head = record {
       batch = low;
       count = few;
-      radius = radius_fits q (records t) is well.each;
+      radius = radius_fits a (records t) law well.each;
       level = well.shallow;
       empty = λ z. absurd (omega arith);
     } in
-    let all = opened_same s (asks q) (is_local q (askable q is)) t P full good.cut good.tight in
+    let all = sym (kept s region (narrow_misses region (law.narrow (radius_by a.around (records t)))) P t full good.cut
+    good.tight) in
     record {
       same = same;
       spelled = record { head = shallow; part = (some, fits); whole = whole; short = omega arith };
-      tight = record { parts = good.tight; radius = all.radius };
+      tight = record { parts = good.tight; radius = same_radius a law (records t) (cut.records P) all };
       cut = good.cut;
-      held = ap s.of (sym (root_same s (asks q) t b (Some P) well (some, fits) good.cut));
-      scanned = all.answer;
+      held = ap s.of (sym (root_same s a t b (Some P) well (some, fits) good.cut));
+      opened = all;
       short = omega arith;
     }
 
-empty_own : (s : Scheme) (t : Tree) (b : ℕ) (q : Query) → IsQuery q → WellFormed t → t ≡ tree.Empty
-    → b < 2 ^ 64 → IsOwn s t b q None
-empty_own s t b q is well e low =
-    let head = honest_head (asks q) t b in
+empty_own : (s : Scheme) (t : Tree) (b : ℕ) (a : Question) → IsLawful a → WellFormed t → t ≡ tree.Empty
+    → b < 2 ^ 64 → OwnCut s t b a None
+empty_own s t b a law well e low =
+    let head = honest_head a t b in
     let none : records t ≡ [] = ap records e ∙ records-Empty in
     let zero : length (records t) ≡ 0 = ap length none in
     let flat : level t ≡ 0 = ap level e ∙ level-Empty in
-    let same = no_part s (asks q) t zero in
+    let same = no_part s a t zero in
     let whole = ap (λ (o : Option Cut). head_bytes head ++ part_bytes o) same in
-    let front = head_short (asks q) t b in
-    let size : length (proof s t b q) ≡ length (head_bytes head) + 0 =
+    let front = head_short a t b in
+    let size : length (proof_for s a t b) ≡ length (head_bytes head) + 0 =
     ap length whole ∙ length-append (head_bytes head) [] in
     let fits : FitsHead head = record {
       batch = low;
       count = omega arith;
-      radius = radius_fits q (records t) is well.each;
+      radius = radius_fits a (records t) law well.each;
       level = omega arith;
       empty = λ z. flat;
     } in
     record {
       same = same;
       spelled = record { head = fits; part = zero; whole = whole; short = omega arith };
-      tight = record { parts = tt; radius = ap (asks q).radius none };
+      tight = record { parts = tt; radius = ap (radius_by a.around) none };
       cut = tt;
-      held = ap s.of (sym (root_same s (asks q) t b None well zero tt));
-      scanned = ap (λ (rs : List Record). scan rs q) none;
+      held = ap s.of (sym (root_same s a t b None well zero tt));
+      opened = ap (filter (λ (r : Record). opens_at (ways_of a t) r.rect)) none;
       short = omega arith;
     }
 
-own_part : (s : Scheme) → IsSized s.of → (t : Tree) (b : ℕ) (q : Query) → IsQuery q → WellFormed t
-    → b < 2 ^ 64 → (P : Option Cut) × IsOwn s t b q P
-own_part s h t b q is well low = elim (empty_or_full t well) [
-  | inl e ↦ (None, empty_own s t b q is well e low)
-  | inr full ↦ (Some (honest_cut s (region_of (asks q) t) t), filled_own s h t b q is well full low)
+own_part : (s : Scheme) → IsSized s.of → (t : Tree) (b : ℕ) (a : Question) → IsLawful a → WellFormed t
+    → b < 2 ^ 64 → (P : Option Cut) × OwnCut s t b a P
+own_part s h t b a law well low = elim (empty_or_full t well) [
+  | inl e ↦ (None, empty_own s t b a law well e low)
+  | inr full ↦ (Some (honest_cut s (ways_of a t) t), filled_own s h t b a law well full low)
 ]
 
--- the honest proof proves the answer of a scan
-honest_proves : (s : Scheme) → IsSized s.of → (t : Tree) (b : ℕ) (q : Query) → IsQuery q → WellFormed t
-    → b < 2 ^ 64 → Proves s.of (root s t b) (asks q) (proof s t b q) (scan (records t) q)
-honest_proves s h t b q is well low =
-    let p = own_part s h t b q is well low in
-    record {
-      head = honest_head (asks q) t b;
-      part = p.0;
-      spelled = p.1.spelled;
-      kind = refl;
-      tight = p.1.tight;
-      held = p.1.held;
-      scanned = p.1.scanned;
-    }
+own_cut : (s : Scheme) → IsSized s.of → (t : Tree) (b : ℕ) (a : Question) → IsLawful a → WellFormed t
+    → b < 2 ^ 64 → OwnCut s t b a (honest_part s a t)
+own_cut s h t b a law well low =
+    let p = own_part s h t b a law well low in
+    subst (OwnCut s t b a) (sym p.1.same) p.1
+
+pub honest_stands : (s : Scheme) → IsSized s.of → (a : Question) → IsLawful a → (t : Tree) (b : ℕ)
+    → WellFormed t → b < 2 ^ 64 → IsHonestProof s t b a
+honest_stands s h a law t b well low =
+    let p = own_cut s h t b a law well low in
+    record { spelled = p.spelled; tight = p.tight; cut = p.cut; held = p.held; short = p.short }
+
+-- the honest proof shows its head and cut
+honest_shows : (s : Scheme) → IsSized s.of → (t : Tree) (b : ℕ) (a : Question) → IsLawful a → WellFormed t
+    → b < 2 ^ 64 → Shows s.of (root s t b) a (proof_for s a t b) (honest_said s a t b)
+honest_shows s h t b a law well low =
+    let p = own_cut s h t b a law well low in
+    record { spelled = p.spelled; kind = refl; tight = p.tight; held = p.held }
+
+pub accepts_own : (s : Scheme) → IsSized s.of → (a : Question) → IsLawful a → AcceptsHonestProof s a
+accepts_own s h a law = λ t b well low. checked_from s.of (root s t b) a (proof_for s a t b) (honest_said s a t b) law
+    (honest_shows s h t b a law well low)
+
+-- ---- of queries
+
+-- the honest proof has the answer of a scan
+pub honest_scan : (s : Scheme) → IsSized s.of → (t : Tree) (b : ℕ) (q : Query) → IsQuery q → WellFormed t
+    → b < 2 ^ 64 → scan (records t) q ≡ scan (opened_records (honest_part s (question q) t)) q
+honest_scan s h t b q is well low =
+    let p = own_cut s h t b (question q) (is_lawful q is) well low in
+    same_answer q (records t) (opened_records (honest_part s (question q) t)) is p.opened
 
 pub accepts_honest : (s : Scheme) → IsSized s.of → (q : Query) → IsQuery q → AcceptsHonest s q
-accepts_honest s h q is = λ t b well low. verdict_from s.of (root s t b) q (proof s t b q) (scan (records t) q)
-    (askable q is) (honest_proves s h t b q is well low)
-
-pub honest_stands : (s : Scheme) → IsSized s.of → (q : Query) → IsQuery q → (t : Tree) (b : ℕ)
-    → WellFormed t → b < 2 ^ 64 → IsHonestProof s t b q
-honest_stands s h q is t b well low =
-    let p = own_part s h t b q is well low in
-    let same = sym p.1.same in
-    record {
-      spelled = subst (λ (o : Option Cut). IsSpelled (honest_head (asks q) t b) o (proof s t b q)) same p.1.spelled;
-      tight = subst (λ (o : Option Cut). IsTight (asks q) (honest_head (asks q) t b) o) same p.1.tight;
-      cut = subst (λ (o : Option Cut). IfSome o (λ C. CutOf s C t)) same p.1.cut;
-      held = subst (λ (o : Option Cut). root_found s.of (honest_head (asks q) t b) o ≡ root s t b) same p.1.held;
-      short = p.1.short;
-    }
+accepts_honest s h q is = λ t b well low. verdict_from s.of (root s t b) q (proof s t b q) (scan (records t) q) is
+    (record {
+      said = honest_said s (question q) t b;
+      shows = honest_shows s h t b (question q) (is_lawful q is) well low;
+      scanned = honest_scan s h t b q is well low;
+    })

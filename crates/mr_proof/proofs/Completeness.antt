@@ -11,7 +11,7 @@ use Rattle.mr_geom.specs.Rectangle.{Rectangle}
 use Rattle.mr_record.specs.Record.{IsRecord, record_bytes, rectangle_bytes}
 use Rattle.mr_record.specs.Version.{version_byte}
 use Rattle.mr_record.specs.declared.record.Record.{Record}
-use Rattle.mr_query.specs.Word.{IsAskable}
+use Rattle.mr_query.specs.Word.{IsQuery}
 use Rattle.mr_query.specs.declared.query.Query.{Query}
 use Rattle.std.proofs.Math.Dec.{eqb-suc-zero}
 use Rattle.mr_proof.specs.declared.head.Kind.{Kind}
@@ -29,13 +29,14 @@ use Rattle.mr_proof.specs.Limits.{count_limit, level_limit, place_limit}
 use Rattle.mr_proof.specs.Fields.{size_of, field_of, magic, kind_byte, pruned_tag, leaf_tag, inner_tag, opened_tag, version}
 use Rattle.mr_proof.specs.Cut.{Cut, Cuts, Pruned, Leaf, Inner, no_more, first, count_of}
 use Rattle.mr_proof.specs.Spelling.{shown_bytes, cut_bytes, cuts_bytes, FitsShown, FitsLeaf, FitsInner, FitsCut, FitCuts, radius_bytes, level_bytes, head_bytes, FitsRadius, FitsHead, Said, said, opened_records, part_bytes, FitsPart, IsSpelled}
-use Rattle.mr_proof.specs.Tight.{Seen, seen_at, seen, met_by, asks, IsTightCut, AreTightCuts}
-use Rattle.mr_proof.specs.Accepted.{root_found, Proves}
+use Rattle.mr_proof.specs.declared.way.Way.{Way}
+use Rattle.mr_proof.specs.Tight.{Seen, seen, met_by, opens_at, keeps_at, Question, question, IsLawful, IsTightCut, AreTightCuts}
+use Rattle.mr_proof.specs.Accepted.{root_found, Shows, Proves}
 use Rattle.mr_proof.specs.Grammar.{must, opens, Grammar, done, reads, notes, number_in, wide_in, tag_in, rect_in, bytes_in, payload, one_record, some_records, opened, leaf, some_items, inner, pruned, item, radius, level, head, part, whole}
 use Rattle.mr_proof.specs.Layout.{Stand, start, behind, field_at}
 use Rattle.mr_proof.specs.Refused.{has_other_radius}
 use Rattle.mr_proof.specs.Reading.{walk, ending, checked, verdict}
-use Rattle.mr_proof.proofs.Laws.{radius_stands}
+use Rattle.mr_proof.proofs.Laws.{radius_stands, is_lawful}
 use Rattle.mr_proof.proofs.Values.{bytes_same, word_long, wide_long, rectangle_long, tail}
 use Rattle.mr_proof.proofs.FieldValues.{number_value, batch_value, count_value, level_value, length_value, leaf_count_value, inner_count_value, rect_value, payload_value, digest_value, tag_value, magic_value, version_value, kind_value, flag_value, radius_value}
 
@@ -145,7 +146,7 @@ record_again heeds e next s r rest fine parts within =
     let d = p.place in
     record { end = p.end; left = p.left; place = omega arith; same = n.same ∙ x.same ∙ l.same ∙ p.same }
 
-records_again : {A B : Type 0} (heeds : Bool) (e : A → Stand → Result B Fault) (region : Seen → Bool)
+records_again : {A B : Type 0} (heeds : Bool) (e : A → Stand → Result B Fault) (region : Seen → Way)
     (next : List Record → Grammar A)
     (s : Stand) (rs : List Record) (rest : List ℕ) → AllByRecursion IsRecord rs
     → s.rest ≡ flat_map record_bytes rs ++ rest → s.at + length (flat_map record_bytes rs) ≤ place_limit
@@ -158,19 +159,19 @@ records_again heeds e region next s (r ∷ rs) rest fine parts within =
     (flat_map record_bytes rs) = ap length whole ∙ length-append (record_bytes r) (flat_map record_bytes rs) in
     let regrouped : s.rest ≡ record_bytes r ++ (flat_map record_bytes rs ++ rest) = parts
     ∙ ap (λ (x : List ℕ). x ++ rest) whole ∙ append_assoc (record_bytes r) (flat_map record_bytes rs) rest in
-    let one = record_again heeds e (λ r. notes (opens r (region (seen_at r.rect)))
+    let one = record_again heeds e (λ r. notes (opens r (keeps_at region r.rect))
     (some_records region (length rs) (λ rs. next (r ∷ rs)))) s r
     (flat_map record_bytes rs ++ rest) fine.0 regrouped (omega arith) in
     let a = one.place in
     let behind_one = records_again heeds e region (λ rs. next (r ∷ rs)) one.end rs rest fine.1 one.left (omega arith) in
-    let others : Comes heeds e (notes (opens r (region (seen_at r.rect)))
+    let others : Comes heeds e (notes (opens r (keeps_at region r.rect))
     (some_records region (length rs) (λ rs. next (r ∷ rs))))
     (next (r ∷ rs)) one.end (flat_map record_bytes rs) rest = record
     { end = behind_one.end; left = behind_one.left; place = behind_one.place; same = behind_one.same } in
     comes_as heeds e (some_records region (length (r ∷ rs)) next) (next (r ∷ rs)) s
     (record_bytes r ++ flat_map record_bytes rs) (flat_map record_bytes (r ∷ rs)) rest (sym whole)
     (comes_both heeds e (some_records region (length (r ∷ rs)) next)
-    (notes (opens r (region (seen_at r.rect))) (some_records region (length rs) (λ rs. next (r ∷ rs)))) (next (r ∷ rs))
+    (notes (opens r (keeps_at region r.rect)) (some_records region (length rs) (λ rs. next (r ∷ rs)))) (next (r ∷ rs))
     s (record_bytes r)
     (flat_map record_bytes rs) rest one others)
 
@@ -184,10 +185,10 @@ note_again true e broken false g s rest passed left = absurd (false≢true (pass
 note_again false e broken b g s rest passed left = record { end = s; left = left; place = omega arith; same = refl }
 
 -- where notes are heeded, the cut is tight
-abbrev Passes : Bool → (Seen → Bool) → Cut → Type 0
+abbrev Passes : Bool → (Seen → Way) → Cut → Type 0
 Passes heeds region P = heeds ≡ true → IsTightCut region P
 
-leaf_again : {A B : Type 0} (heeds : Bool) (e : A → Stand → Result B Fault) (region : Seen → Bool)
+leaf_again : {A B : Type 0} (heeds : Bool) (e : A → Stand → Result B Fault) (region : Seen → Way)
     (next : Cut → Grammar A) (s : Stand) (rs : List Record) (rest : List ℕ) → FitsLeaf 0 rs
     → Passes heeds region (Leaf rs)
     → s.rest ≡ tail (Leaf rs) ++ rest → s.at + length (tail (Leaf rs)) ≤ place_limit
@@ -210,7 +211,7 @@ leaf_again heeds e region next s rs rest fine tight parts within =
 is_not : (b : Bool) → b ≡ false → not b ≡ true
 is_not b e = rw e refl
 
-pruned_again : {A B : Type 0} (heeds : Bool) (e : A → Stand → Result B Fault) (region : Seen → Bool)
+pruned_again : {A B : Type 0} (heeds : Bool) (e : A → Stand → Result B Fault) (region : Seen → Way)
     (next : Cut → Grammar A) (s : Stand) (x : Shown) (rest : List ℕ) → FitsShown x → Passes heeds region (Pruned x)
     → s.rest ≡ shown_bytes x ++ rest → s.at + length (shown_bytes x) ≤ place_limit
     → Comes heeds e (pruned region next) (next (Pruned x)) s (shown_bytes x) rest
@@ -223,12 +224,12 @@ pruned_again heeds e region next s x rest fine missed parts within =
     let behind_rect = λ (r : Rectangle). reads want.Digest
     (λ d. next (Pruned (record { rect = r; digest = bytes_in d }))) in
     let r = reads_again heeds e want.Rect rect_in
-    (λ r. notes (must rule.Hidden (not (region (seen_at r)))) (behind_rect r)) s (rectangle_bytes x.rect)
+    (λ r. notes (must rule.Hidden (not (opens_at region r))) (behind_rect r)) s (rectangle_bytes x.rect)
     (x.digest ++ rest) (field.Rect x.rect) square (rect_value x.rect fine.ordered fine.coordinates) regrouped
     (omega arith) in
     let a = r.place in
-    let n = note_again heeds e rule.Hidden (not (region (seen_at x.rect))) (behind_rect x.rect) r.end (x.digest ++ rest)
-    (λ h. is_not (region (seen_at x.rect)) (missed h)) r.left in
+    let n = note_again heeds e rule.Hidden (not (opens_at region x.rect)) (behind_rect x.rect) r.end (x.digest ++ rest)
+    (λ h. is_not (opens_at region x.rect) (missed h)) r.left in
     let b = n.place in
     let d = reads_again heeds e want.Digest bytes_in (λ d. next (Pruned (record { rect = x.rect; digest = d }))) n.end
     x.digest rest (field.Digest x.digest) fine.digest (digest_value x.digest) n.left (omega arith) in
@@ -236,14 +237,14 @@ pruned_again heeds e region next s x rest fine missed parts within =
     record { end = d.end; left = d.left; place = omega arith; same = r.same ∙ n.same ∙ d.same }
 
 -- an item that is spelled, and tight where notes are heeded, is read again
-abbrev ItemsAgain : {A B : Type 0} → Bool → (A → Stand → Result B Fault) → (Seen → Bool) → ℕ
+abbrev ItemsAgain : {A B : Type 0} → Bool → (A → Stand → Result B Fault) → (Seen → Way) → ℕ
     → ((Cut → Grammar A) → Grammar A) → Type 0
 ItemsAgain {A} {B} heeds e region v one =
     (next : Cut → Grammar A) (s : Stand) (P : Cut) (rest : List ℕ) → FitsCut v P → Passes heeds region P
     → s.rest ≡ cut_bytes P ++ rest → s.at + length (cut_bytes P) ≤ place_limit
     → Comes heeds e (one next) (next P) s (cut_bytes P) rest
 
-items_again : {A B : Type 0} (heeds : Bool) (e : A → Stand → Result B Fault) (region : Seen → Bool) (v : ℕ)
+items_again : {A B : Type 0} (heeds : Bool) (e : A → Stand → Result B Fault) (region : Seen → Way) (v : ℕ)
     (one : (Cut → Grammar A) → Grammar A) → ItemsAgain heeds e region v one
     → (next : Cuts → Grammar A) (s : Stand) (Ps : Cuts) (n : ℕ) (rest : List ℕ) → count_of Ps ≡ n → FitCuts v Ps
     → (heeds ≡ true → AreTightCuts region Ps) → s.rest ≡ cuts_bytes Ps ++ rest
@@ -264,7 +265,7 @@ items_again heeds e region v one again next s (first P Ps) (suc n) rest count fi
     comes_both heeds e (some_items one (suc n) next) (some_items one n (λ Ps. next (first P Ps))) (next (first P Ps)) s
     (cut_bytes P) (cuts_bytes Ps) rest a b
 
-inner_again : {A B : Type 0} (heeds : Bool) (e : A → Stand → Result B Fault) (region : Seen → Bool) (v : ℕ)
+inner_again : {A B : Type 0} (heeds : Bool) (e : A → Stand → Result B Fault) (region : Seen → Way) (v : ℕ)
     (one : (Cut → Grammar A) → Grammar A) → ItemsAgain heeds e region v one
     → (next : Cut → Grammar A) (s : Stand) (Ps : Cuts) (rest : List ℕ) → FitsInner (suc v) (count_of Ps) → FitCuts v Ps
     → Passes heeds region (Inner Ps)
@@ -286,7 +287,7 @@ inner_again heeds e region v one again next s Ps rest fine fit tight parts withi
 inner_tag_is : (v : ℕ) → inner_tag ≡ opened_tag (suc v)
 inner_tag_is v = rw (eqb-suc-zero v) refl
 
-item_again : {A B : Type 0} (heeds : Bool) (e : A → Stand → Result B Fault) (region : Seen → Bool) (v : ℕ)
+item_again : {A B : Type 0} (heeds : Bool) (e : A → Stand → Result B Fault) (region : Seen → Way) (v : ℕ)
     → ItemsAgain heeds e region v (item region v)
 item_again heeds e region zero next s (Pruned x) rest fit tight parts within =
     let t = reads_again heeds e (want.Tag 0) tag_in
@@ -364,6 +365,9 @@ radius_again : {A B : Type 0} (heeds : Bool) (e : A → Stand → Result B Fault
     → s.rest ≡ radius_bytes k r ++ rest → s.at + length (radius_bytes k r) ≤ place_limit
     → Comes heeds e (radius k next) (next r) s (radius_bytes k r) rest
 radius_again heeds e kind.W next s r rest fits parts within =
+    subst (λ (r : Option ℕ). Comes heeds e (next None) (next r) s [] rest) (sym fits)
+    (comes_none heeds e (next None) s rest parts)
+radius_again heeds e (kind.Choice letter) next s r rest fits parts within =
     subst (λ (r : Option ℕ). Comes heeds e (next None) (next r) s [] rest) (sym fits)
     (comes_none heeds e (next None) s rest parts)
 radius_again heeds e kind.K next s None rest fits parts within =
@@ -495,7 +499,7 @@ head_again heeds e next s h rest fine parts within =
 
 -- ---- the whole
 
-part_again : {B : Type 0} (heeds : Bool) (e : Said → Stand → Result B Fault) (region : Option ℕ → Seen → Bool)
+part_again : {B : Type 0} (heeds : Bool) (e : Said → Stand → Result B Fault) (region : Option ℕ → Seen → Way)
     (h : Head) (P : Option Cut) (s : Stand) → FitsPart h P → (heeds ≡ true → IfSome P (IsTightCut (region h.radius)))
     → s.rest ≡ part_bytes P → s.at + length (part_bytes P) ≤ place_limit
     → Comes heeds e (part region h) (done (said h P)) s (part_bytes P) []
@@ -513,7 +517,7 @@ part_again heeds e region h (Some P) s fit tight parts within =
     (parts ∙ sym (append-nil (cut_bytes P))) within)
 
 -- what is spelled, and tight where notes are heeded, is read again, by any ending
-pub whole_again : {B : Type 0} (heeds : Bool) (e : Said → Stand → Result B Fault) (region : Option ℕ → Seen → Bool)
+pub whole_again : {B : Type 0} (heeds : Bool) (e : Said → Stand → Result B Fault) (region : Option ℕ → Seen → Way)
     (bytes : List ℕ) (h : Head) (P : Option Cut) → IsSpelled h P bytes
     → (heeds ≡ true → IfSome P (IsTightCut (region h.radius)))
     → Comes heeds e (whole h.kind region) (done (said h P)) (start bytes) (head_bytes h ++ part_bytes P) []
@@ -530,27 +534,27 @@ whole_again heeds e region bytes h P spelled tight =
     comes_both heeds e (whole h.kind region) (part region h) (done (said h P)) (start bytes) (head_bytes h)
     (part_bytes P) [] a b
 
-ending_again : (hash : List ℕ → List ℕ) (root : List ℕ) (q : Query) (x : Said) (s : Stand) → s.rest ≡ []
-    → root_found hash x.head x.part ≡ root → has_other_radius q x.head.radius (opened_records x.part) ≡ false
-    → ending hash root q x s ≡ Ok x
+ending_again : (hash : List ℕ → List ℕ) (root : List ℕ) (a : Question) (x : Said) (s : Stand) → s.rest ≡ []
+    → root_found hash x.head x.part ≡ root → has_other_radius a.around x.head.radius (opened_records x.part) ≡ false
+    → ending hash root a x s ≡ Ok x
 unfolding ending
-ending_again hash root q x s left same right =
+ending_again hash root a x s left same right =
     rw (left, bytes_same (root_found hash x.head x.part) root same, right) refl
 
-pub checked_from : (hash : List ℕ → List ℕ) (root : List ℕ) (q : Query) (bytes : List ℕ) (answer : List Record)
-    → IsAskable q → (p : Proves hash root (asks q) bytes answer) → checked hash root q bytes ≡ Ok (said p.head p.part)
+-- what bytes show is accepted
+pub checked_from : (hash : List ℕ → List ℕ) (root : List ℕ) (a : Question) (bytes : List ℕ) (y : Said)
+    → IsLawful a → (p : Shows hash root a bytes y) → checked hash root a bytes ≡ Ok y
 unfolding checked
-checked_from hash root q bytes answer may p =
-    let x = whole_again true (ending hash root q) (asks q).region bytes p.head p.part p.spelled (λ _. p.tight.parts) in
-    let of_kind : walk true (ending hash root q) (whole p.head.kind (asks q).region) (start bytes) ≡ Ok
-    (said p.head p.part) =
-    x.same ∙ ending_again hash root q (said p.head p.part) x.end x.left p.held
-    (radius_stands q p.head.radius (opened_records p.part) may p.tight.radius) in
-    subst (λ (k : Kind). walk true (ending hash root q) (whole k (asks q).region) (start bytes) ≡ Ok
-    (said p.head p.part)) p.kind of_kind
+checked_from hash root a bytes y law p =
+    let x = whole_again true (ending hash root a) a.way bytes y.head y.part p.spelled (λ _. p.tight.parts) in
+    let of_kind : walk true (ending hash root a) (whole y.head.kind a.way) (start bytes) ≡ Ok y =
+    x.same ∙ ending_again hash root a y x.end x.left p.held
+    (radius_stands a y.head.radius (opened_records y.part) law p.tight.radius) in
+    subst (λ (k : Kind). walk true (ending hash root a) (whole k a.way) (start bytes) ≡ Ok y) p.kind of_kind
 
 pub verdict_from : (hash : List ℕ → List ℕ) (root : List ℕ) (q : Query) (bytes : List ℕ) (answer : List Record)
-    → IsAskable q → Proves hash root (asks q) bytes answer → verdict hash root q bytes ≡ Ok answer
+    → IsQuery q → Proves hash root q bytes answer → verdict hash root q bytes ≡ Ok answer
 unfolding verdict
-verdict_from hash root q bytes answer may p =
-    rw (checked_from hash root q bytes answer may p) (ap (λ (x : List Record). Ok x) (sym p.scanned))
+verdict_from hash root q bytes answer is p =
+    rw (checked_from hash root (question q) bytes p.said (is_lawful q is) p.shows)
+    (ap (λ (x : List Record). Ok x) (sym p.scanned))

@@ -95,6 +95,7 @@ pub kind_value : (k : Kind) → field_of (want.Kind k) (kind_byte k ∷ []) ≡ 
 unfolding field_of
 kind_value kind.W = refl
 kind_value kind.K = refl
+kind_value (kind.Choice letter) = rw (eq-eqb letter letter refl) refl
 
 pub flag_value : (n : ℕ) → n ≤ 1 → field_of want.Flag (n ∷ []) ≡ Ok (field.Num n)
 unfolding field_of

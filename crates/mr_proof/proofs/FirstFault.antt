@@ -6,6 +6,7 @@ use Rattle.std.proofs.lemmas.Bool.{ltb-true, cases_Bool, cases_lt, eqb-false}
 use Rattle.std.proofs.lemmas.List.Elements.{All-cons, All-nil, All-append, All-weaker, All-contains, All-contains_itself, All-head}
 use Rattle.mr_record.specs.declared.record.Record.{Record}
 use Rattle.mr_query.specs.declared.query.Query.{Query}
+use Rattle.mr_query.specs.Scan.{scan}
 use Rattle.mr_proof.specs.declared.head.Kind.{Kind}
 use Rattle.mr_proof.specs.declared.head.Kind.TheVariants as kind
 use Rattle.mr_proof.specs.declared.head.Head.{Head}
@@ -19,7 +20,8 @@ use Rattle.mr_proof.specs.Limits.{place_limit}
 use Rattle.mr_proof.specs.Fields.{size_of, field_of, pruned_tag}
 use Rattle.mr_proof.specs.Cut.{Cut, Cuts, Pruned, Leaf, Inner, no_more, first}
 use Rattle.mr_proof.specs.Spelling.{Said, said, opened_records}
-use Rattle.mr_proof.specs.Tight.{Seen, seen_at, asks}
+use Rattle.mr_proof.specs.declared.way.Way.{Way}
+use Rattle.mr_proof.specs.Tight.{Seen, keeps_at, Question, question}
 use Rattle.mr_proof.specs.Accepted.{root_found}
 use Rattle.mr_proof.specs.Grammar.{must, opens, Grammar, done, reads, notes, number_in, tag_in, rect_in, wide_in, bytes_in, payload, one_record, some_records, opened, leaf, some_items, inner, pruned, item, radius, level, head, part, whole}
 use Rattle.mr_proof.specs.Layout.{fault, Stand, start, behind, field_or_fault, field_at}
@@ -218,27 +220,27 @@ ends_by false false true t w r x tw tr wr =
     front_is_first w (r ∷ []) (All-cons (λ x. (x ≡ w) ⊎ Before w x) r [] (inr wr) (All-nil (λ x. (x ≡ w) ⊎ Before w x)))
 ends_by false false false t w r x tw tr wr = front_is_first w [] (All-nil (λ x. (x ≡ w) ⊎ Before w x))
 
-ending_agrees : (hash : List ℕ → List ℕ) (root : List ℕ) (q : Query) (x : Said) (s : Stand)
-    → Agrees (ending hash root q x s) (last_faults hash root q x s)
+ending_agrees : (hash : List ℕ → List ℕ) (root : List ℕ) (a : Question) (x : Said) (s : Stand)
+    → Agrees (ending hash root a x s) (last_faults hash root a x s)
 unfolding ending
-ending_agrees hash root q x s =
+ending_agrees hash root a x s =
     ends_by (nat_lt 0 (length s.rest)) (bytes_eq (root_found hash x.head x.part) root)
-    (has_other_radius q x.head.radius (opened_records x.part))
+    (has_other_radius a.around x.head.radius (opened_records x.part))
     (fault rule.Trailing s.at) (fault (rule.WrongRoot (root_found hash x.head x.part)) (s.at + length s.rest))
     (fault rule.WrongRadius (s.at + length s.rest)) x
     (λ t. let some : 0 < length s.rest = ltb-true 0 (length s.rest) t in inl (omega arith))
     (λ t. let some : 0 < length s.rest = ltb-true 0 (length s.rest) t in inl (omega arith))
     (inr (refl, omega arith))
 
-ending_late : (hash : List ℕ → List ℕ) (root : List ℕ) (q : Query) (x : Said) (s : Stand)
-    → All (λ f. s.at ≤ f.at) (last_faults hash root q x s)
-ending_late hash root q x s =
+ending_late : (hash : List ℕ → List ℕ) (root : List ℕ) (a : Question) (x : Said) (s : Stand)
+    → All (λ f. s.at ≤ f.at) (last_faults hash root a x s)
+ending_late hash root a x s =
     All-append (λ f. s.at ≤ f.at) _ _
     (if_fault_all (λ f. s.at ≤ f.at) (nat_lt 0 (length s.rest)) (fault rule.Trailing s.at) (omega arith))
     (All-append (λ f. s.at ≤ f.at) _ _
     (if_fault_all (λ f. s.at ≤ f.at) (not (bytes_eq (root_found hash x.head x.part) root))
     (fault (rule.WrongRoot (root_found hash x.head x.part)) (s.at + length s.rest)) (omega arith))
-    (if_fault_all (λ f. s.at ≤ f.at) (has_other_radius q x.head.radius (opened_records x.part))
+    (if_fault_all (λ f. s.at ≤ f.at) (has_other_radius a.around x.head.radius (opened_records x.part))
     (fault rule.WrongRadius (s.at + length s.rest)) (omega arith)))
 
 -- ---- each field of a proof has a byte, and its notes stand in order
@@ -265,26 +267,26 @@ sized_record m next h = (
   ),
 )
 
-sized_records : {A : Type 0} (region : Seen → Bool) (n : ℕ) (next : List Record → Grammar A) →
+sized_records : {A : Type 0} (region : Seen → Way) (n : ℕ) (next : List Record → Grammar A) →
     ((rs : List Record) → Sized 0 (next rs))
     → Sized 0 (some_records region n next)
 sized_records region zero next h = h []
 sized_records region (suc n) next h =
-    sized_record 0 (λ r. notes (opens r (region (seen_at r.rect))) (some_records region n (λ rs. next (r ∷ rs))))
+    sized_record 0 (λ r. notes (opens r (keeps_at region r.rect)) (some_records region n (λ rs. next (r ∷ rs))))
     (λ r. sized_records region n (λ rs. next (r ∷ rs)) (λ rs. h (r ∷ rs)))
 
 -- behind an item the notes are those of opened nodes
 abbrev Follows : {A : Type 0} {X : Type 0} → (X → Grammar A) → Type 0
 Follows {A} {X} next = (x : X) → Sized 14 (next x)
 
-sized_leaf : {A : Type 0} (region : Seen → Bool) (next : Cut → Grammar A) → Follows next → Sized 0 (leaf region next)
+sized_leaf : {A : Type 0} (region : Seen → Way) (next : Cut → Grammar A) → Follows next → Sized 0 (leaf region next)
 sized_leaf region next h = (
   omega arith,
   λ n. sized_records region (number_in n) (λ rs. opened region (Leaf rs) next)
       (λ rs. (inr refl, omega arith, h (Leaf rs))),
 )
 
-sized_pruned : {A : Type 0} (region : Seen → Bool) (next : Cut → Grammar A) → Follows next
+sized_pruned : {A : Type 0} (region : Seen → Way) (next : Cut → Grammar A) → Follows next
     → Sized 0 (pruned region next)
 sized_pruned region next h = (
   omega arith,
@@ -311,7 +313,7 @@ sized_choice : {A : Type 0} (n : ℕ) (b : Bool) (g k : Grammar A) → Sized n g
 sized_choice n true g k p q = p
 sized_choice n false g k p q = q
 
-sized_item : {A : Type 0} (region : Seen → Bool) (v n : ℕ) (next : Cut → Grammar A) → Follows next
+sized_item : {A : Type 0} (region : Seen → Way) (v n : ℕ) (next : Cut → Grammar A) → Follows next
     → Sized n (item region v next)
 sized_item region zero n next h = (
   omega arith,
@@ -338,6 +340,7 @@ sized_level count next h =
 sized_radius : {A : Type 0} (k : Kind) (next : Option ℕ → Grammar A) → ((r : Option ℕ) → Sized 0 (next r))
     → Sized 0 (radius k next)
 sized_radius kind.W next h = h None
+sized_radius (kind.Choice letter) next h = h None
 sized_radius kind.K next h = (
   omega arith,
   λ f. sized_choice 0 (number_in f == 0) (next None) (reads want.Radius (λ r. next (Some (wide_in r))))
@@ -368,7 +371,7 @@ sized_head k next h = (
   ),
 )
 
-pub sized_whole : (k : Kind) (region : Option ℕ → Seen → Bool) → Sized 0 (whole k region)
+pub sized_whole : (k : Kind) (region : Option ℕ → Seen → Way) → Sized 0 (whole k region)
 sized_whole k region =
     sized_head k (part region) (λ h.
     sized_choice 0 (h.count == 0) (done (said h None)) (item (region h.radius) h.level (λ P. done (said h (Some P)))) tt
@@ -393,13 +396,13 @@ agree_first e final ends last (reads w next) sized begins s le =
     omega arith))
 agree_first e final ends last (notes n next) sized begins s le = absurd begins
 
-checked_agrees : (hash : List ℕ → List ℕ) (root : List ℕ) (q : Query) (bytes : List ℕ)
-    → Agrees (checked hash root q bytes) (all_faults hash root q bytes)
+checked_agrees : (hash : List ℕ → List ℕ) (root : List ℕ) (a : Question) (bytes : List ℕ)
+    → Agrees (checked hash root a bytes) (all_faults hash root a bytes)
 unfolding checked
-checked_agrees hash root q bytes =
-    agree_first (ending hash root q) (last_faults hash root q) (ending_agrees hash root q) (ending_late hash root q)
-    (whole (asks q).kind (asks q).region)
-    (sized_whole (asks q).kind (asks q).region) tt (start bytes) (omega arith)
+checked_agrees hash root a bytes =
+    agree_first (ending hash root a) (last_faults hash root a) (ending_agrees hash root a) (ending_late hash root a)
+    (whole a.kind a.way)
+    (sized_whole a.kind a.way) tt (start bytes) (omega arith)
 
 answer_agrees : {A B : Type 0} (r : Result A Fault) (m : A → B) (fs : List Fault) → Agrees r fs
     → Agrees (r >>= λ x. Ok (m x)) fs
@@ -407,11 +410,11 @@ answer_agrees (Ok x) m fs a = a
 answer_agrees (Err f) m fs a = a
 
 verdict_agrees : (hash : List ℕ → List ℕ) (root : List ℕ) (q : Query) (bytes : List ℕ)
-    → Agrees (verdict hash root q bytes) (all_faults hash root q bytes)
+    → Agrees (verdict hash root q bytes) (all_faults hash root (question q) bytes)
 unfolding verdict
 verdict_agrees hash root q bytes =
-    answer_agrees (checked hash root q bytes) (λ x. (asks q).answer (opened_records x.part))
-    (all_faults hash root q bytes) (checked_agrees hash root q bytes)
+    answer_agrees (checked hash root (question q) bytes) (λ x. scan (opened_records x.part) q)
+    (all_faults hash root (question q) bytes) (checked_agrees hash root (question q) bytes)
 
 no_first : (f : Fault) (fs : List Fault) → fs ≡ [] → IsFirst f fs → ⊥
 no_first f fs e p =
@@ -423,7 +426,13 @@ refused_just (Ok x) fs f a = (λ e. absurd cc, λ p. absurd (no_first f fs a p))
 refused_just (Err g) fs f a =
     (λ e. subst (λ (h : Fault). IsFirst h fs) (same_error g f e) a, λ p. ap Err (one_first g f fs a p))
 
+pub faults_just : (hash : List ℕ → List ℕ) (root : List ℕ) (a : Question) (bytes : List ℕ) (f : Fault)
+    → (checked hash root a bytes ≡ Err f) ↔ IsRefused hash root a bytes f
+faults_just hash root a bytes f =
+    refused_just (checked hash root a bytes) (all_faults hash root a bytes) f (checked_agrees hash root a bytes)
+
 pub refuses_just : (hash : List ℕ → List ℕ) (root : List ℕ) (q : Query) (bytes : List ℕ) (f : Fault)
-    → (verdict hash root q bytes ≡ Err f) ↔ IsRefused hash root q bytes f
+    → (verdict hash root q bytes ≡ Err f) ↔ IsRefused hash root (question q) bytes f
 refuses_just hash root q bytes f =
-    refused_just (verdict hash root q bytes) (all_faults hash root q bytes) f (verdict_agrees hash root q bytes)
+    refused_just (verdict hash root q bytes) (all_faults hash root (question q) bytes) f
+    (verdict_agrees hash root q bytes)

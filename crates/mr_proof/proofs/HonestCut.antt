@@ -19,12 +19,13 @@ use Rattle.mr_tree.proofs.Induction.{tree_induction, every_child}
 use Rattle.mr_tree.proofs.Equations.{rect-Inner}
 use Rattle.mr_geom.specs.Rectangle.{union_of}
 use Rattle.mr_proof.specs.Cut.{Cut, Cuts, Pruned, Leaf, Inner, no_more, first, shown_with, pruned_if, pruned_cut, cuts_of, rect, rects, CutOf, CutsOf}
-use Rattle.mr_proof.specs.Tight.{Seen, seen_at, met_by, Asks, IsTightCut, AreTightCuts}
-use Rattle.mr_proof.specs.Honest.{Part, entry_over, opened_cut, opened_if_met, part_step, part, region_of, honest_cut, honest_part}
+use Rattle.mr_proof.specs.declared.way.Way.{Way}
+use Rattle.mr_proof.specs.Tight.{Seen, seen_at, met_by, Question, IsTightCut, AreTightCuts}
+use Rattle.mr_proof.specs.Honest.{Part, entry_over, opened_cut, opened_if_met, part_step, part, ways_of, honest_cut, honest_part}
 use Rattle.mr_proof.proofs.Full.{IsFull, IsFullNode, there_tree, not_full_empty}
 
--- whether the region meets the rectangle of the tree
-abbrev pub meets : (Seen → Bool) → Tree → Bool
+-- whether the tree is to be opened
+abbrev pub meets : (Seen → Way) → Tree → Bool
 meets region t = met_by region (option_map seen_at (trees.rect t))
 
 -- ---- a cut of a tree has the tree's rectangle
@@ -44,17 +45,17 @@ mutual
 
 -- ---- the honest cut, opened or pruned
 
-part_out : (s : Scheme) (region : Seen → Bool) (t : Tree)
+part_out : (s : Scheme) (region : Seen → Way) (t : Tree)
     → part s region t ≡ part_step s region (map-Tree Tree Part (part s region) (out-Tree t))
 part_out s region t = fold_out-Tree Part (part_step s region) t
 
-entries_same : (s : Scheme) (region : Seen → Bool) (ts : List Tree)
+entries_same : (s : Scheme) (region : Seen → Way) (ts : List Tree)
     → AllByRecursion (λ t. (part s region t).entry ≡ entry s t) ts
     → map (λ (p : Part). p.entry) (map (part s region) ts) ≡ map (entry s) ts
 entries_same s region [] all = refl
 entries_same s region (t ∷ ts) all = λ i. all.0 i ∷ entries_same s region ts all.1 i
 
-entry_out : (s : Scheme) (region : Seen → Bool) (t : Tree) (x : Tree-F Tree) → out-Tree t ≡ x
+entry_out : (s : Scheme) (region : Seen → Way) (t : Tree) (x : Tree-F Tree) → out-Tree t ≡ x
     → (part s region t).entry ≡ entry_over s (map-Tree Tree Part (part s region) x)
 entry_out s region t x e =
     ap (λ (p : Part). p.entry) (part_out s region t)
@@ -66,7 +67,7 @@ known_out s t x e =
     fold_out-Tree Entry (entry_step s) t
     ∙ ap (λ (y : Tree-F Tree). entry_step s (map-Tree Tree Entry (entry s) y)) e
 
-pub entry_same : (s : Scheme) (region : Seen → Bool) (t : Tree)
+pub entry_same : (s : Scheme) (region : Seen → Way) (t : Tree)
     → (part s region t).entry ≡ entry s t
 entry_same s region = tree_induction (λ t. (part s region t).entry ≡ entry s t)
     (entry_out s region tree.Empty node.Empty tree.outs-Empty
@@ -78,14 +79,14 @@ entry_same s region = tree_induction (λ t. (part s region t).entry ≡ entry s 
     ∙ sym (known_out s (tree.Inner ts) (node.Inner ts) (tree.outs-Inner ts)))
 
 -- the tree opened, over the honest cuts of its children
-abbrev pub open_at : Scheme → (Seen → Bool) → Tree-F Tree → Cut
+abbrev pub open_at : Scheme → (Seen → Way) → Tree-F Tree → Cut
 open_at s region x = opened_cut (map-Tree Tree Part (part s region) x)
 
 -- the honest cuts of some trees
-abbrev pub honest_cuts : Scheme → (Seen → Bool) → List Tree → Cuts
+abbrev pub honest_cuts : Scheme → (Seen → Way) → List Tree → Cuts
 honest_cuts s region ts = cuts_of (map (λ (p : Part). p.cut) (map (part s region) ts))
 
-honest_is : (s : Scheme) (region : Seen → Bool) (t : Tree) (x : Tree-F Tree) → out-Tree t ≡ x
+honest_is : (s : Scheme) (region : Seen → Way) (t : Tree) (x : Tree-F Tree) → out-Tree t ≡ x
     → honest_cut s region t
     ≡ (if meets region t then open_at s region x else pruned_cut (entry s t))
 honest_is s region t x e =
@@ -96,7 +97,7 @@ honest_is s region t x e =
     ∙ (λ i. if met_by region (option_map seen_at (entry_rect s t i)) then open_at s region (e i)
     else pruned_cut (entry s t))
 
-pub honest_missed : (s : Scheme) (region : Seen → Bool) (t : Tree) → meets region t ≡ false
+pub honest_missed : (s : Scheme) (region : Seen → Way) (t : Tree) → meets region t ≡ false
     → honest_cut s region t ≡ pruned_cut (entry s t)
 honest_missed s region t f = honest_is s region t (out-Tree t) refl ∙ rw f refl
 
@@ -106,21 +107,21 @@ pub pruned_shown : (s : Scheme) (t : Tree) (r : Rectangle) → trees.rect t ≡ 
 pruned_shown s t r e =
     ap (λ (o : Option Rectangle). pruned_if (option_map (shown_with (entry s t)) o)) (entry_rect s t ∙ e)
 
-pub honest_met : (s : Scheme) (region : Seen → Bool) (t : Tree) (x : Tree-F Tree) → out-Tree t ≡ x
+pub honest_met : (s : Scheme) (region : Seen → Way) (t : Tree) (x : Tree-F Tree) → out-Tree t ≡ x
     → meets region t ≡ true → honest_cut s region t ≡ open_at s region x
 honest_met s region t x e m = honest_is s region t x e ∙ rw m refl
 
 -- ---- it is a tight cut
 
-pub record IsGoodCut (s : Scheme) (region : Seen → Bool) (t : Tree) (P : Cut) : Type 0 where
+pub record IsGoodCut (s : Scheme) (region : Seen → Way) (t : Tree) (P : Cut) : Type 0 where
   pub cut : CutOf s P t
   pub tight : IsTightCut region P
 
-record AreGoodCuts (s : Scheme) (region : Seen → Bool) (ts : List Tree) (Ps : Cuts) : Type 0 where
+record AreGoodCuts (s : Scheme) (region : Seen → Way) (ts : List Tree) (Ps : Cuts) : Type 0 where
   cuts : CutsOf s Ps ts
   tight : AreTightCuts region Ps
 
-missed_good : (s : Scheme) (region : Seen → Bool) (t : Tree) → IsFull t → meets region t ≡ false
+missed_good : (s : Scheme) (region : Seen → Way) (t : Tree) → IsFull t → meets region t ≡ false
     → IsGoodCut s region t (honest_cut s region t)
 missed_good s region t full f =
     let p = there_tree t full in
@@ -131,7 +132,7 @@ missed_good s region t full f =
       tight = sym (ap (λ (o : Option Rectangle). met_by region (option_map seen_at o)) p.is) ∙ f;
     })
 
-leaf_good : (s : Scheme) (region : Seen → Bool) (rs : List Record) → meets region (tree.Leaf rs) ≡ true
+leaf_good : (s : Scheme) (region : Seen → Way) (rs : List Record) → meets region (tree.Leaf rs) ≡ true
     → IsGoodCut s region (tree.Leaf rs) (honest_cut s region (tree.Leaf rs))
 leaf_good s region rs m =
     subst (IsGoodCut s region (tree.Leaf rs))
@@ -141,10 +142,10 @@ leaf_good s region rs m =
       tight = ap (λ (o : Option Rectangle). met_by region (option_map seen_at o)) (sym (rect-Leaf rs)) ∙ m;
     })
 
-abbrev IsGood : Scheme → (Seen → Bool) → Tree → Type 0
+abbrev IsGood : Scheme → (Seen → Way) → Tree → Type 0
 IsGood s region t = IsFull t → IsGoodCut s region t (honest_cut s region t)
 
-goods : (s : Scheme) (region : Seen → Bool) (ts : List Tree) → AllByRecursion (IsGood s region) ts
+goods : (s : Scheme) (region : Seen → Way) (ts : List Tree) → AllByRecursion (IsGood s region) ts
     → AllByRecursion IsFull ts → AreGoodCuts s region ts (honest_cuts s region ts)
 goods s region [] all full = record { cuts = refl; tight = tt }
 goods s region (t ∷ ts) all full =
@@ -152,7 +153,7 @@ goods s region (t ∷ ts) all full =
     let rest = goods s region ts all.1 full.1 in
     record { cuts = (t, ts, refl, one.cut, rest.cuts); tight = (one.tight, rest.tight) }
 
-inner_good : (s : Scheme) (region : Seen → Bool) (ts : List Tree)
+inner_good : (s : Scheme) (region : Seen → Way) (ts : List Tree)
     → meets region (tree.Inner ts) ≡ true → AreGoodCuts s region ts (honest_cuts s region ts)
     → IsGoodCut s region (tree.Inner ts) (honest_cut s region (tree.Inner ts))
 inner_good s region ts m all =
@@ -166,7 +167,7 @@ inner_good s region ts m all =
       tight = (ap (λ (o : Option Rectangle). met_by region (option_map seen_at o)) whole ∙ m, all.tight);
     })
 
-pub honest_good : (s : Scheme) (region : Seen → Bool) (t : Tree) → IsFull t
+pub honest_good : (s : Scheme) (region : Seen → Way) (t : Tree) → IsFull t
     → IsGoodCut s region t (honest_cut s region t)
 honest_good s region = tree_induction (IsGood s region)
     (λ full. absurd (not_full_empty full))
@@ -181,9 +182,9 @@ honest_good s region = tree_induction (IsGood s region)
 
 -- ---- the cut of the honest proof, where there is one
 
-pub some_part : (s : Scheme) (a : Asks) (t : Tree) → 1 ≤ length (trees.records t)
-    → honest_part s a t ≡ Some (honest_cut s (region_of a t) t)
+pub some_part : (s : Scheme) (a : Question) (t : Tree) → 1 ≤ length (trees.records t)
+    → honest_part s a t ≡ Some (honest_cut s (ways_of a t) t)
 some_part s a t some = rw (ne_eqb (length (trees.records t)) 0 (λ z. omega arith)) refl
 
-pub no_part : (s : Scheme) (a : Asks) (t : Tree) → length (trees.records t) ≡ 0 → honest_part s a t ≡ None
+pub no_part : (s : Scheme) (a : Question) (t : Tree) → length (trees.records t) ≡ 0 → honest_part s a t ≡ None
 no_part s a t none = rw (eq-eqb (length (trees.records t)) 0 none) refl

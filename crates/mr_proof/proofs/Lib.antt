@@ -10,6 +10,7 @@ pub mod Completeness
 pub mod Halves
 pub mod Pairs
 pub mod Longer
+pub mod Handed
 pub mod Preimages
 pub mod Full
 pub mod HonestCut

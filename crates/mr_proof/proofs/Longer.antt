@@ -3,7 +3,6 @@ use Rattle.std.proofs.Common.{◌≡◌, ℕ, ◌+◌, ◌<◌, ◌≤◌, Bool,
 use Rattle.std.specs.Prelude.{if◌then◌else◌, nat_lt, not, bytes_eq}
 use Rattle.std.proofs.lemmas.Bool.{cases_Bool, ltb-true, ltb-false, le-ltb, lt-ltb}
 use Rattle.std.proofs.lemmas.List.{length-append, take-append-le, drop-append-le}
-use Rattle.mr_query.specs.declared.query.Query.{Query}
 use Rattle.mr_proof.specs.declared.rule.Rule.{Rule}
 use Rattle.mr_proof.specs.declared.rule.Rule.TheVariants as rule
 use Rattle.mr_proof.specs.declared.rule.Fault.{Fault}
@@ -12,14 +11,14 @@ use Rattle.mr_proof.specs.declared.field.Field.{Field}
 use Rattle.mr_proof.specs.Limits.{place_limit}
 use Rattle.mr_proof.specs.Fields.{size_of, field_of}
 use Rattle.mr_proof.specs.Spelling.{Said, opened_records}
-use Rattle.mr_proof.specs.Tight.{asks}
+use Rattle.mr_proof.specs.Tight.{Question}
 use Rattle.mr_proof.specs.Accepted.{root_found}
 use Rattle.mr_proof.specs.Grammar.{Grammar, must, opens, done, reads, notes, whole}
 use Rattle.mr_proof.specs.Layout.{fault, Stand, start, field_or_fault, field_at}
 use Rattle.mr_proof.specs.Refused.{has_other_radius}
-use Rattle.mr_proof.specs.Reading.{◌>>=◌, walk, ending, checked, verdict}
+use Rattle.mr_proof.specs.Reading.{◌>>=◌, walk, ending, checked}
 use Rattle.mr_proof.specs.Halves.{IsSettled, StaysRefused}
-use Rattle.mr_proof.proofs.FirstFault.{refuses_just}
+use Rattle.mr_proof.proofs.FirstFault.{faults_just}
 use Rattle.mr_proof.proofs.Values.{same_fault}
 
 -- the same place in a longer string
@@ -96,12 +95,12 @@ end_stays false true false b2 t w r f x after more no_w no_r settled e = absurd 
 end_stays false false d b2 t w r f x after more no_w no_r settled e =
     absurd (no_w (subst (λ (h : Fault). IsSettled h.rule) (sym (same_fault w f e)) settled))
 
-ending_stays : (hash : List ℕ → List ℕ) (root : List ℕ) (q : Query) (more : List ℕ) (f : Fault) → IsSettled f.rule
-    → (x : Said) (s : Stand) → ending hash root q x s ≡ Err f → ending hash root q x (longer more s) ≡ Err f
+ending_stays : (hash : List ℕ → List ℕ) (root : List ℕ) (a : Question) (more : List ℕ) (f : Fault) → IsSettled f.rule
+    → (x : Said) (s : Stand) → ending hash root a x s ≡ Err f → ending hash root a x (longer more s) ≡ Err f
 unfolding ending
-ending_stays hash root q more f settled x s is =
+ending_stays hash root a more f settled x s is =
     let found = root_found hash x.head x.part in
-    let other = has_other_radius q x.head.radius (opened_records x.part) in
+    let other = has_other_radius a.around x.head.radius (opened_records x.part) in
     let end = s.at + length s.rest in
     let far = s.at + length (s.rest ++ more) in
     end_stays (nat_lt 0 (length s.rest)) (bytes_eq found root) other (nat_lt 0 (length (s.rest ++ more)))
@@ -112,23 +111,15 @@ ending_stays hash root q more f settled x s is =
     lt-ltb 0 (length (s.rest ++ more)) (omega (arith, length-append s.rest more)))
     (λ h. h) (λ h. h) settled is
 
-not_answered : {A B : Type 0} (r : Result A Fault) (m : A → B) (f : Fault) → (r >>= λ x. Ok (m x)) ≡ Err f → r ≡ Err f
-not_answered (Ok x) m f e = absurd cc
-not_answered (Err g) m f e = ap (λ (h : Fault). Err h) (same_fault g f e)
+checked_stays : (hash : List ℕ → List ℕ) (root : List ℕ) (a : Question) (bytes : List ℕ) (f : Fault) (more : List ℕ)
+    → IsSettled f.rule → checked hash root a bytes ≡ Err f → checked hash root a (bytes ++ more) ≡ Err f
+unfolding checked
+checked_stays hash root a bytes f more settled e =
+    walk_stays (ending hash root a) more f settled (ending_stays hash root a more f settled) (whole a.kind a.way)
+    (start bytes) e
 
-verdict_stays : (hash : List ℕ → List ℕ) (root : List ℕ) (q : Query) (bytes : List ℕ) (f : Fault) (more : List ℕ)
-    → IsSettled f.rule → verdict hash root q bytes ≡ Err f → verdict hash root q (bytes ++ more) ≡ Err f
-unfolding verdict checked
-verdict_stays hash root q bytes f more settled e =
-    let g = whole (asks q).kind (asks q).region in
-    let first = not_answered (walk true (ending hash root q) g (start bytes))
-    (λ x. (asks q).answer (opened_records x.part)) f e in
-    let again : walk true (ending hash root q) g (start (bytes ++ more)) ≡ Err f = walk_stays
-    (ending hash root q) more f settled (ending_stays hash root q more f settled) g (start bytes) first in
-    rw again refl
-
-pub stays_refused : (hash : List ℕ → List ℕ) (root : List ℕ) (q : Query) (bytes : List ℕ)
-    → StaysRefused hash root q bytes
-stays_refused hash root q bytes = λ f more settled r.
-    (refuses_just hash root q (bytes ++ more) f).0
-    (verdict_stays hash root q bytes f more settled ((refuses_just hash root q bytes f).1 r))
+pub stays_refused : (hash : List ℕ → List ℕ) (root : List ℕ) (a : Question) (bytes : List ℕ)
+    → StaysRefused hash root a bytes
+stays_refused hash root a bytes = λ f more settled r.
+    (faults_just hash root a (bytes ++ more) f).0
+    (checked_stays hash root a bytes f more settled ((faults_just hash root a bytes f).1 r))

@@ -13,16 +13,21 @@ use Rattle.mr_tree.specs.declared.tree.Tree.TheFolds.{every-Tree}
 use Rattle.mr_tree.proofs.Induction.{every_child}
 use Rattle.mr_query.specs.Word.{IsQuery}
 use Rattle.mr_query.specs.declared.query.Query.{Query}
+use Rattle.mr_query.specs.declared.query.Query.TheVariants.{Window, Nearest}
+use Rattle.mr_proof.specs.declared.head.Kind.{Kind}
 use Rattle.mr_proof.specs.Cut.{Cut, Cuts, Pruned, Leaf, Inner, no_more, first, entries, CutOf, CutsOf}
-use Rattle.mr_proof.specs.Tight.{asks}
+use Rattle.mr_proof.specs.Tight.{Question, IsLawful, kind_of, question}
 use Rattle.mr_proof.specs.Accepted.{root_bytes}
-use Rattle.mr_proof.specs.Honest.{honest_head, honest_part, proof}
-use Rattle.mr_proof.specs.Clash.{differ, or_else, children, children_in, node_clash, children_clash, part_clash, pair_clash, if_said}
-use Rattle.mr_proof.specs.Headline.{HonestIsQuiet}
+use Rattle.mr_proof.specs.Honest.{honest_head, honest_part, proof_for, proof}
+use Rattle.mr_proof.specs.Halves.{IsQueried}
+use Rattle.mr_proof.specs.Reading.{kind_in}
+use Rattle.mr_proof.specs.Clash.{differ, or_else, children, children_in, node_clash, children_clash, part_clash, pair_clash, if_said, clash_of}
+use Rattle.mr_proof.specs.Headline.{HonestProofIsQuiet, HonestIsQuiet}
 use Rattle.mr_proof.proofs.Values.{bytes_same}
 use Rattle.mr_proof.proofs.PreimageBytes.{IsSized}
+use Rattle.mr_proof.proofs.Laws.{is_lawful}
 use Rattle.mr_proof.proofs.Complete.{Levels, Even, below_levels, entry_cuts, root_same, honest_stands}
-use Rattle.mr_proof.proofs.Pairs.{pair_found}
+use Rattle.mr_proof.proofs.Pairs.{kind_spelled, pair_found_of}
 use Rattle.mr_proof.proofs.SameNodes.{preimage-Leaf, preimage-Inner}
 
 differ_same : (x y : List ℕ) → x ≡ y → differ x (Some y) ≡ None
@@ -63,12 +68,25 @@ part_quiet : (s : Scheme) (t : Tree) (P : Option Cut) → WellFormed t → IfSom
 part_quiet s t None well c = refl
 part_quiet s t (Some P) well c = no_clash s (level t) P t c well.one_level refl
 
-pub honest_quiet : (s : Scheme) → IsSized s.of → (q : Query) → IsQuery q → HonestIsQuiet s q
-honest_quiet s h q is = λ t b well low.
-    let own = honest_stands s h q is t b well low in
-    let head = honest_head (asks q) t b in
-    let part = honest_part s (asks q) t in
-    let same = root_same s (asks q) t b part well own.spelled.part own.cut in
-    ap (λ o. if_said o (pair_clash s t b)) (pair_found head part (proof s t b q) own.spelled)
+pub own_quiet : (s : Scheme) → IsSized s.of → (a : Question) → IsLawful a → HonestProofIsQuiet s a
+own_quiet s h a law = λ t b well low.
+    let own = honest_stands s h a law t b well low in
+    let head = honest_head a t b in
+    let part = honest_part s a t in
+    let same = root_same s a t b part well own.spelled.part own.cut in
+    ap (λ o. if_said o (pair_clash s t b)) (pair_found_of a.kind head part (proof_for s a t b) refl own.spelled)
     ∙ (λ i. or_else (differ_same (digests.root_bytes s t b) (root_bytes s.of head part) same i)
     (part_quiet s t part well own.cut i))
+
+queried : (q : Query) → IsQueried (kind_of q)
+queried (Window w) = tt
+queried (Nearest p k) = tt
+
+pub honest_quiet : (s : Scheme) → IsSized s.of → (q : Query) → IsQuery q → HonestIsQuiet s q
+honest_quiet s h q is = λ t b well low.
+    let own = honest_stands s h (question q) (is_lawful q is) t b well low in
+    let kind : kind_in (proof s t b q) ≡ kind_of q =
+    kind_spelled (honest_head (question q) t b) (honest_part s (question q) t) (proof s t b q) (queried q) own.spelled
+    in
+    ap (λ (k : Kind). clash_of k s t b (proof s t b q)) kind
+    ∙ own_quiet s h (question q) (is_lawful q is) t b well low

@@ -12,7 +12,8 @@ use Rattle.mr_record.specs.Bytes.{AreBytes}
 use Rattle.mr_record.specs.Record.{IsRecord, record_bytes, rectangle_bytes}
 use Rattle.mr_record.specs.Version.{version_byte}
 use Rattle.mr_record.specs.declared.record.Record.{Record}
-use Rattle.mr_query.specs.Word.{IsAskable}
+use Rattle.mr_query.specs.Word.{IsQuery}
+use Rattle.mr_query.specs.Scan.{scan}
 use Rattle.mr_query.specs.declared.query.Query.{Query}
 use Rattle.std.proofs.Math.Dec.{eqb-suc-zero}
 use Rattle.mr_proof.specs.declared.head.Kind.{Kind}
@@ -26,14 +27,15 @@ use Rattle.mr_proof.specs.Limits.{count_limit, radius_limit, level_limit, leaf_l
 use Rattle.mr_proof.specs.Fields.{magic, kind_byte, pruned_tag, leaf_tag, inner_tag, opened_tag, version}
 use Rattle.mr_proof.specs.Cut.{Cut, Cuts, Pruned, Leaf, Inner, no_more, first, count_of}
 use Rattle.mr_proof.specs.Spelling.{cut_bytes, cuts_bytes, FitsShown, FitsLeaf, FitsInner, FitsCut, FitCuts, radius_bytes, level_bytes, head_bytes, FitsRadius, FitsHead, Said, said, opened_records, part_bytes, FitsPart, IsSpelled}
-use Rattle.mr_proof.specs.Tight.{Seen, seen_at, seen, met_by, asks, IsTightCut, AreTightCuts}
-use Rattle.mr_proof.specs.Accepted.{root_found, Proves}
+use Rattle.mr_proof.specs.declared.way.Way.{Way}
+use Rattle.mr_proof.specs.Tight.{Seen, seen, met_by, opens_at, keeps_at, Question, question, IsLawful, IsTightCut, AreTightCuts}
+use Rattle.mr_proof.specs.Accepted.{root_found, Shows, Proves}
 use Rattle.mr_proof.specs.Grammar.{must, opens, Grammar, done, reads, notes, number_in, wide_in, tag_in, rect_in, bytes_in, payload, one_record, some_records, opened, leaf, some_items, inner, pruned, item, radius, level, head, part, whole}
 use Rattle.mr_proof.specs.Layout.{fault, Stand, start}
 use Rattle.mr_proof.specs.Refused.{has_other_radius}
 use Rattle.mr_proof.specs.Reading.{past, walk, ending, checked, verdict}
 use Rattle.mr_record.proofs.Encodings.{IsBytes, AreBytes-from}
-use Rattle.mr_proof.proofs.Laws.{right_radius}
+use Rattle.mr_proof.proofs.Laws.{right_radius, is_lawful}
 use Rattle.mr_proof.proofs.Values.{same_bytes, same_value, tail}
 use Rattle.mr_proof.proofs.FieldsTaken.{Took, took_none, took_both, took_as, Taken, behind_step, take_reads, length_meant, level_meant, flag_meant, leaf_count_meant, inner_count_meant, number_meant, batch_meant, count_meant, radius_meant, rect_meant, payload_meant, digest_meant, tag_meant, magic_meant, version_meant, kind_meant}
 
@@ -85,14 +87,14 @@ take_record heeds e next s a fits is =
       rest = p.rest;
     }
 
-take_records : {A B : Type 0} (heeds : Bool) (e : A → Stand → Result B Fault) (region : Seen → Bool) (n : ℕ)
+take_records : {A B : Type 0} (heeds : Bool) (e : A → Stand → Result B Fault) (region : Seen → Way) (n : ℕ)
     (next : List Record → Grammar A)
     (s : Stand) (a : B) → IsBytes s.rest → s.at ≤ place_limit → walk heeds e (some_records region n next) s ≡ Ok a
     → Taken heeds e (flat_map record_bytes) (λ rs. (length rs ≡ n) × AllByRecursion IsRecord rs) next s a
 take_records heeds e region zero next s a fits within is = record
     { value = []; end = s; good = (refl, tt); took = took_none s fits within; rest = is }
 take_records heeds e region (suc n) next s a fits within is =
-    let r = take_record heeds e (λ r. notes (opens r (region (seen_at r.rect)))
+    let r = take_record heeds e (λ r. notes (opens r (keeps_at region r.rect))
     (some_records region n (λ rs. next (r ∷ rs)))) s a fits is in
     let rs = take_records heeds e region n (λ rs. next (r.value ∷ rs)) r.end a r.took.fits r.took.within r.rest in
     record {
@@ -108,10 +110,10 @@ take_records heeds e region (suc n) next s a fits within is =
 -- ---- items
 
 -- a cut of this level that is spelled, and, where notes are heeded, is tight for the region
-abbrev pub IsGood : Bool → (Seen → Bool) → ℕ → Cut → Type 0
+abbrev pub IsGood : Bool → (Seen → Way) → ℕ → Cut → Type 0
 IsGood heeds region v P = FitsCut v P × (heeds ≡ true → IsTightCut region P)
 
-abbrev pub AreGood : Bool → (Seen → Bool) → ℕ → ℕ → Cuts → Type 0
+abbrev pub AreGood : Bool → (Seen → Way) → ℕ → ℕ → Cuts → Type 0
 AreGood heeds region v n Ps = (count_of Ps ≡ n) × FitCuts v Ps × (heeds ≡ true → AreTightCuts region Ps)
 
 -- a note was passed
@@ -126,7 +128,7 @@ not_true : (b : Bool) → not b ≡ true → b ≡ false
 not_true true e = absurd (false≢true e)
 not_true false e = refl
 
-take_leaf : {A B : Type 0} (heeds : Bool) (e : A → Stand → Result B Fault) (region : Seen → Bool)
+take_leaf : {A B : Type 0} (heeds : Bool) (e : A → Stand → Result B Fault) (region : Seen → Way)
     (next : Cut → Grammar A) (s : Stand) (a : B) → IsBytes s.rest → s.at ≤ place_limit
     → walk heeds e (leaf region next) s ≡ Ok a
     → (P : Cut) × (t : Stand) × IsGood heeds region 0 P × (cut_bytes P ≡ leaf_tag ∷ tail P) × Took (tail P) s t
@@ -159,7 +161,7 @@ take_leaf heeds e region next s a fits within is =
       met.1,
     )
 
-take_pruned : {A B : Type 0} (heeds : Bool) (e : A → Stand → Result B Fault) (region : Seen → Bool) (v : ℕ)
+take_pruned : {A B : Type 0} (heeds : Bool) (e : A → Stand → Result B Fault) (region : Seen → Way) (v : ℕ)
     (next : Cut → Grammar A) (s : Stand) (a : B) → IsBytes s.rest → walk heeds e (pruned region next) s ≡ Ok a
     → (P : Cut) × (t : Stand) × IsGood heeds region v P × (cut_bytes P ≡ pruned_tag ∷ tail P) × Took (tail P) s t
     × (walk heeds e (next P) t ≡ Ok a)
@@ -167,8 +169,8 @@ take_pruned heeds e region v next s a fits is =
     let behind_rect = λ (r : Rectangle). reads want.Digest
     (λ d. next (Pruned (record { rect = r; digest = bytes_in d }))) in
     let r = take_reads heeds e want.Rect rect_in rectangle_bytes (λ r. IsOrdered r × FitsMap r) rect_meant
-    (λ r. notes (must rule.Hidden (not (region (seen_at r)))) (behind_rect r)) s a fits is in
-    let missed = note_passed heeds rule.Hidden (not (region (seen_at r.value))) r.end.last
+    (λ r. notes (must rule.Hidden (not (opens_at region r))) (behind_rect r)) s a fits is in
+    let missed = note_passed heeds rule.Hidden (not (opens_at region r.value)) r.end.last
     (walk heeds e (behind_rect r.value) r.end) a r.rest in
     let d = take_reads heeds e want.Digest bytes_in (λ d. d) (λ d. (length d ≡ 32) × AreBytes d) digest_meant
     (λ d. next (Pruned (record { rect = r.value; digest = d }))) r.end a r.took.fits missed.1 in
@@ -176,20 +178,20 @@ take_pruned heeds e region v next s a fits is =
     { ordered = r.good.0; coordinates = r.good.1; digest = d.good.0; bytes = d.good.1 } in (
       Pruned (record { rect = r.value; digest = d.value }),
       d.end,
-      (fine, λ h. not_true (region (seen_at r.value)) (missed.0 h)),
+      (fine, λ h. not_true (opens_at region r.value) (missed.0 h)),
       refl,
       took_both (rectangle_bytes r.value) d.value s r.end d.end r.took d.took,
       d.rest,
     )
 
 -- an item by its tag
-abbrev Items : {A B : Type 0} → Bool → (A → Stand → Result B Fault) → (Seen → Bool) → ℕ
+abbrev Items : {A B : Type 0} → Bool → (A → Stand → Result B Fault) → (Seen → Way) → ℕ
     → ((Cut → Grammar A) → Grammar A) → Type 0
 Items {A} {B} heeds e region v one =
     (next : Cut → Grammar A) (s : Stand) (a : B) → IsBytes s.rest → walk heeds e (one next) s ≡ Ok a
     → Taken heeds e cut_bytes (IsGood heeds region v) next s a
 
-take_items : {A B : Type 0} (heeds : Bool) (e : A → Stand → Result B Fault) (region : Seen → Bool) (v : ℕ)
+take_items : {A B : Type 0} (heeds : Bool) (e : A → Stand → Result B Fault) (region : Seen → Way) (v : ℕ)
     (one : (Cut → Grammar A) → Grammar A) → Items heeds e region v one
     → (n : ℕ) (next : Cuts → Grammar A) (s : Stand) (a : B) → IsBytes s.rest → s.at ≤ place_limit
     → walk heeds e (some_items one n next) s ≡ Ok a → Taken heeds e cuts_bytes (AreGood heeds region v n) next s a
@@ -207,7 +209,7 @@ take_items heeds e region v one take_one (suc n) next s a fits within is =
       rest = Ps.rest;
     }
 
-take_inner : {A B : Type 0} (heeds : Bool) (e : A → Stand → Result B Fault) (region : Seen → Bool) (v : ℕ)
+take_inner : {A B : Type 0} (heeds : Bool) (e : A → Stand → Result B Fault) (region : Seen → Way) (v : ℕ)
     (one : (Cut → Grammar A) → Grammar A) → Items heeds e region v one
     → (next : Cut → Grammar A) (s : Stand) (a : B) → IsBytes s.rest → walk heeds e (inner region one next) s ≡ Ok a
     → (P : Cut) × (t : Stand) × IsGood heeds region (suc v) P × (cut_bytes P ≡ inner_tag ∷ tail P) × Took (tail P) s t
@@ -250,7 +252,7 @@ other_tag b c d (inr p) f = p
 inner_tag_is : (v : ℕ) → opened_tag (suc v) ≡ inner_tag
 inner_tag_is v = rw (eqb-suc-zero v) refl
 
-take_item : {A B : Type 0} (heeds : Bool) (e : A → Stand → Result B Fault) (region : Seen → Bool) (v : ℕ)
+take_item : {A B : Type 0} (heeds : Bool) (e : A → Stand → Result B Fault) (region : Seen → Way) (v : ℕ)
     → Items heeds e region v (item region v)
 take_item heeds e region zero next s a fits is =
     let t = take_reads heeds e (want.Tag 0) tag_in (λ b. b ∷ []) (λ b. (b ≡ pruned_tag) ⊎ (b ≡ opened_tag 0))
@@ -337,6 +339,8 @@ take_radius : {A B : Type 0} (heeds : Bool) (e : A → Stand → Result B Fault)
     → Taken heeds e (radius_bytes k) (FitsRadius k) next s a
 take_radius heeds e kind.W next s a fits within is = record
     { value = None; end = s; good = refl; took = took_none s fits within; rest = is }
+take_radius heeds e (kind.Choice letter) next s a fits within is = record
+    { value = None; end = s; good = refl; took = took_none s fits within; rest = is }
 take_radius heeds e kind.K next s a fits within is =
     let f = take_reads heeds e want.Flag number_in (λ f. f ∷ []) (λ f. f ≤ 1) flag_meant
     (λ f. if f == 0 then next None else reads want.Radius (λ r. next (Some (wide_in r)))) s a fits is in
@@ -420,7 +424,7 @@ take_head heeds e k next s a fits is =
 
 -- what a walk through a whole proof took: a head of the kind and a cut, and what the ending gives behind them
 pub record TakenWhole {B : Type 0} (heeds : Bool) (e : Said → Stand → Result B Fault) (k : Kind)
-    (region : Option ℕ → Seen → Bool) (bytes : List ℕ) (a : B) : Type 0 where
+    (region : Option ℕ → Seen → Way) (bytes : List ℕ) (a : B) : Type 0 where
   pub value : Said
   pub end : Stand
   pub kind : value.head.kind ≡ k
@@ -431,7 +435,7 @@ pub record TakenWhole {B : Type 0} (heeds : Bool) (e : Said → Stand → Result
   pub rest : e value end ≡ Ok a
 
 pub take_whole : {B : Type 0} (heeds : Bool) (e : Said → Stand → Result B Fault) (k : Kind)
-    (region : Option ℕ → Seen → Bool) (bytes : List ℕ) (a : B) → IsBytes bytes
+    (region : Option ℕ → Seen → Way) (bytes : List ℕ) (a : B) → IsBytes bytes
     → walk heeds e (whole k region) (start bytes) ≡ Ok a → TakenWhole heeds e k region bytes a
 take_whole heeds e k region bytes a fits is =
     let h = take_head heeds e k (part region) (start bytes) a fits is in
@@ -465,7 +469,7 @@ take_whole heeds e k region bytes a fits is =
 
 -- where nothing is left, the whole of the bytes was taken
 pub spelled_whole : {B : Type 0} (heeds : Bool) (e : Said → Stand → Result B Fault) (k : Kind)
-    (region : Option ℕ → Seen → Bool) (bytes : List ℕ) (a : B) (x : TakenWhole heeds e k region bytes a)
+    (region : Option ℕ → Seen → Way) (bytes : List ℕ) (a : B) (x : TakenWhole heeds e k region bytes a)
     → x.end.rest ≡ []
     → IsSpelled x.value.head x.value.part bytes
 spelled_whole heeds e k region bytes a x none =
@@ -490,15 +494,15 @@ not_false false e = absurd (false≢true (sym e))
 pub nothing_left : (rest : List ℕ) → nat_lt 0 (length rest) ≡ false → rest ≡ []
 nothing_left rest e = let none : length rest ≤ 0 = ltb-false 0 (length rest) e in nil_from_length rest (omega arith)
 
-pub take_end : (hash : List ℕ → List ℕ) (root : List ℕ) (q : Query) (x : Said) (s : Stand) (y : Said)
-    → ending hash root q x s ≡ Ok y
+pub take_end : (hash : List ℕ → List ℕ) (root : List ℕ) (a : Question) (x : Said) (s : Stand) (y : Said)
+    → ending hash root a x s ≡ Ok y
     → (s.rest ≡ []) × (root_found hash x.head x.part ≡ root)
-    × (has_other_radius q x.head.radius (opened_records x.part) ≡ false) × (x ≡ y)
+    × (has_other_radius a.around x.head.radius (opened_records x.part) ≡ false) × (x ≡ y)
 unfolding ending
-take_end hash root q x s y is =
+take_end hash root a x s y is =
     let found = root_found hash x.head x.part in
     let end = s.at + length s.rest in
-    let other = has_other_radius q x.head.radius (opened_records x.part) in
+    let other = has_other_radius a.around x.head.radius (opened_records x.part) in
     let t = not_failed (nat_lt 0 (length s.rest)) (fault rule.Trailing s.at)
     (if not (bytes_eq found root) then Err (fault (rule.WrongRoot found) end) else if other then Err
     (fault rule.WrongRadius end) else Ok x) y is in
@@ -507,24 +511,30 @@ take_end hash root q x s y is =
     let o = not_failed other (fault rule.WrongRadius end) (Ok x) y r.1 in
     (nothing_left s.rest t.0, same_bytes found root (not_false (bytes_eq found root) r.0), o.0, same_value x y o.1)
 
-pub proves_from : (hash : List ℕ → List ℕ) (root : List ℕ) (q : Query) (bytes : List ℕ) (answer : List Record)
-    → IsAskable q → IsBytes bytes → verdict hash root q bytes ≡ Ok answer → Proves hash root (asks q) bytes answer
-unfolding verdict checked
-proves_from hash root q bytes answer may fits is =
-    let c = behind_step (walk true (ending hash root q) (whole (asks q).kind (asks q).region) (start bytes))
-    (λ x. Ok ((asks q).answer (opened_records x.part))) answer is in
-    let x = take_whole true (ending hash root q) (asks q).kind (asks q).region bytes c.0 fits c.1 in
-    let z = take_end hash root q x.value x.end c.0 x.rest in
-    record {
-      head = x.value.head;
-      part = x.value.part;
-      spelled = spelled_whole true (ending hash root q) (asks q).kind (asks q).region bytes c.0 x z.0;
+-- the head and cut of accepted bytes are shown by them
+pub shows_from : (hash : List ℕ → List ℕ) (root : List ℕ) (a : Question) (bytes : List ℕ) (y : Said)
+    → IsLawful a → IsBytes bytes → checked hash root a bytes ≡ Ok y → Shows hash root a bytes y
+unfolding checked
+shows_from hash root a bytes y law fits is =
+    let x = take_whole true (ending hash root a) a.kind a.way bytes y fits is in
+    let z = take_end hash root a x.value x.end y x.rest in
+    subst (Shows hash root a bytes) z.3 (record {
+      spelled = spelled_whole true (ending hash root a) a.kind a.way bytes y x z.0;
       kind = x.kind;
       tight = record {
         parts = x.tight refl;
-        radius = right_radius q x.value.head (opened_records x.value.part) may x.kind x.fits z.2;
+        radius = right_radius a x.value.head (opened_records x.value.part) law x.kind x.fits z.2;
       };
       held = z.1;
-      scanned = sym (same_value ((asks q).answer (opened_records c.0.part)) answer c.2)
-          ∙ ap (λ (y : Said). (asks q).answer (opened_records y.part)) (sym z.3);
+    })
+
+pub proves_from : (hash : List ℕ → List ℕ) (root : List ℕ) (q : Query) (bytes : List ℕ) (answer : List Record)
+    → IsQuery q → IsBytes bytes → verdict hash root q bytes ≡ Ok answer → Proves hash root q bytes answer
+unfolding verdict
+proves_from hash root q bytes answer is fits e =
+    let c = behind_step (checked hash root (question q) bytes) (λ x. Ok (scan (opened_records x.part) q)) answer e in
+    record {
+      said = c.0;
+      shows = shows_from hash root (question q) bytes c.0 (is_lawful q is) fits c.1;
+      scanned = sym (same_value (scan (opened_records c.0.part) q) answer c.2);
     }

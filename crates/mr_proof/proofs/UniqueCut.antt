@@ -11,33 +11,34 @@ use Rattle.mr_tree.specs.declared.tree.Tree.TheOpen as node
 use Rattle.mr_tree.specs.declared.tree.Tree.TheViews.{out-Tree}
 use Rattle.mr_proof.specs.declared.shown.Shown.{Shown}
 use Rattle.mr_proof.specs.Cut.{Cut, Cuts, Pruned, Leaf, Inner, no_more, first, CutOf, CutsOf}
-use Rattle.mr_proof.specs.Tight.{Seen, seen_at, met_by, IsTightCut, AreTightCuts}
+use Rattle.mr_proof.specs.declared.way.Way.{Way}
+use Rattle.mr_proof.specs.Tight.{Seen, seen_at, met_by, opens_at, IsTightCut, AreTightCuts}
 use Rattle.mr_proof.specs.Honest.{honest_cut}
 use Rattle.mr_proof.proofs.HonestCut.{meets, rect_of_cut, honest_cuts, honest_missed, pruned_shown, honest_met}
 
 -- whether the region meets what is seen by this rectangle
-abbrev met_at : (Seen → Bool) → Option Rectangle → Bool
+abbrev met_at : (Seen → Way) → Option Rectangle → Bool
 met_at region o = met_by region (option_map seen_at o)
 
-pruned_is : (s : Scheme) (region : Seen → Bool) (x : Shown) (t : Tree) → Some x.rect ≡ trees.rect t
-    → x.digest ≡ digest s t → region (seen_at x.rect) ≡ false → Pruned x ≡ honest_cut s region t
+pruned_is : (s : Scheme) (region : Seen → Way) (x : Shown) (t : Tree) → Some x.rect ≡ trees.rect t
+    → x.digest ≡ digest s t → opens_at region x.rect ≡ false → Pruned x ≡ honest_cut s region t
 pruned_is s region x t e f missed =
     let miss : meets region t ≡ false = sym (ap (met_at region) e) ∙ missed in
     (λ i. Pruned (record { rect = x.rect; digest = f i })) ∙ sym (pruned_shown s t x.rect (sym e))
     ∙ sym (honest_missed s region t miss)
 
-leaf_is : (s : Scheme) (region : Seen → Bool) (rs : List Record) (t : Tree) → t ≡ tree.Leaf rs
+leaf_is : (s : Scheme) (region : Seen → Way) (rs : List Record) (t : Tree) → t ≡ tree.Leaf rs
     → meets region t ≡ true → Leaf rs ≡ honest_cut s region t
 leaf_is s region rs t e met = sym (honest_met s region t (node.Leaf rs) (ap out-Tree e ∙ tree.outs-Leaf rs) met)
 
-inner_is : (s : Scheme) (region : Seen → Bool) (cuts : Cuts) (ts : List Tree) (t : Tree)
+inner_is : (s : Scheme) (region : Seen → Way) (cuts : Cuts) (ts : List Tree) (t : Tree)
     → t ≡ tree.Inner ts → meets region t ≡ true → cuts ≡ honest_cuts s region ts
     → Inner cuts ≡ honest_cut s region t
 inner_is s region cuts ts t e met same =
     ap Inner same ∙ sym (honest_met s region t (node.Inner ts) (ap out-Tree e ∙ tree.outs-Inner ts) met)
 
 mutual
-  pub is_honest : (s : Scheme) (region : Seen → Bool) (P : Cut) (t : Tree) → CutOf s P t
+  pub is_honest : (s : Scheme) (region : Seen → Way) (P : Cut) (t : Tree) → CutOf s P t
       → IsTightCut region P → P ≡ honest_cut s region t
   is_honest s region (Pruned x) t c tight = pruned_is s region x t c.0 c.1 tight
   is_honest s region (Leaf rs) t c tight =
@@ -46,7 +47,7 @@ mutual
       inner_is s region cuts c.0 t c.1 (sym (ap (met_at region) (rect_of_cut s (Inner cuts) t c)) ∙ tight.0)
       (are_honest s region cuts c.0 c.2 tight.1)
 
-  are_honest : (s : Scheme) (region : Seen → Bool) (Ps : Cuts) (ts : List Tree) → CutsOf s Ps ts
+  are_honest : (s : Scheme) (region : Seen → Way) (Ps : Cuts) (ts : List Tree) → CutsOf s Ps ts
       → AreTightCuts region Ps → Ps ≡ honest_cuts s region ts
   are_honest s region no_more ts c tight = sym (ap (honest_cuts s region) c)
   are_honest s region (first P Ps) ts c tight =

@@ -1,11 +1,15 @@
--- The accepting half: when the bytes of a proof prove an answer, against a root digest.
+-- The accepting half: when the bytes of a proof are accepted, against a root digest, and which
+-- answer
+-- they prove.
 use Rattle.std.specs.Prelude.{◌≡◌, ℕ, List, [], Option, Some, None}
 use Rattle.mr_record.specs.declared.record.Record.{Record}
 use Rattle.mr_tree.specs.Digest.{by, root_preimage}
+use Rattle.mr_query.specs.declared.query.Query.{Query}
+use Rattle.mr_query.specs.Scan.{scan}
 use Rattle.mr_proof.specs.declared.head.Head.{Head}
 use Rattle.mr_proof.specs.Cut.{Cut, rect, digest}
-use Rattle.mr_proof.specs.Spelling.{version_of, opened_records, IsSpelled}
-use Rattle.mr_proof.specs.Tight.{Asks, IsTight}
+use Rattle.mr_proof.specs.Spelling.{version_of, Said, opened_records, IsSpelled}
+use Rattle.mr_proof.specs.Tight.{Question, question, IsTight}
 
 -- The bytes that the root digest is of, of the map of which a proof with this head and cut is: by
 -- the head's version, batch, count and level, and the rectangle and digest of the cut. Without a
@@ -21,13 +25,17 @@ root_bytes hash h (Some P) =
 abbrev pub root_found : (List ℕ → List ℕ) → Head → Option Cut → List ℕ
 root_found hash h P = hash (root_bytes hash h P)
 
--- the bytes prove the answer to a query that asks this
-pub record Proves (hash : List ℕ → List ℕ) (root : List ℕ) (a : Asks) (bytes : List ℕ)
+-- the bytes spell this head and cut, which show what is asked, of the map with the root digest
+pub record Shows (hash : List ℕ → List ℕ) (root : List ℕ) (a : Question) (bytes : List ℕ)
+    (x : Said) : Type 0 where
+  pub spelled : IsSpelled x.head x.part bytes
+  pub kind : x.head.kind ≡ a.kind
+  pub tight : IsTight a x.head x.part
+  pub held : root_found hash x.head x.part ≡ root
+
+-- the bytes prove the answer to the query
+pub record Proves (hash : List ℕ → List ℕ) (root : List ℕ) (q : Query) (bytes : List ℕ)
     (answer : List Record) : Type 0 where
-  pub head : Head
-  pub part : Option Cut
-  pub spelled : IsSpelled head part bytes
-  pub kind : head.kind ≡ a.kind
-  pub tight : IsTight a head part
-  pub held : root_found hash head part ≡ root
-  pub scanned : answer ≡ a.answer (opened_records part)
+  pub said : Said
+  pub shows : Shows hash root (question q) bytes said
+  pub scanned : answer ≡ scan (opened_records said.part) q

@@ -9,7 +9,8 @@ use Rattle.mr_tree.specs.declared.tree.Tree.TheViews.{out-Tree}
 use Rattle.mr_proof.specs.Cut.{Cut, Cuts, Pruned, Leaf, Inner, no_more, first, preimage}
 use Rattle.mr_proof.specs.Spelling.{Said}
 use Rattle.mr_proof.specs.Accepted.{root_bytes}
-use Rattle.mr_proof.specs.Reading.{pair_in}
+use Rattle.mr_proof.specs.declared.head.Kind.{Kind}
+use Rattle.mr_proof.specs.Reading.{kind_in, pair_of}
 
 -- two strings: the owner's, and the one that a proof shows in its place
 pub record Pair : Type 0 where
@@ -66,10 +67,14 @@ abbrev pub if_said : Option Said → (Said → Option Pair) → Option Pair
 if_said None f = None
 if_said (Some x) f = f x
 
--- of the map and the head and cut that the bytes spell, for a query of whatever kind; bytes that
--- spell none show no string
+-- of the map and the head and cut of this kind that the bytes spell; bytes that spell none show no
+-- string
+abbrev pub clash_of : Kind → Scheme → Tree → (batch : ℕ) → List ℕ → Option Pair
+clash_of k s t batch bytes = if_said (pair_of k bytes) (pair_clash s t batch)
+
+-- for a query of whatever kind
 abbrev pub clash : Scheme → Tree → (batch : ℕ) → List ℕ → Option Pair
-clash s t batch bytes = if_said (pair_in bytes) (pair_clash s t batch)
+clash s t batch bytes = clash_of (kind_in bytes) s t batch bytes
 
 -- two strings that differ and have one hash
 pub record IsCollision (hash : List ℕ → List ℕ) (p : Pair) : Type 0 where

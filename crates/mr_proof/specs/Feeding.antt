@@ -1,46 +1,68 @@
 -- A proof that comes in pieces: what is known by the bytes so far, and at their end.
-use Rattle.std.specs.Prelude.{◌≡◌, ℕ, ◌-◌, List, [], ◌∷◌, ◌++◌, take, filter, Option, Result, Ok, Err}
+use Rattle.std.specs.Prelude.{◌≡◌, ℕ, ◌-◌, List, [], ◌∷◌, ◌++◌, take, filter, Option, IfSome, Result, Ok, Err}
 use Rattle.mr_record.specs.declared.record.Record.{Record}
 use Rattle.mr_query.specs.declared.query.Query.{Query}
-use Rattle.mr_query.specs.Region.{reaches}
 use Rattle.mr_query.specs.Scan.{scan}
 use Rattle.mr_proof.specs.declared.head.Head.{Head}
 use Rattle.mr_proof.specs.declared.rule.Fault.{Fault}
 use Rattle.mr_proof.specs.Cut.{Cut}
-use Rattle.mr_proof.specs.Spelling.{said, opened_records}
+use Rattle.mr_proof.specs.Spelling.{Said, opened_records, IsSpelled}
+use Rattle.mr_proof.specs.Tight.{Question, question, keeps_at, IsTightCut}
 use Rattle.mr_proof.specs.Reading.{checked, verdict}
 use Rattle.mr_proof.specs.Halves.{IsSettled}
 use Rattle.mr_proof.specs.Handed.{handed_out}
 
 -- the verdict of the bytes is no fault that is that of all longer strings
-abbrev pub IsUnsettled : (List ℕ → List ℕ) → List ℕ → Query → List ℕ → Type 0
-IsUnsettled hash root q bytes =
-    (f : Fault) → verdict hash root q bytes ≡ Err f → IsSettled f.rule → ⊥
+abbrev pub IsUnsettled : (List ℕ → List ℕ) → List ℕ → Question → List ℕ → Type 0
+IsUnsettled hash root a bytes =
+    (f : Fault) → checked hash root a bytes ≡ Err f → IsSettled f.rule → ⊥
 
 -- behind these bytes the last of so many of the piece completes a record, the first that the piece
 -- hands out
-pub record Completes (q : Query) (so_far piece : List ℕ) (taken : ℕ) (one : Record) : Type 0 where
-  pub item : handed_out q (so_far ++ take taken piece) ≡ handed_out q so_far ++ one ∷ []
-  pub none_before : handed_out q (so_far ++ take (taken - 1) piece) ≡ handed_out q so_far
+pub record Completes (a : Question) (so_far piece : List ℕ) (taken : ℕ) (one : Record) : Type 0
+  where
+    pub item : handed_out a (so_far ++ take taken piece) ≡ handed_out a so_far ++ one ∷ []
+    pub none_before : handed_out a (so_far ++ take (taken - 1) piece) ≡ handed_out a so_far
 
 -- behind these bytes the piece hands out no record, and the fault is the verdict of all strings
 -- that begin with both
-pub record IsFinal (hash : List ℕ → List ℕ) (root : List ℕ) (q : Query) (so_far piece : List ℕ)
+pub record IsFinal (hash : List ℕ → List ℕ) (root : List ℕ) (a : Question) (so_far piece : List ℕ)
     (f : Fault) : Type 0 where
   pub settled : IsSettled f.rule
-  pub all : (more : List ℕ) → verdict hash root q ((so_far ++ piece) ++ more) ≡ Err f
-  pub none : handed_out q (so_far ++ piece) ≡ handed_out q so_far
+  pub all : (more : List ℕ) → checked hash root a ((so_far ++ piece) ++ more) ≡ Err f
+  pub none : handed_out a (so_far ++ piece) ≡ handed_out a so_far
 
--- the proof is accepted, with this head and cut; the records that were handed out are those opened
--- that the region of the head's radius meets, in reading order; and their scan is the answer
+-- some records, and then the rest of them
+abbrev pub IsFront : List Record → List Record → Type 0
+IsFront some all = (rest : List Record) × (all ≡ some ++ rest)
+
+-- the records that are opened and not left out, in reading order
+abbrev pub kept_records : Question → Head → Option Cut → List Record
+kept_records a h P = filter (λ (r : Record). keeps_at (a.way h.radius) r.rect) (opened_records P)
+
+-- Of bytes that spell a head and a cut the records handed out are the first of those opened that
+-- are not left out, and all of them where the cut's parts are tight: whatever the root digest and
+-- the radius, accepted or not.
+pub record HandsOpened (a : Question) (bytes : List ℕ) : Type 0 where
+  pub front : (h : Head) (P : Option Cut) → h.kind ≡ a.kind → IsSpelled h P bytes
+      → IsFront (handed_out a bytes) (kept_records a h P)
+  pub tight : (h : Head) (P : Option Cut) → h.kind ≡ a.kind → IsSpelled h P bytes
+      → IfSome P (IsTightCut (a.way h.radius)) → handed_out a bytes ≡ kept_records a h P
+
+-- the proof is accepted, with this head and cut; and the records that were handed out are those
+-- opened that are not left out, in reading order
+pub record HandsOut (hash : List ℕ → List ℕ) (root : List ℕ) (a : Question) (bytes : List ℕ)
+    (x : Said) : Type 0 where
+  pub is_read : checked hash root a bytes ≡ Ok x
+  pub all : handed_out a bytes
+      ≡ filter (λ (r : Record). keeps_at (a.way x.head.radius) r.rect) (opened_records x.part)
+
+-- for a query their scan is the answer
 pub record HandsOutAll (hash : List ℕ → List ℕ) (root : List ℕ) (q : Query)
     (bytes : List ℕ) : Type 0 where
-  pub head : Head
-  pub part : Option Cut
-  pub is_read : checked hash root q bytes ≡ Ok (said head part)
-  pub all : handed_out q bytes
-      ≡ filter (λ (r : Record). reaches q head.radius r.rect) (opened_records part)
-  pub answer : verdict hash root q bytes ≡ Ok (scan (handed_out q bytes) q)
+  pub said : Said
+  pub hands : HandsOut hash root (question q) bytes said
+  pub answer : verdict hash root q bytes ≡ Ok (scan (handed_out (question q) bytes) q)
 
 -- what is answered at the end of the bytes: their verdict
 abbrev pub Ends : {X : Type 0} → (List ℕ → List ℕ) → List ℕ → Query → List ℕ → Result X Fault

@@ -54,10 +54,11 @@ magic = 77 ∷ 82 ∷ 86 ∷ 79 ∷ []
 abbrev pub version : Version
 version = One
 
--- `W` or `K`
+-- `W` or `K`, or the letter of a choice
 abbrev pub kind_byte : Kind → ℕ
 kind_byte kind.W = 87
 kind_byte kind.K = 75
+kind_byte (kind.Choice letter) = letter
 
 -- `P`, `L` and `N`: a pruned part, an opened leaf, an opened inner node
 abbrev pub pruned_tag : ℕ

@@ -13,10 +13,11 @@ use Rattle.mr_proof.specs.Fields.{pruned_tag}
 pub use Rattle.mr_proof.specs.Fields.{number_in, wide_in, tag_in, rect_in, bytes_in}
 use Rattle.mr_proof.specs.Cut.{Cut, Cuts, Pruned, Leaf, Inner, no_more, first}
 use Rattle.mr_proof.specs.Spelling.{Said, said}
-use Rattle.mr_proof.specs.Tight.{Seen, seen_at, seen, met_by}
+use Rattle.mr_proof.specs.declared.way.Way.{Way}
+use Rattle.mr_proof.specs.Tight.{Seen, seen, met_by, opens_at, keeps_at}
 
 -- What the fields so far say: that the rule is broken, unless this test passes; or that the record
--- was opened, and whether the region meets it. A note stands at the last field before it.
+-- was opened, and whether it is not left out. A note stands at the last field before it.
 pub data Note : Type 0 where
   must : Rule → Bool → Note
   opens : Record → Bool → Note
@@ -41,21 +42,21 @@ one_record next =
     next (record { number = number_in n; rect = rect_in r; payload = p })))))
 
 -- n records of a leaf
-abbrev pub some_records : {A : Type 0} → (Seen → Bool) → ℕ → (List Record → Grammar A) → Grammar A
-some_records region zero next = next []
-some_records region (suc n) next =
-    one_record (λ r. notes (opens r (region (seen_at r.rect)))
-    (some_records region n (λ rs. next (r ∷ rs))))
+abbrev pub some_records : {A : Type 0} → (Seen → Way) → ℕ → (List Record → Grammar A) → Grammar A
+some_records way zero next = next []
+some_records way (suc n) next =
+    one_record (λ r. notes (opens r (keeps_at way r.rect))
+    (some_records way n (λ rs. next (r ∷ rs))))
 
--- a node that was opened: the region meets it
-abbrev pub opened : {A : Type 0} → (Seen → Bool) → Cut → (Cut → Grammar A) → Grammar A
-opened region P next = notes (must rule.Needless (met_by region (seen P))) (next P)
+-- a node that was opened, and was to be
+abbrev pub opened : {A : Type 0} → (Seen → Way) → Cut → (Cut → Grammar A) → Grammar A
+opened way P next = notes (must rule.Needless (met_by way (seen P))) (next P)
 
 -- a leaf, behind its tag
-abbrev pub leaf : {A : Type 0} → (Seen → Bool) → (Cut → Grammar A) → Grammar A
-leaf region next =
-    reads want.LeafCount (λ n. some_records region (number_in n)
-    (λ rs. opened region (Leaf rs) next))
+abbrev pub leaf : {A : Type 0} → (Seen → Way) → (Cut → Grammar A) → Grammar A
+leaf way next =
+    reads want.LeafCount (λ n. some_records way (number_in n)
+    (λ rs. opened way (Leaf rs) next))
 
 -- n items, each of this grammar
 abbrev pub some_items : {A : Type 0} → ((Cut → Grammar A) → Grammar A) → ℕ → (Cuts → Grammar A)
@@ -64,32 +65,33 @@ some_items one zero next = next no_more
 some_items one (suc n) next = one (λ P. some_items one n (λ Ps. next (first P Ps)))
 
 -- an inner node, behind its tag, with items of this grammar
-abbrev pub inner : {A : Type 0} → (Seen → Bool) → ((Cut → Grammar A) → Grammar A)
+abbrev pub inner : {A : Type 0} → (Seen → Way) → ((Cut → Grammar A) → Grammar A)
     → (Cut → Grammar A) → Grammar A
-inner region one next =
-    reads want.InnerCount (λ n. some_items one (number_in n) (λ Ps. opened region (Inner Ps) next))
+inner way one next =
+    reads want.InnerCount (λ n. some_items one (number_in n) (λ Ps. opened way (Inner Ps) next))
 
--- a pruned part, behind its tag: the region misses what is shown of it
-abbrev pub pruned : {A : Type 0} → (Seen → Bool) → (Cut → Grammar A) → Grammar A
-pruned region next =
-    reads want.Rect (λ r. notes (must rule.Hidden (not (region (seen_at (rect_in r)))))
+-- a pruned part, behind its tag, which was to be pruned
+abbrev pub pruned : {A : Type 0} → (Seen → Way) → (Cut → Grammar A) → Grammar A
+pruned way next =
+    reads want.Rect (λ r. notes (must rule.Hidden (not (opens_at way (rect_in r))))
     (reads want.Digest (λ d.
     next (Pruned (record { rect = rect_in r; digest = bytes_in d })))))
 
 -- an item of this level
-abbrev pub item : {A : Type 0} → (Seen → Bool) → ℕ → (Cut → Grammar A) → Grammar A
-item region zero next =
-    reads (want.Tag 0) (λ t. if tag_in t == pruned_tag then pruned region next else leaf region
+abbrev pub item : {A : Type 0} → (Seen → Way) → ℕ → (Cut → Grammar A) → Grammar A
+item way zero next =
+    reads (want.Tag 0) (λ t. if tag_in t == pruned_tag then pruned way next else leaf way
     next)
-item region (suc level) next =
-    reads (want.Tag (suc level)) (λ t. if tag_in t == pruned_tag then pruned region next else inner
-    region (item region level) next)
+item way (suc level) next =
+    reads (want.Tag (suc level)) (λ t. if tag_in t == pruned_tag then pruned way next else inner
+    way (item way level) next)
 
 -- ---- the head, and the whole proof
 
 -- the squared radius behind its flag, in a proof for nearest records
 abbrev pub radius : {A : Type 0} → Kind → (Option ℕ → Grammar A) → Grammar A
 radius kind.W next = next None
+radius (kind.Choice letter) next = next None
 radius kind.K next =
     reads want.Flag (λ f. if number_in f == 0 then next None else reads want.Radius
     (λ r. next (Some (wide_in r))))
@@ -112,11 +114,11 @@ head k next =
     }))))))))
 
 -- what follows the head: where there are records, an item of the head's level
-abbrev pub part : (Option ℕ → Seen → Bool) → Head → Grammar Said
-part region h =
-    if h.count == 0 then done (said h None) else item (region h.radius) h.level
+abbrev pub part : (Option ℕ → Seen → Way) → Head → Grammar Said
+part way h =
+    if h.count == 0 then done (said h None) else item (way h.radius) h.level
     (λ P. done (said h (Some P)))
 
--- a whole proof of this kind, whose head's radius has this region
-abbrev pub whole : Kind → (Option ℕ → Seen → Bool) → Grammar Said
-whole k region = head k (part region)
+-- a whole proof of this kind, in which parts have these ways by the head's radius
+abbrev pub whole : Kind → (Option ℕ → Seen → Way) → Grammar Said
+whole k way = head k (part way)

@@ -7,46 +7,43 @@ use Rattle.mr_tree.specs.WellFormed.{WellFormed}
 use Rattle.mr_tree.specs.declared.tree.Tree.{Tree}
 use Rattle.mr_query.specs.declared.query.Query.{Query}
 use Rattle.mr_query.specs.Scan.{scan}
+use Rattle.mr_proof.specs.declared.head.Kind.{Kind}
+use Rattle.mr_proof.specs.declared.head.Kind.TheVariants as kind
 use Rattle.mr_proof.specs.declared.head.Head.{Head}
 use Rattle.mr_proof.specs.declared.rule.Rule.{Rule}
 use Rattle.mr_proof.specs.declared.rule.Rule.TheVariants as rule
 use Rattle.mr_proof.specs.declared.rule.Fault.{Fault}
 use Rattle.mr_proof.specs.Cut.{Cut, CutOf}
-use Rattle.mr_proof.specs.Spelling.{said, IsSpelled}
-use Rattle.mr_proof.specs.Tight.{asks, IsTight}
-use Rattle.mr_proof.specs.Accepted.{root_found, Proves}
-use Rattle.mr_proof.specs.Honest.{honest_head, honest_part, proof}
+use Rattle.mr_proof.specs.Spelling.{Said, said, IsSpelled}
+use Rattle.mr_proof.specs.Tight.{Question, question, IsTight}
+use Rattle.mr_proof.specs.Accepted.{root_found, Shows, Proves}
+use Rattle.mr_proof.specs.Honest.{honest_head, honest_part, honest_said, proof_for, proof}
 use Rattle.mr_proof.specs.Refused.{IsRefused}
-use Rattle.mr_proof.specs.Reading.{verdict, pair_in}
+use Rattle.mr_proof.specs.Reading.{checked, verdict, pair_of, pair_in}
 
--- the verdict is an answer just where the bytes prove it
-abbrev pub AcceptsJust : (List ℕ → List ℕ) → List ℕ → Query → List ℕ → Type 0
-AcceptsJust hash root q bytes =
-    (answer : List Record) → (verdict hash root q bytes ≡ Ok answer) ↔ Proves hash root
-    (asks q) bytes answer
+-- ---- of whatever is asked
+
+-- the head and cut of the verdict are just those that the bytes show
+abbrev pub ShowsJust : (List ℕ → List ℕ) → List ℕ → Question → List ℕ → Type 0
+ShowsJust hash root a bytes =
+    (x : Said) → (checked hash root a bytes ≡ Ok x) ↔ Shows hash root a bytes x
 
 -- it is a fault just where that is the first of all that is broken
-abbrev pub RefusesJust : (List ℕ → List ℕ) → List ℕ → Query → List ℕ → Type 0
-RefusesJust hash root q bytes =
-    (f : Fault) → (verdict hash root q bytes ≡ Err f) ↔ IsRefused hash root q bytes f
+abbrev pub FaultsJust : (List ℕ → List ℕ) → List ℕ → Question → List ℕ → Type 0
+FaultsJust hash root a bytes =
+    (f : Fault) → (checked hash root a bytes ≡ Err f) ↔ IsRefused hash root a bytes f
 
--- the bytes prove an answer or have a fault, and never both
-pub record OneHalf (hash : List ℕ → List ℕ) (root : List ℕ) (q : Query)
-    (bytes : List ℕ) : Type 0 where
-  pub some : ((answer : List Record) × Proves hash root (asks q) bytes answer) ⊎
-      ((f : Fault) × IsRefused hash root q bytes f)
-  pub apart : (answer : List Record) (f : Fault) → Proves hash root (asks q) bytes answer
-      → IsRefused hash root q bytes f → ⊥
+-- two pairs of head and cut of one kind that the bytes spell, tight or not, are one
+abbrev pub SpellsOneOf : Kind → List ℕ → Type 0
+SpellsOneOf k bytes =
+    (h g : Head) (P Q : Option Cut) → h.kind ≡ k → g.kind ≡ k → IsSpelled h P bytes
+    → IsSpelled g Q bytes → (h ≡ g) × (P ≡ Q)
 
--- two pairs of head and cut that the bytes spell, of whatever kind, tight or not, are one
-abbrev pub SpellsOne : List ℕ → Type 0
-SpellsOne bytes =
-    (h g : Head) (P Q : Option Cut) → IsSpelled h P bytes → IsSpelled g Q bytes → (h ≡ g) × (P ≡ Q)
-
--- what is found in bytes is the pair that they spell, where they spell one
-abbrev pub FindsPair : List ℕ → Type 0
-FindsPair bytes =
-    (h : Head) (P : Option Cut) → IsSpelled h P bytes ↔ (pair_in bytes ≡ Some (said h P))
+-- what is found in bytes is the pair of the kind that they spell, where they spell one
+abbrev pub FindsPairOf : Kind → List ℕ → Type 0
+FindsPairOf k bytes =
+    (h : Head) (P : Option Cut) → ((h.kind ≡ k) × IsSpelled h P bytes)
+    ↔ (pair_of k bytes ≡ Some (said h P))
 
 -- no byte behind the string changes that the rule is broken, or where
 abbrev pub IsSettled : Rule → Type 0
@@ -56,26 +53,67 @@ IsSettled rule.WrongRadius = ⊥
 IsSettled _ = ⊤
 
 -- such a fault of the bytes is that of all longer ones
-abbrev pub StaysRefused : (List ℕ → List ℕ) → List ℕ → Query → List ℕ → Type 0
-StaysRefused hash root q bytes =
-    (f : Fault) (more : List ℕ) → IsSettled f.rule → IsRefused hash root q bytes f
-    → IsRefused hash root q (bytes ++ more) f
+abbrev pub StaysRefused : (List ℕ → List ℕ) → List ℕ → Question → List ℕ → Type 0
+StaysRefused hash root a bytes =
+    (f : Fault) (more : List ℕ) → IsSettled f.rule → IsRefused hash root a bytes f
+    → IsRefused hash root a (bytes ++ more) f
 
--- ---- the honest proof
+-- the honest proof of every map is accepted, as that of its head and cut
+abbrev pub AcceptsHonestProof : Scheme → Question → Type 0
+AcceptsHonestProof s a =
+    (t : Tree) (batch : ℕ) → WellFormed t → batch < 2 ^ 64
+    → checked s.of (root s t batch) a (proof_for s a t batch) ≡ Ok (honest_said s a t batch)
+
+-- it spells its head and its cut, which is a tight cut of the tree, with the map's root digest; and
+-- it is short
+pub record IsHonestProof (s : Scheme) (t : Tree) (batch : ℕ) (a : Question) : Type 0 where
+  pub spelled : IsSpelled (honest_head a t batch) (honest_part s a t) (proof_for s a t batch)
+  pub tight : IsTight a (honest_head a t batch) (honest_part s a t)
+  pub cut : IfSome (honest_part s a t) (λ P. CutOf s P t)
+  pub held : root_found s.of (honest_head a t batch) (honest_part s a t) ≡ root s t batch
+  pub short : length (proof_for s a t batch) < 2 ^ 30
+
+-- ---- of queries
+
+-- the verdict is an answer just where the bytes prove it
+abbrev pub AcceptsJust : (List ℕ → List ℕ) → List ℕ → Query → List ℕ → Type 0
+AcceptsJust hash root q bytes =
+    (answer : List Record) → (verdict hash root q bytes ≡ Ok answer) ↔ Proves hash root q bytes
+    answer
+
+-- it is a fault just where that is the first of all that is broken
+abbrev pub RefusesJust : (List ℕ → List ℕ) → List ℕ → Query → List ℕ → Type 0
+RefusesJust hash root q bytes =
+    (f : Fault) → (verdict hash root q bytes ≡ Err f) ↔ IsRefused hash root (question q) bytes f
+
+-- the bytes prove an answer or have a fault, and never both
+pub record OneHalf (hash : List ℕ → List ℕ) (root : List ℕ) (q : Query)
+    (bytes : List ℕ) : Type 0 where
+  pub some : ((answer : List Record) × Proves hash root q bytes answer) ⊎
+      ((f : Fault) × IsRefused hash root (question q) bytes f)
+  pub apart : (answer : List Record) (f : Fault) → Proves hash root q bytes answer
+      → IsRefused hash root (question q) bytes f → ⊥
+
+-- the kinds of queries
+abbrev pub IsQueried : Kind → Type 0
+IsQueried (kind.Choice letter) = ⊥
+IsQueried _ = ⊤
+
+-- two pairs of head and cut that the bytes spell, for queries of whatever kind, tight or not, are
+-- one
+abbrev pub SpellsOne : List ℕ → Type 0
+SpellsOne bytes =
+    (h g : Head) (P Q : Option Cut) → IsQueried h.kind → IsQueried g.kind → IsSpelled h P bytes
+    → IsSpelled g Q bytes → (h ≡ g) × (P ≡ Q)
+
+-- what is found in bytes is the pair that they spell, where they spell one
+abbrev pub FindsPair : List ℕ → Type 0
+FindsPair bytes =
+    (h : Head) (P : Option Cut) → (IsQueried h.kind × IsSpelled h P bytes)
+    ↔ (pair_in bytes ≡ Some (said h P))
 
 -- the honest proof of every map is accepted, with the answer of a scan of the map's records
 abbrev pub AcceptsHonest : Scheme → Query → Type 0
 AcceptsHonest s q =
     (t : Tree) (batch : ℕ) → WellFormed t → batch < 2 ^ 64
     → verdict s.of (root s t batch) q (proof s t batch q) ≡ Ok (scan (records t) q)
-
--- it spells its head and its cut, which is a tight cut of the tree, with the map's root digest; and
--- it is short
-pub record IsHonestProof (s : Scheme) (t : Tree) (batch : ℕ) (q : Query) : Type 0 where
-  pub spelled : IsSpelled (honest_head (asks q) t batch) (honest_part s (asks q) t)
-      (proof s t batch q)
-  pub tight : IsTight (asks q) (honest_head (asks q) t batch) (honest_part s (asks q) t)
-  pub cut : IfSome (honest_part s (asks q) t) (λ P. CutOf s P t)
-  pub held : root_found s.of (honest_head (asks q) t batch) (honest_part s (asks q) t) ≡ root
-      s t batch
-  pub short : length (proof s t batch q) < 2 ^ 30

@@ -1,13 +1,12 @@
--- The records that a reader of a proof hands out as the bytes come: those that are opened and that
--- the region meets, in reading order, up to the first fault.
+-- The records that a reader of a proof hands out as the bytes come: those that are opened and
+-- not left out, in reading order, up to the first fault.
 use Rattle.std.specs.Prelude.{ℕ, ◌+◌, Bool, false, not, ◌&&◌, ◌||◌, nat_lt, if◌then◌else◌, List, [], ◌∷◌, Result, Ok, Err}
 use Rattle.mr_record.specs.declared.record.Record.{Record}
-use Rattle.mr_query.specs.declared.query.Query.{Query}
 use Rattle.mr_proof.specs.declared.rule.Fault.{Fault}
 use Rattle.mr_proof.specs.declared.field.Field.{Field}
 use Rattle.mr_proof.specs.Limits.{place_limit}
 use Rattle.mr_proof.specs.Fields.{size_of}
-use Rattle.mr_proof.specs.Tight.{asks}
+use Rattle.mr_proof.specs.Tight.{Question}
 use Rattle.mr_proof.specs.Grammar.{must, opens, Grammar, done, reads, notes, whole}
 use Rattle.mr_proof.specs.Layout.{Stand, start, field_at}
 
@@ -35,6 +34,6 @@ handed (notes (must r passes) next) s = if passes then handed next s else []
 handed (notes (opens r met) next) s =
     if_handed (met && not (is_fixed next s.at)) r (handed next s)
 
--- those of the bytes, as a proof for the query
-unfoldable pub handed_out : Query → List ℕ → List Record
-handed_out q bytes = handed (whole (asks q).kind (asks q).region) (start bytes)
+-- those of the bytes, as a proof of what is asked
+unfoldable pub handed_out : Question → List ℕ → List Record
+handed_out a bytes = handed (whole a.kind a.way) (start bytes)

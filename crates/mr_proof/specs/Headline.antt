@@ -9,11 +9,38 @@ use Rattle.mr_tree.specs.declared.tree.Tree.{Tree}
 use Rattle.mr_query.specs.declared.query.Query.{Query}
 use Rattle.mr_query.specs.Scan.{scan}
 use Rattle.mr_proof.specs.declared.rule.Fault.{Fault}
-use Rattle.mr_proof.specs.Tight.{asks}
-use Rattle.mr_proof.specs.Accepted.{Proves}
-use Rattle.mr_proof.specs.Honest.{proof}
-use Rattle.mr_proof.specs.Reading.{verdict}
-use Rattle.mr_proof.specs.Clash.{Pair, clash, IsCollision, NoneAnd}
+use Rattle.mr_proof.specs.Spelling.{Said}
+use Rattle.mr_proof.specs.Tight.{Question}
+use Rattle.mr_proof.specs.Accepted.{Shows, Proves}
+use Rattle.mr_proof.specs.Honest.{honest_said, proof_for, proof}
+use Rattle.mr_proof.specs.Reading.{checked, verdict}
+use Rattle.mr_proof.specs.Clash.{Pair, clash_of, clash, IsCollision, NoneAnd}
+
+-- ---- of whatever is asked
+
+-- the head and cut are the map's own, and the bytes are those that an honest server sends
+pub record MatchesHonest (s : Scheme) (t : Tree) (batch : ℕ) (a : Question) (bytes : List ℕ)
+    (x : Said) : Type 0 where
+  pub same : x ≡ honest_said s a t batch
+  pub own : bytes ≡ proof_for s a t batch
+
+abbrev pub MatchesHonestOrCollides : Scheme → Tree → (batch : ℕ) → Question → List ℕ → Said → Type 0
+MatchesHonestOrCollides s t batch a bytes x =
+    NoneAnd s.of (clash_of a.kind s t batch bytes) (MatchesHonest s t batch a bytes x)
+
+-- What bytes are worth that are accepted against the root digest of a map, whatever the map.
+abbrev pub AcceptedMatchesHonest : Scheme → Question → List ℕ → Type 0
+AcceptedMatchesHonest s a bytes =
+    (t : Tree) (batch : ℕ) (x : Said) → WellFormed t → batch < 2 ^ 64
+    → checked s.of (root s t batch) a bytes ≡ Ok x → MatchesHonestOrCollides s t batch a bytes x
+
+-- The honest proof shows no pair.
+abbrev pub HonestProofIsQuiet : Scheme → Question → Type 0
+HonestProofIsQuiet s a =
+    (t : Tree) (batch : ℕ) → WellFormed t → batch < 2 ^ 64
+    → clash_of a.kind s t batch (proof_for s a t batch) ≡ None
+
+-- ---- of queries
 
 -- the answer is the whole of it, and the bytes are those that an honest server sends
 pub record IsHonest (s : Scheme) (t : Tree) (batch : ℕ) (q : Query)
@@ -32,7 +59,7 @@ IsHonestOrCollides s t batch q bytes answer =
 abbrev pub Headline : Scheme → Query → List ℕ → Type 0
 Headline s q bytes =
     (t : Tree) (batch : ℕ) (answer : List Record) → WellFormed t → batch < 2 ^ 64
-    → Proves s.of (root s t batch) (asks q) bytes answer
+    → Proves s.of (root s t batch) q bytes answer
     → IsHonestOrCollides s t batch q bytes answer
 
 -- The same by the verdict: what an accepted proof is worth.

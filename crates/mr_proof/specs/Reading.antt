@@ -8,7 +8,10 @@ use Rattle.mr_proof.specs.declared.rule.Rule.TheVariants as rule
 use Rattle.mr_proof.specs.declared.rule.Fault.{Fault}
 use Rattle.mr_proof.specs.Fields.{kind_byte}
 use Rattle.mr_proof.specs.Spelling.{Said, opened_records}
-use Rattle.mr_proof.specs.Tight.{Seen, asks}
+use Rattle.mr_query.specs.Scan.{scan}
+use Rattle.mr_proof.specs.declared.way.Way.{Way}
+use Rattle.mr_proof.specs.declared.way.Way.TheVariants as ways
+use Rattle.mr_proof.specs.Tight.{Seen, Question, question}
 use Rattle.mr_proof.specs.Accepted.{root_found}
 use Rattle.mr_proof.specs.Grammar.{Note, must, opens, Grammar, done, reads, notes, whole}
 use Rattle.mr_proof.specs.Layout.{fault, Stand, start, field_at}
@@ -38,24 +41,24 @@ walk heeds ending (notes n next) s = past heeds n s.last (walk heeds ending next
 -- ---- a proof that is checked
 
 -- the head and the cut after a layout that reached its last field, or the first fault behind it
-unfoldable pub ending : (List ℕ → List ℕ) → List ℕ → Query → Said → Stand → Result Said Fault
-ending hash root q x s =
+unfoldable pub ending : (List ℕ → List ℕ) → List ℕ → Question → Said → Stand → Result Said Fault
+ending hash root a x s =
     if nat_lt 0 (length s.rest) then Err (fault rule.Trailing s.at)
     else if not (bytes_eq (root_found hash x.head x.part) root) then
     Err (fault (rule.WrongRoot (root_found hash x.head x.part)) (s.at + length s.rest))
-    else if has_other_radius q x.head.radius (opened_records x.part) then
+    else if has_other_radius a.around x.head.radius (opened_records x.part) then
     Err (fault rule.WrongRadius (s.at + length s.rest))
     else Ok x
 
 -- the head and the cut of an accepted proof, or the fault of the bytes
-unfoldable pub checked : (List ℕ → List ℕ) → List ℕ → Query → List ℕ → Result Said Fault
-checked hash root q bytes =
-    walk true (ending hash root q) (whole (asks q).kind (asks q).region) (start bytes)
+unfoldable pub checked : (List ℕ → List ℕ) → List ℕ → Question → List ℕ → Result Said Fault
+checked hash root a bytes =
+    walk true (ending hash root a) (whole a.kind a.way) (start bytes)
 
--- the answer that the bytes prove, or their fault
+-- the answer to a query that the bytes prove, or their fault
 unfoldable pub verdict : (List ℕ → List ℕ) → List ℕ → Query → List ℕ → Result (List Record) Fault
 verdict hash root q bytes =
-    checked hash root q bytes >>= λ x. Ok ((asks q).answer (opened_records x.part))
+    checked hash root (question q) bytes >>= λ x. Ok (scan (opened_records x.part) q)
 
 -- ---- what any bytes spell
 
@@ -71,11 +74,14 @@ abbrev pub if_spelled : Result Said Fault → Option Said
 if_spelled (Ok x) = Some x
 if_spelled (Err f) = None
 
--- any region: where notes are not heeded, none counts
-abbrev pub anywhere : Option ℕ → Seen → Bool
-anywhere radius s = true
+-- any ways: where notes are not heeded, none counts
+abbrev pub anywhere : Option ℕ → Seen → Way
+anywhere radius s = ways.Open
 
--- the head and the cut that the whole of the bytes spells, for a query of whatever kind, tight or
--- not
-unfoldable pub pair_in : List ℕ → Option Said
-pair_in bytes = if_spelled (walk false at_end (whole (kind_in bytes) anywhere) (start bytes))
+-- the head and the cut that the whole of the bytes spells, in a proof of this kind, tight or not
+unfoldable pub pair_of : Kind → List ℕ → Option Said
+pair_of k bytes = if_spelled (walk false at_end (whole k anywhere) (start bytes))
+
+-- for a query of whatever kind
+abbrev pub pair_in : List ℕ → Option Said
+pair_in bytes = pair_of (kind_in bytes) bytes

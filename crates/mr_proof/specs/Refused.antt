@@ -3,15 +3,14 @@
 use Rattle.std.specs.Prelude.{◌≡◌, ◌⊎◌, ℕ, ◌+◌, ◌<◌, Bool, false, not, ◌||◌, nat_lt, nat_le, if◌then◌else◌, List, [], ◌∷◌, ◌++◌, length, All, bytes_eq, Option, Some, None, Result, Ok, Err}
 use Rattle.std.specs.List.{Contains}
 use Rattle.mr_record.specs.declared.record.Record.{Record}
-use Rattle.mr_query.specs.declared.query.Query.{Query}
-use Rattle.mr_query.specs.declared.query.Query.TheVariants.{Window, Nearest}
 use Rattle.mr_query.specs.Nearest.{nearer_than, not_farther_than}
 use Rattle.mr_proof.specs.declared.rule.Rule.{Rule}
 use Rattle.mr_proof.specs.declared.rule.Rule.TheVariants as rule
 use Rattle.mr_proof.specs.declared.rule.Fault.{Fault}
 use Rattle.mr_proof.specs.declared.field.Field.{Field}
 use Rattle.mr_proof.specs.Spelling.{Said, opened_records}
-use Rattle.mr_proof.specs.Tight.{asks}
+use Rattle.mr_proof.specs.declared.question.Around.{Around}
+use Rattle.mr_proof.specs.Tight.{Question}
 use Rattle.mr_proof.specs.Accepted.{root_found}
 use Rattle.mr_proof.specs.Grammar.{Note, must, opens, Grammar, done, reads, notes, whole}
 use Rattle.mr_proof.specs.Layout.{fault, Stand, start, field_at}
@@ -70,31 +69,31 @@ faults ending (done x) s = ending x s
 faults ending (reads w next) s = with_field (field_at w s) (λ value t. faults ending (next value) t)
 faults ending (notes n next) s = note_faults n s.last ++ faults ending next s
 
--- Whether the squared radius is another than that of the opened records. For a window there is
--- none. For the k nearest records: without one, at least k are opened; with one, at least k are
--- nearer than it, or fewer than k are not farther.
-abbrev pub has_other_radius : Query → Option ℕ → List Record → Bool
-has_other_radius (Window w) radius records = false
-has_other_radius (Nearest p k) None records = nat_le k (length records)
-has_other_radius (Nearest p k) (Some n) records =
-    nat_le k (nearer_than p n records) || nat_lt (not_farther_than p n records) k
+-- Whether the squared radius is another than that of the opened records, if heads have one. Without
+-- one, at least k are opened; with one, at least k are nearer than it, or fewer than k are not
+-- farther.
+abbrev pub has_other_radius : Option Around → Option ℕ → List Record → Bool
+has_other_radius None radius records = false
+has_other_radius (Some x) None records = nat_le x.k (length records)
+has_other_radius (Some x) (Some n) records =
+    nat_le x.k (nearer_than x.center n records) || nat_lt (not_farther_than x.center n records) x.k
 
 -- what is found after a layout that reached its last field
-abbrev pub last_faults : (List ℕ → List ℕ) → List ℕ → Query → Said → Stand → List Fault
-last_faults hash root q x s =
+abbrev pub last_faults : (List ℕ → List ℕ) → List ℕ → Question → Said → Stand → List Fault
+last_faults hash root a x s =
     let found = root_found hash x.head x.part in
     let end = s.at + length s.rest in
     if_fault (nat_lt 0 (length s.rest)) (fault rule.Trailing s.at)
     ++ (if_fault (not (bytes_eq found root)) (fault (rule.WrongRoot found) end)
-    ++ if_fault (has_other_radius q x.head.radius (opened_records x.part))
+    ++ if_fault (has_other_radius a.around x.head.radius (opened_records x.part))
     (fault rule.WrongRadius end))
 
 -- all faults of the bytes as a proof
-abbrev pub all_faults : (List ℕ → List ℕ) → List ℕ → Query → List ℕ → List Fault
-all_faults hash root q bytes =
-    faults (last_faults hash root q) (whole (asks q).kind (asks q).region) (start bytes)
+abbrev pub all_faults : (List ℕ → List ℕ) → List ℕ → Question → List ℕ → List Fault
+all_faults hash root a bytes =
+    faults (last_faults hash root a) (whole a.kind a.way) (start bytes)
 
 -- the fault of the bytes: of all that are broken the one with the least place, and at that place
 -- with the least rule
-abbrev pub IsRefused : (List ℕ → List ℕ) → List ℕ → Query → List ℕ → Fault → Type 0
-IsRefused hash root q bytes f = IsFirst f (all_faults hash root q bytes)
+abbrev pub IsRefused : (List ℕ → List ℕ) → List ℕ → Question → List ℕ → Fault → Type 0
+IsRefused hash root a bytes f = IsFirst f (all_faults hash root a bytes)

@@ -66,6 +66,7 @@ abbrev mutual
 -- a flag and a squared radius, in a proof for nearest records
 abbrev pub radius_bytes : Kind → Option ℕ → List ℕ
 radius_bytes kind.W r = []
+radius_bytes (kind.Choice letter) r = []
 radius_bytes kind.K None = 0 ∷ []
 radius_bytes kind.K (Some r) = 1 ∷ to_be_bytes w128 r
 
@@ -82,9 +83,10 @@ head_bytes h =
     ∷ (to_be_bytes w64 h.batch ++ (to_be_bytes w64 h.count ++
     (radius_bytes h.kind h.radius ++ level_bytes h.count h.level)))
 
--- a window's proof has no radius
+-- only a proof for nearest records has a radius
 abbrev pub FitsRadius : Kind → Option ℕ → Type 0
 FitsRadius kind.W r = r ≡ None
+FitsRadius (kind.Choice letter) r = r ≡ None
 FitsRadius kind.K r = IfSome r (λ n. n ≤ radius_limit)
 
 -- each value in its range

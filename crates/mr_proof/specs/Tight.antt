@@ -1,21 +1,25 @@
--- What a query asks, and cuts that open what it needs and nothing else.
-use Rattle.std.specs.Prelude.{◌≡◌, ℕ, ⊤, Bool, true, false, List, Option, Some, None, option_map, IfSome}
-use Rattle.mr_geom.specs.Rectangle.{Rectangle}
+-- What a proof has to show, and cuts that open what they need and nothing else.
+use Rattle.std.specs.Prelude.{◌≡◌, ◌≢◌, ℕ, ◌≤◌, ⊤, Bool, true, false, if◌then◌else◌, List, Option, Some, None, option_map, IfSome}
+use Rattle.mr_geom.specs.Rectangle.{Rectangle, IsOrdered, FitsMap}
+use Rattle.mr_geom.specs.Plane.{Inside}
 use Rattle.mr_record.specs.declared.record.Record.{Record}
 use Rattle.mr_query.specs.declared.query.Query.{Query}
 use Rattle.mr_query.specs.declared.query.Query.TheVariants.{Window, Nearest}
-use Rattle.mr_query.specs.Nearest.{distances, kth_least}
+use Rattle.mr_query.specs.Nearest.{distances, kth_least, is_within}
 use Rattle.mr_query.specs.Region.{reaches}
-use Rattle.mr_query.specs.Scan.{scan}
+use Rattle.mr_query.specs.Word.{FitsPoint}
+use Rattle.mr_proof.specs.declared.question.Around.{Around}
 use Rattle.mr_proof.specs.declared.head.Kind.{Kind}
 use Rattle.mr_proof.specs.declared.head.Kind.TheVariants as kind
 use Rattle.mr_proof.specs.declared.head.Head.{Head}
+use Rattle.mr_proof.specs.declared.way.Way.{Way}
+use Rattle.mr_proof.specs.declared.way.Way.TheVariants as ways
 use Rattle.mr_proof.specs.Cut.{Cut, Cuts, Pruned, Leaf, Inner, no_more, first, rect}
 use Rattle.mr_proof.specs.Spelling.{opened_records}
 
--- ---- regions
+-- ---- ways
 
--- what a region judges of a node
+-- what is seen of a part when its way is chosen
 pub record Seen : Type 0 where
   pub rect : Rectangle
 
@@ -26,55 +30,104 @@ seen_at r = record { rect = r }
 abbrev pub seen : Cut → Option Seen
 seen P = option_map seen_at (rect P)
 
--- whether the region meets a node of which something is seen
-abbrev pub met_by : (Seen → Bool) → Option Seen → Bool
-met_by region None = false
-met_by region (Some s) = region s
+abbrev pub is_open : Way → Bool
+is_open ways.Skip = false
+is_open ways.Whole = false
+is_open ways.Open = true
 
--- ---- what a query asks
+-- what is not left out
+abbrev pub is_kept : Way → Bool
+is_kept ways.Skip = false
+is_kept ways.Whole = true
+is_kept ways.Open = true
 
--- The kind of its proofs; the squared radius, by the records of a map or of a cut; the region of
--- that radius; and the answer of a scan.
-pub record Asks : Type 0 where
+-- opened where it is met, and else left out
+abbrev pub way_if : Bool → Way
+way_if met = if met then ways.Open else ways.Skip
+
+-- whether a part with this rectangle is opened, and whether it is not left out
+abbrev pub opens_at : (Seen → Way) → Rectangle → Bool
+opens_at way r = is_open (way (seen_at r))
+
+abbrev pub keeps_at : (Seen → Way) → Rectangle → Bool
+keeps_at way r = is_kept (way (seen_at r))
+
+-- whether a node of which something is seen is opened
+abbrev pub met_by : (Seen → Way) → Option Seen → Bool
+met_by way None = false
+met_by way (Some s) = is_open (way s)
+
+-- ---- what a proof has to show
+
+-- The kind; the point and number that the head's squared radius is of, if it has one; and what each
+-- part is to be, by that radius.
+pub record Question : Type 0 where
   pub kind : Kind
-  pub radius : List Record → Option ℕ
-  pub region : Option ℕ → Seen → Bool
-  pub answer : List Record → List Record
+  pub around : Option Around
+  pub way : Option ℕ → Seen → Way
+
+-- the kth least squared distance of the records of a map or of a cut, where there are as many
+abbrev pub radius_by : Option Around → List Record → Option ℕ
+radius_by None records = None
+radius_by (Some x) records = kth_least x.k (distances x.center records)
+
+-- only heads of kind K have a radius
+abbrev pub FitsAround : Kind → Option Around → Type 0
+FitsAround kind.W x = x ≡ None
+FitsAround kind.K None = ⊥
+FitsAround kind.K (Some x) = FitsPoint x.center × (1 ≤ x.k)
+FitsAround (kind.Choice c) x = x ≡ None
+
+-- what lies in a part that is pruned has the same way
+abbrev pub IsNarrow : (Seen → Way) → Type 0
+IsNarrow way = (a b : Rectangle) → IsOrdered a → IsOrdered b → FitsMap a → FitsMap b → Inside a b
+    → way (seen_at b) ≢ ways.Open → way (seen_at a) ≡ way (seen_at b)
+
+-- what a radius is of is opened just where it lies within that radius
+abbrev pub IsCircle : Option Around → (Option ℕ → Seen → Way) → Type 0
+IsCircle None way = ⊤
+IsCircle (Some x) way = (radius : Option ℕ) (s : Seen)
+    → way radius s ≡ way_if (is_within x.center radius s.rect)
+
+-- what the proof system rests on
+pub record IsLawful (a : Question) : Type 0 where
+  pub around : FitsAround a.kind a.around
+  pub circle : IsCircle a.around a.way
+  pub narrow : (radius : Option ℕ) → IsNarrow (a.way radius)
+
+-- ---- what the proof of an answer to a query has to show
 
 abbrev pub kind_of : Query → Kind
 kind_of (Window w) = kind.W
 kind_of (Nearest p k) = kind.K
 
--- a window has none; for the k nearest records it is the kth least squared distance, where there
--- are as many
-abbrev pub radius_of : Query → List Record → Option ℕ
-radius_of (Window w) records = None
-radius_of (Nearest p k) records = kth_least k (distances p records)
+abbrev pub around_of : Query → Option Around
+around_of (Window w) = None
+around_of (Nearest p k) = Some (record { center = p; k = k })
 
-abbrev pub asks : Query → Asks
-asks q = record {
+-- what the query's region meets is opened, and all else left out
+abbrev pub question : Query → Question
+question q = record {
   kind = kind_of q;
-  radius = radius_of q;
-  region = λ radius s. reaches q radius s.rect;
-  answer = λ records. scan records q;
+  around = around_of q;
+  way = λ radius s. way_if (reaches q radius s.rect);
 }
 
 -- ---- tight cuts
 
 abbrev mutual
-  -- the region misses each pruned part, and meets each opened node
-  pub IsTightCut : (Seen → Bool) → Cut → Type 0
-  IsTightCut region (Pruned part) = met_by region (seen (Pruned part)) ≡ false
-  IsTightCut region (Leaf records) = met_by region (seen (Leaf records)) ≡ true
-  IsTightCut region (Inner cuts) = (met_by region (seen (Inner cuts)) ≡ true)
-      × AreTightCuts region cuts
+  -- each pruned part is to be pruned, and each opened node opened
+  pub IsTightCut : (Seen → Way) → Cut → Type 0
+  IsTightCut way (Pruned part) = met_by way (seen (Pruned part)) ≡ false
+  IsTightCut way (Leaf records) = met_by way (seen (Leaf records)) ≡ true
+  IsTightCut way (Inner cuts) = (met_by way (seen (Inner cuts)) ≡ true) × AreTightCuts way cuts
 
-  pub AreTightCuts : (Seen → Bool) → Cuts → Type 0
-  AreTightCuts region no_more = ⊤
-  AreTightCuts region (first P Ps) = IsTightCut region P × AreTightCuts region Ps
+  pub AreTightCuts : (Seen → Way) → Cuts → Type 0
+  AreTightCuts way no_more = ⊤
+  AreTightCuts way (first P Ps) = IsTightCut way P × AreTightCuts way Ps
 
--- The cut, where there is one, is tight for the region of the head's radius, which is that of the
+-- The cut, where there is one, is tight for the ways by the head's radius, which is that of the
 -- opened records.
-pub record IsTight (a : Asks) (h : Head) (P : Option Cut) : Type 0 where
-  pub parts : IfSome P (IsTightCut (a.region h.radius))
-  pub radius : h.radius ≡ a.radius (opened_records P)
+pub record IsTight (a : Question) (h : Head) (P : Option Cut) : Type 0 where
+  pub parts : IfSome P (IsTightCut (a.way h.radius))
+  pub radius : h.radius ≡ radius_by a.around (opened_records P)

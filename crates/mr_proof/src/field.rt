@@ -90,6 +90,7 @@ pub(crate) fn kind_byte(kind: Kind) -> u8
     match kind {
         Kind::W => b'W',
         Kind::K => b'K',
+        Kind::Choice(letter) => letter,
     }
 }
 

@@ -15,6 +15,8 @@ pub enum Kind {
     W,
     /// The nearest records.
     K,
+    /// A choice of parts, by the letter of its kind. Its proofs have no squared radius.
+    Choice(u8),
 }
 
 /// What a proof says before its items.

@@ -6,11 +6,41 @@ ghost use Rattle.mr_query.specs.Word.{IsAskable};
 ghost use Rattle.mr_tree.specs.Digest.{by};
 ghost use Rattle.mr_tree.specs.WellFormed.{WellFormed};
 ghost use Rattle.mr_tree.specs.declared.tree.Tree.{Tree};
-ghost use Rattle.mr_proof.specs.Halves.{IsHonestProof, AcceptsHonest};
-ghost use Rattle.mr_proof.specs.Headline.{Headline, AcceptedIsHonest, OthersFail, HonestIsQuiet};
+ghost use Rattle.mr_proof.specs.Tight.{Question, IsLawful, question};
+ghost use Rattle.mr_proof.specs.Halves.{AcceptsHonestProof, IsHonestProof, AcceptsHonest};
+ghost use Rattle.mr_proof.specs.Headline.{AcceptedMatchesHonest, HonestProofIsQuiet, Headline, AcceptedIsHonest, OthersFail, HonestIsQuiet};
 
 use mr_query::{Query, is_query};
 use mr_tree::Hashes;
+
+// ---- of whatever is asked
+
+/// Does nothing: it is there for proofs, which learn that what a query asks is lawful.
+pub fn query_is_lawful(q: &Query)
+    requires { IsAskable q.now }
+    ensures { IsLawful (question q.now) }
+{
+    is_query(q);
+}
+
+/// Does nothing: it is there for proofs, which learn that the honest proof of every map is what its
+/// name says, that it is accepted, and that it shows no pair.
+pub fn honest_proof_is_accepted<H: Hashes>()
+    ensures accepted { (v : Version) (a : Question) → IsLawful a
+        → AcceptsHonestProof (by v H.of) a }
+    ensures honest { (v : Version) (a : Question) → IsLawful a → (t : Tree) (batch : ℕ)
+        → WellFormed t
+        → batch < 2 ^ 64 → IsHonestProof (by v H.of) t batch a }
+    ensures quiet { (v : Version) (a : Question) → IsLawful a → HonestProofIsQuiet (by v H.of) a }
+{}
+
+/// Does nothing: it is there for proofs, which learn what accepted bytes are worth.
+pub fn accepted_matches_honest<H: Hashes>(_bytes: &[u8])
+    ensures { (v : Version) (a : Question) → IsLawful a → AcceptedMatchesHonest (by v H.of) a
+        _bytes.now }
+{}
+
+// ---- of queries
 
 /// Does nothing: it is there for proofs, which learn that the honest proof of every map is what its
 /// name says, and that it is accepted.
@@ -18,7 +48,7 @@ pub fn honest_is_accepted<H: Hashes>(q: &Query)
     requires { IsAskable q.now }
     ensures accepted { (v : Version) → AcceptsHonest (by v H.of) q.now }
     ensures honest { (v : Version) (t : Tree) (batch : ℕ) → WellFormed t → batch < 2 ^ 64
-        → IsHonestProof (by v H.of) t batch q.now }
+        → IsHonestProof (by v H.of) t batch (question q.now) }
 {
     is_query(q);
 }

@@ -7,17 +7,24 @@ mod head;
 mod honest;
 mod item;
 mod limits;
+mod question;
 mod rule;
 mod shown;
 mod want;
+mod way;
 mod write;
 
 pub use field::{Field, VERSION, read_field};
 pub use head::{Head, Kind, kind_of};
-pub use honest::{accepted_is_honest, honest_is_accepted};
+pub use honest::{
+    accepted_is_honest, accepted_matches_honest, honest_is_accepted, honest_proof_is_accepted,
+    query_is_lawful,
+};
 pub use item::Item;
 pub use limits::{PLACE_LIMIT, RADIUS_LIMIT};
+pub use question::{Around, AsQuestion};
 pub use rule::{Fault, Rule};
 pub use shown::Shown;
 pub use want::Want;
+pub use way::Way;
 pub use write::{write_head, write_item};

@@ -30,7 +30,7 @@ fn put_radius(bytes: &mut Buffer<HEAD_LIMIT>, kind: Kind, radius: Option<u128>)
     ensures short { length bytes.new ≤ 39 }
 {
     match kind {
-        Kind::W => {}
+        Kind::W | Kind::Choice(_) => {}
         Kind::K => match radius {
             None => bytes.put(&[0]),
             Some(radius) => {

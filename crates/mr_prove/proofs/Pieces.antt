@@ -21,7 +21,8 @@ use Rattle.mr_tree.proofs.Induction.{tree_induction}
 use Rattle.mr_proof.specs.Fields.{inner_tag}
 use Rattle.mr_proof.specs.Cut.{Leaf, Inner, pruned_cut, count_of, opened_nodes, all_opened}
 use Rattle.mr_proof.specs.Spelling.{cut_bytes, cuts_bytes}
-use Rattle.mr_proof.specs.Tight.{Seen, seen_at, met_by}
+use Rattle.mr_proof.specs.declared.way.Way.{Way}
+use Rattle.mr_proof.specs.Tight.{Seen, seen_at, met_by, opens_at}
 use Rattle.mr_proof.specs.Honest.{honest_cut}
 use Rattle.mr_proof.proofs.HonestCut.{meets, honest_cuts, honest_missed, honest_met}
 use Rattle.mr_prove.specs.Parts.{node_bytes, part_at, opened_at, parts_of, opened_in}
@@ -47,7 +48,7 @@ pub sum_by_along : {X Y Z : Type 0} (f : Z → ℕ) (g : X → Z) (h : Y → Z) 
     → map g xs ≡ map h ys → sum_by (λ x. f (g x)) xs ≡ sum_by (λ y. f (h y)) ys
 sum_by_along f g h xs ys e = sym (sum_by_map f g xs) ∙ ap (sum_by f) e ∙ sum_by_map f h ys
 
-module _ (scheme : Scheme) (region : Seen → Bool) where
+module _ (scheme : Scheme) (region : Seen → Way) where
   -- ---- the honest cuts of some trees
 
   count_cuts : (ts : List Tree) → count_of (honest_cuts scheme region ts) ≡ length ts
@@ -71,17 +72,17 @@ module _ (scheme : Scheme) (region : Seen → Bool) where
   rect_is : (t : Tree) (c : Child) → entry_of c ≡ entry scheme t → rect t ≡ Some c.rect
   rect_is t c e = sym (entry_rect scheme t) ∙ ap (λ (x : Entry). x.rect) (sym e)
 
-  meets_is : (t : Tree) (c : Child) (b : Bool) → entry_of c ≡ entry scheme t → region (seen_at c.rect) ≡ b
+  meets_is : (t : Tree) (c : Child) (b : Bool) → entry_of c ≡ entry scheme t → opens_at region c.rect ≡ b
       → meets region t ≡ b
   meets_is t c b e f = ap (λ (o : Option Rectangle). met_by region (option_map seen_at o)) (rect_is t c e) ∙ f
 
-  cut_missed : (t : Tree) (c : Child) → entry_of c ≡ entry scheme t → region (seen_at c.rect) ≡ false
+  cut_missed : (t : Tree) (c : Child) → entry_of c ≡ entry scheme t → opens_at region c.rect ≡ false
       → honest_cut scheme region t ≡ pruned_cut (entry_of c)
   cut_missed t c e f =
       honest_missed scheme region t (meets_is t c false e f) ∙ ap pruned_cut (sym e)
 
   pub missed_at : (o : Option Tree) (c : Child) → IsSomeAnd o (λ t. entry_of c ≡ entry scheme t)
-      → region (seen_at c.rect) ≡ false
+      → opens_at region c.rect ≡ false
       → part_at scheme region o ≡ cut_bytes (pruned_cut (entry_of c))
   unfolding part_at
   missed_at None c e f = absurd e
@@ -114,7 +115,7 @@ module _ (scheme : Scheme) (region : Seen → Bool) where
 
   pub met_at : (s : Standing) (o : Option Tree) (c : Child) (n : Node)
       → IsSomeAnd o (λ t. entry_of c ≡ entry scheme t) → IfSome o (λ t. IsNodeOf s t n)
-      → region (seen_at c.rect) ≡ true
+      → opens_at region c.rect ≡ true
       → part_at scheme region o
       ≡ node_bytes n ++ parts_of scheme region s (children_in n)
   unfolding part_at
@@ -137,7 +138,7 @@ module _ (scheme : Scheme) (region : Seen → Bool) where
 
   pub opened_met_at : (s : Standing) (o : Option Tree) (c : Child) (n : Node)
       → IsSomeAnd o (λ t. entry_of c ≡ entry scheme t) → IfSome o (λ t. IsNodeOf s t n)
-      → region (seen_at c.rect) ≡ true
+      → opens_at region c.rect ≡ true
       → opened_at scheme region o
       ≡ 1 + opened_in scheme region s (children_in n)
   unfolding opened_at
@@ -154,7 +155,7 @@ module _ (scheme : Scheme) (region : Seen → Bool) where
       (λ ts below r e m. let more = ap opened_nodes (cut_inner (tree.Inner ts) ts refl m) in omega (arith, more))
 
   pub opened_one_at : (o : Option Tree) (c : Child) → IsSomeAnd o (λ t. entry_of c ≡ entry scheme t)
-      → region (seen_at c.rect) ≡ true → 1 ≤ opened_at scheme region o
+      → opens_at region c.rect ≡ true → 1 ≤ opened_at scheme region o
   unfolding opened_at
   opened_one_at None c e m = absurd e
   opened_one_at (Some t) c e m = opened_some t c.rect (rect_is t c e) (meets_is t c true e m)

@@ -28,7 +28,8 @@ use Rattle.mr_query.specs.Radius.{below, IsRadius}
 use Rattle.mr_query.proofs.Counts.{below-append, below-length, below-sum, below-rises}
 use Rattle.mr_query.proofs.Kth.{kth_is_radius, radius_is_kth}
 use Rattle.mr_proof.specs.Cut.{opened_nodes}
-use Rattle.mr_proof.specs.Tight.{seen_at}
+use Rattle.mr_query.specs.Nearest.{is_within}
+use Rattle.mr_proof.proofs.Laws.{open_if}
 use Rattle.mr_proof.specs.Honest.{honest_cut}
 use Rattle.mr_prove.specs.declared.waiting.Waiting.{Waiting}
 use Rattle.mr_prove.specs.Parts.{opened_at}
@@ -215,7 +216,7 @@ module _ (hash : List ℕ → List ℕ) (k : ℕ) (p : Point) (s : Standing) whe
     -- until then the nearest that waits lies within it
     lies_within : (IsReached radius next.far → ⊥) → (t : Tree) → s.tree ≡ Some t
         → (r : Option ℕ) → IsRadius k (distances p (records t)) r
-        → near_region p r (seen_at next.child.rect) ≡ true
+        → is_within p r next.child.rect ≡ true
     lies_within not_yet t e None whole = refl
     lies_within not_yet t e (Some r) whole =
         let far = not_reached k next.far r (distances p (records t)) best (λ x. unseen p s x (next ∷ rest)) radius kept
@@ -224,7 +225,7 @@ module _ (hash : List ℕ → List ℕ) (k : ℕ) (p : Point) (s : Standing) whe
         le-leb (least_squared_distance next.child.rect p) r (omega arith)
 
     within_kth : (IsReached radius next.far → ⊥) → 1 ≤ k → (t : Tree) → s.tree ≡ Some t
-        → near_region p (kth_least k (distances p (records t))) (seen_at next.child.rect) ≡ true
+        → is_within p (kth_least k (distances p (records t))) next.child.rect ≡ true
     within_kth not_yet some t e =
         lies_within not_yet t e (kth_least k (distances p (records t))) (kth_is_radius k (distances p (records t)) some)
 
@@ -245,7 +246,8 @@ module _ (hash : List ℕ → List ℕ) (k : ℕ) (p : Point) (s : Standing) whe
           let few = bounded.few t e in
           let may = (All-head (Waits hash p s) next rest known.waits).may in
           let here = opened_met_at (by s.version hash) (near_region p r) s (s.node next.child.id) next.child n
-          (may.known (ap is_some e)) shows.node (within_kth not_yet some t e) in
+          (may.known (ap is_some e)) shows.node (open_if (is_within p r next.child.rect) ∙ within_kth not_yet some t e)
+          in
           let more = next_count-≤ now in
           let cons = sum_by-cons F next rest in
           let perm = sum_by-IsPermutation F (rest ++ map (waiting p) (children_in n)) pending moved in
@@ -265,7 +267,7 @@ module _ (hash : List ℕ → List ℕ) (k : ℕ) (p : Point) (s : Standing) whe
           let few = bounded.few t e in
           let may = (All-head (Waits hash p s) next rest known.waits).may in
           let here = opened_one_at (by s.version hash) (near_region p r) (s.node next.child.id) next.child
-          (may.known (ap is_some e)) (within_kth not_yet some t e) in
+          (may.known (ap is_some e)) (open_if (is_within p r next.child.rect) ∙ within_kth not_yet some t e) in
           let more = next_count-≤ now in
           let cons = sum_by-cons F next rest in
           omega arith;

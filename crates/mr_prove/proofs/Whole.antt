@@ -15,11 +15,12 @@ use Rattle.mr_tree.specs.declared.tree.Tree.{Tree}
 use Rattle.mr_tree.specs.declared.tree.Tree.TheVariants as tree
 use Rattle.mr_tree.proofs.Equations.{entry_level, level-Empty, records-Empty}
 use Rattle.mr_query.specs.declared.query.Query.{Query}
+use Rattle.mr_proof.specs.declared.question.Around.{Around}
 use Rattle.mr_proof.specs.declared.head.Head.{Head}
 use Rattle.mr_proof.specs.Cut.{Cut}
 use Rattle.mr_proof.specs.Spelling.{head_bytes, part_bytes}
-use Rattle.mr_proof.specs.Tight.{asks, kind_of}
-use Rattle.mr_proof.specs.Honest.{honest_cut, honest_head, honest_part, proof, opened_of, opened}
+use Rattle.mr_proof.specs.Tight.{Question, radius_by}
+use Rattle.mr_proof.specs.Honest.{honest_cut, honest_head, honest_part, proof_for, proof, opened_of, opened_for}
 use Rattle.mr_proof.proofs.HonestCut.{some_part as some_there, no_part as none_there}
 use Rattle.mr_prove.specs.declared.error.ProveErr.{ProveErr}
 use Rattle.mr_prove.specs.Parts.{part_at, opened_at, head_by, proof_at, all_opened_at, IsRight}
@@ -35,11 +36,11 @@ level_of_root scheme (Some u) t c k e =
     let same : u ≡ t = cc in
     ap (λ (x : Entry). x.level) k ∙ entry_level scheme u ∙ ap level same
 
-head_with : (s : Standing) (t : Tree) (top : Top) (q : Query) (r : Option ℕ) → top.batch ≡ s.batch
-    → top.count ≡ length (records t) → r ≡ (asks q).radius (records t) → (root_entry top.root).level ≡ level t
-    → honest_head (asks q) t s.batch ≡ head_by top q r
+head_with : (s : Standing) (t : Tree) (top : Top) (q : Question) (r : Option ℕ) → top.batch ≡ s.batch
+    → top.count ≡ length (records t) → r ≡ radius_by q.around (records t) → (root_entry top.root).level ≡ level t
+    → honest_head q t s.batch ≡ head_by top q r
 head_with s t top q r b n e l = λ i. record {
-  kind = kind_of q;
+  kind = q.kind;
   batch = sym b i;
   count = sym n i;
   radius = sym e i;
@@ -47,21 +48,21 @@ head_with s t top q r b n e l = λ i. record {
 }
 
 -- the proof by its cut
-proof_by : (scheme : Scheme) (s : Standing) (t : Tree) (top : Top) (q : Query) (r : Option ℕ) (P : Option Cut)
-    → honest_head (asks q) t s.batch ≡ head_by top q r → honest_part scheme (asks q) t ≡ P
-    → proof scheme t s.batch q ≡ head_bytes (head_by top q r) ++ part_bytes P
+proof_by : (scheme : Scheme) (s : Standing) (t : Tree) (top : Top) (q : Question) (r : Option ℕ) (P : Option Cut)
+    → honest_head q t s.batch ≡ head_by top q r → honest_part scheme q t ≡ P
+    → proof_for scheme q t s.batch ≡ head_bytes (head_by top q r) ++ part_bytes P
 proof_by scheme s t top q r P h p = λ i. head_bytes (h i) ++ part_bytes (p i)
 
-no_part : (scheme : Scheme) (q : Query) (t : Tree) → t ≡ tree.Empty → honest_part scheme (asks q) t ≡ None
+no_part : (scheme : Scheme) (q : Question) (t : Tree) → t ≡ tree.Empty → honest_part scheme q t ≡ None
 no_part scheme q t e =
     let none : length (records t) ≡ 0 = ap length (ap records e ∙ records-Empty) in
-    none_there scheme (asks q) t none
+    none_there scheme q t none
 
-some_part : (scheme : Scheme) (q : Query) (r : Option ℕ) (t : Tree) → r ≡ (asks q).radius (records t)
-    → length (records t) ≢ 0 → honest_part scheme (asks q) t ≡ Some (honest_cut scheme ((asks q).region r) t)
+some_part : (scheme : Scheme) (q : Question) (r : Option ℕ) (t : Tree) → r ≡ radius_by q.around (records t)
+    → length (records t) ≢ 0 → honest_part scheme q t ≡ Some (honest_cut scheme (q.way r) t)
 some_part scheme q r t e some =
-    some_there scheme (asks q) t (omega arith)
-    ∙ ap (λ (o : Option ℕ). Some (honest_cut scheme ((asks q).region o) t)) (sym e)
+    some_there scheme q t (omega arith)
+    ∙ ap (λ (o : Option ℕ). Some (honest_cut scheme (q.way o) t)) (sym e)
 
 told_tree : (o : Option Tree) → IsSome o → (t : Tree) × (o ≡ Some t)
 told_tree None told = cc
@@ -74,15 +75,15 @@ not_none : (c : Child) → IsNone (Some c) → ⊥
 not_none c n = cc
 
 -- what is said of a map with a root node
-record Rooted (hash : List ℕ → List ℕ) (s : Standing) (top : Top) (c : Child) (q : Query)
+record Rooted (hash : List ℕ → List ℕ) (s : Standing) (top : Top) (c : Child) (q : Question)
     (r : Option ℕ) : Type 0 where
   tree : Tree
   is : s.tree ≡ Some tree
   node : s.node c.id ≡ Some tree
-  head : honest_head (asks q) tree s.batch ≡ head_by top q r
-  part : honest_part (by s.version hash) (asks q) tree ≡ Some (honest_cut (by s.version hash) ((asks q).region r) tree)
+  head : honest_head q tree s.batch ≡ head_by top q r
+  part : honest_part (by s.version hash) q tree ≡ Some (honest_cut (by s.version hash) (q.way r) tree)
 
-rooted : (hash : List ℕ → List ℕ) (s : Standing) (top : Top) (c : Child) (q : Query) (r : Option ℕ)
+rooted : (hash : List ℕ → List ℕ) (s : Standing) (top : Top) (c : Child) (q : Question) (r : Option ℕ)
     → IsTop hash s top → IsRight q s r → top.root ≡ Some c → IsSome s.tree → Rooted hash s top c q r
 rooted hash s top c q r is right root told =
     let x = told_tree s.tree told in
@@ -94,8 +95,8 @@ rooted hash s top c q r is right root told =
     let may : MayFetch hash s c = subst (λ (o : Option Child). IfSome o (MayFetch hash s)) root is.root in
     let high : (root_entry top.root).level ≡ level x.0 =
     ap (λ o. (root_entry o).level) root ∙ level_of_root (by s.version hash) (s.node c.id) x.0 c (may.known told) at in
-    let own : r ≡ (asks q).radius (records x.0) =
-    subst (λ (o : Option Tree). IfSome o (λ t. r ≡ (asks q).radius (records t))) x.1 right in
+    let own : r ≡ radius_by q.around (records x.0) =
+    subst (λ (o : Option Tree). IfSome o (λ t. r ≡ radius_by q.around (records t))) x.1 right in
     let some : length (records x.0) ≢ 0 =
     λ z. not_none c (subst (λ (o : Option Child). IsNone o) root (is.none.0 (count ∙ z))) in
     record {
@@ -106,29 +107,29 @@ rooted hash s top c q r is right root told =
       part = some_part (by s.version hash) q r x.0 own some;
     }
 
-pub proof_of_root : (hash : List ℕ → List ℕ) (s : Standing) (top : Top) (c : Child) (q : Query) (r : Option ℕ)
+pub proof_of_root : (hash : List ℕ → List ℕ) (s : Standing) (top : Top) (c : Child) (q : Question) (r : Option ℕ)
     → IsTop hash s top → IsRight q s r → top.root ≡ Some c → IsSome s.tree
     → proof_at (by s.version hash) s.batch q s.tree
-    ≡ head_bytes (head_by top q r) ++ part_at (by s.version hash) ((asks q).region r) (s.node c.id)
+    ≡ head_bytes (head_by top q r) ++ part_at (by s.version hash) (q.way r) (s.node c.id)
 unfolding proof_at part_at
 proof_of_root hash s top c q r is right root told =
     let x = rooted hash s top c q r is right root told in
     ap (proof_at (by s.version hash) s.batch q) x.is
-    ∙ proof_by (by s.version hash) s x.tree top q r (Some (honest_cut (by s.version hash) ((asks q).region r) x.tree))
+    ∙ proof_by (by s.version hash) s x.tree top q r (Some (honest_cut (by s.version hash) (q.way r) x.tree))
     x.head x.part
-    ∙ sym (ap (λ (o : Option Tree). head_bytes (head_by top q r) ++ part_at (by s.version hash) ((asks q).region r) o)
+    ∙ sym (ap (λ (o : Option Tree). head_bytes (head_by top q r) ++ part_at (by s.version hash) (q.way r) o)
     x.node)
 
-pub opened_of_root : (hash : List ℕ → List ℕ) (s : Standing) (top : Top) (c : Child) (q : Query) (r : Option ℕ)
+pub opened_of_root : (hash : List ℕ → List ℕ) (s : Standing) (top : Top) (c : Child) (q : Question) (r : Option ℕ)
     → IsTop hash s top → IsRight q s r → top.root ≡ Some c → IsSome s.tree
-    → all_opened_at (by s.version hash) q s.tree ≡ opened_at (by s.version hash) ((asks q).region r) (s.node c.id)
+    → all_opened_at (by s.version hash) q s.tree ≡ opened_at (by s.version hash) (q.way r) (s.node c.id)
 unfolding all_opened_at opened_at
 opened_of_root hash s top c q r is right root told =
     let x = rooted hash s top c q r is right root told in
     ap (all_opened_at (by s.version hash) q) x.is ∙ ap opened_of x.part
-    ∙ sym (ap (opened_at (by s.version hash) ((asks q).region r)) x.node)
+    ∙ sym (ap (opened_at (by s.version hash) (q.way r)) x.node)
 
-pub proof_of_empty : (hash : List ℕ → List ℕ) (s : Standing) (top : Top) (q : Query) (r : Option ℕ)
+pub proof_of_empty : (hash : List ℕ → List ℕ) (s : Standing) (top : Top) (q : Question) (r : Option ℕ)
     → IsTop hash s top → IsRight q s r → top.root ≡ None → IsSome s.tree
     → proof_at (by s.version hash) s.batch q s.tree ≡ head_bytes (head_by top q r)
 unfolding proof_at
@@ -139,8 +140,8 @@ proof_of_empty hash s top q r is right root told =
     let at : Some tree.Empty ≡ Some x.0 =
     ap (tree_under s) (sym root) ∙ subst (λ (o : Option Tree). IfSome o (λ t. tree_under s top.root ≡ Some t)) x.1
     is.tree in
-    let own : r ≡ (asks q).radius (records x.0) =
-    subst (λ (o : Option Tree). IfSome o (λ t. r ≡ (asks q).radius (records t))) x.1 right in
+    let own : r ≡ radius_by q.around (records x.0) =
+    subst (λ (o : Option Tree). IfSome o (λ t. r ≡ radius_by q.around (records t))) x.1 right in
     let empty : x.0 ≡ tree.Empty = same_tree tree.Empty x.0 at in
     let flat : (root_entry top.root).level ≡ level x.0 = ap (λ o. (root_entry o).level) root
     ∙ sym (ap level empty ∙ level-Empty) in
@@ -151,31 +152,31 @@ proof_of_empty hash s top q r is right root told =
 
 -- ---- what was written
 
-pub whole_with_root : (hash : List ℕ → List ℕ) (s : Standing) (top : Top) (c : Child) (q : Query) (r : Option ℕ) (h :
+pub whole_with_root : (hash : List ℕ → List ℕ) (s : Standing) (top : Top) (c : Child) (q : Question) (r : Option ℕ) (h :
     Head)
     (from mid to : Sunk) → IsTop hash s top → IsRight q s r → top.root ≡ Some c → h ≡ head_by top q r
     → Takes from mid (head_bytes h)
-    → (IsSome s.tree → Takes mid to (part_at (by s.version hash) ((asks q).region r) (s.node c.id)))
+    → (IsSome s.tree → Takes mid to (part_at (by s.version hash) (q.way r) (s.node c.id)))
     → IsSome s.tree → Takes from to (proof_at (by s.version hash) s.batch q s.tree)
 whole_with_root hash s top c q r h from mid to is right root e first rest told =
     subst (Takes from to) (sym (proof_of_root hash s top c q r is right root told))
-    (Takes-append from mid to (head_bytes (head_by top q r)) (part_at (by s.version hash) ((asks q).region r) (s.node
+    (Takes-append from mid to (head_bytes (head_by top q r)) (part_at (by s.version hash) (q.way r) (s.node
     c.id))
     (subst (λ (h : Head). Takes from mid (head_bytes h)) e first) (rest told))
 
-pub front_with_root : (hash : List ℕ → List ℕ) (s : Standing) (top : Top) (c : Child) (q : Query) (r : Option ℕ) (h :
+pub front_with_root : (hash : List ℕ → List ℕ) (s : Standing) (top : Top) (c : Child) (q : Question) (r : Option ℕ) (h :
     Head)
     (from mid to : Sunk) → IsTop hash s top → IsRight q s r → top.root ≡ Some c → h ≡ head_by top q r
     → Takes from mid (head_bytes h)
-    → (IsSome s.tree → TakesFront mid to (part_at (by s.version hash) ((asks q).region r) (s.node c.id)))
+    → (IsSome s.tree → TakesFront mid to (part_at (by s.version hash) (q.way r) (s.node c.id)))
     → IsSome s.tree → TakesFront from to (proof_at (by s.version hash) s.batch q s.tree)
 front_with_root hash s top c q r h from mid to is right root e first rest told =
     subst (TakesFront from to) (sym (proof_of_root hash s top c q r is right root told))
-    (front_second from mid to (head_bytes (head_by top q r)) (part_at (by s.version hash) ((asks q).region r) (s.node
+    (front_second from mid to (head_bytes (head_by top q r)) (part_at (by s.version hash) (q.way r) (s.node
     c.id))
     (subst (λ (h : Head). Takes from mid (head_bytes h)) e first) (rest told))
 
-pub whole_of_empty : (hash : List ℕ → List ℕ) (s : Standing) (top : Top) (q : Query) (r : Option ℕ) (h : Head) (from
+pub whole_of_empty : (hash : List ℕ → List ℕ) (s : Standing) (top : Top) (q : Question) (r : Option ℕ) (h : Head) (from
     to : Sunk)
     → IsTop hash s top → IsRight q s r → top.root ≡ None → h ≡ head_by top q r → Takes from to (head_bytes h)
     → IsSome s.tree → Takes from to (proof_at (by s.version hash) s.batch q s.tree)
@@ -183,7 +184,7 @@ whole_of_empty hash s top q r h from to is right root e all told =
     subst (Takes from to) (sym (proof_of_empty hash s top q r is right root told))
     (subst (λ (h : Head). Takes from to (head_bytes h)) e all)
 
-front_by : (hash : List ℕ → List ℕ) (s : Standing) (top : Top) (q : Query) (r : Option ℕ) (from to : Sunk)
+front_by : (hash : List ℕ → List ℕ) (s : Standing) (top : Top) (q : Question) (r : Option ℕ) (from to : Sunk)
     (o : Option Child) → top.root ≡ o → IsTop hash s top → IsRight q s r → IsSome s.tree
     → TakesFront from to (head_bytes (head_by top q r))
     → TakesFront from to (proof_at (by s.version hash) s.batch q s.tree)
@@ -191,10 +192,11 @@ front_by hash s top q r from to None root is right told front =
     subst (TakesFront from to) (sym (proof_of_empty hash s top q r is right root told)) front
 front_by hash s top q r from to (Some c) root is right told front =
     subst (TakesFront from to) (sym (proof_of_root hash s top c q r is right root told))
-    (front_first from to (head_bytes (head_by top q r)) (part_at (by s.version hash) ((asks q).region r) (s.node
+    (front_first from to (head_bytes (head_by top q r)) (part_at (by s.version hash) (q.way r) (s.node
     c.id)) front)
 
-pub front_of_head : (hash : List ℕ → List ℕ) (s : Standing) (top : Top) (q : Query) (r : Option ℕ) (h : Head) (from to
+pub front_of_head : (hash : List ℕ → List ℕ) (s : Standing) (top : Top) (q : Question) (r : Option ℕ) (h : Head)
+    (from to
     : Sunk)
     → IsTop hash s top → IsRight q s r → h ≡ head_by top q r → TakesFront from to (head_bytes h)
     → IsSome s.tree → TakesFront from to (proof_at (by s.version hash) s.batch q s.tree)
@@ -204,35 +206,45 @@ front_of_head hash s top q r h from to is right e front told =
 
 -- ---- of the tree that is told
 
-pub whole_told : {A : Type 0} (scheme : Scheme) (batch : ℕ) (q : Query) (o : Option Tree) (from to : Sunk)
+pub whole_told : {A : Type 0} (scheme : Scheme) (batch : ℕ) (q : Question) (o : Option Tree) (from to : Sunk)
     (r : Result A ProveErr) → OnOk r (IsSome o → Takes from to (proof_at scheme batch q o))
-    → IfSome o (λ t. OnOk r (Takes from to (proof scheme t batch q)))
+    → IfSome o (λ t. OnOk r (Takes from to (proof_for scheme q t batch)))
 unfolding proof_at
 whole_told scheme batch q None from to r h = tt
 whole_told scheme batch q (Some t) from to (Ok x) h = h refl
 whole_told scheme batch q (Some t) from to (Err e) h = tt
 
-pub front_told : {A : Type 0} (scheme : Scheme) (batch : ℕ) (q : Query) (o : Option Tree) (from to : Sunk)
+pub front_told : {A : Type 0} (scheme : Scheme) (batch : ℕ) (q : Question) (o : Option Tree) (from to : Sunk)
     (r : Result A ProveErr) → OnErr r (IsSome o → TakesFront from to (proof_at scheme batch q o))
-    → IfSome o (λ t. OnErr r (TakesFront from to (proof scheme t batch q)))
+    → IfSome o (λ t. OnErr r (TakesFront from to (proof_for scheme q t batch)))
 unfolding proof_at
 front_told scheme batch q None from to r h = tt
 front_told scheme batch q (Some t) from to (Ok x) h = tt
 front_told scheme batch q (Some t) from to (Err e) h = h refl
 
-pub fetched_told : (scheme : Scheme) (q : Query) (o : Option Tree) (before now : ℕ)
-    → (IsSome o → now ≤ before + all_opened_at scheme q o) → IfSome o (λ t. now ≤ before + opened scheme t q)
+pub fetched_told : (scheme : Scheme) (q : Question) (o : Option Tree) (before now : ℕ)
+    → (IsSome o → now ≤ before + all_opened_at scheme q o) → IfSome o (λ t. now ≤ before + opened_for scheme q t)
 unfolding all_opened_at
 fetched_told scheme q None before now h = tt
 fetched_told scheme q (Some t) before now h = h refl
 
 -- where nothing was written, nothing is the front of the proof that was
-pub front_none : {A : Type 0} (scheme : Scheme) (batch : ℕ) (q : Query) (o : Option Tree) (state : Sunk)
-    (r : Result A ProveErr) → IfSome o (λ t. OnErr r (TakesFront state state (proof scheme t batch q)))
+pub front_none : {A : Type 0} (scheme : Scheme) (batch : ℕ) (q : Question) (o : Option Tree) (state : Sunk)
+    (r : Result A ProveErr) → IfSome o (λ t. OnErr r (TakesFront state state (proof_for scheme q t batch)))
 front_none scheme batch q None state r = tt
 front_none scheme batch q (Some t) state (Ok x) = tt
 front_none scheme batch q (Some t) state (Err e) = record
-    { front = []; rest = proof scheme t batch q; whole = refl; takes = Takes-none state }
+    { front = []; rest = proof_for scheme q t batch; whole = refl; takes = Takes-none state }
+
+-- ---- where heads have no radius, none is right
+
+pub right_none : (q : Question) (s : Standing) → q.around ≡ None → IsRight q s None
+right_none q s e = right_in q.around s.tree e
+  where
+    right_in : (x : Option Around) (o : Option Tree) → x ≡ None → IfSome o (λ t. None ≡ radius_by x (records t))
+    right_in None None e = tt
+    right_in None (Some t) e = refl
+    right_in (Some x) o e = absurd cc
 
 -- ---- what was written for this query
 

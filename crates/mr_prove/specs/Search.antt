@@ -17,7 +17,8 @@ use Rattle.mr_tree.specs.declared.tree.Tree.{Tree}
 use Rattle.mr_query.specs.Nearest.{distances, kth_least, is_within}
 use Rattle.mr_query.specs.Radius.{below}
 use Rattle.mr_proof.specs.Cut.{opened_nodes}
-use Rattle.mr_proof.specs.Tight.{Seen}
+use Rattle.mr_proof.specs.declared.way.Way.{Way}
+use Rattle.mr_proof.specs.Tight.{Seen, way_if}
 use Rattle.mr_proof.specs.Honest.{honest_cut}
 use Rattle.mr_prove.specs.Causes.{HasCause}
 use Rattle.mr_prove.specs.Parts.{opened_at}
@@ -27,9 +28,9 @@ use Rattle.mr_tree.specs.Limits.{inner_limit}
 
 -- ---- what a search promises
 
--- the region of the nodes that lie within the radius
-abbrev pub near_region : Point → Option ℕ → Seen → Bool
-near_region p radius s = is_within p radius s.rect
+-- the nodes that lie within the radius are opened
+abbrev pub near_region : Point → Option ℕ → Seen → Way
+near_region p radius s = way_if (is_within p radius s.rect)
 
 -- how many nodes the honest cut opens for the kth least distance of the tree's records
 abbrev pub near_opened : Scheme → Point → ℕ → Tree → ℕ

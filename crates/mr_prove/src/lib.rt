@@ -10,4 +10,4 @@ mod search;
 mod waiting;
 
 pub use error::ProveErr;
-pub use proving::{prove, prove_window};
+pub use proving::{prove, prove_question, prove_window};

@@ -1,6 +1,6 @@
 //! The proof's part for one node and all below it.
 
-ghost use Rattle.std.specs.Prelude.{◌≡◌, ℕ, ◌+◌, ◌≤◌, true, Bool, Option, OnOk, OnErr, IfErr, IsSome};
+ghost use Rattle.std.specs.Prelude.{◌≡◌, ℕ, ◌+◌, ◌≤◌, true, Option, OnOk, OnErr, IfErr, IsSome};
 ghost use Rattle.mr_outside.specs.Causes.{SinkCauses};
 ghost use Rattle.mr_outside.specs.Told.{Takes, TakesFront};
 ghost use Rattle.mr_outside.specs.Faults.{next_count};
@@ -9,15 +9,15 @@ ghost use Rattle.mr_tree.specs.Nodes.{Standing, MayFetch, Shows, TellsRefusal};
 ghost use Rattle.mr_tree.specs.declared.nodes.NodesErr as error;
 ghost use Rattle.mr_proof.specs.Cut.{pruned_cut};
 ghost use Rattle.mr_proof.specs.Spelling.{cut_bytes};
-ghost use Rattle.mr_proof.specs.Tight.{Seen, seen_at};
+ghost use Rattle.mr_proof.specs.declared.way.Way.{Way};
+ghost use Rattle.mr_proof.specs.Tight.{Seen, opens_at};
 ghost use Rattle.mr_prove.specs.Causes.{ProveCauses, IsHandedOn, of_nodes};
-ghost use Rattle.mr_prove.specs.Parts.{region_in, node_bytes, part_under, opened_under};
+ghost use Rattle.mr_prove.specs.Parts.{node_bytes, part_under, opened_under};
 
 use crate::ProveErr;
 use crate::fetching::fetched;
 use mr_outside::{Sink, SinkErr};
-use mr_proof::{Item, write_item};
-use mr_query::Area;
+use mr_proof::{AsQuestion, Item, write_item};
 use mr_tree::{Child, NodeView, Nodes};
 
 // Writes the item of an opened node.
@@ -35,7 +35,7 @@ fn write_node<W: Sink>(view: &NodeView, out: &mut W) -> Result<(), SinkErr>
     write_item(out, &Item::Inner(children.len() as u8))
 }
 
-// Fetches a node that the region meets, and writes its item.
+// Fetches a node that is to be opened, and writes its item.
 fn open_node<N: Nodes, W: Sink>(
     nodes: &mut N,
     child: &Child,
@@ -47,8 +47,8 @@ fn open_node<N: Nodes, W: Sink>(
     ensures counted { N.fetches nodes.new ≡ next_count (N.fetches nodes.old) }
     ensures shows { OnOk result (Shows N.Hash.of (N.stands nodes.old) child.now view.new) }
     ensures whole { OnOk result (Takes (W.state out.old) (W.state out.new) (node_bytes view.new)) }
-    ensures front { OnErr result (IsSome (N.stands nodes.old).tree → (region : Seen → Bool) →
-        region (seen_at child.now.rect) ≡ true → TakesFront (W.state out.old) (W.state out.new)
+    ensures front { OnErr result (IsSome (N.stands nodes.old).tree → (region : Seen → Way) →
+        opens_at region child.now.rect ≡ true → TakesFront (W.state out.old) (W.state out.new)
         (part_under N.Hash.of region (N.stands nodes.old) child.now)) }
     ensures causes { ProveCauses (N.stands nodes.old) (N.faults nodes.old) (N.faults nodes.new)
         (W.state out.old) (W.state out.new) result }
@@ -77,26 +77,27 @@ fn write_pruned<W: Sink>(child: &Child, out: &mut W) -> Result<(), ProveErr>
     }
 }
 
-// Writes the part of a node that the region meets: the node, and the parts of its children, each
+// Writes the part of a node that is to be opened: the node, and the parts of its children, each
 // once it is fetched. It is a function of its own, so that a part that is pruned makes no view.
 #[cycle(parts)]
-fn write_met<N: Nodes, W: Sink>(
+fn write_met<N: Nodes, A: AsQuestion, W: Sink>(
     nodes: &mut N,
-    area: &Area,
+    q: &A,
+    radius: Option<u128>,
     child: &Child,
     out: &mut W,
 ) -> Result<(), ProveErr>
     requires may { MayFetch N.Hash.of (N.stands nodes.old) child.now }
-    requires met { region_in area.now (seen_at child.now.rect) ≡ true }
+    requires met { opens_at ((A.question q.now).way radius) child.now.rect ≡ true }
     ensures kept { N.kept nodes.old nodes.new }
     ensures whole { OnOk result (IsSome (N.stands nodes.old).tree →
         Takes (W.state out.old) (W.state out.new)
-        (part_under N.Hash.of (region_in area.now) (N.stands nodes.old) child.now)) }
+        (part_under N.Hash.of ((A.question q.now).way radius) (N.stands nodes.old) child.now)) }
     ensures front { OnErr result (IsSome (N.stands nodes.old).tree →
         TakesFront (W.state out.old) (W.state out.new)
-        (part_under N.Hash.of (region_in area.now) (N.stands nodes.old) child.now)) }
+        (part_under N.Hash.of ((A.question q.now).way radius) (N.stands nodes.old) child.now)) }
     ensures fetched { IsSome (N.stands nodes.old).tree → N.fetches nodes.new ≤ N.fetches nodes.old +
-        opened_under N.Hash.of (region_in area.now) (N.stands nodes.old) child.now }
+        opened_under N.Hash.of ((A.question q.now).way radius) (N.stands nodes.old) child.now }
     ensures causes { ProveCauses (N.stands nodes.old) (N.faults nodes.old) (N.faults nodes.new)
         (W.state out.old) (W.state out.new) result }
     ensures refused { IfErr result (IsHandedOn (N.refusal nodes.new)) }
@@ -105,17 +106,18 @@ fn write_met<N: Nodes, W: Sink>(
     let mut view = NodeView::new();
     open_node(nodes, child, &mut view, out)?;
     for next in view.children() {
-        write_part(nodes, area, next, out)?;
+        write_part(nodes, q, radius, next, out)?;
     }
     Ok(())
 }
 
-// Writes the part of the node of which the child is the entry: where the region misses it what is
+// Writes the part of the node of which the child is the entry: where it is to be pruned what is
 // shown of it, and else the node and the parts of its children.
 #[cycle(parts)]
-pub(crate) fn write_part<N: Nodes, W: Sink>(
+pub(crate) fn write_part<N: Nodes, A: AsQuestion, W: Sink>(
     nodes: &mut N,
-    area: &Area,
+    q: &A,
+    radius: Option<u128>,
     child: &Child,
     out: &mut W,
 ) -> Result<(), ProveErr>
@@ -123,19 +125,19 @@ pub(crate) fn write_part<N: Nodes, W: Sink>(
     ensures kept { N.kept nodes.old nodes.new }
     ensures whole { OnOk result (IsSome (N.stands nodes.old).tree →
         Takes (W.state out.old) (W.state out.new)
-        (part_under N.Hash.of (region_in area.now) (N.stands nodes.old) child.now)) }
+        (part_under N.Hash.of ((A.question q.now).way radius) (N.stands nodes.old) child.now)) }
     ensures front { OnErr result (IsSome (N.stands nodes.old).tree →
         TakesFront (W.state out.old) (W.state out.new)
-        (part_under N.Hash.of (region_in area.now) (N.stands nodes.old) child.now)) }
+        (part_under N.Hash.of ((A.question q.now).way radius) (N.stands nodes.old) child.now)) }
     ensures fetched { IsSome (N.stands nodes.old).tree → N.fetches nodes.new ≤ N.fetches nodes.old +
-        opened_under N.Hash.of (region_in area.now) (N.stands nodes.old) child.now }
+        opened_under N.Hash.of ((A.question q.now).way radius) (N.stands nodes.old) child.now }
     ensures causes { ProveCauses (N.stands nodes.old) (N.faults nodes.old) (N.faults nodes.new)
         (W.state out.old) (W.state out.new) result }
     ensures refused { IfErr result (IsHandedOn (N.refusal nodes.new)) }
     ensures answered { TellsRefusal of_nodes (N.refusal nodes.old) (N.refusal nodes.new) result }
 {
-    if !area.meets(&child.rect) {
+    if !q.way(radius, &child.rect).is_open() {
         return write_pruned(child, out);
     }
-    write_met(nodes, area, child, out)
+    write_met(nodes, q, radius, child, out)
 }

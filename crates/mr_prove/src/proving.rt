@@ -1,6 +1,6 @@
 //! The whole proof.
 
-ghost use Rattle.std.specs.Prelude.{◌≡◌, ◌+◌, ◌*◌, ◌≤◌, OnOk, OnErr, IfErr, IfSome, IsSome};
+ghost use Rattle.std.specs.Prelude.{◌≡◌, ◌+◌, ◌*◌, ◌≤◌, None, OnOk, OnErr, IfErr, IfSome, IsSome};
 ghost use Rattle.mr_outside.specs.Told.{Takes, TakesFront};
 ghost use Rattle.mr_record.specs.declared.version.Version.{Version};
 ghost use Rattle.mr_tree.specs.Digest.{by};
@@ -8,8 +8,7 @@ ghost use Rattle.mr_tree.specs.Nodes.{TellsRefusal};
 ghost use Rattle.mr_query.specs.Word.{IsAskable};
 ghost use Rattle.mr_query.specs.declared.query.Query.TheVariants as queries;
 ghost use Rattle.mr_proof.specs.Spelling.{FitsRadius};
-ghost use Rattle.mr_proof.specs.Tight.{kind_of};
-ghost use Rattle.mr_proof.specs.Honest.{proof, opened};
+ghost use Rattle.mr_proof.specs.Honest.{proof_for, opened_for, proof, opened};
 ghost use Rattle.mr_proof.specs.Halves.{AcceptsHonest};
 ghost use Rattle.mr_prove.specs.Causes.{ProveCauses, IsHandedOn, rounds, of_nodes};
 ghost use Rattle.mr_prove.specs.Parts.{head_by, proof_of, opened_by, IsRight};
@@ -19,16 +18,16 @@ use crate::part::write_part;
 use crate::search::kth_distance;
 use mr_geom::{Point, Rect};
 use mr_outside::Sink;
-use mr_proof::{Head, honest_is_accepted, kind_of, write_head};
-use mr_query::{Area, Query};
+use mr_proof::{AsQuestion, Head, honest_is_accepted, write_head};
+use mr_query::Query;
 use mr_tree::{Nodes, Top};
 use std::alloc::Global;
 
-fn head_of(top: &Top, q: &Query, radius: Option<u128>) -> Head
-    ensures { result ≡ head_by top.now q.now radius }
+fn head_of<A: AsQuestion>(top: &Top, q: &A, radius: Option<u128>) -> Head
+    ensures { result ≡ head_by top.now (A.question q.now) radius }
 {
     Head {
-        kind: kind_of(q),
+        kind: q.kind(),
         batch: top.batch,
         count: top.count,
         radius,
@@ -37,23 +36,23 @@ fn head_of(top: &Top, q: &Query, radius: Option<u128>) -> Head
 }
 
 // Writes the proof with this squared radius.
-fn write_proof<N: Nodes, W: Sink>(
+fn write_proof<N: Nodes, A: AsQuestion, W: Sink>(
     nodes: &mut N,
-    q: &Query,
+    q: &A,
     radius: Option<u128>,
     out: &mut W,
 ) -> Result<(), ProveErr>
-    requires right { IsRight q.now (N.stands nodes.old) radius }
-    requires fits { FitsRadius (kind_of q.now) radius }
+    requires right { IsRight (A.question q.now) (N.stands nodes.old) radius }
+    requires fits { FitsRadius (A.question q.now).kind radius }
     ensures kept { N.kept nodes.old nodes.new }
     ensures whole { OnOk result (IsSome (N.stands nodes.old).tree →
         Takes (W.state out.old) (W.state out.new)
-        (proof_of N.Hash.of q.now (N.stands nodes.old))) }
+        (proof_of N.Hash.of (A.question q.now) (N.stands nodes.old))) }
     ensures front { OnErr result (IsSome (N.stands nodes.old).tree →
         TakesFront (W.state out.old) (W.state out.new)
-        (proof_of N.Hash.of q.now (N.stands nodes.old))) }
+        (proof_of N.Hash.of (A.question q.now) (N.stands nodes.old))) }
     ensures fetched { IsSome (N.stands nodes.old).tree → N.fetches nodes.new ≤ N.fetches nodes.old +
-        opened_by N.Hash.of q.now (N.stands nodes.old) }
+        opened_by N.Hash.of (A.question q.now) (N.stands nodes.old) }
     ensures causes { ProveCauses (N.stands nodes.old) (N.faults nodes.old) (N.faults nodes.new)
         (W.state out.old) (W.state out.new) result }
     ensures refused { IfErr result (IsHandedOn (N.refusal nodes.new)) }
@@ -61,10 +60,9 @@ fn write_proof<N: Nodes, W: Sink>(
 {
     let top = nodes.top();
     write_head(out, &head_of(&top, q, radius))?;
-    let area = Area { query: *q, radius };
     match top.root {
         None => Ok(()),
-        Some(root) => write_part(nodes, &area, &root, out),
+        Some(root) => write_part(nodes, q, radius, &root, out),
     }
 }
 
@@ -100,6 +98,38 @@ fn prove_nearest<N: Nodes, W: Sink>(
     write_proof(nodes, &q, radius, out)
 }
 
+/// Writes the proof of what is asked where heads have no squared radius: that of the cut which
+/// opens
+/// just the nodes that are to be opened. The nodes are walked depth first and what is known is
+/// written at once: the walk keeps the nodes on the path, at most eight, inline, and is given no
+/// allocator. So it takes no memory beyond what the nodes and the sink take.
+pub fn prove_question<N: Nodes, A: AsQuestion, W: Sink>(
+    nodes: &mut N,
+    q: &A,
+    out: &mut W,
+) -> Result<(), ProveErr>
+    requires flat { (A.question q.now).around ≡ None }
+    requires none { FitsRadius (A.question q.now).kind None }
+    ensures kept { N.kept nodes.old nodes.new }
+    ensures written { IfSome (N.stands nodes.old).tree (λ t. OnOk result
+        (Takes (W.state out.old) (W.state out.new)
+        (proof_for (by (N.stands nodes.old).version N.Hash.of) (A.question q.now) t
+        (N.stands nodes.old).batch))) }
+    ensures front { IfSome (N.stands nodes.old).tree (λ t. OnErr result
+        (TakesFront (W.state out.old) (W.state out.new)
+        (proof_for (by (N.stands nodes.old).version N.Hash.of) (A.question q.now) t
+        (N.stands nodes.old).batch))) }
+    ensures fetched { IfSome (N.stands nodes.old).tree (λ t. N.fetches nodes.new ≤
+        N.fetches nodes.old + opened_for (by (N.stands nodes.old).version N.Hash.of)
+        (A.question q.now) t) }
+    ensures causes { ProveCauses (N.stands nodes.old) (N.faults nodes.old) (N.faults nodes.new)
+        (W.state out.old) (W.state out.new) result }
+    ensures refused { IfErr result (IsHandedOn (N.refusal nodes.new)) }
+    ensures answered { TellsRefusal of_nodes (N.refusal nodes.old) (N.refusal nodes.new) result }
+{
+    write_proof(nodes, q, None, out)
+}
+
 /// Writes the proof of the answer to a query for a window, as `prove` does. The nodes are walked
 /// depth first and what is known is written at once: the walk keeps the nodes on the path, at most
 /// eight, inline, and is given no allocator. So the proof for a window takes no memory beyond what
@@ -126,7 +156,7 @@ pub fn prove_window<N: Nodes, W: Sink>(
     ensures refused { IfErr result (IsHandedOn (N.refusal nodes.new)) }
     ensures answered { TellsRefusal of_nodes (N.refusal nodes.old) (N.refusal nodes.new) result }
 {
-    write_proof(nodes, &Query::Window(*window), None, out)
+    prove_question(nodes, &Query::Window(*window), out)
 }
 
 /// Writes the proof of the answer to the query: that of the cut which opens just the nodes that the

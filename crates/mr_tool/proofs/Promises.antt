@@ -19,7 +19,7 @@ use Rattle.mr_tree.specs.WellFormed.{WellFormed}
 use Rattle.mr_tree.specs.declared.tree.Tree.{Tree}
 use Rattle.mr_query.specs.Scan.{scan}
 use Rattle.mr_query.specs.Script.{queries_of_text}
-use Rattle.mr_query.specs.Word.{IsAskable, IsQuery}
+use Rattle.mr_query.specs.Word.{IsQuery}
 use Rattle.mr_query.specs.declared.query.Query.{Query}
 use Rattle.mr_proof.specs.declared.rule.Fault.{Fault}
 use Rattle.mr_proof.specs.Clash.{Pair, clash, IsCollision, NoneAnd}
@@ -28,7 +28,6 @@ use Rattle.mr_proof.specs.Honest.{proof}
 use Rattle.mr_proof.specs.Reading.{verdict}
 use Rattle.mr_proof.proofs.PreimageBytes.{IsSized}
 use Rattle.mr_proof.proofs.Complete.{accepts_honest}
-use Rattle.mr_proof.proofs.Laws.{askable}
 use Rattle.mr_proof.proofs.Completeness.{verdict_from}
 use Rattle.mr_proof.proofs.Halves.{accepts_just}
 use Rattle.mr_proof.proofs.SameNodes.{none_more}
@@ -238,7 +237,7 @@ record Shown (hash : List ℕ → List ℕ) (text : List ℕ) : Type 0 where
   collides : IsCollision hash pair
   is : text ≡ collision_lines pair.owned pair.shown
 
-module _ (hash : List ℕ → List ℕ) (sized : IsSized hash) (q : Query) (may : IsAskable q) (t : Tree) (batch : ℕ)
+module _ (hash : List ℕ → List ℕ) (sized : IsSized hash) (q : Query) (may : IsQuery q) (t : Tree) (batch : ℕ)
     (bytes : List ℕ) (well : WellFormed t) (low : batch < 2 ^ 64) (all : AreBytes bytes)
     (before after : Option Files) (status : Status) (text : List ℕ) where
   shown_by : (r : Result (List Record) Fault) (o : Option Pair)
@@ -250,7 +249,7 @@ module _ (hash : List ℕ → List ℕ) (sized : IsSized hash) (q : Query) (may 
   shown_by (Ok answer) (Some p) e d is ends = record {
     pair = p;
     collides = subst (λ o. NoneAnd hash o (IsHonest (first hash) t batch q bytes answer)) d
-        (accepted_headline (first hash) sized.long q bytes may (from_bytes bytes all) t batch answer well low e);
+        (accepted_headline (first hash) sized q bytes may (from_bytes bytes all) t batch answer well low e);
     is = ends.1;
   }
 
@@ -262,7 +261,7 @@ module _ (hash : List ℕ → List ℕ) (sized : IsSized hash) (q : Query) (may 
       shown_by r o refl refl is
       (subst (λ said. Ends (comes said) before after status text) (says_found hash q t batch bytes r o refl refl) ends)
 
-module _ (hash : List ℕ → List ℕ) (sized : IsSized hash) (q : Query) (may : IsAskable q) (name : List ℕ)
+module _ (hash : List ℕ → List ℕ) (sized : IsSized hash) (q : Query) (may : IsQuery q) (name : List ℕ)
     (before after : Option Files) (status : Status) (text : List ℕ) (is : status ≡ Collision) where
   -- what is said of the proof, by the map
   abbrev proof_plan : Opened → Plan
@@ -417,7 +416,7 @@ module _ (hash : List ℕ → List ℕ) (before after : Option Files) (status : 
       }
       by_fault (Some fault) some ends = not_bad status done ends.0
 
-  check_done : (root : List ℕ) (q : Query) (name : List ℕ) → IsAskable q → HoldsProof hash before root q name
+  check_done : (root : List ℕ) (q : Query) (name : List ℕ) → IsQuery q → HoldsProof hash before root q name
       → Ends (say_check hash root q name) before after status text → status ≡ Done
   check_done root q name may holds ends =
       let on = ends_on name holds.bytes before after status text holds.held
@@ -462,7 +461,7 @@ module _ (hash : List ℕ → List ℕ) (before after : Option Files) (status : 
       (told_ends before after map.now holds.bytes (proving hash map.now q name.now)
       (needs_map hash map.now (λ m. comes (say_prove_of hash q name.now m))) status text holds.held ends)
   done sized (commands.Check root q name) each holds ends =
-      check_done root q name.now (askable q each.1.1.0) holds ends
+      check_done root q name.now each.1.1.0 holds ends
   done sized (commands.Audit map q name) each holds ends =
       audit_done hash before after status text map.now q name.now holds.tree holds.batch holds.bytes
       (proof (first hash) holds.tree holds.batch q) holds.held holds.stands holds.own sized each.1.1.0 refl ends
@@ -521,11 +520,11 @@ module _ (v : Version) (hash : List ℕ → List ℕ) (sized : IsSized hash) (be
       let said = ap (λ (o : Outcome). o.printed) (says_verdict hash root q bytes (Ok answer) e) in
       record {
         answer = answer;
-        proves = (accepts_just hash (digests.root (by v hash) t batch) q bytes (askable q asked) (from_bytes bytes all)
+        proves = (accepts_just hash (digests.root (by v hash) t batch) q bytes asked (from_bytes bytes all)
             answer).0 accepted;
         worth = none_more hash (clash (by v hash) t batch bytes) (IsHonest (by v hash) t batch q bytes answer)
             (PrintsScan (by v hash) t batch q bytes before after)
-            (accepted_headline (by v hash) sized.long q bytes (askable q asked) (from_bytes bytes all) t batch answer
+            (accepted_headline (by v hash) sized q bytes asked (from_bytes bytes all) t batch answer
             well low accepted)
             (λ own. record {
               own = own.own;
@@ -578,9 +577,9 @@ module _ (hash : List ℕ → List ℕ) (words : List (List ℕ)) (before after 
   pub accepted_audited : IsSized hash → AuditsAccepted hash words before after status
   accepted_audited sized t batch map q name held bytes answer spells map_held stands name_held proves =
       says_worth hash before after status map.now q name.now t batch held bytes answer map_held stands name_held
-      (verdict_from hash (digests.root (first hash) t batch) q bytes answer (askable q spells.each.1.1.0) proves)
+      (verdict_from hash (digests.root (first hash) t batch) q bytes answer spells.each.1.1.0 proves)
       (clash (first hash) t batch bytes) refl
-      (headline (first hash) sized.long q bytes (askable q spells.each.1.1.0) t batch answer stands.well
+      (headline (first hash) sized q bytes spells.each.1.1.0 t batch answer stands.well
       stands.stands.batch_fits proves)
       (ran_as (commands.Audit map q name) spells)
 
@@ -611,7 +610,7 @@ module _ (hash : List ℕ → List ℕ) (words : List (List ℕ)) (before after 
   pub collided_rightly : IsSized hash → CollidesRightly hash words before after status
   collided_rightly sized map q name spells is = elim (ran_as (commands.Audit map q name) spells) [
     | inl run ↦
-        let x = shown_audit hash sized q (askable q spells.each.1.1.0) name.now before.shelf.files after.shelf.files
+        let x = shown_audit hash sized q spells.each.1.1.0 name.now before.shelf.files after.shelf.files
         status run.text is map.now run.ends in
         (x.pair, x.collides, subst (Takes before.sink after.sink) x.is run.printed)
     | inr stop ↦ not_collided before after status is stop

@@ -25,7 +25,6 @@ use Rattle.mr_query.specs.declared.query.Query.{Query}
 use Rattle.mr_proof.specs.Accepted.{Proves}
 use Rattle.mr_proof.specs.Clash.{Pair, clash, IsCollision, NoneAnd}
 use Rattle.mr_proof.specs.Honest as honest
-use Rattle.mr_proof.specs.Tight.{asks}
 use Rattle.mr_bundle.specs.Bundle.{parts}
 use Rattle.mr_bundle.specs.Verdicts.{verdicts}
 use Rattle.mr_command.specs.Answer.{World, IsWhole, HasStopped}
@@ -66,7 +65,7 @@ pub record HoldsProof (hash : List ℕ → List ℕ) (told : Option Files) (root
   pub bytes : List ℕ
   pub held : Holds told name bytes
   pub answer : List Record
-  pub proves : Proves hash root (asks q) bytes answer
+  pub proves : Proves hash root q bytes answer
 
 -- a map, and the honest proof of the answer to a query on it
 pub record HoldsHonest (hash : List ℕ → List ℕ) (told : Option Files) (map : List ℕ) (q : Query)
@@ -170,7 +169,7 @@ pub record PrintsScan (s : Scheme) (t : Tree) (batch : ℕ) (q : Query)
 pub record IsWorth (s : Scheme) (t : Tree) (batch : ℕ) (q : Query)
     (bytes : List ℕ) (before after : World) : Type 0 where
   pub answer : List Record
-  pub proves : Proves s.of (digests.root s t batch) (asks q) bytes answer
+  pub proves : Proves s.of (digests.root s t batch) q bytes answer
   pub worth : NoneAnd s.of (clash s t batch bytes) (PrintsScan s t batch q bytes before after)
 
 -- What it is worth that `check` accepts bytes against the root digest of a map, for every map,
@@ -203,7 +202,7 @@ AuditsAccepted hash words before after status =
     (held bytes : List ℕ) (answer : List Record)
     → Spells words (commands.Audit map q proof) → Holds before.shelf.files map.now held
     → IsMap first_form hash held t batch → Holds before.shelf.files proof.now bytes
-    → Proves hash (digests.root (first hash) t batch) (asks q) bytes answer
+    → Proves hash (digests.root (first hash) t batch) q bytes answer
     → SaysWorth hash t batch q bytes (clash (first hash) t batch bytes) before after status
 
 -- Two strings that `audit` shows as a collision differ and have one hash, whether files are told or

@@ -28,6 +28,8 @@ mod plain_batches;
 #[cfg(test)]
 mod queries;
 #[cfg(test)]
+mod questions;
+#[cfg(test)]
 mod rects;
 #[cfg(test)]
 mod refusals;

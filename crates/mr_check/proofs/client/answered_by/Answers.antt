@@ -1,15 +1,16 @@
-use Rattle.std.proofs.Common.{[]}
+use Rattle.std.proofs.Common.{arith}
 use Rattle.std.proofs.lemmas.Result.{err_from_is_err_and}
-use Rattle.mr_check.proofs.Gathering.{stopped}
+use Rattle.mr_check.proofs.Gathering.{unanswered, answered}
 use Rattle.mr_check.proofs.client.answered_by.Goals as goal
 
-pub returns-in_err-taken : goal.returns-in_err-taken
-returns-in_err-taken g c =
-    let p = err_from_is_err_and c.from_residual-in_err-taken.result c.from_residual-in_err-taken.ensures.1 in
-    rw (p.1, p.2) (stopped g.H.Hashes.of c.args.root.now c.args.q.now c.args.proof.now c.in_err-taken.field-0.0
-    (c.in_err-taken.ensures.refused c.args.root.now c.args.q.now [] c.in_ok-intake.ensures))
+pub returns-in_err-opened : goal.returns-in_err-opened
+returns-in_err-opened g c =
+    let p = err_from_is_err_and c.from_residual.result c.from_residual.ensures.1 in
+    rw (p.1, p.2) (unanswered g.H.Hashes.of c.args.root.now c.args.q.now c.args.proof.now c.in_err-opened.field-0.0
+    c.in_err-opened.ensures.exact)
 
 pub returns : goal.returns
 returns g c =
-    c.end.ensures c.args.root.now c.args.q.now c.args.proof.now
-    (c.in_ok-taken.ensures.taken c.args.root.now c.args.q.now [] c.in_ok-intake.ensures).0
+    answered g.H.Hashes.of c.args.root.now c.args.q.now c.args.proof.now c.in_ok-opened.opened
+    c.in_ok-answer_of.field-0.items c.is_query.ensures (λ i. omega (arith, c.type_inv.proof i))
+    c.in_ok-opened.ensures.exact c.in_ok-answer_of.ensures

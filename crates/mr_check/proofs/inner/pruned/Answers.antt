@@ -8,14 +8,17 @@ use Rattle.mr_check.proofs.inner.pruned.Goals as goal
 
 pub returns-clause-steps : goal.returns-clause-steps
 returns-clause-steps g c = λ given a none is.
-    let region = region_of c.args.q.now c.args.m.now.head in
+    let region = region_of (g.A.AsQuestion.question c.args.q.now) c.args.m.now.head in
     let P = Pruned c.args.part.now in
-    rw c.stepped.ensures (close_steps g.H.Hashes.of g.H.Hashes.holds c.args.q.now c.close.new.m given
+    rw c.stepped.ensures (close_steps g.H.Hashes.of g.H.Hashes.holds (g.A.AsQuestion.question c.args.q.now)
+    c.close.new.m given
     (after region c.args.m.now.head c.args.level a.nodes P) c.close.result
     (after_quiet region c.args.m.now.head c.args.level a.nodes P)
-    (closed_at g.H.Hashes.of g.H.Hashes.holds c.args.q.now c.close.new.m c.args.m.now.head given region c.args.level
+    (closed_at g.H.Hashes.of g.H.Hashes.holds (g.A.AsQuestion.question c.args.q.now) c.close.new.m c.args.m.now.head
+    given region c.args.level
     c.entry-node.result.level a.nodes P c.close.result (ap (λ (y : Entry). y.level) c.entry-node.ensures)
     (c.close.ensures.closes given a.nodes P
-    (pruned_read g.H.Hashes.of g.H.Hashes.holds c.args.q.now c.args.m.now.head (frames_of c.args.m.now)
+    (pruned_read g.H.Hashes.of g.H.Hashes.holds (g.A.AsQuestion.question c.args.q.now) c.args.m.now.head
+    (frames_of c.args.m.now)
     c.args.m.now.tally
     c.args.level c.args.part.now c.entry-node.result given a c.entry-node.ensures none is))))

@@ -6,7 +6,8 @@ use Rattle.mr_check.proofs.leaf.last.Goals as goal
 
 pub returns-then-not-meets-clause-steps : goal.returns-then-not-meets-clause-steps
 returns-then-not-meets-clause-steps g c = λ given a is_met is.
-    leaf_missed g.H.Hashes.of g.H.Hashes.holds c.args.q.now c.args.m.now.head (frames_of c.args.m.now)
+    leaf_missed g.H.Hashes.of g.H.Hashes.holds (g.A.AsQuestion.question c.args.q.now) c.args.m.now.head
+    (frames_of c.args.m.now)
     c.args.m.now.tally c.taken-leaf.result c.close-node.result (plus c.args.met given c.args.m.now.latest) a
     c.args.m.now.latest
     (record {
@@ -15,14 +16,16 @@ returns-then-not-meets-clause-steps g c = λ given a is_met is.
       digest = c.close-node.ensures.digest;
     })
     (sym c.meets.ensures ∙ c.if-not-meets.true)
-    (subst (λ (f : Frame _). LeafRead g.H.Hashes.of g.H.Hashes.holds c.args.q.now c.args.m.now.head
+    (subst (λ (f : Frame _). LeafRead g.H.Hashes.of g.H.Hashes.holds (g.A.AsQuestion.question c.args.q.now)
+    c.args.m.now.head
     (frames_of c.args.m.now)
     c.args.m.now.tally f (plus c.args.met given c.args.m.now.latest) a c.args.m.now.latest) (sym c.taken-leaf.ensures)
     is)
 
 pub returns-clause-steps : goal.returns-clause-steps
 returns-clause-steps g c = λ given a is_met is.
-    rw c.found.ensures (leaf_closed g.H.Hashes.of g.H.Hashes.holds c.args.q.now c.args.m.now.head
+    rw c.found.ensures (leaf_closed g.H.Hashes.of g.H.Hashes.holds (g.A.AsQuestion.question c.args.q.now)
+    c.args.m.now.head
     (frames_of c.args.m.now)
     c.args.m.now.tally c.close.new.m c.taken-leaf.result c.close-node.result c.args.met given a c.args.m.now.latest
     c.close.result c.close.ensures.kept
@@ -33,7 +36,8 @@ returns-clause-steps g c = λ given a is_met is.
     })
     (sym c.meets.ensures ∙ c.if-not-meets.false) is_met
     (c.close.ensures.closes (plus c.args.met given c.args.m.now.latest))
-    (subst (λ (f : Frame _). LeafRead g.H.Hashes.of g.H.Hashes.holds c.args.q.now c.args.m.now.head
+    (subst (λ (f : Frame _). LeafRead g.H.Hashes.of g.H.Hashes.holds (g.A.AsQuestion.question c.args.q.now)
+    c.args.m.now.head
     (frames_of c.args.m.now)
     c.args.m.now.tally f (plus c.args.met given c.args.m.now.latest) a c.args.m.now.latest) (sym c.taken-leaf.ensures)
     is))

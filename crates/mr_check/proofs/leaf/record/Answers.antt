@@ -5,7 +5,8 @@ use Rattle.mr_check.proofs.leaf.record.Goals as goal
 
 pub returns-then-m-eq0-clause-steps : goal.returns-then-m-eq0-clause-steps
 returns-then-m-eq0-clause-steps g c = λ given a leaf is.
-    let read = leaf_read g.H.Hashes.of g.H.Hashes.holds c.args.q.now c.args.m.now.head (frames_of c.args.m.now)
+    let read = leaf_read g.H.Hashes.of g.H.Hashes.holds (g.A.AsQuestion.question c.args.q.now) c.args.m.now.head
+    (frames_of c.args.m.now)
     c.args.m.now.tally
     c.counted-met.new.tally c.args.m.now.leaf c.add_record.new.self c.counted-met.result c.args.m.now.latest given a
     c.add_record.ensures c.if-m-eq0.true c.counted-met.ensures.met
@@ -14,7 +15,8 @@ returns-then-m-eq0-clause-steps g c = λ given a leaf is.
 
 pub returns-clause-steps : goal.returns-clause-steps
 returns-clause-steps g c = λ given a leaf is.
-    rw c.found.ensures (record_on g.H.Hashes.of g.H.Hashes.holds c.args.q.now c.args.m.now c.add_record.new.self
+    rw c.found.ensures (record_on g.H.Hashes.of g.H.Hashes.holds (g.A.AsQuestion.question c.args.q.now) c.args.m.now
+    c.add_record.new.self
     c.counted-met.new.tally
     c.counted-met.result given a c.add_record.ensures
     (omega arith) c.counted-met.ensures.met (c.counted-met.ensures.tally given is.tally) leaf is)

@@ -23,9 +23,11 @@ returns-clause-takes g c =
 
 pub returns-clause-turns : goal.returns-clause-turns
 returns-clause-turns g c = λ s at.
-    turn_record g.H.Hashes.of g.H.Hashes.holds c.args.q.now c.args.r.now c.behind.new.r s c.args.piece.now c.args.size
+    turn_record g.H.Hashes.of g.H.Hashes.holds (g.A.AsQuestion.question c.args.q.now) c.args.r.now c.behind.new.r s
+    c.args.piece.now c.args.size
     c.args.one.now c.behind.result c.requires.whole
-    (λ given a p is. rw (sym c.last_field-last.ensures) (c.behind.ensures.behind c.args.q.now given
-    (after_record (region_of c.args.q.now c.args.r.now.machine.head) c.args.r.now.machine.head
+    (λ given a p is. rw (sym c.last_field-last.ensures) (c.behind.ensures.behind (g.A.AsQuestion.question c.args.q.now)
+    given
+    (after_record (region_of (g.A.AsQuestion.question c.args.q.now) c.args.r.now.machine.head) c.args.r.now.machine.head
     c.args.r.now.machine.leaf.left a.nodes a.records c.args.one.now)
     (c.record-stepped.ensures.steps given a is.0 is.1))) at

@@ -18,7 +18,8 @@ returns-then-piece-missing-clause-turns g c = λ s at.
       ap length c.as_slice.ensures.bytes,
       length-append c.args.r.now.held c.args.piece.now,
     ) in
-    turn_more g.H.Hashes.of g.H.Hashes.holds c.args.q.now c.args.r.now c.args.want.now s c.args.piece.now c.put.new.self
+    turn_more g.H.Hashes.of g.H.Hashes.holds (g.A.AsQuestion.question c.args.q.now) c.args.r.now c.args.want.now s
+    c.args.piece.now c.put.new.self
     c.requires.wants within
     c.put.ensures less at
 
@@ -41,7 +42,8 @@ returns-in-Err-clause-turns g c = λ s at.
     ) in
     let broken = ap (λ (f : List ℕ). field_of c.args.want.now (c.args.r.now.held ++ f)) (sym front)
     ∙ sym c.in-Err.ensures.exact in
-    rw c.fail.ensures.value (turn_broken g.H.Hashes.of g.H.Hashes.holds c.args.q.now c.args.r.now c.args.want.now s
+    rw c.fail.ensures.value (turn_broken g.H.Hashes.of g.H.Hashes.holds (g.A.AsQuestion.question c.args.q.now)
+    c.args.r.now c.args.want.now s
     (take n c.args.piece.now) (drop n c.args.piece.now) c.args.piece.now c.in-Err.rule c.requires.wants within
     (take-append-drop n c.args.piece.now) long broken at)
 
@@ -65,7 +67,8 @@ returns-in-Ok-clause-turns g c = λ s at.
     (arith, c.size-size.ensures.value, ap length c.as_slice.ensures.bytes) in
     let value = ap (λ (f : List ℕ). field_of c.args.want.now (c.args.r.now.held ++ f)) (sym c.split_at.ensures.front)
     ∙ sym c.in-Ok.ensures.exact in
-    turn_whole g.H.Hashes.of g.H.Hashes.holds c.args.q.now c.args.r.now c.behind_field.new.r c.args.want.now s
+    turn_whole g.H.Hashes.of g.H.Hashes.holds (g.A.AsQuestion.question c.args.q.now) c.args.r.now c.behind_field.new.r
+    c.args.want.now s
     c.args.piece.now n c.size-size.result
     c.in-Ok.field c.behind_field.result c.requires.wants within
     (omega (arith, c.size-size.ensures.value, ap length c.as_slice.ensures.bytes))

@@ -1,79 +1,78 @@
-use Rattle.std.proofs.Common.{◌∙◌}
-use Rattle.std.specs.Prelude.{Ok, option_map}
-use Rattle.mr_clash.specs.declared.error.AuditErr.{AuditErr}
-use Rattle.mr_clash.specs.Steps.{pair_of}
-use Rattle.mr_clash.proofs.Whole.{told_accepted, told_refused, judged_accepted, judged_refused, refused_causes, refused_collides, honest_told}
+use Rattle.std.proofs.Common.{arith}
+use Rattle.mr_record.proofs.Encodings.{IsBytes}
 use Rattle.mr_tree.specs.Digest.{by}
-use Rattle.mr_clash.specs.Finding.{opened_accepted}
-use Rattle.mr_clash.proofs.Fetches.{none_fetched, few_fetched}
+use Rattle.mr_clash.proofs.Whole.{told_from, judged_from, fetched_from, few_from, finding_collides, honest_told}
 use Rattle.mr_clash.proofs.auditing.audit.Goals as goal
 
-pub returns-in-Err-clause-told : goal.returns-in-Err-clause-told
-returns-in-Err-clause-told g c =
-    told_refused g.N.Hash.Hashes.of (g.N.Nodes.stands c.args.nodes.now) c.top-top.result c.args.q.now c.args.proof.now
-    c.root_of.result c.top-top.ensures c.root_of.ensures c.in-Err.error c.refusal.result c.in-Err.ensures.exact
-    c.refusal.ensures
-
-pub returns-in-Err-clause-honest : goal.returns-in-Err-clause-honest
-returns-in-Err-clause-honest g c =
-    honest_told g.N.Hash.Hashes.of c.args.q.now c.args.proof.now (g.N.Nodes.stands c.args.nodes.now) c.top-top.result
-    c.refusal.result c.top-top.ensures c.are_words.ensures.batch (c.check.ensures.complete _)
-    (c.accepted_is_honest.ensures.accepted _) (c.accepted_is_honest.ensures.quiet _)
-    (g.met.N.Nodes.well_formed c.args.nodes.now) (returns-in-Err-clause-told g c)
-
-pub returns-in-Err-clause-judged : goal.returns-in-Err-clause-judged
-returns-in-Err-clause-judged g c =
-    judged_refused g.N.Hash.Hashes.of (g.N.Nodes.stands c.args.nodes.now) c.top-top.result c.args.q.now c.args.proof.now
-    c.root_of.result c.in-Err.error c.refusal.result c.top-top.ensures c.root_of.ensures c.in-Err.ensures.exact
-    c.refusal.ensures
-
-pub returns-in_ok-pair-in-Ok-clause-judged : goal.returns-in_ok-pair-in-Ok-clause-judged
-returns-in_ok-pair-in-Ok-clause-judged g c =
-    judged_accepted g.N.Hash.Hashes.of (g.N.Nodes.stands c.args.nodes.now) c.top-top.result c.args.q.now
-    c.args.proof.now c.root_of.result c.in-Ok.answer.items (option_map pair_of c.in_ok-pair-in-Ok.pair)
-    c.finding_by.result c.top-top.ensures c.root_of.ensures c.in-Ok.ensures.exact c.finding_by.ensures
-
-pub returns-in-Err-clause-causes : goal.returns-in-Err-clause-causes
-returns-in-Err-clause-causes g c =
-    refused_causes (g.N.Nodes.stands c.args.nodes.now) (g.N.Nodes.faults c.args.nodes.now) c.in-Err.error
-    c.refusal.result c.refusal.ensures
-
-pub returns-in-Err-clause-collides : goal.returns-in-Err-clause-collides
-returns-in-Err-clause-collides g c =
-    refused_collides g.N.Hash.Hashes.of c.in-Err.error c.refusal.result c.refusal.ensures
-
-pub returns-in_ok-pair-in-Ok-clause-honest : goal.returns-in_ok-pair-in-Ok-clause-honest
-returns-in_ok-pair-in-Ok-clause-honest g c =
-    let hash = g.N.Hash.Hashes.of in
+pub returns-clause-told : goal.returns-clause-told
+returns-clause-told g c =
     let s = g.N.Nodes.stands c.args.nodes.now in
-    let x = c.in-Ok.ensures.proved in
-    let pair = c.in_ok-pair-in-Ok.ensures.compared x.head x.part x.spelled (x.held ∙ c.root_of.ensures) in
-    honest_told {E = AuditErr} hash c.args.q.now c.args.proof.now s c.top-top.result (Ok c.finding_by.result)
-    c.top-top.ensures c.are_words.ensures.batch (c.check.ensures.complete _)
+    let fits : IsBytes c.args.proof.now = λ i. omega (arith, c.type_inv.proof i) in
+    told_from c.args.q.now c.args.proof.now c.is_query.ensures fits (by s.version g.N.Hash.Hashes.of) s.tree s.batch
+    c.in_ok-outcome.outcome c.in_ok-finding_of.field-0 c.in_ok-outcome.ensures.told c.in_ok-finding_of.ensures
+
+pub returns-clause-honest : goal.returns-clause-honest
+returns-clause-honest g c =
+    let s = g.N.Nodes.stands c.args.nodes.now in
+    let fits : IsBytes c.args.proof.now = λ i. omega (arith, c.type_inv.proof i) in
+    honest_told g.N.Hash.Hashes.of c.args.q.now c.args.proof.now s c.top-top.result c.in_ok-finding_of.field-0
+    c.top-top.ensures c.are_words.ensures.batch (c.honest_is_accepted.ensures.accepted _)
     (c.accepted_is_honest.ensures.accepted _) (c.accepted_is_honest.ensures.quiet _)
     (g.met.N.Nodes.well_formed c.args.nodes.now)
-    (told_accepted hash s c.top-top.result c.args.q.now c.args.proof.now c.root_of.result c.in-Ok.answer.items
-    (option_map pair_of c.in_ok-pair-in-Ok.pair) c.finding_by.result c.top-top.ensures c.root_of.ensures
-    c.in-Ok.ensures.exact pair.told c.finding_by.ensures)
+    (told_from c.args.q.now c.args.proof.now c.is_query.ensures fits (by s.version g.N.Hash.Hashes.of) s.tree s.batch
+    c.in_ok-outcome.outcome c.in_ok-finding_of.field-0 c.in_ok-outcome.ensures.told c.in_ok-finding_of.ensures)
 
-pub returns-in-Err-clause-fetched : goal.returns-in-Err-clause-fetched
-returns-in-Err-clause-fetched g c =
+pub returns-clause-judged : goal.returns-clause-judged
+returns-clause-judged g c =
+    let fits : IsBytes c.args.proof.now = λ i. omega (arith, c.type_inv.proof i) in
+    judged_from c.args.q.now c.args.proof.now c.is_query.ensures fits g.N.Hash.Hashes.of
+    (g.N.Nodes.stands c.args.nodes.now) c.in_ok-outcome.outcome c.in_ok-finding_of.field-0
+    c.in_ok-outcome.ensures.judged
+    c.in_ok-finding_of.ensures
+
+pub returns-clause-collides : goal.returns-clause-collides
+returns-clause-collides g c =
+    finding_collides g.N.Hash.Hashes.of c.args.q.now c.in_ok-outcome.outcome c.in_ok-finding_of.field-0
+    c.in_ok-outcome.ensures.collides c.in_ok-finding_of.ensures
+
+pub returns-clause-fetched : goal.returns-clause-fetched
+returns-clause-fetched g c =
     let s = g.N.Nodes.stands c.args.nodes.now in
-    none_fetched s.tree (g.N.Nodes.fetches c.args.nodes.now)
-    (λ t. opened_accepted (by s.version g.N.Hash.Hashes.of) t s.batch c.args.q.now c.args.proof.now)
+    let fits : IsBytes c.args.proof.now = λ i. omega (arith, c.type_inv.proof i) in
+    fetched_from c.args.q.now c.args.proof.now c.is_query.ensures fits (by s.version g.N.Hash.Hashes.of) s.tree s.batch
+    (g.N.Nodes.fetches c.args.nodes.now) (g.N.Nodes.fetches c.audit_question.new.nodes) c.in_ok-outcome.ensures.fetched
 
-pub returns-in_err-pair-in-Ok-clause-fetched : goal.returns-in_err-pair-in-Ok-clause-fetched
-returns-in_err-pair-in-Ok-clause-fetched g c =
-    let x = c.in-Ok.ensures.proved in
-    few_fetched g.N.Hash.Hashes.of (g.N.Nodes.stands c.args.nodes.now) c.top-top.result c.args.q.now c.args.proof.now
-    c.root_of.result c.in-Ok.answer.items x.head x.part (g.N.Nodes.fetches c.args.nodes.now)
-    (g.N.Nodes.fetches c.compare_map.new.nodes) c.top-top.ensures c.root_of.ensures c.in-Ok.ensures.exact x.spelled
-    (c.in_err-pair-in-Ok.ensures.fetched x.head x.part x.spelled)
+pub returns-in_err-outcome-clause-fetched : goal.returns-in_err-outcome-clause-fetched
+returns-in_err-outcome-clause-fetched g c =
+    let s = g.N.Nodes.stands c.args.nodes.now in
+    let fits : IsBytes c.args.proof.now = λ i. omega (arith, c.type_inv.proof i) in
+    fetched_from c.args.q.now c.args.proof.now c.is_query.ensures fits (by s.version g.N.Hash.Hashes.of) s.tree s.batch
+    (g.N.Nodes.fetches c.args.nodes.now) (g.N.Nodes.fetches c.audit_question.new.nodes) c.in_err-outcome.ensures.fetched
 
-pub returns-in_ok-pair-in-Ok-clause-fetched : goal.returns-in_ok-pair-in-Ok-clause-fetched
-returns-in_ok-pair-in-Ok-clause-fetched g c =
-    let x = c.in-Ok.ensures.proved in
-    few_fetched g.N.Hash.Hashes.of (g.N.Nodes.stands c.args.nodes.now) c.top-top.result c.args.q.now c.args.proof.now
-    c.root_of.result c.in-Ok.answer.items x.head x.part (g.N.Nodes.fetches c.args.nodes.now)
-    (g.N.Nodes.fetches c.compare_map.new.nodes) c.top-top.ensures c.root_of.ensures c.in-Ok.ensures.exact x.spelled
-    (c.in_ok-pair-in-Ok.ensures.fetched x.head x.part x.spelled)
+pub returns-in_err-finding_of-clause-fetched : goal.returns-in_err-finding_of-clause-fetched
+returns-in_err-finding_of-clause-fetched g c =
+    let s = g.N.Nodes.stands c.args.nodes.now in
+    let fits : IsBytes c.args.proof.now = λ i. omega (arith, c.type_inv.proof i) in
+    fetched_from c.args.q.now c.args.proof.now c.is_query.ensures fits (by s.version g.N.Hash.Hashes.of) s.tree s.batch
+    (g.N.Nodes.fetches c.args.nodes.now) (g.N.Nodes.fetches c.audit_question.new.nodes) c.in_ok-outcome.ensures.fetched
+
+pub returns-clause-fetches : goal.returns-clause-fetches
+returns-clause-fetches g c =
+    let fits : IsBytes c.args.proof.now = λ i. omega (arith, c.type_inv.proof i) in
+    few_from c.args.q.now c.args.proof.now c.is_query.ensures fits g.N.Hash.Hashes.of
+    (g.N.Nodes.stands c.args.nodes.now)
+    (g.N.Nodes.fetches c.args.nodes.now) (g.N.Nodes.fetches c.audit_question.new.nodes) c.in_ok-outcome.ensures.fetches
+
+pub returns-in_err-outcome-clause-fetches : goal.returns-in_err-outcome-clause-fetches
+returns-in_err-outcome-clause-fetches g c =
+    let fits : IsBytes c.args.proof.now = λ i. omega (arith, c.type_inv.proof i) in
+    few_from c.args.q.now c.args.proof.now c.is_query.ensures fits g.N.Hash.Hashes.of
+    (g.N.Nodes.stands c.args.nodes.now)
+    (g.N.Nodes.fetches c.args.nodes.now) (g.N.Nodes.fetches c.audit_question.new.nodes) c.in_err-outcome.ensures.fetches
+
+pub returns-in_err-finding_of-clause-fetches : goal.returns-in_err-finding_of-clause-fetches
+returns-in_err-finding_of-clause-fetches g c =
+    let fits : IsBytes c.args.proof.now = λ i. omega (arith, c.type_inv.proof i) in
+    few_from c.args.q.now c.args.proof.now c.is_query.ensures fits g.N.Hash.Hashes.of
+    (g.N.Nodes.stands c.args.nodes.now)
+    (g.N.Nodes.fetches c.args.nodes.now) (g.N.Nodes.fetches c.audit_question.new.nodes) c.in_ok-outcome.ensures.fetches

@@ -1,11 +1,18 @@
+use Rattle.std.proofs.Common.{◌≡◌, ◌++◌, List, ℕ, subst}
+use Rattle.mr_proof.specs.declared.head.Kind.{Kind}
+use Rattle.mr_proof.specs.Spelling.{radius_bytes}
+use Rattle.mr_clash.specs.Steps.{left}
 use Rattle.mr_clash.proofs.Taking.{radius_passed, flag_passed}
 use Rattle.mr_clash.proofs.root.pass_radius.Goals as goal
 
 pub returns-then-byte-eq1 : goal.returns-then-byte-eq1
-returns-then-byte-eq1 c = λ k r rest is here.
-    radius_passed k r rest c.args.kind c.byte.result _ _ _ is here c.if-kind-ne75.false c.byte.ensures
+returns-then-byte-eq1 c = λ r rest here.
+    radius_passed r rest c.byte.result _ _ _
+    (subst (λ (k : Kind). left c.args.from.now ≡ radius_bytes k r ++ rest) c.in-K.is here) c.byte.ensures
     c.if-byte-eq1.true (λ x behind long. (λ e. (c.take-radius.ensures x behind long e).1))
 
 pub returns-else-byte-eq1 : goal.returns-else-byte-eq1
-returns-else-byte-eq1 c = λ k r rest is here.
-    flag_passed k r rest c.args.kind c.byte.result _ _ is here c.if-kind-ne75.false c.byte.ensures c.if-byte-eq1.false
+returns-else-byte-eq1 c = λ r rest here.
+    flag_passed r rest c.byte.result _ _
+    (subst (λ (k : Kind). left c.args.from.now ≡ radius_bytes k r ++ rest) c.in-K.is here) c.byte.ensures
+    c.if-byte-eq1.false

@@ -1,4 +1,4 @@
-use Rattle.std.proofs.Common.{ap, sym, subst}
+use Rattle.std.proofs.Common.{◌<◌, ◌^◌, ap, sym, subst, arith}
 use Rattle.std.specs.String.{string_bytes}
 use Rattle.mr_store.specs.Stored.{stands_for, told_bytes}
 use Rattle.mr_draft.specs.Draft.{drawn}
@@ -6,7 +6,7 @@ use Rattle.mr_command.specs.Applying.{ComesBehind, IsFewOfCopy}
 use Rattle.mr_plan.specs.Plan.{comes}
 use Rattle.mr_plan.specs.Rereading.{applying}
 use Rattle.mr_plan.specs.Say.{say_changed}
-use Rattle.mr_command.proofs.Drafts.{uncopied, unapplied, sealed}
+use Rattle.mr_command.proofs.Drafts.{uncopied, unapplied, sealed, root_of_some}
 use Rattle.mr_command.proofs.applying.change.Goals as goal
 
 pub returns-in-Err : goal.returns-in-Err
@@ -49,8 +49,10 @@ returns g c = λ name.
     let e = drawn (g.S.Shelf.state later.desk.file.shelf) (string_bytes later.desk.file.name) later.desk.file.pages
     later.desk.free later.root later.count later.batch in
     let is = c.in-Ok-apply_batch.ensures in
+    let low : later.batch < 2 ^ 64 = omega (arith, is.batch, c.number.ensures, c.is_word.ensures) in
     sealed hash c.args.map.now c.args.new.now name (string_bytes paged.name) paged.head c.args.batch.now
     (g.S.Shelf.state paged.shelf) c.args.dir c.requires.may d c.in-Ok.ensures e is.kept is.within c.apply_batch.new.dir
     is.applies is.batch is.quiet (g.S.Shelf.state c.seal-shelf.result.0) c.seal-shelf.ensures.reads
-    c.seal-shelf.result.1
-    c.say_sealed.result c.seal-shelf.ensures.sealed c.say_sealed.ensures
+    c.seal-shelf.result.1 c.say_sealed.result c.seal-shelf.ensures.sealed
+    (root_of_some hash later.batch later.count later.root low is.top is.low c.seal-shelf.result.1
+    c.seal-shelf.ensures.digest) c.say_sealed.ensures

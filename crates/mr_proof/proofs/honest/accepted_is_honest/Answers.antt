@@ -7,16 +7,19 @@ use Rattle.mr_proof.proofs.honest.accepted_is_honest.Goals as goal
 
 pub returns-clause-headline : goal.returns-clause-headline
 returns-clause-headline g c =
-    λ v. headline (by v g.H.Hashes.of) g.met.H.Hashes.sized c.args.q.now c.args._bytes.now c.requires
+    let sized : IsSized g.H.Hashes.of = record { long = g.met.H.Hashes.sized; bytes = g.met.H.Hashes.bytes } in
+    λ v. headline (by v g.H.Hashes.of) sized c.args.q.now c.args._bytes.now c.is_query.ensures
 
 pub returns-clause-accepted : goal.returns-clause-accepted
 returns-clause-accepted g c =
-    λ v. accepted_headline (by v g.H.Hashes.of) g.met.H.Hashes.sized c.args.q.now c.args._bytes.now c.requires
+    let sized : IsSized g.H.Hashes.of = record { long = g.met.H.Hashes.sized; bytes = g.met.H.Hashes.bytes } in
+    λ v. accepted_headline (by v g.H.Hashes.of) sized c.args.q.now c.args._bytes.now c.is_query.ensures
     (λ i. omega (arith, c.type_inv._bytes i))
 
 pub returns-clause-others : goal.returns-clause-others
 returns-clause-others g c =
-    λ v. others_fail (by v g.H.Hashes.of) g.met.H.Hashes.sized c.args.q.now c.args._bytes.now c.requires
+    let sized : IsSized g.H.Hashes.of = record { long = g.met.H.Hashes.sized; bytes = g.met.H.Hashes.bytes } in
+    λ v. others_fail (by v g.H.Hashes.of) sized c.args.q.now c.args._bytes.now c.is_query.ensures
     (λ i. omega (arith, c.type_inv._bytes i))
 
 pub returns-clause-quiet : goal.returns-clause-quiet

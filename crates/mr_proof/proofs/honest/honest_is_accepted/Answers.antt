@@ -1,6 +1,8 @@
 use Rattle.mr_tree.specs.Digest.{by}
 use Rattle.mr_proof.proofs.PreimageBytes.{IsSized}
+use Rattle.mr_proof.proofs.Laws.{is_lawful}
 use Rattle.mr_proof.proofs.Complete.{accepts_honest, honest_stands}
+use Rattle.mr_proof.specs.Tight.{question}
 use Rattle.mr_proof.proofs.honest.honest_is_accepted.Goals as goal
 
 pub returns-clause-accepted : goal.returns-clause-accepted
@@ -11,4 +13,5 @@ returns-clause-accepted g c =
 pub returns-clause-honest : goal.returns-clause-honest
 returns-clause-honest g c =
     let sized : IsSized g.H.Hashes.of = record { long = g.met.H.Hashes.sized; bytes = g.met.H.Hashes.bytes } in
-    λ v t batch well low. honest_stands (by v g.H.Hashes.of) sized c.args.q.now c.is_query.ensures t batch well low
+    λ v t batch well low. honest_stands (by v g.H.Hashes.of) sized (question c.args.q.now)
+    (is_lawful c.args.q.now c.is_query.ensures) t batch well low

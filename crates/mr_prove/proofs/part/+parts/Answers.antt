@@ -1,55 +1,57 @@
-use Rattle.std.proofs.Common.{◌+◌, ◌≤◌, ◌∙◌, sym, subst, arith}
+use Rattle.std.proofs.Common.{◌+◌, ◌≤◌, ◌∙◌, sym, ap, subst, arith}
 use Rattle.std.specs.Prelude.{IsSome}
 use Rattle.mr_outside.specs.Told.{Takes, TakesFront}
 use Rattle.mr_tree.specs.Digest.{by}
 use Rattle.mr_tree.specs.Nodes.{Standing}
 use Rattle.mr_tree.specs.declared.child.Child.{Child}
-use Rattle.mr_prove.specs.Parts.{region_in, part_at, opened_at}
+use Rattle.mr_prove.specs.Parts.{part_at, opened_at}
 use Rattle.mr_tree.specs.View.{entry_of}
 use Rattle.mr_proof.specs.Cut.{pruned_cut}
 use Rattle.mr_proof.specs.Spelling.{cut_bytes}
+use Rattle.mr_proof.specs.Tight.{is_open}
 use Rattle.mr_prove.proofs.Whole.{ok_through}
 use Rattle.mr_prove.proofs.Steps.{on_err, written_more, fetched_more, pruned_whole, pruned_front, met_whole, met_front, one_fetch, some_fetches}
 use Rattle.mr_prove.proofs.part.+parts.Goals as goal
 
-pub write_part-returns-then-not-meets-clause-whole : goal.write_part-returns-then-not-meets-clause-whole
-write_part-returns-then-not-meets-clause-whole g t c =
+pub write_part-returns-then-not-is_open-clause-whole : goal.write_part-returns-then-not-is_open-clause-whole
+write_part-returns-then-not-is_open-clause-whole g t c =
     let s = g.N.Nodes.stands c.args.nodes.now in
-    let region = region_in c.args.area.now in
+    let region = (g.A.AsQuestion.question c.args.q.now).way c.args.radius in
     let from = g.W.Sink.state c.args.out.now in
     let to = g.W.Sink.state c.write_pruned.new.out in
     ok_through c.write_pruned.result (Takes from to (cut_bytes (pruned_cut (entry_of c.args.child.now))))
     (IsSome s.tree → Takes from to (part_at (by s.version g.N.Hash.Hashes.of) region (s.node c.args.child.now.id)))
     (λ taken told. pruned_whole g.N.Hash.Hashes.of region s c.args.child.now c.requires told from to
-    (sym c.meets.ensures ∙ c.if-not-meets.true) taken)
+    (sym (ap is_open c.way.ensures) ∙ sym c.is_open.ensures ∙ c.if-not-is_open.true) taken)
     c.write_pruned.ensures.whole
 
-pub write_part-returns-then-not-meets-clause-front : goal.write_part-returns-then-not-meets-clause-front
-write_part-returns-then-not-meets-clause-front g t c =
+pub write_part-returns-then-not-is_open-clause-front : goal.write_part-returns-then-not-is_open-clause-front
+write_part-returns-then-not-is_open-clause-front g t c =
     let s = g.N.Nodes.stands c.args.nodes.now in
-    let region = region_in c.args.area.now in
+    let region = (g.A.AsQuestion.question c.args.q.now).way c.args.radius in
     let from = g.W.Sink.state c.args.out.now in
     let to = g.W.Sink.state c.write_pruned.new.out in
     on_err c.write_pruned.result
     (IsSome s.tree → TakesFront from to (part_at (by s.version g.N.Hash.Hashes.of) region (s.node c.args.child.now.id)))
     (λ told. pruned_front g.N.Hash.Hashes.of region s c.args.child.now c.requires told from to
-    (sym c.meets.ensures ∙ c.if-not-meets.true) c.write_pruned.ensures.front)
+    (sym (ap is_open c.way.ensures) ∙ sym c.is_open.ensures ∙ c.if-not-is_open.true) c.write_pruned.ensures.front)
 
-pub write_part-returns-then-not-meets-clause-causes : goal.write_part-returns-then-not-meets-clause-causes
-write_part-returns-then-not-meets-clause-causes g t c =
+pub write_part-returns-then-not-is_open-clause-causes : goal.write_part-returns-then-not-is_open-clause-causes
+write_part-returns-then-not-is_open-clause-causes g t c =
     c.write_pruned.ensures.causes (g.N.Nodes.stands c.args.nodes.now) (g.N.Nodes.faults c.args.nodes.now)
 
-pub write_part-returns-then-not-meets-clause-refused : goal.write_part-returns-then-not-meets-clause-refused
-write_part-returns-then-not-meets-clause-refused g t c = c.write_pruned.ensures.refused
+pub write_part-returns-then-not-is_open-clause-refused : goal.write_part-returns-then-not-is_open-clause-refused
+write_part-returns-then-not-is_open-clause-refused g t c = c.write_pruned.ensures.refused
     (g.N.Nodes.refusal c.args.nodes.now)
 
-pub write_part-returns-then-not-meets-clause-answered : goal.write_part-returns-then-not-meets-clause-answered
-write_part-returns-then-not-meets-clause-answered g t c = c.write_pruned.ensures.answered
+pub write_part-returns-then-not-is_open-clause-answered : goal.write_part-returns-then-not-is_open-clause-answered
+write_part-returns-then-not-is_open-clause-answered g t c = c.write_pruned.ensures.answered
     (g.N.Nodes.refusal c.args.nodes.now)
 
 pub write_met-returns-in_err-open_node-clause-fetched : goal.write_met-returns-in_err-open_node-clause-fetched
 write_met-returns-in_err-open_node-clause-fetched g t c =
-    λ told. one_fetch g.N.Hash.Hashes.of (region_in c.args.area.now) (g.N.Nodes.stands c.args.nodes.now)
+    λ told. one_fetch g.N.Hash.Hashes.of ((g.A.AsQuestion.question c.args.q.now).way c.args.radius)
+    (g.N.Nodes.stands c.args.nodes.now)
     c.args.child.now c.requires.may told (g.N.Nodes.fetches c.args.nodes.now) (g.N.Nodes.fetches c.open_node.new.nodes)
     c.requires.met c.open_node.ensures.counted
 
@@ -57,7 +59,7 @@ pub write_met-returns-in_err-write_part-clause-front : goal.write_met-returns-in
 write_met-returns-in_err-write_part-clause-front g t c =
     let s = g.N.Nodes.stands c.args.nodes.now in
     let hash = g.N.Hash.Hashes.of in
-    let region = region_in c.args.area.now in
+    let region = (g.A.AsQuestion.question c.args.q.now).way c.args.radius in
     let same = g.met.N.Nodes.kept_stands c.args.nodes.now c.loop-next.nodes c.loop-next.invariant.kept in
     let next = subst (λ (s : Standing). IsSome s.tree → TakesFront (g.W.Sink.state c.loop-next.out)
     (g.W.Sink.state c.write_part.new.out) (part_at (by s.version hash) region (s.node c.next-item.result.id))) same
@@ -75,7 +77,7 @@ pub write_met-returns-in_err-write_part-clause-fetched : goal.write_met-returns-
 write_met-returns-in_err-write_part-clause-fetched g t c =
     let s = g.N.Nodes.stands c.args.nodes.now in
     let hash = g.N.Hash.Hashes.of in
-    let region = region_in c.args.area.now in
+    let region = (g.A.AsQuestion.question c.args.q.now).way c.args.radius in
     let same = g.met.N.Nodes.kept_stands c.args.nodes.now c.loop-next.nodes c.loop-next.invariant.kept in
     let next = subst (λ (s : Standing). IsSome s.tree → g.N.Nodes.fetches c.write_part.new.nodes ≤ g.N.Nodes.fetches
     c.loop-next.nodes + opened_at (by s.version hash) region (s.node c.next-item.result.id)) same
@@ -94,7 +96,7 @@ pub write_met-loop-next-preserved : goal.write_met-loop-next-preserved
 write_met-loop-next-preserved g t c =
     let s = g.N.Nodes.stands c.args.nodes.now in
     let hash = g.N.Hash.Hashes.of in
-    let region = region_in c.args.area.now in
+    let region = (g.A.AsQuestion.question c.args.q.now).way c.args.radius in
     let same = g.met.N.Nodes.kept_stands c.args.nodes.now c.loop-next.nodes c.loop-next.invariant.kept in
     let written = subst (λ (s : Standing). IsSome s.tree → Takes (g.W.Sink.state c.loop-next.out)
     (g.W.Sink.state c.write_part.new.out) (part_at (by s.version hash) region (s.node c.next-item.result.id))) same
@@ -121,7 +123,8 @@ write_met-loop-next-preserved g t c =
 
 pub write_met-returns-clause-whole : goal.write_met-returns-clause-whole
 write_met-returns-clause-whole g t c =
-    λ told. met_whole g.N.Hash.Hashes.of (region_in c.args.area.now) (g.N.Nodes.stands c.args.nodes.now)
+    λ told. met_whole g.N.Hash.Hashes.of ((g.A.AsQuestion.question c.args.q.now).way c.args.radius)
+    (g.N.Nodes.stands c.args.nodes.now)
     c.args.child.now c.requires.may told c.open_node.new.view c.children-next-items.result.now c.loop-next.next-index
     (g.W.Sink.state c.args.out.now) (g.W.Sink.state c.open_node.new.out) (g.W.Sink.state c.loop-next.out)
     c.children-next-items.ensures.value c.in_ok-open_node.ensures.shows c.requires.met
@@ -129,7 +132,8 @@ write_met-returns-clause-whole g t c =
 
 pub write_met-returns-clause-fetched : goal.write_met-returns-clause-fetched
 write_met-returns-clause-fetched g t c =
-    λ told. some_fetches g.N.Hash.Hashes.of (region_in c.args.area.now) (g.N.Nodes.stands c.args.nodes.now)
+    λ told. some_fetches g.N.Hash.Hashes.of ((g.A.AsQuestion.question c.args.q.now).way c.args.radius)
+    (g.N.Nodes.stands c.args.nodes.now)
     c.args.child.now c.requires.may told c.open_node.new.view c.children-next-items.result.now c.loop-next.next-index
     (g.N.Nodes.fetches c.args.nodes.now) (g.N.Nodes.fetches c.open_node.new.nodes)
     (g.N.Nodes.fetches c.loop-next.nodes) c.children-next-items.ensures.value c.in_ok-open_node.ensures.shows

@@ -4,6 +4,7 @@ use Rattle.mr_outside.specs.Told.{Takes, TakesFront}
 use Rattle.mr_tree.specs.Digest.{by}
 use Rattle.mr_tree.specs.Nodes.{Standing}
 use Rattle.mr_query.specs.declared.query.Query.TheVariants.{Nearest}
+use Rattle.mr_proof.specs.Tight.{question}
 use Rattle.mr_prove.specs.Parts.{proof_at, all_opened_at}
 use Rattle.mr_prove.proofs.Whole.{whole_told, front_told, fetched_told, front_none}
 use Rattle.mr_prove.proofs.Sums.{all_fetched, some_fetched}
@@ -18,14 +19,14 @@ returns-in_err-radius-clause-fetched g c =
 pub returns-in_err-radius-clause-front : goal.returns-in_err-radius-clause-front
 returns-in_err-radius-clause-front g c =
     let s = g.N.Nodes.stands c.args.nodes.now in
-    front_none (by s.version g.N.Hash.Hashes.of) s.batch (Nearest c.args.center.now c.args.k) s.tree
+    front_none (by s.version g.N.Hash.Hashes.of) s.batch (question (Nearest c.args.center.now c.args.k)) s.tree
     (g.W.Sink.state c.args.out.now) c.from_residual.result
 
 pub returns-clause-written : goal.returns-clause-written
 returns-clause-written g c =
     let s = g.N.Nodes.stands c.args.nodes.now in
     let hash = g.N.Hash.Hashes.of in
-    let q = Nearest c.args.center.now c.args.k in
+    let q = question (Nearest c.args.center.now c.args.k) in
     let same = g.met.N.Nodes.kept_stands c.args.nodes.now c.kth_distance.new.nodes c.kth_distance.ensures.kept in
     whole_told (by s.version hash) s.batch q s.tree (g.W.Sink.state c.args.out.now)
     (g.W.Sink.state c.write_proof.new.out) c.write_proof.result
@@ -37,7 +38,7 @@ pub returns-clause-front : goal.returns-clause-front
 returns-clause-front g c =
     let s = g.N.Nodes.stands c.args.nodes.now in
     let hash = g.N.Hash.Hashes.of in
-    let q = Nearest c.args.center.now c.args.k in
+    let q = question (Nearest c.args.center.now c.args.k) in
     let same = g.met.N.Nodes.kept_stands c.args.nodes.now c.kth_distance.new.nodes c.kth_distance.ensures.kept in
     front_told (by s.version hash) s.batch q s.tree (g.W.Sink.state c.args.out.now)
     (g.W.Sink.state c.write_proof.new.out) c.write_proof.result
@@ -49,7 +50,7 @@ pub returns-clause-fetched : goal.returns-clause-fetched
 returns-clause-fetched g c =
     let s = g.N.Nodes.stands c.args.nodes.now in
     let hash = g.N.Hash.Hashes.of in
-    let q = Nearest c.args.center.now c.args.k in
+    let q = question (Nearest c.args.center.now c.args.k) in
     let same = g.met.N.Nodes.kept_stands c.args.nodes.now c.kth_distance.new.nodes c.kth_distance.ensures.kept in
     all_fetched (by s.version hash) c.args.center.now c.args.k s.tree (g.N.Nodes.fetches c.args.nodes.now)
     (g.N.Nodes.fetches c.kth_distance.new.nodes) (g.N.Nodes.fetches c.write_proof.new.nodes)

@@ -1,7 +1,6 @@
 use Rattle.std.proofs.Common.{◌≤◌, ◌+◌, sym, subst}
 use Rattle.std.specs.Prelude.{IsSome}
 use Rattle.mr_outside.specs.Told.{Takes, TakesFront}
-use Rattle.mr_proof.specs.Tight.{asks}
 use Rattle.mr_tree.specs.Digest.{by}
 use Rattle.mr_prove.specs.Parts.{part_at, proof_at}
 use Rattle.mr_prove.proofs.Steps.{on_err}
@@ -12,15 +11,18 @@ pub returns-in_err-write_head-clause-front : goal.returns-in_err-write_head-clau
 returns-in_err-write_head-clause-front g c =
     let s = g.N.Nodes.stands c.args.nodes.now in
     on_err c.from_residual.result (IsSome s.tree → TakesFront (g.W.Sink.state c.args.out.now)
-    (g.W.Sink.state c.write_head.new.out) (proof_at (by s.version g.N.Hash.Hashes.of) s.batch c.args.q.now s.tree))
-    (front_of_head g.N.Hash.Hashes.of s c.top-top.result c.args.q.now c.args.radius c.head_of.result
+    (g.W.Sink.state c.write_head.new.out) (proof_at (by s.version g.N.Hash.Hashes.of) s.batch
+    (g.A.AsQuestion.question c.args.q.now) s.tree))
+    (front_of_head g.N.Hash.Hashes.of s c.top-top.result (g.A.AsQuestion.question c.args.q.now) c.args.radius
+    c.head_of.result
     (g.W.Sink.state c.args.out.now) (g.W.Sink.state c.write_head.new.out) c.top-top.ensures c.requires.right
     c.head_of.ensures
     c.write_head.ensures.front)
 
 pub returns-in-None-clause-whole : goal.returns-in-None-clause-whole
 returns-in-None-clause-whole g c =
-    whole_of_empty g.N.Hash.Hashes.of (g.N.Nodes.stands c.args.nodes.now) c.top-top.result c.args.q.now c.args.radius
+    whole_of_empty g.N.Hash.Hashes.of (g.N.Nodes.stands c.args.nodes.now) c.top-top.result
+    (g.A.AsQuestion.question c.args.q.now) c.args.radius
     c.head_of.result
     (g.W.Sink.state c.args.out.now) (g.W.Sink.state c.write_head.new.out) c.top-top.ensures c.requires.right
     c.in-None.is
@@ -30,12 +32,14 @@ pub returns-in-Some-clause-whole : goal.returns-in-Some-clause-whole
 returns-in-Some-clause-whole g c =
     let s = g.N.Nodes.stands c.args.nodes.now in
     let hash = g.N.Hash.Hashes.of in
-    let part = part_at (by s.version hash) ((asks c.args.q.now).region c.args.radius) (s.node c.in-Some.root.id) in
+    let part = part_at (by s.version hash) ((g.A.AsQuestion.question c.args.q.now).way c.args.radius)
+    (s.node c.in-Some.root.id) in
     ok_through c.write_part.result
     (IsSome s.tree → Takes (g.W.Sink.state c.write_head.new.out) (g.W.Sink.state c.write_part.new.out) part)
     (IsSome s.tree → Takes (g.W.Sink.state c.args.out.now) (g.W.Sink.state c.write_part.new.out)
-    (proof_at (by s.version hash) s.batch c.args.q.now s.tree))
-    (whole_with_root hash s c.top-top.result c.in-Some.root c.args.q.now c.args.radius c.head_of.result
+    (proof_at (by s.version hash) s.batch (g.A.AsQuestion.question c.args.q.now) s.tree))
+    (whole_with_root hash s c.top-top.result c.in-Some.root (g.A.AsQuestion.question c.args.q.now) c.args.radius
+    c.head_of.result
     (g.W.Sink.state c.args.out.now) (g.W.Sink.state c.write_head.new.out) (g.W.Sink.state c.write_part.new.out)
     c.top-top.ensures c.requires.right c.in-Some.is c.head_of.ensures c.in_ok-write_head.ensures.whole)
     (rw c.in-Some.root-is at c.write_part.ensures.whole)
@@ -44,12 +48,14 @@ pub returns-in-Some-clause-front : goal.returns-in-Some-clause-front
 returns-in-Some-clause-front g c =
     let s = g.N.Nodes.stands c.args.nodes.now in
     let hash = g.N.Hash.Hashes.of in
-    let part = part_at (by s.version hash) ((asks c.args.q.now).region c.args.radius) (s.node c.in-Some.root.id) in
+    let part = part_at (by s.version hash) ((g.A.AsQuestion.question c.args.q.now).way c.args.radius)
+    (s.node c.in-Some.root.id) in
     err_through c.write_part.result
     (IsSome s.tree → TakesFront (g.W.Sink.state c.write_head.new.out) (g.W.Sink.state c.write_part.new.out) part)
     (IsSome s.tree → TakesFront (g.W.Sink.state c.args.out.now) (g.W.Sink.state c.write_part.new.out)
-    (proof_at (by s.version hash) s.batch c.args.q.now s.tree))
-    (front_with_root hash s c.top-top.result c.in-Some.root c.args.q.now c.args.radius c.head_of.result
+    (proof_at (by s.version hash) s.batch (g.A.AsQuestion.question c.args.q.now) s.tree))
+    (front_with_root hash s c.top-top.result c.in-Some.root (g.A.AsQuestion.question c.args.q.now) c.args.radius
+    c.head_of.result
     (g.W.Sink.state c.args.out.now) (g.W.Sink.state c.write_head.new.out) (g.W.Sink.state c.write_part.new.out)
     c.top-top.ensures c.requires.right c.in-Some.is c.head_of.ensures c.in_ok-write_head.ensures.whole)
     (rw c.in-Some.root-is at c.write_part.ensures.front)
@@ -58,5 +64,6 @@ pub returns-in-Some-clause-fetched : goal.returns-in-Some-clause-fetched
 returns-in-Some-clause-fetched g c =
     λ told. subst (λ n. g.N.Nodes.fetches c.write_part.new.nodes ≤ g.N.Nodes.fetches c.args.nodes.now + n)
     (sym (opened_of_root g.N.Hash.Hashes.of (g.N.Nodes.stands c.args.nodes.now) c.top-top.result c.in-Some.root
-    c.args.q.now c.args.radius c.top-top.ensures c.requires.right c.in-Some.is told)) ((rw c.in-Some.root-is at
+    (g.A.AsQuestion.question c.args.q.now) c.args.radius c.top-top.ensures c.requires.right c.in-Some.is told))
+    ((rw c.in-Some.root-is at
     c.write_part.ensures.fetched) told)

@@ -1,0 +1,9 @@
+use Rattle.std.proofs.lemmas.Result.{err_from_is_err_and}
+use Rattle.mr_check.proofs.Gathering.{gathered}
+use Rattle.mr_check.proofs.collector.Collector.end.Goals as goal
+
+pub returns : goal.returns
+returns g c = λ root bytes is.
+    gathered g.H.Hashes.of g.H.Hashes.holds (g.A.AsQuestion.question c.args.q.now) root c.args.self.verifier bytes
+    c.args.self.kept
+    c.in_ok-outline.outline is (c.in_ok-outline.ensures.closing root bytes is.stands)

@@ -1,0 +1,86 @@
+-- What the audit of a proof finds, whatever the proof has to show.
+use Rattle.std.specs.Prelude.{◌≡◌, ℕ, ◌+◌, ◌≤◌, List, Option, Some, None, Result, Ok, Err, ⊤}
+use Rattle.mr_tree.specs.Digest.{Scheme, root}
+use Rattle.mr_tree.specs.Nodes.{Standing, IsTop}
+use Rattle.mr_tree.specs.declared.nodes.Top.{Top}
+use Rattle.mr_tree.specs.declared.tree.Tree.{Tree}
+use Rattle.mr_proof.specs.declared.rule.Fault.{Fault}
+use Rattle.mr_proof.specs.Tight.{Question}
+use Rattle.mr_proof.specs.Honest.{opened_of}
+use Rattle.mr_proof.specs.Spelling.{Said}
+use Rattle.mr_proof.specs.Reading.{checked}
+use Rattle.mr_proof.specs.Clash.{Pair, clash_of, IsCollision}
+use Rattle.mr_check.specs.declared.error.CheckErr.{CheckErr}
+use Rattle.mr_check.specs.declared.error.CheckErr.TheVariants as errors
+use Rattle.mr_check.specs.declared.outline.Collected.{Collected}
+use Rattle.mr_check.specs.Judged.{IsCollected}
+use Rattle.mr_clash.specs.Finding.{root_at}
+use Rattle.mr_record.specs.declared.record.Record.{Record}
+use Rattle.mr_query.specs.declared.query.Query.{Query}
+use Rattle.mr_query.specs.Scan.{scan}
+use Rattle.mr_clash.specs.declared.finding.Finding.{Finding}
+use Rattle.mr_clash.specs.declared.finding.Finding.TheVariants as findings
+use Rattle.mr_clash.specs.declared.outcome.AuditOutcome.{AuditOutcome}
+use Rattle.mr_clash.specs.declared.outcome.AuditOutcome.TheVariants as outcomes
+use Rattle.mr_clash.specs.declared.error.AuditErr.{AuditErr}
+use Rattle.mr_clash.specs.declared.error.AuditErr.TheVariants as audits
+
+-- the worth of bytes by their verdict and the pair that they show, where they are accepted
+abbrev pub IsAuditOutcomeBy : Question → Result Said Fault → Option Pair → AuditOutcome → Type 0
+IsAuditOutcomeBy a verdict pair (outcomes.Refused f) = verdict ≡ Err f
+IsAuditOutcomeBy a verdict pair (outcomes.Honest o) =
+    (x : Said) × (verdict ≡ Ok x) × IsCollected x a o × (pair ≡ None)
+IsAuditOutcomeBy a verdict pair (outcomes.Collision owned shown) =
+    (x : Said) × (verdict ≡ Ok x) × (pair ≡ Some (record { owned = owned; shown = shown }))
+
+-- of the map with this tree at this batch, what is asked, and bytes that are offered as a proof
+abbrev pub IsAuditOutcome : Scheme → Tree → (batch : ℕ) → Question → List ℕ → AuditOutcome → Type 0
+IsAuditOutcome s t batch a bytes outcome =
+    IsAuditOutcomeBy a (checked s.of (root s t batch) a bytes) (clash_of a.kind s t batch bytes)
+    outcome
+
+-- told or not: by the verdict against the root digest of what a map that stands so says of itself
+abbrev pub AuditOutcomeFor : (List ℕ → List ℕ) → Standing → Question → List ℕ → AuditOutcome
+    → Type 0
+AuditOutcomeFor hash s a bytes outcome = (top : Top) × IsTop hash s top × (pair : Option Pair)
+    × IsAuditOutcomeBy a (checked hash (hash (root_at top)) a bytes) pair outcome
+
+-- two strings that are shown differ and have one hash
+abbrev pub AuditOutcomeCollides : (List ℕ → List ℕ) → AuditOutcome → Type 0
+AuditOutcomeCollides hash (outcomes.Collision owned shown) =
+    IsCollision hash (record { owned = owned; shown = shown })
+AuditOutcomeCollides hash _ = ⊤
+
+-- the number of nodes that accepted bytes open; those that are refused open none
+abbrev pub opened_checked : Result Said Fault → ℕ
+opened_checked (Ok x) = opened_of x.part
+opened_checked (Err f) = 0
+
+abbrev pub opened_checked_by : Scheme → Tree → (batch : ℕ) → Question → List ℕ → ℕ
+opened_checked_by s t batch a bytes = opened_checked (checked s.of (root s t batch) a bytes)
+
+-- told or not, no more nodes are fetched between these counts than accepted bytes open, by the
+-- verdict against the root digest of what a map that stands so says of itself
+abbrev pub FetchesFor : (List ℕ → List ℕ) → Standing → Question → List ℕ → (before after : ℕ)
+    → Type 0
+FetchesFor hash s a bytes before after = (top : Top) × IsTop hash s top
+    × (after ≤ before + opened_checked (checked hash (hash (root_at top)) a bytes))
+
+-- ---- for private functions
+
+-- what is answered where the check of a proof answers this error
+abbrev pub Declines : CheckErr → Result AuditOutcome AuditErr → Type 0
+Declines (errors.Fault f) result = result ≡ Ok (outcomes.Refused f)
+Declines errors.NoMemory result = result ≡ Err audits.NoMemory
+
+-- the worth of what accepted bytes show, by the pair
+abbrev pub AuditOutcomeOf : Collected → Option Pair → AuditOutcome → Type 0
+AuditOutcomeOf o None outcome = outcome ≡ outcomes.Honest o
+AuditOutcomeOf o (Some p) outcome = outcome ≡ outcomes.Collision p.owned p.shown
+
+-- the finding for a query, of what bytes are worth
+abbrev pub FindsOf : Query → AuditOutcome → Finding → Type 0
+FindsOf q (outcomes.Refused f) finding = finding ≡ findings.Refused f
+FindsOf q (outcomes.Honest o) finding =
+    (answer : List Record) × (finding ≡ findings.Sound answer) × (answer ≡ scan o.records.items q)
+FindsOf q (outcomes.Collision owned shown) finding = finding ≡ findings.Collision owned shown
