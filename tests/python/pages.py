@@ -264,7 +264,7 @@ def page_holds(bench: Bench, page: str, text: str) -> None:
 
 def links_hold(bench: Bench, page: str, text: str) -> None:
     """Each link of a page to a file leads to one."""
-    for link in re.findall(r"\]\(([^)#:]+)(?:#[^)]*)?\)", text):
+    for link in re.findall(r"(?m)(?:\]\(|^\[\w+\]: )([^)#:\s]+)(?:#\S*)?(?:\)|$)", text):
         path = os.path.join(TOP, os.path.dirname(page), link)
         bench.holds(os.path.exists(path), "%s: there is no %s" % (page, link))
 
