@@ -28,9 +28,9 @@ from bench import TOP, Bench
 NO_EXAMPLES = {"DESIGN.md", "FORMATS.md"}
 # What a block begins with that is run.
 COMMANDS = set(
-    """awk cat cd chmod cmp cp curl cut diff echo export for git grep gunzip gzip head if jq ln ls make mkdir mv nice node
-    npm ogr2ogr ogrinfo od openssl pip printf python3 rm rt sed sh sha256sum sort split ssh-keygen strace tail tar tee
-    test touch tr truncate ulimit unzip wc while xxd zip""".split()
+    """awk cat cd chmod cmp cp curl cut diff echo export for git grep gunzip gzip head if jq ln ls make mkdir mv nice
+    node npm ogr2ogr ogrinfo od openssl pip printf python3 rm rt sed sh sha256sum sort split ssh-keygen strace tail tar
+    tee test touch tr truncate ulimit unzip wc while xxd zip""".split()
 )
 # What is not everywhere: a block that needs it is passed over where it is not there, and told.
 OPTIONAL = ("git", "jq", "node", "ogr2ogr", "ogrinfo", "openssl", "ssh-keygen", "strace", "xxd")
@@ -46,6 +46,35 @@ case ${1-} in
 esac
 exec '%s' "$@"
 """
+
+
+# Pages that hold, and pages that do not: a wrong text, line, status, and blocks that nobody runs.
+TRUE = [
+    "So:\n\n    echo a\n    echo b\n\nIt prints `a` and\n\n    b\n",
+    "So:\n\n    a=5\n\nand\n\n    echo $a\n\nIt prints the `name`:\n\n    5\n",
+    "So:\n\n    test -e none\n\nIt ends with status 1.\n",
+    "<!-- not run: it fails -->\n\n    false\n",
+]
+FALSE = [
+    "So:\n\n    echo a\n\nIt prints\n\n    b\n",
+    "So:\n\n    echo a\n    echo b\n\nIt prints\n\n    a\n",
+    "So:\n\n    echo a\n    echo b\n    echo c\n\nIt prints `a` and\n\n    c\n",
+    "So:\n\n    echo a\n\nIt prints `b`.\n",
+    "So:\n\n    test -e none\n",
+    "So:\n\n    true\n\nIt ends with status 2.\n",
+    "It prints\n\n    b\n",
+    "So:\n\n    b\n",
+    "So:\n\n```\ntrue\n```\n",
+]
+
+
+class Quiet(Bench):
+    """Counts what is not so, and says nothing of it."""
+
+    def holds(self, is_so: bool, what: str) -> None:
+        """Counts one thing that is to be so."""
+        self.rows += 1
+        self.failed += not is_so
 
 
 class Example(NamedTuple):
@@ -73,8 +102,8 @@ class Item(NamedTuple):
 def items_of(page: str) -> List[Item]:
     """The paragraphs and blocks of a page, in order; tables, lists and headings are paragraphs.
 
-    >>> items_of("# A\\n\\nb\\nc:\\n\\n    d\\n\\n      e\\n")
-    [Item(line=1, text='# A', block=[]), Item(line=3, text='b c:', block=[]), Item(line=6, text='', block=['d', '', '  e'])]
+    >>> [(one.line, one.text or one.block) for one in items_of("# A\\n\\nb\\nc:\\n\\n    d\\n\\n      e\\n")]
+    [(1, '# A'), (3, 'b c:'), (6, ['d', '', '  e'])]
     """
     items: List[Item] = []
     for number, line in enumerate(page.split("\n"), 1):
@@ -244,19 +273,28 @@ def example_holds(bench: Bench, page: str, example: Example, given: List[str]) -
     bench.holds(is_so, "%s: it printed\n%s" % (where, texts[1].decode(errors="replace")))
 
 
-def page_holds(bench: Bench, page: str, text: str) -> None:
-    """The examples of a page do and print what it says of them."""
+def page_holds(bench: Bench, page: str, text: str) -> int:
+    """The examples of a page do and print what it says of them; answers how many were run."""
     for line in strays_of(text):
         bench.holds(False, "%s line %d: a block that is neither run nor said to be printed" % (page, line))
     given: List[str] = []
-    for example in examples_of(text):
+    examples = [example for example in examples_of(text) if not example.skipped]
+    for at, example in enumerate(examples):
         lacks = missing(example.lines)
         if lacks:
             print("tests/clients: SKIPPED %s from line %d on: there is no %s" % (page, example.line, lacks))
-            return
-        if not example.skipped:
-            example_holds(bench, page, example, given)
-            given += [line for line in example.lines if re.match(r"\w+=\S*$", line)]
+            return at
+        example_holds(bench, page, example, given)
+        given += [line for line in example.lines if re.match(r"\w+=\S*$", line)]
+    return len(examples)
+
+
+def wrong_pages_fail(bench: Bench) -> None:
+    """A page that does not hold is told from one that does."""
+    for text in TRUE + FALSE:
+        quiet = Quiet(bench.program_path, False)
+        page_holds(quiet, "", text)
+        bench.holds((quiet.failed > 0) == (text in FALSE), "a page that %s: %r" % (quiet.failed or "holds", text))
 
 
 # ---- links and sentences
@@ -284,13 +322,14 @@ def are_short(bench: Bench, page: str, text: str) -> None:
 
 def pages_hold(bench: Bench) -> None:
     """All pages, each in a folder of its own."""
-    room = os.getcwd()
+    wrong_pages_fail(bench)
+    room, examples = os.getcwd(), 0
     for at, page in enumerate(pages()):
-        text = text_of(page)
         furnish(bench.program_path, os.path.join(room, str(at)))
-        page_holds(bench, page, text)
+        examples += page_holds(bench, page, text_of(page))
         os.chdir(room)
         shutil.rmtree(str(at))
+    print("tests/clients: %d examples of %d pages" % (examples, len(pages())))
     for page in pages() + ["docs/" + name for name in sorted(NO_EXAMPLES)]:
         links_hold(bench, page, text_of(page))
     for page in PLAIN:
