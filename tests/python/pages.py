@@ -8,7 +8,8 @@ names are there in those behind it.
 - Of a sentence directly behind the commands that says 'print', each piece of code is a line that was printed, or what
   it begins with; lines that are named so may be left out of the block. Where the block is all, the code may be other.
 - A run ends with status 0, or with the status that the sentence directly behind it names, or that in front of it.
-- Before a block that is not to be run stands a line `<!-- not run: WHY -->`.
+- A block that ends with two dots (`./mrtree COMMAND WORDS..`) is a form. Before any other block that is not to be run
+  stands a line `<!-- not run: WHY -->`.
 
 What was printed is what stands on standard output, or with what stands on standard error before or behind it.
 
@@ -42,7 +43,7 @@ PLAIN = """README.md CHANGELOG.md docs/SERVING.md docs/DEVELOPING.md docs/SPEED.
 # The words that the script itself answers, before any build.
 WRAPPER = """#!/bin/sh
 case ${1-} in
-    '' | -h | --help | help | version) exec '%s' "$@" ;;
+    -h | --help | help | version) exec '%s' "$@" ;;
 esac
 exec '%s' "$@"
 """
@@ -54,6 +55,7 @@ TRUE = [
     "So:\n\n    a=5\n\nand\n\n    echo $a\n\nIt prints the `name`:\n\n    5\n",
     "So:\n\n    test -e none\n\nIt ends with status 1.\n",
     "<!-- not run: it fails -->\n\n    false\n",
+    "So:\n\n    test COMMAND WORDS..\n\nIt is so.\n",
 ]
 FALSE = [
     "So:\n\n    echo a\n\nIt prints\n\n    b\n",
@@ -182,7 +184,7 @@ def example_at(items: List[Item], at: int) -> Example:
     is_shown = last is not None and last.block and not is_command(last.block[0])
     named = re.findall(r"`([^`]*)`", first) if says_print(first) else []
     status = status_by(first, sentences_of(before)[-1])
-    skipped = before.startswith("<!-- not run")
+    skipped = before.startswith("<!-- not run") or items[at].block[-1].endswith("..")
     return Example(items[at].line, items[at].block, skipped, status, named, last.block if last and is_shown else None)
 
 
