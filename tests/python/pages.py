@@ -35,6 +35,8 @@ COMMANDS = set(
 )
 # What is not everywhere: a block that needs it is passed over where it is not there, and told.
 OPTIONAL = ("git", "jq", "node", "ogr2ogr", "ogrinfo", "openssl", "ssh-keygen", "strace", "xxd")
+# A line that gives a value to a name, which the blocks behind it have too.
+GIVES = r"""\w+=(\S*|\$\(.*\)|"[^"]*"|'[^']*')$"""
 LONGEST_RUN = 600  # seconds
 MOST_WORDS = 35  # of a sentence
 # The pages whose sentences are counted.
@@ -52,7 +54,7 @@ exec '%s' "$@"
 # Pages that hold, and pages that do not: a wrong text, line, status, and blocks that nobody runs.
 TRUE = [
     "So:\n\n    echo a\n    echo b\n\nIt prints `a` and\n\n    b\n",
-    "So:\n\n    a=5\n\nand\n\n    echo $a\n\nIt prints the `name`:\n\n    5\n",
+    "So:\n\n    a=5\n    b=$(echo 6 7)\n\nand\n\n    echo $a $b\n\nIt prints the `name`:\n\n    5 6 7\n",
     "So:\n\n    test -e none\n\nIt ends with status 1.\n",
     "<!-- not run: it fails -->\n\n    false\n",
     "So:\n\n    test COMMAND WORDS..\n\nIt is so.\n",
@@ -287,7 +289,7 @@ def page_holds(bench: Bench, page: str, text: str) -> int:
             print("tests/clients: SKIPPED %s from line %d on: there is no %s" % (page, example.line, lacks))
             return at
         example_holds(bench, page, example, given)
-        given += [line for line in example.lines if re.match(r"\w+=\S*$", line)]
+        given += [line for line in example.lines if re.match(GIVES, line)]
     return len(examples)
 
 
