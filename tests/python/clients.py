@@ -13,6 +13,7 @@ from bench import TOP, Bench, read, write
 import chances
 import foretold
 import mrtree_check
+import pages
 import tables
 import trips
 import vectors
@@ -32,6 +33,7 @@ RULES = """TooMany NoEnd Head Form Number Coordinate Order Payload Repeat Query 
 def style(bench: Bench) -> None:
     """Examples hold, functions are short, typed and told, and nothing is imported but the standard library."""
     bench.holds(doctest.testmod(vectors).failed == 0, "the examples of the reader of vectors")
+    bench.holds(doctest.testmod(pages).failed == 0, "the examples of the reader of pages")
     for name in ("mrtree_check", "records", "draw"):
         module = importlib.import_module(name)
         results = doctest.testmod(module)
@@ -187,6 +189,7 @@ def main(how: str, program: str) -> int:
         ("the same tables, foretold", foretold.tables_hold),
         ("proofs at random", chances.random_proofs),
         ("from files of publishers and back", trips.trips_hold),
+        ("the examples on pages", pages.pages_hold),
     ]
     if bench.is_long:
         parts.append(("vectors on large files", lambda bench: vectors_hold(bench, "large.tsv")))

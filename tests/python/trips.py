@@ -4,11 +4,10 @@ import io
 import json
 import os
 import random
-import subprocess
 from decimal import ROUND_CEILING, ROUND_FLOOR, Decimal
 from typing import Any, Dict, List, Tuple
 
-from bench import EXAMPLES, TOP, Bench, read, write
+from bench import EXAMPLES, Bench, read, write
 import draw
 import proofs
 import records
@@ -63,7 +62,6 @@ UNFIT_FEATURES: List[Tuple[Dict[str, Any], str]] = [
 def trips_hold(bench: Bench) -> None:
     """All of it."""
     sample_holds(bench)
-    readme_holds(bench)
     unfit_are_told(bench)
     chance = random.Random(7)
     for size in (0, 1, 30, 400, 3000) if bench.is_long else (0, 1, 100):
@@ -95,24 +93,6 @@ def sample_holds(bench: Bench) -> None:
     said = bench.call(draw, [root, "window:0,0,1,1", example("places-window.proof"), "p.svg"])
     is_so = said == (2, b"draw.py: refused Needless at 161\n") and not os.path.exists("p.svg")
     bench.holds(is_so, "a refused proof is drawn, or it is said %s" % (said,))
-
-
-def readme_holds(bench: Bench) -> None:
-    """The lines of README from GeoJSON to a root and back do what is said of them."""
-    for name, path in (("clients", TOP), ("examples", TOP), ("mrtree", "")):
-        os.symlink(os.path.join(path, name) if path else bench.program_path, name)
-    with open(os.path.join(TOP, "README.md"), encoding="utf-8") as file:
-        part = file.read().split("## From your own files")[1].split("\n## ")[0]
-    lines = [line[4:] for line in part.split("\n") if line.startswith("    ")]
-    bench.holds(len(lines) == 10, "README has %d lines from GeoJSON and back" % len(lines))
-    ran = subprocess.run(["/bin/sh", "-e", "-c", "\n".join(lines)], stdout=subprocess.PIPE, stderr=subprocess.STDOUT)
-    root = next(line[5:] for line in lines if line.startswith("root="))
-    bench.holds((ran.returncode, ran.stdout.decode()) == (0, root + "\nproof 172\n"), "README's lines: %s" % (ran,))
-    bench.holds(read("places.svg") == read("examples/places-window.svg"), "the picture that README's lines draw")
-    names = [one["properties"]["name"] for one in json.loads(read("answer.geojson") or "{}")["features"]]
-    bench.holds(names == ["Brandenburger Tor", "Reichstag"], "the features of README's lines: %s" % names)
-    batch = "batch 1\n- 103\n+ 103 134094000 525208000 134094000 525208000 %s\n" % b"Alexanderplatz".hex()
-    bench.holds(read("1.batch").decode() == batch, "the batch that README's lines write")
 
 
 # ---- what does not fit
