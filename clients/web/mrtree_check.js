@@ -791,7 +791,7 @@ async function run(words, read = readPieces) {
 }
 
 /** Prints lines; answers whether all went out. */
-async function print(lines) {
+async function printLines(lines) {
     for (let at = 0; at < lines.length; at += 1000) {
         const text = lines.slice(at, at + 1000).join("\n") + "\n";
         const error = await new Promise((done) => process.stdout.write(text, done));
@@ -805,8 +805,8 @@ async function print(lines) {
 /** Runs the words of the command line, and prints to standard output alone. */
 async function main() {
     const [status, lines] = await run(process.argv.slice(2));
-    process.stdout.on("error", () => {}); // print tells of it
-    process.exitCode = (await print(lines)) ? status : 7;
+    process.stdout.on("error", () => {}); // printLines tells of it
+    process.exitCode = (await printLines(lines)) ? status : 7;
 }
 
 if (typeof module === "object") {
