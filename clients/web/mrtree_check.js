@@ -1,0 +1,819 @@
+"use strict";
+/**
+ * The client, in JavaScript: says whether an answer is that of the map with a root digest. It
+ * follows docs/FORMATS.md, and needs nothing but Web Crypto for SHA-256.
+ *
+ * In a page: <script src="mrtree_check.js"></script> makes the names below known, also in a page
+ * that is opened from a disk. In Node, of version 18 or later: require("./mrtree_check.js"), or
+ *
+ * usage: node mrtree_check.js [check] ROOT QUERY PROOF
+ *        node mrtree_check.js check-all ROOT SCRIPT BUNDLE
+ *
+ * with the lines and exit statuses of the program's commands `check` and `check-all`; a file may
+ * be a pipe too, and the name `-` is the standard input. It is tested against the program, and not
+ * proved.
+ *
+ * A rectangle is an array [x0, y0, x1, y1] of map units, with x0 <= x1 and y0 <= y1; a point is a
+ * rectangle without extent. Places are numbers of bytes. Bytes are a Uint8Array.
+ */
+
+const MOST_BYTES = 2 ** 30; // no field of a proof ends behind this place
+const MOST_RECORDS = 2 ** 20; // that a proof may count
+const MOST_RADIUS = 2n * (2n ** 32n - 1n) ** 2n; // the greatest squared distance
+const MOST_LEVEL = 7; // of a root
+const MOST_LINES = 65536; // of a script
+const LONGEST_QUERY = 54; // letters of a query word
+const PIECE = 65536; // bytes that are judged at once
+const [LETTER_E, LETTER_K, LETTER_L, LETTER_N, LETTER_P, LETTER_R, LETTER_W] = [..."EKLNPRW"].map(
+    (letter) => letter.charCodeAt(0)
+);
+// What an opened node may hold, and of how many bytes its preimage may be.
+const LEAF = { tag: LETTER_L, most: 16, longest: 2 + 16 * 225 };
+const INNER = { tag: LETTER_N, most: 64, longest: 3 + 64 * 48 };
+
+/** Web Crypto's hashes; undefined where the browser gives none, as to a page that came by http. */
+const subtle =
+    globalThis.crypto?.subtle ??
+    (typeof require === "function" ? require("crypto").webcrypto.subtle : undefined);
+
+/** The SHA-256 of bytes, 32 bytes. */
+async function digestOf(bytes) {
+    return new Uint8Array(await subtle.digest("SHA-256", bytes));
+}
+
+/** Bytes as lower-case hexadecimal digits. */
+function hexOf(bytes) {
+    return Array.from(bytes, (byte) => byte.toString(16).padStart(2, "0")).join("");
+}
+
+// ---- rectangles
+
+/** The rectangle in 16 bytes of a DataView. */
+function rectAt(view, at) {
+    return [0, 4, 8, 12].map((side) => view.getInt32(at + side));
+}
+
+/** Whether the sides of a rectangle are in order. */
+function isInOrder([x0, y0, x1, y1]) {
+    return x0 <= x1 && y0 <= y1;
+}
+
+/** Whether two rectangles share a point. */
+function meet(a, b) {
+    return a[0] <= b[2] && b[0] <= a[2] && a[1] <= b[3] && b[1] <= a[3];
+}
+
+/** The least rectangle round two; round null and one it is that one. */
+function around(a, b) {
+    if (a === null) {
+        return b;
+    }
+    const [x0, y0] = [Math.min(a[0], b[0]), Math.min(a[1], b[1])];
+    return [x0, y0, Math.max(a[2], b[2]), Math.max(a[3], b[3])];
+}
+
+/** The squared distance of a point to a rectangle, in squared map units: a BigInt of 65 bits. */
+function distance(point, rect) {
+    const dx = BigInt(Math.max(rect[0] - point[0], point[0] - rect[2], 0));
+    const dy = BigInt(Math.max(rect[1] - point[1], point[1] - rect[3], 0));
+    return dx * dx + dy * dy;
+}
+
+// ---- words
+
+/** The value of a canonical decimal from `least` to `most`; null where the word is none. */
+function readDecimal(word, least, most) {
+    const value = /^(0|-?[1-9][0-9]{0,9})$/.test(word) ? Number(word) : NaN;
+    return least <= value && value <= most ? value : null;
+}
+
+/** The 32 bytes that 64 lower-case hexadecimal digits spell; null where the word is no such. */
+function readRoot(word) {
+    if (!/^[0-9a-f]{64}$/.test(word)) {
+        return null;
+    }
+    return Uint8Array.from(word.match(/../g), (digits) => parseInt(digits, 16));
+}
+
+/**
+ * The query that a word spells: { rect, k }, with k 0 for a window, and else the number of the
+ * nearest records to the point `rect`. Null where the word is no query.
+ */
+function readQuery(word) {
+    const [, kind, rest] = /^(window|nearest):(.*)$/.exec(word) ?? [];
+    const parts = (rest ?? "").split(",");
+    if (parts.length !== (kind === "window" ? 4 : 3)) {
+        return null;
+    }
+    const k = kind === "nearest" ? readDecimal(parts.pop(), 1, 1024) : 0;
+    const sides = parts.map((part) => readDecimal(part, -(2 ** 31), 2 ** 31 - 1));
+    const rect = k === 0 ? sides : [...sides, ...sides];
+    return k === null || sides.includes(null) || !isInOrder(rect) ? null : { rect, k };
+}
+
+/**
+ * The queries of a script's bytes, a line each: { queries, fault }. The fault is the line that
+ * tells the first broken rule, and null where there is none.
+ */
+function readScript(bytes) {
+    const queries = [];
+    for (let at = 0; at < bytes.length; ) {
+        const end = bytes.indexOf(10, at);
+        const line = bytes.subarray(at, end);
+        const isShort = line.length <= LONGEST_QUERY;
+        const query = isShort ? readQuery(String.fromCharCode(...line)) : null;
+        const rules = [
+            queries.length === MOST_LINES && "TooMany",
+            end < 0 && "NoEnd",
+            query === null && "Query",
+        ].filter(Boolean);
+        if (rules.length > 0) {
+            return { queries, fault: `bad text line ${queries.length + 1} ${rules[0]}` };
+        }
+        queries.push(query);
+        at = end + 1;
+    }
+    return { queries, fault: null };
+}
+
+// ---- records
+
+/**
+ * The record whose bytes begin at a place: { number, rect, payload }. The number is a BigInt, the
+ * payload 0 to 200 bytes.
+ */
+function recordAt(bytes, at) {
+    const view = new DataView(bytes.buffer, bytes.byteOffset, bytes.length);
+    const payload = bytes.slice(at + 25, at + 25 + bytes[at + 24]);
+    return { number: view.getBigUint64(at), rect: rectAt(view, at + 8), payload };
+}
+
+/** The record line of a record, without its line feed. */
+function lineOf({ number, rect, payload }) {
+    return `${number} ${rect.join(" ")} ${hexOf(payload) || "-"}`;
+}
+
+/** The records of an opened leaf, in its order, from the bytes of its item. */
+function recordsOf(item) {
+    const records = [];
+    for (let at = 2; at < item.length; at += 25 + item[at + 24]) {
+        records.push(recordAt(item, at));
+    }
+    return records;
+}
+
+/** Records as their bytes, one behind another: little memory also where a proof shows millions. */
+class Kept {
+    constructor() {
+        this.bytes = new Uint8Array(4096);
+        this.starts = new Uint32Array(128);
+        this.used = 0;
+        this.count = 0;
+    }
+
+    /** Puts the bytes of a record behind the others. */
+    add(record) {
+        if (this.used + record.length > this.bytes.length) {
+            this.bytes = grown(this.bytes);
+        }
+        if (this.count === this.starts.length) {
+            this.starts = grown(this.starts);
+        }
+        this.bytes.set(record, this.used);
+        this.starts[this.count++] = this.used;
+        this.used += record.length;
+    }
+
+    /** The records, in the order in which they came. */
+    records() {
+        return Array.from({ length: this.count }, (_, at) => this.record(at));
+    }
+
+    /** The record at a position. */
+    record(at) {
+        return recordAt(this.bytes, this.starts[at]);
+    }
+}
+
+/** An array with its values, and room for as many more. */
+function grown(values) {
+    const larger = new values.constructor(2 * values.length);
+    larger.set(values);
+    return larger;
+}
+
+/** Below 0, 0 or above 0: how two numbers compare. */
+function compare(a, b) {
+    return a < b ? -1 : a > b ? 1 : 0;
+}
+
+// ---- the judge of a proof
+
+/**
+ * An opened node, of which parts are still to come: its level, how many parts are left, the
+ * rectangle round those that came, and its preimage so far. Of an inner node the preimage lacks
+ * the digests of its children, which are promised: `digests` has them, with their places.
+ */
+class Opened {
+    constructor(level, count) {
+        const kind = level === 0 ? LEAF : INNER;
+        Object.assign(this, { level, left: count, rect: null, used: 0, digests: [] });
+        this.preimage = new Uint8Array(kind.longest);
+        this.append(level === 0 ? [kind.tag, count] : [kind.tag, level, count]);
+    }
+
+    /** Puts bytes at the end of the preimage. */
+    append(bytes) {
+        this.preimage.set(bytes, this.used);
+        this.used += bytes.length;
+    }
+
+    /** Takes in an item of the level below: its rectangle, its bytes, and its promised digest. */
+    adopt({ rect, sides, digest }) {
+        this.append(sides);
+        this.digests.push([this.used, digest]);
+        this.used += 32;
+        this.rect = around(this.rect, rect);
+        this.left -= 1;
+    }
+
+    /** The preimage, once all digests in it are known. */
+    async whole() {
+        for (const [at, digest] of this.digests) {
+            this.preimage.set(await digest, at);
+        }
+        return this.preimage.subarray(0, this.used);
+    }
+}
+
+/**
+ * Judges a proof as it comes. `push` takes the next bytes and `end` gives the verdict:
+ *
+ *     { accepted: true, records, batch, count }        count: of the map's records
+ *     { accepted: false, rule, place, found }          found: the root digest, of WrongRoot alone
+ *
+ * `watch`, where it is given, is called with each item that is whole, children before their
+ * parent: { tag, level, rect, bytes }, with the item's bytes for an opened leaf (see recordsOf).
+ *
+ * No bytes make it throw. Its fields are taken one after another: `size` bytes are the next one,
+ * and the method `then` judges it.
+ */
+class Judge {
+    constructor(root, query, watch = null) {
+        Object.assign(this, { root, query, watch, radius: null, fault: null, item: null });
+        Object.assign(this, { place: 0, last: 0, held: 0, record: 0 });
+        this.field = new Uint8Array(200);
+        this.view = new DataView(this.field.buffer);
+        this.open = []; // the root first
+        this.hashing = [];
+        this.kept = new Kept();
+        this.expect(4, this.takeMagic);
+    }
+
+    /** Takes the next bytes. Answers whether more are of use: not behind a fault. */
+    push(piece) {
+        for (let at = 0; at < piece.length && this.fault === null; ) {
+            if (this.then === null) {
+                this.refuse("Trailing", this.place);
+                break;
+            }
+            const size = Math.min(this.size - this.held, piece.length - at);
+            this.field.set(piece.subarray(at, at + size), this.held);
+            this.held += size;
+            at += size;
+            if (this.held === this.size) {
+                this.take();
+            }
+        }
+        return this.fault === null;
+    }
+
+    /** Waits for the digests that are on their way: so that they do not heap up. */
+    async settle() {
+        await Promise.all(this.hashing);
+        this.hashing = [];
+    }
+
+    /** The verdict, once all bytes were pushed, or those up to a fault. */
+    async end() {
+        if (this.then !== null) {
+            this.refuse("Short", this.place);
+        }
+        const found = this.fault === null ? await this.rootDigest() : null;
+        if (found !== null && found.some((byte, at) => byte !== this.root[at])) {
+            this.refuse("WrongRoot", this.place, hexOf(found));
+        }
+        if (this.fault === null && !this.isRadiusRight()) {
+            this.refuse("WrongRadius", this.place);
+        }
+        if (this.fault !== null) {
+            return { accepted: false, ...this.fault };
+        }
+        return { accepted: true, records: this.answer(), batch: this.batch, count: this.count };
+    }
+
+    /** Keeps a fault, if it is the first. */
+    refuse(rule, place, found = "") {
+        this.fault ??= { rule, place, found };
+    }
+
+    /** Says which field comes next; it is Long where it would end too far behind. */
+    expect(size, then) {
+        Object.assign(this, { size, then });
+        if (this.place + size > MOST_BYTES) {
+            this.refuse("Long", this.place);
+        }
+    }
+
+    /** Goes over a field that is whole, and judges it. */
+    take() {
+        this.last = this.place;
+        this.place += this.size;
+        this.held = 0;
+        this.then();
+    }
+
+    /** Whether the region of the proof meets a rectangle. */
+    meets(rect) {
+        if (this.query.k === 0) {
+            return meet(this.query.rect, rect);
+        }
+        return this.radius === null || distance(this.query.rect, rect) <= this.radius;
+    }
+
+    // The fields of the head.
+
+    takeMagic() {
+        if (this.view.getUint32(0) !== 0x4d52564f) {
+            return this.refuse("BadMagic", this.last);
+        }
+        this.expect(1, this.takeVersion);
+    }
+
+    takeVersion() {
+        if (this.field[0] !== 1) {
+            return this.refuse("BadVersion", this.last);
+        }
+        this.expect(1, this.takeKind);
+    }
+
+    takeKind() {
+        if (this.field[0] !== (this.query.k === 0 ? LETTER_W : LETTER_K)) {
+            return this.refuse("WrongKind", this.last);
+        }
+        this.expect(8, this.takeBatch);
+    }
+
+    takeBatch() {
+        this.batch = this.view.getBigUint64(0);
+        this.expect(8, this.takeCount);
+    }
+
+    takeCount() {
+        this.count = Number(this.view.getBigUint64(0));
+        if (this.count > MOST_RECORDS) {
+            return this.refuse("BadCount", this.last);
+        }
+        return this.query.k === 0 ? this.expectRoot() : this.expect(1, this.takeFlag);
+    }
+
+    takeFlag() {
+        if (this.field[0] > 1) {
+            return this.refuse("BadFlag", this.last);
+        }
+        return this.field[0] === 1 ? this.expect(16, this.takeRadius) : this.expectRoot();
+    }
+
+    takeRadius() {
+        this.radius = (this.view.getBigUint64(0) << 64n) | this.view.getBigUint64(8);
+        if (this.radius > MOST_RADIUS) {
+            return this.refuse("BadRadius", this.last);
+        }
+        this.expectRoot();
+    }
+
+    expectRoot() {
+        if (this.count === 0) {
+            this.then = null;
+        } else {
+            this.expect(1, this.takeLevel);
+        }
+    }
+
+    takeLevel() {
+        this.level = this.field[0];
+        if (this.level > MOST_LEVEL) {
+            return this.refuse("BadLevel", this.last);
+        }
+        this.expect(1, this.takeTag);
+    }
+
+    // The fields of an item.
+
+    /** The opened node whose part comes next; undefined where that is the root. */
+    parent() {
+        return this.open[this.open.length - 1];
+    }
+
+    /** The level of the item that comes next. */
+    nextLevel() {
+        return this.open.length === 0 ? this.level : this.parent().level - 1;
+    }
+
+    takeTag() {
+        if (this.field[0] === LETTER_P) {
+            return this.expect(16, this.takePrunedRect);
+        }
+        if (this.field[0] !== (this.nextLevel() === 0 ? LETTER_L : LETTER_N)) {
+            return this.refuse("BadTag", this.last);
+        }
+        this.expect(1, this.takeEntries);
+    }
+
+    takeEntries() {
+        const [level, count] = [this.nextLevel(), this.field[0]];
+        if (count === 0 || count > (level === 0 ? LEAF : INNER).most) {
+            return this.refuse("BadEntries", this.last);
+        }
+        this.open.push(new Opened(level, count));
+        this.expectPart();
+    }
+
+    /** The next part of the node that was opened last, or its end. */
+    expectPart() {
+        const { left, level } = this.parent();
+        if (left === 0) {
+            this.close();
+        } else if (level === 0) {
+            this.expect(8, this.takeNumber);
+        } else {
+            this.expect(1, this.takeTag);
+        }
+    }
+
+    takePrunedRect() {
+        this.pruned = { rect: rectAt(this.view, 0), sides: this.field.slice(0, 16) };
+        if (!isInOrder(this.pruned.rect)) {
+            return this.refuse("BadRect", this.last);
+        }
+        if (this.meets(this.pruned.rect)) {
+            return this.refuse("Hidden", this.last);
+        }
+        this.expect(32, this.takePrunedDigest);
+    }
+
+    takePrunedDigest() {
+        const digest = this.field.slice(0, 32);
+        this.finish("P", this.nextLevel(), { ...this.pruned, digest });
+    }
+
+    takeNumber() {
+        this.record = this.parent().used;
+        this.parent().append(this.field.subarray(0, 8));
+        this.expect(16, this.takeRect);
+    }
+
+    takeRect() {
+        if (!isInOrder(rectAt(this.view, 0))) {
+            return this.refuse("BadRect", this.last);
+        }
+        this.parent().append(this.field.subarray(0, 16));
+        this.expect(1, this.takeLength);
+    }
+
+    takeLength() {
+        const length = this.field[0];
+        if (length > 200) {
+            return this.refuse("BadLength", this.last);
+        }
+        this.parent().append(this.field.subarray(0, 1));
+        return length === 0 ? this.endRecord() : this.expect(length, this.takePayload);
+    }
+
+    takePayload() {
+        this.parent().append(this.field.subarray(0, this.size));
+        this.endRecord();
+    }
+
+    /** Keeps a record that is whole, where the region meets it. */
+    endRecord() {
+        const leaf = this.parent();
+        const record = leaf.preimage.subarray(this.record, leaf.used);
+        const rect = rectAt(new DataView(record.buffer, record.byteOffset), 8);
+        if (this.meets(rect)) {
+            this.kept.add(record);
+        }
+        leaf.rect = around(leaf.rect, rect);
+        leaf.left -= 1;
+        this.expectPart();
+    }
+
+    /** Ends the node that was opened last. */
+    close() {
+        const node = this.open.pop();
+        if (!this.meets(node.rect)) {
+            return this.refuse("Needless", this.last);
+        }
+        const sides = new Uint8Array(16);
+        node.rect.forEach((side, at) => new DataView(sides.buffer).setInt32(4 * at, side));
+        const digest = node.whole().then(digestOf);
+        this.hashing.push(digest);
+        const item = { rect: node.rect, sides, digest };
+        const bytes = node.level === 0 ? node.preimage.subarray(0, node.used) : null;
+        this.finish(node.level === 0 ? "L" : "N", node.level, item, bytes);
+    }
+
+    /** Gives an item that is whole to its parent; the root's is the last. */
+    finish(tag, level, item, bytes = null) {
+        this.watch?.({ tag, level, rect: item.rect, bytes });
+        if (this.open.length === 0) {
+            this.item = item;
+            this.then = null;
+        } else {
+            this.parent().adopt(item);
+            this.expectPart();
+        }
+    }
+
+    // The end.
+
+    /** The root digest of the map that the proof speaks of. */
+    async rootDigest() {
+        const front = new Uint8Array(19);
+        const view = new DataView(front.buffer);
+        front.set([this.count === 0 ? LETTER_E : LETTER_R, 1]);
+        view.setBigUint64(2, this.batch);
+        if (this.count === 0) {
+            return digestOf(front.subarray(0, 10));
+        }
+        view.setBigUint64(10, BigInt(this.count));
+        front[18] = this.level;
+        return digestOf(Uint8Array.of(...front, ...this.item.sides, ...(await this.item.digest)));
+    }
+
+    /** Whether the squared radius that the proof says is that of k nearest records. */
+    isRadiusRight() {
+        const { query, radius, kept } = this;
+        if (query.k === 0) {
+            return true;
+        }
+        if (radius === null) {
+            return kept.count < query.k;
+        }
+        let nearer = 0;
+        for (let at = 0; at < kept.count; at++) {
+            nearer += distance(query.rect, kept.record(at).rect) < radius ? 1 : 0;
+        }
+        return nearer < query.k && query.k <= kept.count;
+    }
+
+    /** The records of the answer, in its order; a sort leaves equal ones in that of the proof. */
+    answer() {
+        const { rect, k } = this.query;
+        const records = this.kept.records();
+        if (k === 0) {
+            return records.sort((a, b) => compare(a.number, b.number));
+        }
+        const ranked = records.map((record) => ({ ...record, far: distance(rect, record.rect) }));
+        ranked.sort((a, b) => compare(a.far, b.far) || compare(a.number, b.number));
+        return ranked.slice(0, k).map(({ far, ...record }) => record);
+    }
+}
+
+/** Bytes in pieces that are judged at once. */
+function* piecesOf(bytes) {
+    for (let at = 0; at < bytes.length; at += PIECE) {
+        yield bytes.subarray(at, at + PIECE);
+    }
+}
+
+/** Pieces of bytes, the large ones in several. */
+async function* small(pieces) {
+    for await (const piece of pieces) {
+        yield* piecesOf(piece);
+    }
+}
+
+/**
+ * The verdict on a proof: as of `Judge`. `root` has 32 bytes, `query` is as readQuery gives it,
+ * `pieces` is a list of bytes, or comes by and by. No piece behind a fault is asked for.
+ */
+async function judge(root, query, pieces, watch = null) {
+    const judge_ = new Judge(root, query, watch);
+    for await (const piece of small(pieces)) {
+        if (!judge_.push(piece)) {
+            break;
+        }
+        await judge_.settle();
+    }
+    return judge_.end();
+}
+
+/**
+ * The verdict on a proof: as of `Judge`. `root` is a word of 64 lower-case hexadecimal digits,
+ * `query` a query word; `proof` is bytes or an ArrayBuffer, or pieces of bytes (a list, a stream).
+ * Throws a RangeError where root or query is no such word, and for no proof.
+ */
+async function check(root, query, proof, watch = null) {
+    const [held, asked] = [readRoot(root), readQuery(query)];
+    if (held === null || asked === null) {
+        throw new RangeError("bad words");
+    }
+    const bytes = proof instanceof ArrayBuffer ? new Uint8Array(proof) : proof;
+    return judge(held, asked, bytes instanceof Uint8Array ? [bytes] : bytes, watch);
+}
+
+/** The line that tells of a proof that is refused, without its line feed. */
+function refusalOf({ rule, place, found }) {
+    return `refused ${rule} at ${place}${found === "" ? "" : ` found ${found}`}`;
+}
+
+// ---- bundles
+
+/** Bytes that come in pieces, and are taken in parts. */
+class Source {
+    constructor(pieces) {
+        this.pieces = pieces[Symbol.asyncIterator]?.() ?? pieces[Symbol.iterator]();
+        this.rest = new Uint8Array(0);
+        this.place = 0;
+    }
+
+    /** The next bytes, at most so many and at least one; none at the end. */
+    async some(most) {
+        while (this.rest.length === 0) {
+            const { value, done } = await this.pieces.next();
+            if (done) {
+                return this.rest;
+            }
+            this.rest = value;
+        }
+        const taken = this.rest.subarray(0, most);
+        this.rest = this.rest.subarray(most);
+        this.place += taken.length;
+        return taken;
+    }
+
+    /** The next `size` bytes in pieces; fewer at the end. */
+    async *part(size) {
+        const end = this.place + size;
+        while (this.place < end) {
+            const taken = await this.some(Math.min(end - this.place, PIECE));
+            if (taken.length === 0) {
+                return;
+            }
+            yield taken;
+        }
+    }
+}
+
+/** The verdict on the next part of a bundle; null where the part is not whole. */
+async function judgePart(root, query, source) {
+    const length = [];
+    for await (const piece of source.part(4)) {
+        length.push(...piece);
+    }
+    if (length.length < 4) {
+        return null;
+    }
+    const end = source.place + length.reduce((size, byte) => 256 * size + byte, 0);
+    const judge_ = new Judge(root, query);
+    for await (const piece of source.part(end - source.place)) {
+        judge_.push(piece);
+        await judge_.settle();
+    }
+    return source.place < end ? null : judge_.end();
+}
+
+/**
+ * Judges a bundle for the queries of a script. Gives each verdict, as of `Judge`, in order to
+ * `see`: null where the part is missing. Answers the place where the bundle is broken, or null.
+ */
+async function judgeBundle(root, queries, pieces, see) {
+    const source = new Source(pieces);
+    let broken = null;
+    for (const query of queries) {
+        const start = source.place;
+        const verdict = broken === null ? await judgePart(root, query, source) : null;
+        broken ??= verdict === null ? start : null;
+        see(verdict);
+    }
+    const end = source.place;
+    return broken ?? ((await source.some(1)).length > 0 ? end : null);
+}
+
+// ---- the two commands, in Node
+
+/** A run ends before it has an answer, with this exit status and this line. */
+class Ended extends Error {
+    constructor(status, line) {
+        super(line);
+        this.status = status;
+    }
+}
+
+/** The bytes of a file or pipe in pieces. Throws Ended where it is missing or cannot be read. */
+async function* readPieces(name) {
+    const fs = require("fs");
+    try {
+        const about = name === "-" ? null : fs.statSync(name);
+        if (about && !(about.isFile() || about.isFIFO() || about.isSocket())) {
+            throw new Ended(7, "shelf fault");
+        }
+        const options = { highWaterMark: PIECE };
+        yield* name === "-" ? process.stdin : fs.createReadStream(name, options);
+    } catch (error) {
+        throw new Ended(7, error.code === "ENOENT" ? `missing ${name}` : "shelf fault");
+    }
+}
+
+/** Status and lines of `check` of the proof in these pieces. */
+async function checkLines(root, query, pieces) {
+    const verdict = await judge(root, query, pieces);
+    return verdict.accepted ? [0, verdict.records.map(lineOf)] : [2, [refusalOf(verdict)]];
+}
+
+/** Status and lines of `check-all` of a script's bytes and the bundle in these pieces. */
+async function checkAllLines(root, script, pieces) {
+    const { queries, fault } = readScript(script);
+    if (fault !== null) {
+        return [3, [fault]];
+    }
+    const lines = [];
+    const counts = { accepted: 0, refused: 0, missing: 0 };
+    let number = 0;
+    const broken = await judgeBundle(root, queries, pieces, (verdict) => {
+        number += 1;
+        const way = verdict === null ? "missing" : verdict.accepted ? "accepted" : "refused";
+        counts[way] += 1;
+        if (way === "accepted") {
+            lines.push([`query ${number} ok ${verdict.records.length}`]);
+            lines.push(verdict.records.map(lineOf));
+        } else {
+            lines.push([`query ${number} ${way === "missing" ? way : refusalOf(verdict)}`]);
+        }
+    });
+    const { accepted, refused, missing } = counts;
+    lines.push([`accepted ${accepted} refused ${refused} missing ${missing}`]);
+    if (broken !== null) {
+        lines.push([`bundle broken at ${broken}`]);
+    }
+    return [accepted === queries.length && broken === null ? 0 : 2, lines.flat()];
+}
+
+/** Exit status and lines of the words behind the script's name; `read` gives a file in pieces. */
+async function run(words, read = readPieces) {
+    const [command, rootWord, asked, name] = words.length === 4 ? words : ["check", ...words];
+    const isAll = command === "check-all";
+    const root = readRoot(rootWord ?? "");
+    const query = isAll ? null : readQuery(asked ?? "");
+    const isRight = isAll ? asked !== "" && asked !== name : command === "check" && query !== null;
+    if (![3, 4].includes(words.length) || root === null || !isRight || name === "") {
+        return [1, ["bad words"]];
+    }
+    try {
+        if (!isAll) {
+            return await checkLines(root, query, read(name));
+        }
+        const pieces = [];
+        for await (const piece of read(asked)) {
+            pieces.push(piece);
+        }
+        return await checkAllLines(root, Buffer.concat(pieces), read(name));
+    } catch (error) {
+        if (error instanceof RangeError) {
+            return [8, []]; // memory ran out
+        }
+        if (error instanceof Ended) {
+            return [error.status, [error.message]];
+        }
+        throw error;
+    }
+}
+
+/** Prints lines; answers whether all went out. */
+async function printLines(lines) {
+    for (let at = 0; at < lines.length; at += 1000) {
+        const text = lines.slice(at, at + 1000).join("\n") + "\n";
+        const error = await new Promise((done) => process.stdout.write(text, done));
+        if (error) {
+            return false;
+        }
+    }
+    return true;
+}
+
+/** Runs the words of the command line, and prints to standard output alone. */
+async function main() {
+    const [status, lines] = await run(process.argv.slice(2));
+    process.stdout.on("error", () => {}); // printLines tells of it
+    process.exitCode = (await printLines(lines)) ? status : 7;
+}
+
+if (typeof module === "object") {
+    const words = { readRoot, readQuery, readScript };
+    const verdicts = { Judge, judge, check, judgeBundle, refusalOf };
+    module.exports = { ...words, ...verdicts, recordsOf, lineOf, hexOf, distance, meet, run };
+    if (require.main === module) {
+        main();
+    }
+}

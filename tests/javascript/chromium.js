@@ -1,0 +1,120 @@
+"use strict";
+/** A page in headless Chromium, driven over the pipe of its developer tools. */
+
+const child = require("child_process");
+const fs = require("fs");
+const path = require("path");
+
+const NAMES = ["chromium", "chromium-browser", "google-chrome"];
+const PATIENCE = 60000; // milliseconds
+
+/** The path of a Chromium; undefined where there is none. */
+function find() {
+    const folders = (process.env.PATH ?? "").split(":");
+    const found = NAMES.flatMap((name) => folders.map((folder) => path.join(folder, name)));
+    return found.find((one) => fs.existsSync(one));
+}
+
+/** Waits a while. */
+function pause(milliseconds) {
+    return new Promise((done) => setTimeout(done, milliseconds));
+}
+
+/** One browser with one page; `asked` are the addresses that it asked for. */
+class Browser {
+    constructor(program, folder) {
+        const flags = ["--headless=new", "--no-sandbox", "--window-size=1000,1200", "--disable-gpu", "--disable-dev-shm-usage"];
+        const own = [`--user-data-dir=${folder}`, "--remote-debugging-pipe", "--no-first-run"];
+        const stdio = ["ignore", "ignore", "ignore", "pipe", "pipe"];
+        this.process = child.spawn(program, [...flags, ...own, "about:blank"], { stdio });
+        Object.assign(this, { waiting: new Map(), count: 0, asked: [], told: [], rest: "" });
+        this.process.stdio[4].on("data", (bytes) => this.hear(bytes));
+    }
+
+    /** Takes what the browser says: answers to calls, and what happens in the page. */
+    hear(bytes) {
+        const texts = (this.rest + bytes.toString()).split("\0");
+        this.rest = texts.pop();
+        for (const { id, method, params, result, error } of texts.map((text) => JSON.parse(text))) {
+            if (method === "Network.requestWillBeSent") {
+                this.asked.push(params.request.url);
+            } else if (["Runtime.exceptionThrown", "Page.javascriptDialogOpening"].includes(method)) {
+                this.told.push(JSON.stringify(params));
+            } else if (this.waiting.has(id)) {
+                const [done, failed] = this.waiting.get(id);
+                this.waiting.delete(id);
+                (error ? failed : done)(error ? new Error(error.message) : result);
+            }
+        }
+    }
+
+    /** Calls a method of the developer tools. */
+    call(method, params = {}) {
+        this.count += 1;
+        const message = { id: this.count, method, params, sessionId: this.session };
+        this.process.stdio[3].write(JSON.stringify(message) + "\0");
+        return new Promise((...ways) => this.waiting.set(message.id, ways));
+    }
+
+    /** Opens a page, and waits until it is there. */
+    async open(url) {
+        const { targetId } = await this.call("Target.createTarget", { url: "about:blank" });
+        const attached = await this.call("Target.attachToTarget", { targetId, flatten: true });
+        this.session = attached.sessionId;
+        for (const domain of ["Network", "Runtime", "Page", "DOM"]) {
+            await this.call(`${domain}.enable`);
+        }
+        await this.call("Page.navigate", { url });
+        await this.until("document.readyState === 'complete' && location.href !== 'about:blank'");
+    }
+
+    /** The value of an expression in the page. */
+    async value(expression) {
+        const { result } = await this.call("Runtime.evaluate", { expression, returnByValue: true });
+        return result.value;
+    }
+
+    /** Waits until an expression in the page is true; answers whether it became so. */
+    async until(expression) {
+        const end = Date.now() + PATIENCE;
+        while (!(await this.value(expression))) {
+            if (Date.now() > end) {
+                return false;
+            }
+            await pause(50);
+        }
+        return true;
+    }
+
+    /** Writes a text into a field, as if it was typed. */
+    async type(selector, text) {
+        await this.value(`document.querySelector(${JSON.stringify(selector)}).select()`);
+        await this.call("Input.insertText", { text });
+    }
+
+    /** Drops a file onto the page. */
+    async drop(name) {
+        const data = { items: [], files: [name], dragOperationsMask: 1 };
+        for (const type of ["dragEnter", "dragOver", "drop"]) {
+            await this.call("Input.dispatchDragEvent", { type, x: 300, y: 300, data });
+        }
+    }
+
+    /** Chooses a file in a field. */
+    async choose(selector, name) {
+        const { root } = await this.call("DOM.getDocument");
+        const { nodeId } = await this.call("DOM.querySelector", { nodeId: root.nodeId, selector });
+        await this.call("DOM.setFileInputFiles", { files: [name], nodeId });
+    }
+
+    /** Ends the browser. */
+    async close() {
+        const ended = new Promise((done) => this.process.on("exit", done));
+        delete this.session;
+        this.call("Browser.close").catch(() => {});
+        await Promise.race([ended, pause(5000)]);
+        this.process.kill("SIGKILL");
+    }
+}
+
+module.exports = { Browser, find, pause };

@@ -1,0 +1,183 @@
+"use strict";
+/**
+ * The page clients/web/verify.html in headless Chromium: proofs are dropped on it and chosen, and
+ * verdict, table, picture and GeoJSON are read from it and compared.
+ *
+ * usage: node page.js [PICTURE]          PICTURE: a file for a picture of the page with the sample.
+ */
+
+const crypto = require("crypto");
+const fs = require("fs");
+const os = require("os");
+const path = require("path");
+const { pathToFileURL } = require("url");
+const { EXAMPLES, WEB, Bench } = require("./bench.js");
+const { Browser, find, pause } = require("./chromium.js");
+const client = require(path.join(WEB, "mrtree_check.js"));
+
+const PLACES = "b136e9ea66645cc4c87feaf0addfecbc0d52bd619bc06f05e004ff35cbfaff04";
+const WINDOW = "window:133700000,525100000,133800000,525200000";
+const NEAREST = "nearest:133777000,525163000,2";
+const POINTS = "94f0cf13ea902a3c351f1c6ad540cf8917c2f9b63f400144e03cdb1dda1daf4c";
+const ROWS = [
+    "101 133777000 525163000 133777000 525163000 Brandenburger Tor",
+    "102 133761000 525186000 133761000 525186000 Reichstag",
+];
+const GEOJSON = `{"type":"FeatureCollection","features":[
+{"type":"Feature","id":101,"properties":{"name":"Brandenburger Tor"},"geometry":{"type":"Point","coordinates":[13.3777,52.5163]}},
+{"type":"Feature","id":102,"properties":{"name":"Reichstag"},"geometry":{"type":"Point","coordinates":[13.3761,52.5186]}}
+]}
+`;
+
+/** What the page shows: state and line of the verdict, the rows of the table, what is drawn. */
+const SEEN = `(() => {
+    const at = (one) => [...document.querySelectorAll(one)];
+    const isShown = !document.querySelector("#result").hidden;
+    const texts = (row) => [...row.cells].map((cell) => cell.textContent).join(" ");
+    const verdict = document.querySelector("#verdict");
+    return {
+        state: verdict.dataset.state, line: verdict.textContent,
+        means: document.querySelector("#means").textContent,
+        rows: isShown ? at("#answer tbody tr").map(texts) : null,
+        drawn: isShown ? ["inner", "leaf", "pruned", "answer", "other", "region"].map(
+            (kind) => at("#near ." + kind).length).join(" ") : null,
+        shown: isShown ? document.querySelector("#shown").textContent : null,
+    };
+})()`;
+
+/** What the page shows once it has a verdict on what is given. */
+async function seen(browser) {
+    await browser.until("document.querySelector('#verdict').dataset.state !== 'waiting'");
+    return browser.value(SEEN);
+}
+
+/** Gives root, query and a file by a drop; answers what the page then shows. */
+async function given(browser, root, query, file) {
+    await browser.type("#root", root);
+    await browser.type("#query", query);
+    await browser.drop(file);
+    return seen(browser);
+}
+
+/** A file with a proof of the map of one record with this payload; answers its root digest. */
+function oneRecord(file, payload) {
+    const rect = Buffer.from("00000001000000020000000100000002", "hex");
+    const leaf = Buffer.concat([Buffer.from("4c010000000000000007", "hex"), rect, Buffer.from([payload.length]), payload]);
+    const sha = (bytes) => crypto.createHash("sha256").update(bytes).digest();
+    const counts = Buffer.from("0000000000000000000000000000000100", "hex");
+    fs.writeFileSync(file, Buffer.concat([Buffer.from("MRVO\x01W"), counts, leaf]));
+    return sha(Buffer.concat([Buffer.from("R\x01"), counts, rect, sha(leaf)])).toString("hex");
+}
+
+/** The sample, dropped and chosen. */
+async function sampleHolds(bench, browser) {
+    const dropped = await given(browser, PLACES, WINDOW, path.join(EXAMPLES, "places-window.proof"));
+    bench.equal(dropped.state, "accepted", "the sample, dropped");
+    bench.equal(dropped.line, "accepted: 2 of the map's 4 records, at batch 0", "its line");
+    bench.equal(String(dropped.rows), String(ROWS), "its table");
+    bench.equal(dropped.drawn, "0 1 0 2 2 1", "its picture");
+    bench.equal(dropped.shown, "nodes opened: 1; parts pruned: 0", "what is told of it");
+    await browser.type("#query", NEAREST);
+    const other = await seen(browser);
+    bench.equal(other.line, "refused WrongKind at 5", "the same file for another query");
+    bench.holds(other.rows === null && other.drawn === null, "an answer stands beside a refusal");
+    await browser.choose("#proof", path.join(EXAMPLES, "places-nearest.proof"));
+    const chosen = await seen(browser);
+    bench.equal(chosen.state, "accepted", "the nearest, chosen");
+    bench.equal(String(chosen.rows), String(ROWS), "their table");
+    await browser.type("#root", PLACES.slice(1));
+    const wanting = await browser.value(SEEN);
+    bench.holds(wanting.state === "waiting" && wanting.rows === null, "a verdict stands beside half a root");
+}
+
+/** Proofs that are refused: as the program says it, and nothing of them is shown. */
+async function refusalsHold(bench, browser, room) {
+    const proof = fs.readFileSync(path.join(EXAMPLES, "places-window.proof"));
+    const file = path.join(room, "bent.proof");
+    for (const [place, length] of [[50, 172], [0, 172], [30, 172], [0, 171], [0, 0]]) {
+        const bent = Buffer.from(proof.subarray(0, length));
+        if (length === 172) {
+            bent[place] ^= 1;
+        }
+        fs.writeFileSync(file, bent);
+        const meant = client.refusalOf(await client.check(PLACES, WINDOW, new Uint8Array(bent)));
+        const told = await given(browser, PLACES, WINDOW, file);
+        bench.equal(told.line, meant, `byte ${place} of ${length}`);
+        bench.holds(told.state === "refused" && told.rows === null, `what is shown of byte ${place}`);
+        bench.holds(told.means.length > 20, "what it means");
+    }
+}
+
+/** A map of three levels, one without records, and a payload that tries to be more than a text. */
+async function othersHold(bench, browser, room) {
+    const level = path.join(EXAMPLES, "vectors", "level-2-window.proof");
+    const query = "window:100,100,150,120";
+    const { records } = await client.check(POINTS, query, new Uint8Array(fs.readFileSync(level)));
+    const points = await given(browser, POINTS, query, level);
+    const rows = records.map((one) => client.lineOf(one).slice(0, -1));
+    bench.equal(String(points.rows), String(rows), "the table of a map of three levels");
+    bench.equal(points.shown, "nodes opened: 3; parts pruned: 62", "what is told of it");
+    bench.equal(await browser.value("document.querySelectorAll('#map .pruned').length"), 62, "the whole map");
+    const file = path.join(room, "one.proof");
+    const text = "<img src=x onerror=alert(1)>";
+    const root = oneRecord(file, Buffer.from(text));
+    const one = await given(browser, root, "window:0,0,9,9", file);
+    bench.equal(String(one.rows), `7 1 2 1 2 ${text}`, "a payload of HTML");
+    bench.equal(await browser.value("document.images.length"), 0, "images");
+    const bytes = await given(browser, oneRecord(file, Buffer.from("ff00", "hex")), "window:0,0,9,9", file);
+    bench.equal(String(bytes.rows), "7 1 2 1 2 0xff00", "a payload that is no text");
+    fs.writeFileSync(file, Buffer.from("4d52564f015700000000000000000000000000000000", "hex"));
+    const empty = "3192817fd1840eb7f63b1b289a173abad1772411a7b2a52117cfe44a09df8c30";
+    const none = await given(browser, empty, "window:0,0,9,9", file);
+    bench.equal(none.line, "accepted: 0 of the map's 0 records, at batch 0", "a map without records");
+}
+
+/** The answer as GeoJSON, as it is saved. */
+async function geojsonHolds(bench, browser, room) {
+    const file = path.join(room, "answer.geojson");
+    await browser.call("Page.setDownloadBehavior", { behavior: "allow", downloadPath: room });
+    await given(browser, PLACES, WINDOW, path.join(EXAMPLES, "places-window.proof"));
+    await browser.type("#unit", "1e-7");
+    await browser.type("#property", "name");
+    await browser.value("document.querySelector('#save').click()");
+    for (let turn = 0; turn < 100 && !fs.existsSync(file); turn++) {
+        await pause(100);
+    }
+    bench.equal(fs.existsSync(file) ? fs.readFileSync(file, "utf8") : "", GEOJSON, "the GeoJSON");
+    const scaled = "[scaled(-5, readUnit('10')), scaled(15, readUnit('0.1')), scaled(-1, readUnit('2.5e-3')), " +
+        "scaled(0, readUnit('1e3')), String(readUnit('0')), String(readUnit('x'))].join(' ')";
+    bench.equal(await browser.value(scaled), "-50 1.5 -0.0025 0 null null", "coordinates in a unit");
+}
+
+/** A picture of the page with the sample, where one is asked for. */
+async function shoot(browser, picture) {
+    await given(browser, PLACES, WINDOW, path.join(EXAMPLES, "places-window.proof"));
+    const { cssContentSize } = await browser.call("Page.getLayoutMetrics");
+    const clip = { x: 0, y: 0, width: cssContentSize.width, height: cssContentSize.height, scale: 1 };
+    const { data } = await browser.call("Page.captureScreenshot", { clip, captureBeyondViewport: true });
+    fs.writeFileSync(picture, Buffer.from(data, "base64"));
+}
+
+async function main([picture]) {
+    const bench = new Bench("the page in Chromium");
+    const room = fs.mkdtempSync(path.join(os.tmpdir(), "web-page-"));
+    const browser = new Browser(find(), path.join(room, "profile"));
+    try {
+        await browser.open(pathToFileURL(path.join(WEB, "verify.html")).href);
+        await sampleHolds(bench, browser);
+        await refusalsHold(bench, browser, room);
+        await othersHold(bench, browser, room);
+        await geojsonHolds(bench, browser, room);
+        const asked = browser.asked.filter((url) => !url.startsWith("file:") && !url.startsWith("blob:"));
+        bench.equal(String(asked), "", "addresses that the page asks for");
+        bench.holds(browser.asked.some((url) => url.endsWith("/mrtree_check.js")), "what is asked for is seen");
+        bench.equal(String(browser.told), "", "failures in the page");
+        await (picture && shoot(browser, picture));
+    } finally {
+        await browser.close();
+        fs.rmSync(room, { recursive: true, force: true });
+    }
+    bench.end();
+}
+
+main(process.argv.slice(2));

@@ -1,0 +1,150 @@
+"use strict";
+/**
+ * The client in clients/web on the lines of examples/vectors that a client alone can run: those of
+ * `check` and `check-all`. Each is run on a file, in pieces of a byte and in pieces of a gigabyte;
+ * some as a process of its own, by a file and by a pipe.
+ *
+ * usage: node vectors.js short|long          In long, the proofs of a gigabyte too.
+ */
+
+const child = require("child_process");
+const fs = require("fs");
+const os = require("os");
+const path = require("path");
+const { EXAMPLES, WEB, Bench, cut } = require("./bench.js");
+const client = require(path.join(WEB, "mrtree_check.js"));
+
+const KNOWN = ["check", "check-all"];
+const MOST_IN_BYTES = 10 ** 5; // of a file that is judged byte by byte
+
+// ---- how a line is read
+
+/** The bytes of hexadecimal digits, in which (PART*N) stands for PART N times in a row. */
+function repeated(digits) {
+    const open = [[]]; // what stands so far within each bracket, the outermost first
+    for (const [, pair, times, bracket] of digits.matchAll(/([0-9a-f]{2})|\*([0-9]+)\)|(\()/g)) {
+        if (bracket) {
+            open.push([]);
+        } else if (pair) {
+            open[open.length - 1].push(Buffer.from(pair, "hex"));
+        } else {
+            const part = Buffer.concat(open.pop());
+            open[open.length - 1].push(Buffer.alloc(part.length * times, part));
+        }
+    }
+    return Buffer.concat(open[0]);
+}
+
+/** The bytes of one of the parts between `+`. */
+function bytesOfPart(part) {
+    if (part[0] === '"') {
+        return Buffer.from(part.slice(1, -1).replaceAll("\\n", "\n"));
+    }
+    if (part[0] === "@") {
+        const name = part.slice(1);
+        return fs.readFileSync(fs.existsSync(name) ? name : path.join(EXAMPLES, name));
+    }
+    return repeated(part);
+}
+
+/** The bytes that are spelled. */
+function bytesOf(spelled) {
+    const [, parts, most] = /^((?:"[^"]*"|[^"<])*)(?:<([0-9]+))?$/.exec(spelled);
+    const found = parts.match(/"[^"]*"|[^+"]+/g) ?? [];
+    const bytes = Buffer.concat(found.map(bytesOfPart));
+    return most === undefined ? bytes : bytes.subarray(0, Number(most));
+}
+
+/** The vectors of a file: { number, words, files, status, text }, files as [name, sign, bytes]. */
+function linesOf(name) {
+    const lines = fs.readFileSync(path.join(EXAMPLES, "vectors", name), "latin1").split("\n");
+    const numbered = lines.map((line, at) => ({ line, number: at + 1 }));
+    return numbered.filter(({ line }) => line !== "" && line[0] !== "#").map(({ line, number }) => {
+        const [words, spelled, status, text] = line.split("\t");
+        const found = spelled.matchAll(/([^ =>]+)([=>])((?:"[^"]*"|[^ "])*)/g);
+        const files = spelled === "-" ? [] : Array.from(found, (match) => match.slice(1));
+        const meant = text.replaceAll("\\n", "\n");
+        return { number, words: words.split(" "), files, status: Number(status), text: meant };
+    });
+}
+
+// ---- what is said of it
+
+/** What the client says of words in one folder, with files in pieces of so many bytes. */
+async function said(words, size) {
+    const read = size === 0 ? undefined : (name) => cut(fs.readFileSync(name), size);
+    const [status, lines] = await client.run(words, read);
+    return `${status} ${lines.map((line) => line + "\n").join("")}`;
+}
+
+/** What the script says as a process, its last file by a pipe or not. */
+function saidByProcess(words, isPiped) {
+    const input = isPiped ? fs.readFileSync(words[words.length - 1]) : undefined;
+    const given = isPiped ? [...words.slice(0, -1), "-"] : words;
+    const script = path.join(WEB, "mrtree_check.js");
+    const ran = child.spawnSync(process.execPath, [script, ...given], { input });
+    return `${ran.status} ${ran.stdout}${ran.stderr}`;
+}
+
+/** The client says what a vector says, however it is given the file. */
+async function holds(bench, vector, where) {
+    const { words, number } = vector;
+    const meant = `${vector.status} ${vector.text}`;
+    bench.equal(await said(words, 0), meant, `${where} on a file`);
+    const files = words.slice(2).filter((name) => fs.existsSync(name));
+    const size = Math.max(...files.map((name) => fs.statSync(name).size));
+    if (vector.status === 7 || size > MOST_IN_BYTES) {
+        return;
+    }
+    bench.equal(await said(words, 1), meant, `${where} in pieces of a byte`);
+    bench.equal(await said(words, 2 ** 30), meant, `${where} as a whole`);
+    if (number % 5 === 0) {
+        bench.equal(saidByProcess(words, false), meant, `${where} as a process`);
+        const piped = vector.status === 1 ? meant : saidByProcess(words, true);
+        bench.equal(piped, meant, `${where} by a pipe`);
+    }
+}
+
+/** Puts the files with this sign into the folder. */
+function put(files, sign) {
+    for (const [name, its, spelled] of files) {
+        if (its === sign) {
+            fs.writeFileSync(name, bytesOf(spelled));
+        }
+    }
+}
+
+/** Each line of a file that a client alone can run; the others leave the files that they spell. */
+async function vectorsHold(bench, name) {
+    let count = 0;
+    for (const vector of linesOf(name)) {
+        const isKnown = KNOWN.includes(vector.words[0]);
+        if (isKnown || name === "vectors.tsv") {
+            put(vector.files, "=");
+        }
+        if (isKnown) {
+            count += 1;
+            await holds(bench, vector, `${name} line ${vector.number}`);
+        }
+        put(vector.files, ">");
+    }
+    return count;
+}
+
+async function main([how]) {
+    const room = fs.mkdtempSync(path.join(os.tmpdir(), "web-vectors-"));
+    process.chdir(room);
+    try {
+        for (const name of how === "long" ? ["vectors.tsv", "large.tsv"] : ["vectors.tsv"]) {
+            const bench = new Bench(name);
+            const count = await vectorsHold(bench, name);
+            bench.holds(count >= (name === "vectors.tsv" ? 100 : 2), `only ${count} lines are run`);
+            bench.end();
+        }
+    } finally {
+        process.chdir("/");
+        fs.rmSync(room, { recursive: true });
+    }
+}
+
+main(process.argv.slice(2));
