@@ -48,7 +48,8 @@ unless_outside m (Some page) = Err (errors.Outside page)
 
 -- a node that a page spells, if it is what is said of the child: if it has the digest, and then if
 -- it names no page outside
-abbrev pub judged_node : (List ℕ → List ℕ) → (pages : ℕ) → Child → Option Node → Result Node NodesErr
+abbrev pub judged_node : (List ℕ → List ℕ) → (pages : ℕ) → Child → Option Node →
+    Result Node NodesErr
 judged_node hash pages c None = Err (errors.Page c.id)
 judged_node hash pages c (Some m) =
     if bytes_eq c.digest (entry_of (by One hash) m).digest
