@@ -1,5 +1,5 @@
 -- Two clauses on one answer.
-use Rattle.std.specs.Prelude.{Result, Ok, Err, IfOk, IfErr, OnOk}
+use Rattle.std.specs.Prelude.{◌≡◌, Option, Some, Result, Ok, Err, IfOk, IfErr, OnOk}
 
 pub if_both : {T E : Type 0} (r : Result T E) (P Q R : T → Type 0) → ((x : T) → P x → Q x → R x) → IfOk r P → IfOk r Q →
     IfOk r R
@@ -17,3 +17,10 @@ on_ok (Err e) P Q f p = tt
 pub if_ok : {T E : Type 0} (r : Result T E) (P Q : T → Type 0) → ((x : T) → P x → Q x) → IfOk r P → IfOk r Q
 if_ok (Ok x) P Q f p = f x p
 if_ok (Err e) P Q f p = tt
+
+pub on_any : {T E P : Type 0} (r : Result T E) → P → OnOk r P
+on_any (Ok x) p = p
+on_any (Err e) p = tt
+
+pub some_same : {T : Type 0} (x y : T) → ◌≡◌ {A = Option T} (Some x) (Some y) → x ≡ y
+some_same x y e = cc

@@ -1,6 +1,7 @@
 -- What a change of pages leaves.
-use Rattle.std.specs.Prelude.{◌≡◌, ⊤, ◌⊎◌, ℕ, ◌+◌, ◌<◌, ◌≤◌, length, List, [], ◌∷◌, ◌++◌, Option, Some, None, IsSomeAnd, option_map, map}
+use Rattle.std.specs.Prelude.{◌≡◌, ⊤, ◌⊎◌, ℕ, ◌+◌, ◌<◌, ◌≤◌, length, List, [], ◌∷◌, ◌++◌, Option, Some, None, IfSome, IsSomeAnd, option_map, map}
 use Rattle.mr_geom.specs.Rectangle.{Rectangle}
+use Rattle.mr_tree.specs.Limits.{level_limit}
 use Rattle.mr_record.specs.declared.record.Record.{Record}
 use Rattle.mr_tree.specs.Digest.{Scheme}
 use Rattle.mr_tree.specs.declared.child.Child.{Child}
@@ -137,6 +138,10 @@ IsAlike other e = e ≡ other
 abbrev pub root_page : Option Child → ℕ
 root_page None = 0
 root_page (Some c) = c.id
+
+-- a root whose level a map may have
+abbrev pub IsLow : Option Child → Type 0
+IsLow root = IfSome root (λ c. c.level ≤ level_limit)
 
 -- that a page is none that may stand there is said of page 0 only where this page of the root is 0
 abbrev pub IsOfRoot : (root : ℕ) → EditErr → Type 0

@@ -5,7 +5,7 @@ ghost use Rattle.mr_record.specs.declared.version.Version.TheVariants.{One};
 ghost use Rattle.mr_tree.specs.Digest.{by};
 ghost use Rattle.mr_edit.specs.Causes.{HasEditCause};
 ghost use Rattle.mr_edit.specs.Counted.{DeletesTwice};
-ghost use Rattle.mr_edit.specs.Outcome.{NeverMap};
+ghost use Rattle.mr_edit.specs.Outcome.{NeverMap, IsLow};
 ghost use Rattle.mr_edit.specs.Growing.{CanInsert};
 ghost use Rattle.mr_edit.specs.Deleted.{InsertsAll, Deletes};
 ghost use Rattle.mr_edit.specs.Reads.{insertion_reads};
@@ -36,6 +36,7 @@ fn put_all<F: PageFile>(
     ensures reads { F.reads desk.new.file
         ≤ F.reads desk.old.file + length records.now * insertion_reads }
     ensures quiet { OnOk result (F.faults desk.new.file ≡ F.faults desk.old.file) }
+    ensures low { IfOk result (λ r. IsLow root → IsLow r) }
     ensures cause { IfErr result (HasEditCause (F.faults desk.old.file) (F.faults desk.new.file)) }
 {
     for one in records {
@@ -66,6 +67,7 @@ pub(crate) fn delete<F: PageFile>(
     ensures twice { DeletesTwice (by One F.Hash.of) (F.told desk.old.file) desk.old.free root number
         rect.now (F.reads desk.old.file) (F.reads desk.new.file) }
     ensures quiet { OnOk result (F.faults desk.new.file ≡ F.faults desk.old.file) }
+    ensures low { IfOk result IsLow }
     ensures cause { IfErr result (HasEditCause (F.faults desk.old.file) (F.faults desk.new.file)) }
 {
     let Some(child) = root else {

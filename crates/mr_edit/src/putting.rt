@@ -194,6 +194,7 @@ pub(crate) fn put_into<F: PageFile>(
     ensures reads { F.reads desk.new.file
         ≤ F.reads desk.old.file + 2 * (min child.now.level level_limit + 1) }
     ensures quiet { OnOk result (F.faults desk.new.file ≡ F.faults desk.old.file) }
+    ensures low { OnOk result (child.now.level ≤ level_limit) }
     ensures cause { IfErr result (HasEditCause (F.faults desk.old.file) (F.faults desk.new.file)) }
 {
     let mut view = NodeView::new();

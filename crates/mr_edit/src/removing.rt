@@ -1,6 +1,6 @@
 //! Deletion below an entry.
 
-ghost use Rattle.std.specs.Prelude.{◌≡◌, ◌≢◌, ◌≤◌, ◌<◌, ◌+◌, ◌-◌, ◌==◌, ◌&&◌, not, if◌then◌else◌, ◌++◌, ◌∷◌, [], suc, length, map, take, drop, true, false, IfOk, IfSome, IfErr, OnOk};
+ghost use Rattle.std.specs.Prelude.{Some, ◌≡◌, ◌≢◌, ◌≤◌, ◌<◌, ◌+◌, ◌-◌, ◌==◌, ◌&&◌, not, if◌then◌else◌, ◌++◌, ◌∷◌, [], suc, length, map, take, drop, true, false, IfOk, IfSome, IfErr, OnOk};
 ghost use Rattle.std.specs.List.{AllByRecursion};
 ghost use Rattle.std.specs.Option.{option_to_list};
 ghost use Rattle.mr_geom.specs.Rectangle.{union};
@@ -9,7 +9,7 @@ ghost use Rattle.mr_tree.specs.Digest.{by};
 ghost use Rattle.mr_tree.specs.declared.child.Child as child_types;
 ghost use Rattle.mr_edit.specs.Causes.{HasEditCause, KnowsBelow};
 ghost use Rattle.mr_edit.specs.Counted.{FreesOnce, LeavesOnce, ReadsTwice, TakesTwice};
-ghost use Rattle.mr_edit.specs.Outcome.{NeverMap, CanWrite};
+ghost use Rattle.mr_edit.specs.Outcome.{NeverMap, CanWrite, IsLow};
 ghost use Rattle.mr_edit.specs.Removal.{LeavesLeaf, LeavesInner, Shortens, Searches};
 ghost use Rattle.mr_edit.specs.Removable.{CanLeave, CanTakeOut};
 ghost use Rattle.mr_tree.specs.Limits.{inner_limit, leaf_limit};
@@ -27,7 +27,8 @@ use std::alloc::{AllocError, Global};
 
 // Whether a rectangle lies in that of an entry.
 fn may_hold(child: &Child, rect: &Rect) -> bool
-    ensures { result ≡ false → union child.now.rect rect.now ≢ child.now.rect }
+    ensures outside { result ≡ false → union child.now.rect rect.now ≢ child.now.rect }
+    ensures inside { result ≡ true → union child.now.rect rect.now ≡ child.now.rect }
 {
     child.rect.union(rect) == child.rect
 }
@@ -49,6 +50,7 @@ fn leave_leaf<F: PageFile>(
     ensures kept { F.kept desk.old.file desk.new.file }
     ensures reads { F.reads desk.new.file ≡ F.reads desk.old.file }
     ensures quiet { OnOk result (F.faults desk.new.file ≡ F.faults desk.old.file) }
+    ensures low { IfOk result (λ l. IsLow l.entry) }
     ensures cause { IfErr result (HasEditCause (F.faults desk.old.file) (F.faults desk.new.file)) }
     ensures sound { IfErr result (λ e. NeverMap e (CanWrite (F.told desk.old.file) page)) }
 {
@@ -82,6 +84,7 @@ fn leave_top_leaf<F: PageFile>(
     ensures kept { F.kept desk.old.file desk.new.file }
     ensures reads { F.reads desk.new.file ≡ F.reads desk.old.file }
     ensures quiet { OnOk result (F.faults desk.new.file ≡ F.faults desk.old.file) }
+    ensures low { IfOk result (λ l. IsLow l.entry) }
     ensures cause { IfErr result (HasEditCause (F.faults desk.old.file) (F.faults desk.new.file)) }
     ensures sound { IfErr result (λ e. NeverMap e (CanWrite (F.told desk.old.file) page)) }
 {
@@ -125,6 +128,7 @@ fn leave_inner<F: PageFile>(
     ensures still { IfOk result (λ l. IfSome l.entry
         (λ c. F.reads desk.new.file ≡ F.reads desk.old.file)) }
     ensures quiet { OnOk result (F.faults desk.new.file ≡ F.faults desk.old.file) }
+    ensures low { IfOk result (λ l. IsLow l.entry) }
     ensures cause { IfErr result (HasEditCause (F.faults desk.old.file) (F.faults desk.new.file)) }
     ensures sound { IfErr result (λ e. NeverMap e
         (CanLeave F.Hash.of (F.told desk.old.file) desk.old.free page children.now)) }
@@ -156,6 +160,7 @@ fn shorten<F: PageFile>(desk: &mut Desk<F>, child: &Child) -> Result<Child, Edit
         (child.now ∷ [])
         (F.reads desk.old.file) (F.reads desk.new.file) }
     ensures quiet { OnOk result (F.faults desk.new.file ≡ F.faults desk.old.file) }
+    ensures low { IfOk result (λ c. IsLow (Some c)) }
     ensures cause { IfErr result (HasEditCause (F.faults desk.old.file) (F.faults desk.new.file)) }
     ensures sound { IfErr result (λ e. NeverMap e
         (KnowsBelow F.Hash.of false (F.told desk.old.file) desk.old.free child.now)) }
@@ -194,6 +199,7 @@ fn leave_top_inner<F: PageFile>(
     ensures once { LeavesOnce (by One F.Hash.of) (F.told desk.old.file) desk.old.free page
         children.now (F.reads desk.old.file) (F.reads desk.new.file) }
     ensures quiet { OnOk result (F.faults desk.new.file ≡ F.faults desk.old.file) }
+    ensures low { IfOk result (λ l. IsLow l.entry) }
     ensures cause { IfErr result (HasEditCause (F.faults desk.old.file) (F.faults desk.new.file)) }
     ensures sound { IfErr result (λ e. NeverMap e
         (CanLeave F.Hash.of (F.told desk.old.file) desk.old.free page children.now)) }
@@ -246,6 +252,7 @@ fn leave<F: PageFile>(
     ensures still { IfOk result (λ l. root ≡ false → IfSome l.entry
         (λ c. F.reads desk.new.file ≡ F.reads desk.old.file)) }
     ensures quiet { OnOk result (F.faults desk.new.file ≡ F.faults desk.old.file) }
+    ensures low { IfOk result (λ l. IsLow l.entry) }
     ensures cause { IfErr result (HasEditCause (F.faults desk.old.file) (F.faults desk.new.file)) }
     ensures sound { IfErr result (λ e. NeverMap e
         (CanLeave F.Hash.of (F.told desk.old.file) desk.old.free page children.now)) }
@@ -275,6 +282,7 @@ fn leave_records<F: PageFile>(
     ensures kept { F.kept desk.old.file desk.new.file }
     ensures reads { F.reads desk.new.file ≡ F.reads desk.old.file }
     ensures quiet { OnOk result (F.faults desk.new.file ≡ F.faults desk.old.file) }
+    ensures low { IfOk result (λ l. IsLow l.entry) }
     ensures cause { IfErr result (HasEditCause (F.faults desk.old.file) (F.faults desk.new.file)) }
     ensures sound { IfErr result (λ e. NeverMap e (CanWrite (F.told desk.old.file) page)) }
 {
@@ -340,6 +348,7 @@ pub(crate) fn take_out<F: PageFile>(
     ensures takes { IfOk result (TakesTwice (by One F.Hash.of) root (F.told desk.old.file)
         desk.old.free child.now number rect.now (F.reads desk.old.file) (F.reads desk.new.file)) }
     ensures quiet { OnOk result (F.faults desk.new.file ≡ F.faults desk.old.file) }
+    ensures low { IfOk result (λ found. IfSome found (λ l. IsLow l.entry)) }
     ensures cause { IfErr result (HasEditCause (F.faults desk.old.file) (F.faults desk.new.file)) }
     ensures sound { IfErr result (λ e. NeverMap e (CanTakeOut F.Hash.of root
         (F.told desk.old.file) desk.old.free child.now number rect.now)) }

@@ -7,7 +7,7 @@ ghost use Rattle.mr_batch.specs.declared.change.Change.TheVariants as changes;
 ghost use Rattle.mr_edit.specs.Causes.{HasEditCause};
 ghost use Rattle.mr_edit.specs.Changing.{CanChange, CanReplay};
 ghost use Rattle.mr_edit.specs.Counted.{ChangesWithin, ReplaysWithin};
-ghost use Rattle.mr_edit.specs.Outcome.{NeverMap};
+ghost use Rattle.mr_edit.specs.Outcome.{NeverMap, IsLow};
 ghost use Rattle.mr_edit.specs.Reads.{insertion_reads};
 ghost use Rattle.mr_edit.specs.Replayed.{ChangesOne, Replays};
 
@@ -34,6 +34,7 @@ fn add<F: PageFile>(
     ensures kept { F.kept desk.old.file desk.new.file }
     ensures reads { F.reads desk.new.file ≤ F.reads desk.old.file + insertion_reads }
     ensures quiet { OnOk result (F.faults desk.new.file ≡ F.faults desk.old.file) }
+    ensures low { IfOk result IsLow }
     ensures cause { IfErr result (HasEditCause (F.faults desk.old.file)
         (F.faults desk.new.file)) }
     ensures sound { IfErr result (λ e. NeverMap e (CanChange F.Hash.of (F.told desk.old.file)
@@ -62,6 +63,7 @@ fn remove<F: PageFile>(
         dir.old (changes.Remove number) learned.old learned.new (F.reads desk.old.file)
         (F.reads desk.new.file) }
     ensures quiet { OnOk result (F.faults desk.new.file ≡ F.faults desk.old.file) }
+    ensures low { IfOk result IsLow }
     ensures cause { IfErr result (HasEditCause (F.faults desk.old.file) (F.faults desk.new.file)) }
     ensures sound { IfErr result (λ e. NeverMap e (CanChange F.Hash.of (F.told desk.old.file)
         desk.old.free root dir.old (changes.Remove number))) }
@@ -96,6 +98,7 @@ fn make_change<F: PageFile>(
         dir.old change.now learned.old learned.new (F.reads desk.old.file)
         (F.reads desk.new.file) }
     ensures quiet { OnOk result (F.faults desk.new.file ≡ F.faults desk.old.file) }
+    ensures low { IfOk result IsLow }
     ensures cause { IfErr result (HasEditCause (F.faults desk.old.file) (F.faults desk.new.file)) }
     ensures sound { IfErr result (λ e. NeverMap e (CanChange F.Hash.of (F.told desk.old.file)
         desk.old.free root dir.old change.now)) }
@@ -122,6 +125,8 @@ pub fn replay<F: PageFile>(
     ensures within { ReplaysWithin (by One F.Hash.of) (F.told desk.old.file) desk.old.free root
         dir.old batch.now (F.reads desk.old.file) (F.reads desk.new.file) }
     ensures quiet { OnOk result (F.faults desk.new.file ≡ F.faults desk.old.file) }
+    // Told or not, the root is no higher than a map's may be.
+    ensures low { IfOk result (λ r. IsLow root → IsLow r) }
     ensures cause { IfErr result (HasEditCause (F.faults desk.old.file) (F.faults desk.new.file)) }
     ensures sound { IfErr result (λ e. NeverMap e (CanReplay F.Hash.of (F.told desk.old.file)
         desk.old.free root dir.old batch.now)) }

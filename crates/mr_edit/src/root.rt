@@ -4,7 +4,7 @@ ghost use Rattle.std.specs.Prelude.{◌≡◌, ◌+◌, ◌≤◌, IfOk, IfErr, 
 ghost use Rattle.mr_record.specs.declared.version.Version.TheVariants.{One};
 ghost use Rattle.mr_tree.specs.Digest.{by};
 ghost use Rattle.mr_edit.specs.Causes.{HasEditCause};
-ghost use Rattle.mr_edit.specs.Outcome.{Raises, NeverMap, IsAlike, root_page, IsOfRoot};
+ghost use Rattle.mr_edit.specs.Outcome.{Raises, NeverMap, IsAlike, IsLow, root_page, IsOfRoot};
 ghost use Rattle.mr_edit.specs.Drafted.{Inserts};
 ghost use Rattle.mr_edit.specs.Reads.{insertion_reads};
 ghost use Rattle.mr_edit.specs.Growing.{CanAdd, CanRaise, CanInsert};
@@ -26,6 +26,7 @@ fn first_root<F: PageFile>(desk: &mut Desk<F>, one: &Record) -> Result<Child, Ed
     ensures kept { F.kept desk.old.file desk.new.file }
     ensures reads { F.reads desk.new.file ≤ F.reads desk.old.file + 1 }
     ensures quiet { OnOk result (F.faults desk.new.file ≡ F.faults desk.old.file) }
+    ensures low { IfOk result (λ c. IsLow (Some c)) }
     ensures cause { IfErr result (HasEditCause (F.faults desk.old.file) (F.faults desk.new.file)) }
 {
     let page = take_page(desk)?;
@@ -42,6 +43,7 @@ fn raise<F: PageFile>(desk: &mut Desk<F>, first: Child, second: Child) -> Result
     ensures kept { F.kept desk.old.file desk.new.file }
     ensures reads { F.reads desk.new.file ≤ F.reads desk.old.file + 1 }
     ensures quiet { OnOk result (F.faults desk.new.file ≡ F.faults desk.old.file) }
+    ensures low { IfOk result (λ c. IsLow (Some c)) }
     ensures cause { IfErr result (HasEditCause (F.faults desk.old.file) (F.faults desk.new.file)) }
 {
     if first.level >= LEVEL_LIMIT {
@@ -96,6 +98,7 @@ fn put_below<F: PageFile>(
     ensures kept { F.kept desk.old.file desk.new.file }
     ensures reads { F.reads desk.new.file ≤ F.reads desk.old.file + insertion_reads }
     ensures quiet { OnOk result (F.faults desk.new.file ≡ F.faults desk.old.file) }
+    ensures low { IfOk result (λ c. IsLow (Some c)) }
     ensures cause { IfErr result (HasEditCause (F.faults desk.old.file) (F.faults desk.new.file)) }
 {
     let Stand { first, second } = put_into::<F>(alloc, desk, root, true, one)?;
@@ -124,6 +127,8 @@ pub fn insert<F: PageFile>(
     ensures kept { F.kept desk.old.file desk.new.file }
     ensures reads { F.reads desk.new.file ≤ F.reads desk.old.file + insertion_reads }
     ensures quiet { OnOk result (F.faults desk.new.file ≡ F.faults desk.old.file) }
+    // Told or not, the root is no higher than a map's may be.
+    ensures low { IfOk result (λ c. IsLow (Some c)) }
     ensures cause { IfErr result (HasEditCause (F.faults desk.old.file) (F.faults desk.new.file)) }
 {
     match root {

@@ -272,6 +272,7 @@ module _ (hash : List ℕ → List ℕ) (told : Option Files) (name : List ℕ) 
     pub still_store : (es' : Entries) (cap' : ℕ) → Stays es es' → cap' ≡ cap → IsStore hash told name h es' cap'
     still_store es' cap' stays same = record {
       few = s.few;
+      paged = s.paged;
       none = s.none;
       root = s.root;
       cap = same ∙ s.cap;
@@ -295,6 +296,7 @@ module _ (hash : List ℕ → List ℕ) (told : Option Files) (name : List ℕ) 
         (IsHeld es c → ⊥) → IsStore hash told name h es' cap'
     grown_store {A} a n es' cap' r t g same missed = record {
       few = s.few;
+      paged = s.paged;
       none = s.none;
       root = s.root;
       cap = same ∙ s.cap;

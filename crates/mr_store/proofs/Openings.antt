@@ -76,6 +76,7 @@ module _ (hash : List ℕ → List ℕ) (told : Option Files) (name : List ℕ) 
   pub store_of : IsStore hash told name h es cap
   store_of = record {
     few = w.says.fits.count;
+    paged = subst (λ n. n ≤ page_limit) (sym w.says.count) s.few;
     none = none_at h.count h.root w.says.fits.root;
     root = root_at h.count pages h.pages h.root w.says.count w.says.fits.root w.inside;
     cap = s.cap;

@@ -1,5 +1,5 @@
 -- What a read of a node's page gives.
-use Rattle.std.specs.Prelude.{◌≡◌, ◌≢◌, ⊤, ℕ, ◌*◌, ◌<◌, ◌≤◌, List, length, Some, Result, Ok, Err}
+use Rattle.std.specs.Prelude.{◌≡◌, ◌≢◌, ⊤, ℕ, ◌*◌, ◌<◌, ◌≤◌, ◌==◌, ◌||◌, nat_le, if◌then◌else◌, List, [], ◌∷◌, length, bytes_eq, Option, Some, None, Result, Ok, Err}
 use Rattle.mr_outside.specs.Faults.{Rose, next_count}
 use Rattle.mr_outside.specs.State.{Shelved}
 use Rattle.mr_outside.specs.declared.shelf.ShelfErr.{ShelfErr}
@@ -13,9 +13,12 @@ use Rattle.mr_tree.specs.declared.nodes.NodesErr.{NodesErr}
 use Rattle.mr_tree.specs.declared.nodes.NodesErr.TheVariants as errors
 use Rattle.mr_record.specs.declared.version.Version.TheVariants.{One}
 use Rattle.mr_tree.specs.Digest.{by}
-use Rattle.mr_pages.specs.Page.{Node, level_of, entry_of}
+use Rattle.mr_tree.specs.declared.tree.Tree.TheOpen.{Empty, Leaf, Inner}
+use Rattle.mr_pages.specs.Page.{Link, Node, level_of, entry_of}
 use Rattle.mr_pages.specs.PageBytes.{page_size, first_form}
 use Rattle.mr_pages.specs.File.{file_of}
+use Rattle.mr_pages.specs.Faults.{of_level}
+use Rattle.mr_pages.specs.Source.{IsPage}
 use Rattle.mr_pages.specs.Walking.{page_node}
 use Rattle.mr_store.specs.Kept.{AreInside}
 
@@ -23,6 +26,62 @@ use Rattle.mr_store.specs.Kept.{AreInside}
 pub record Outside (pages : ℕ) (n : view.Node) (page : ℕ) : Type 0 where
   pub far : 1 ≤ page → pages ≤ page
   pub broken : AreInside pages n → ⊥
+
+-- ---- what a page gives
+
+-- the first of these pages that is page 0, or not in a file of so many pages
+abbrev pub outside_in : (pages : ℕ) → List Link → Option ℕ
+outside_in pages [] = None
+outside_in pages (l ∷ ls) =
+    if l.page == 0 || nat_le pages l.page then Some l.page else outside_in pages ls
+
+-- the same of the pages that a node names for its children
+abbrev pub outside_of : (pages : ℕ) → Node → Option ℕ
+outside_of pages Empty = None
+outside_of pages (Leaf records) = None
+outside_of pages (Inner links) = outside_in pages links
+
+-- the node, unless it names a page outside
+abbrev pub unless_outside : Node → Option ℕ → Result Node NodesErr
+unless_outside m None = Ok m
+unless_outside m (Some page) = Err (errors.Outside page)
+
+-- a node that a page spells, if it is what is said of the child: if it has the digest, and then if
+-- it names no page outside
+abbrev pub judged_node : (List ℕ → List ℕ) → (pages : ℕ) → Child → Option Node →
+    Result Node NodesErr
+judged_node hash pages c None = Err (errors.Page c.id)
+judged_node hash pages c (Some m) =
+    if bytes_eq c.digest (entry_of (by One hash) m).digest
+    then unless_outside m (outside_of pages m)
+    else Err (errors.Changed c.id c.digest (entry_of (by One hash) m).digest)
+
+-- What the bytes of a page in a file of so many pages give as the node of the child: the node of
+-- the child's level that they spell, or why it is refused.
+abbrev pub judged : (List ℕ → List ℕ) → (pages : ℕ) → Child → (page : List ℕ) → Result Node NodesErr
+judged hash pages c page =
+    judged_node hash pages c (of_level c.level (first_form.node_in page))
+
+-- just that is answered, and a node is shown
+abbrev pub Judges : {A : Type 0} → Result A NodesErr → view.Node → Result Node NodesErr → Type 0
+Judges (Ok _) n gives = gives ≡ Ok (page_node n)
+Judges (Err e) n gives = gives ≡ Err e
+
+-- some bytes of a page are refused just so
+pub record GivenBySome (hash : List ℕ → List ℕ) (pages : ℕ) (c : Child) (e : NodesErr) : Type 0
+  where
+    pub page : List ℕ
+    pub is : IsPage first_form page
+    pub gives : judged hash pages c page ≡ Err e
+
+-- what was read is refused as some bytes are
+abbrev pub IsGiven : (List ℕ → List ℕ) → (pages : ℕ) → Child → NodesErr → Type 0
+IsGiven hash pages c errors.Missing = ⊤
+IsGiven hash pages c errors.Fault = ⊤
+IsGiven hash pages c errors.NoMemory = ⊤
+IsGiven hash pages c e = GivenBySome hash pages c e
+
+-- ---- what follows of it
 
 -- the view shows a node with the level and the digest of the child, whose children are in the file
 pub record IsRead (hash : List ℕ → List ℕ) (pages : ℕ) (c : Child) (n : view.Node) : Type 0 where

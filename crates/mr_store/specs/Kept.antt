@@ -1,6 +1,7 @@
 -- What a cache of node pages holds.
 use Rattle.std.specs.Prelude.{◌≡◌, ℕ, ◌<◌, ◌≤◌, ◌⊎◌, Bool, true, false, List, length, All, Contains, Some, IsSome, IsSomeAnd, nat_eq}
 use Rattle.std.specs.Map.{lookup}
+use Rattle.lru.specs.LruCache.{lru_cache, promoted, put_entries}
 use Rattle.mr_tree.specs.View.{Node, children_in, level_of, preimage_of}
 use Rattle.mr_tree.specs.Snapshot.{HasShape}
 use Rattle.mr_tree.specs.declared.child.Child.{Child}
@@ -72,3 +73,18 @@ pub record Gains (room : ℕ) (before after : Entries) (c : Child) (n : Node) : 
   pub none_lost : IsSome (lookup (nat_eq c.id) before) ⊎ (length before < room) → (page : ℕ) →
       IsSome (lookup (nat_eq page) before) →
       IsSome (lookup (nat_eq page) after)
+
+-- ---- the order of the last use, and what is dropped
+
+-- the pages that are kept, the one that was used last first, once this one is used
+abbrev pub used : (page : ℕ) → Entries → Entries
+used page es = promoted (nat_eq page) es
+
+-- The node of the child was put: it is now the one that was used last, and takes the place of what
+-- was kept of its page. Where nothing was, and the cache is full, the one that was used longest ago
+-- is dropped, and no other.
+pub record Puts (room : ℕ) (before after : Entries) (c : Child) (n : Node) : Type 0 where
+  pub kept : Kept
+  pub that : IsThat c kept
+  pub node : node_of kept.node ≡ n
+  pub entries : after ≡ put_entries nat_eq (lru_cache before room) c.id kept

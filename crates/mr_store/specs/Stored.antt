@@ -18,7 +18,7 @@ use Rattle.mr_pages.specs.Law.{IsMap}
 pub use Rattle.mr_pages.specs.Source.{told_bytes}
 use Rattle.mr_tree.specs.declared.child.Child.{Child}
 use Rattle.mr_pages.specs.declared.head.MapHead.{MapHead}
-use Rattle.mr_pages.specs.Page.{Link}
+use Rattle.mr_pages.specs.Page.{Link, page_limit}
 use Rattle.mr_pages.specs.PageBytes.{first_form}
 use Rattle.mr_pages.specs.File.{file_of}
 use Rattle.mr_pages.specs.Stands.{Placed, whole_pages}
@@ -67,6 +67,7 @@ pub record IsRootOf (pages : ℕ) (c : Child) : Type 0 where
 pub record IsStore (hash : List ℕ → List ℕ) (told : Option Files) (name : List ℕ) (h : MapHead)
     (es : Entries) (size : ℕ) : Type 0 where
   pub few : h.count ≤ count_limit
+  pub paged : h.pages ≤ page_limit
   pub none : (h.count ≡ 0) ↔ IsNone h.root
   pub root : IfSome h.root (IsRootOf h.pages)
   pub cap : size ≡ room

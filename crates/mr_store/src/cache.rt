@@ -2,7 +2,7 @@
 
 ghost use Rattle.std.specs.Prelude.{◌≡◌, ℕ, true, false, OnOk, OnErr, Contains};
 ghost use Rattle.mr_store.specs.declared.kept.Kept.{Kept};
-ghost use Rattle.mr_store.specs.Kept.{node_of, IsHeld, IsShown, Finds, Stays, Gains};
+ghost use Rattle.mr_store.specs.Kept.{node_of, IsHeld, IsShown, Finds, Stays, Gains, used, Puts};
 
 use crate::kept::{Kept, show};
 use crate::reading::are_same;
@@ -39,6 +39,7 @@ pub fn recall(cache: &mut LruCache<u32, Kept>, child: &Child, into: &mut NodeVie
     ensures stays { Stays cache.old.entries cache.new.entries }
     ensures same { result ≡ false → cache.new.entries ≡ cache.old.entries }
     ensures caches { result ≡ true → IsHeld cache.new.entries child.now }
+    ensures uses { result ≡ true → cache.new.entries ≡ used child.now.id cache.old.entries }
     ensures cap { cache.new.cap ≡ cache.old.cap }
 {
     if !find(cache, child, into) {
@@ -57,6 +58,8 @@ pub(crate) fn put(
 ) -> Result<(), AllocError>
     ensures gains { OnOk result
         (Gains cache.old.cap cache.old.entries cache.new.entries child.now (node_of node)) }
+    ensures puts { OnOk result
+        (Puts cache.old.cap cache.old.entries cache.new.entries child.now (node_of node)) }
     ensures same { OnErr result (cache.new ≡ cache.old) }
     ensures cap { cache.new.cap ≡ cache.old.cap }
 {
@@ -78,6 +81,9 @@ pub fn remember(
 ) -> Result<(), AllocError>
     ensures gains { OnOk result
         (Gains cache.old.cap cache.old.entries cache.new.entries child.now view.now) }
+    // All else is kept but for what was used longest ago, where the cache is full.
+    ensures puts { OnOk result
+        (Puts cache.old.cap cache.old.entries cache.new.entries child.now view.now) }
     ensures same { OnErr result (cache.new ≡ cache.old) }
     ensures cap { cache.new.cap ≡ cache.old.cap }
 {

@@ -4,12 +4,13 @@ ghost use Rattle.std.specs.Prelude.{◌≡◌, ◌≤◌, ◌+◌, length, IfOk,
 ghost use Rattle.mr_outside.specs.Faults.{next_count};
 ghost use Rattle.mr_record.specs.declared.version.Version.TheVariants.{One};
 ghost use Rattle.mr_tree.specs.Digest.{by};
-ghost use Rattle.mr_tree.specs.Nodes.{IsTop, MayFetch, Shows, subtrees};
+ghost use Rattle.mr_tree.specs.Nodes.{IsTop, MayFetch, Shows, TellsRefusal, subtrees};
 ghost use Rattle.mr_tree.specs.Snapshot.{AreLinked, standing};
 ghost use Rattle.mr_tree.specs.declared.stored.Stored.TheVariants as stored;
 ghost use Rattle.mr_pages.specs.Walking.{owned};
 ghost use Rattle.mr_store.specs.Copying.{IsJudged, IsUnfit, Suits, IsFull, CanCopy, Adds, IsPut, IsCopied, nodes_at, Stops, StopsAll, IsHandedOn, IsTwice};
 ghost use Rattle.mr_store.specs.Stored.{IsSaid, StandsFor};
+ghost use Rattle.mr_store.specs.declared.stop.Stop.TheVariants as stops;
 
 use crate::stop::Stop;
 use mr_outside::Items;
@@ -48,6 +49,7 @@ fn look<N: Nodes>(
     ensures suits { IfOk result (λ n. Suits N.Hash.of root child.now (owned n)) }
     ensures quiet { OnOk result (N.faults nodes.new ≡ N.faults nodes.old) }
     ensures handed { IfErr result (IsHandedOn (N.refusal nodes.new)) }
+    ensures answered { TellsRefusal stops.Nodes (N.refusal nodes.old) (N.refusal nodes.new) result }
     ensures cause { IfErr result (Stops (N.stands nodes.old)
         (N.faults nodes.old) (N.faults nodes.new)
         (IsFull (N.stands nodes.old) root child.now)) }
@@ -111,6 +113,7 @@ fn copy<N: Nodes>(
         N.fetches nodes.old + nodes_at ((N.stands nodes.old).node child.now.id) }
     ensures quiet { OnOk result (N.faults nodes.new ≡ N.faults nodes.old) }
     ensures handed { IfErr result (IsHandedOn (N.refusal nodes.new)) }
+    ensures answered { TellsRefusal stops.Nodes (N.refusal nodes.old) (N.refusal nodes.new) result }
     ensures cause { IfErr result (Stops (N.stands nodes.old)
         (N.faults nodes.old) (N.faults nodes.new)
         (CanCopy (N.stands nodes.old) root seen.old child.now)) }
@@ -145,6 +148,7 @@ fn copied_from<N: Nodes>(
         N.fetches nodes.old + length (subtrees t)) }
     ensures quiet { OnOk result (N.faults nodes.new ≡ N.faults nodes.old) }
     ensures handed { IfErr result (IsHandedOn (N.refusal nodes.new)) }
+    ensures answered { TellsRefusal stops.Nodes (N.refusal nodes.old) (N.refusal nodes.new) result }
     ensures cause { IfErr result (StopsAll (N.stands nodes.old)
         (N.faults nodes.old) (N.faults nodes.new)) }
 {
@@ -188,6 +192,7 @@ pub(crate) fn copied<N: Nodes>(
         N.fetches nodes.old + length (subtrees t)) }
     ensures quiet { OnOk result (N.faults nodes.new ≡ N.faults nodes.old) }
     ensures handed { IfErr result (IsHandedOn (N.refusal nodes.new)) }
+    ensures answered { TellsRefusal stops.Nodes (N.refusal nodes.old) (N.refusal nodes.new) result }
     ensures cause { IfErr result (StopsAll (N.stands nodes.old)
         (N.faults nodes.old) (N.faults nodes.new)) }
 {

@@ -2,7 +2,7 @@
 
 ghost use Rattle.std.specs.Prelude.{◌≡◌, ◌≤◌, ◌+◌, length, IfOk, IfErr, IfSome, OnOk};
 ghost use Rattle.std.specs.String.{string_bytes};
-ghost use Rattle.mr_tree.specs.Nodes.{HasSomeCause, subtrees};
+ghost use Rattle.mr_tree.specs.Nodes.{HasSomeCause, TellsRefusal, subtrees};
 ghost use Rattle.mr_tree.specs.Snapshot.{standing};
 ghost use Rattle.mr_store.specs.Stored.{told_bytes, stands_for, top_in, IsSaid, Keeps, StandsFor};
 
@@ -49,6 +49,8 @@ impl<S: Shelf, H: Hash32> Paged<S, H> {
             (S.state self.old.shelf).faults (S.state self.new.shelf).faults) }
         ensures quiet { OnOk result
             ((S.state self.new.shelf).faults ≡ (S.state self.old.shelf).faults) }
+        // What a fetch refused is what is answered.
+        ensures answered { TellsRefusal (λ e. e) self.old.refusal self.new.refusal result }
     {
         let pages = self.head.pages;
         let top = top_of(&self.head);

@@ -1,6 +1,6 @@
 //! Maps that are opened page by page.
 
-ghost use Rattle.std.specs.Prelude.{◌≡◌, ◌≤◌, ℕ, List, [], ⊤, length, IfOk, IfErr, OnOk, MatchResult};
+ghost use Rattle.std.specs.Prelude.{◌≡◌, ◌≤◌, ℕ, List, [], ⊤, length, IfOk, IfErr, None, OnOk, MatchResult};
 ghost use Rattle.std.specs.String.{string_bytes};
 ghost use Rattle.mr_outside.specs.Told.{OfFile};
 ghost use Rattle.mr_pages.specs.Page.{page_limit};
@@ -112,6 +112,7 @@ fn over<S: Shelf, H: Hash32>(alloc: Global, paging: Paging<S, H>, head: MapHead)
     ensures shelf { result.shelf ≡ paging.shelf }
     ensures head { result.head ≡ head }
     ensures fetches { result.fetches ≡ 0 }
+    ensures refusal { result.refusal ≡ None }
     ensures answers { OfFile (S.state result.shelf).files (string_bytes result.name) ⊥
         (TellsMap H.of (stands_for result.head
         (told_bytes (S.state result.shelf).files (string_bytes result.name)))) }
@@ -146,6 +147,7 @@ fn checked<S: Shelf, H: Hash32>(
         (string_bytes p.name) p.head (S.state p.shelf) p.fetches)
         (λ r. IsRefused H.of (string_bytes paging.name) paging.pages (S.state paging.shelf)
         (S.state r.0) r.1) }
+    ensures unrefused { IfOk result (λ p. p.refusal ≡ None) }
 {
     let mut paging = paging;
     match check::<Paging<S, H>>(alloc, &mut paging) {
@@ -177,6 +179,8 @@ impl<S: Shelf, H: Hash32> Paged<S, H> {
             (λ p. OpensMap H.of name.now (S.state shelf) (string_bytes p.name) p.head
             (S.state p.shelf) p.fetches)
             (λ r. RefusesMap H.of name.now (S.state shelf) (S.state r.0) r.1) }
+        // No fetch was refused yet.
+        ensures unrefused { IfOk result (λ p. p.refusal ≡ None) }
     {
         are_sized::<H>();
         let mut shelf = shelf;

@@ -1,16 +1,16 @@
 //! A map on disk whose nodes are fetched page by page.
 
-ghost use Rattle.std.specs.Prelude.{◌≡◌, ◌≤◌, ◌+◌, length, Some, IfOk, IfErr, OnOk, IsOk};
+ghost use Rattle.std.specs.Prelude.{◌≡◌, ◌≤◌, ◌+◌, length, Some, IfOk, IfErr, OnOk, OnErr, IsOk};
 ghost use Rattle.mr_outside.specs.Faults.{next_count};
 ghost use Rattle.mr_tree.specs.Nodes.{MayFetch, Shows, HasCause};
-ghost use Rattle.mr_store.specs.Kept.{IsHeld};
-ghost use Rattle.mr_store.specs.Again.{ReadsOne, Reread};
+ghost use Rattle.mr_store.specs.Kept.{IsHeld, used, Puts};
+ghost use Rattle.mr_store.specs.Again.{IsGiven, ReadsOne, Reread};
 ghost use Rattle.mr_outside.specs.Reading.{piece_count};
 ghost use Rattle.mr_outside.specs.Told.{OfFile};
 ghost use Rattle.mr_outside.specs.Causes.{ShelfCauses};
 ghost use Rattle.std.specs.String.{string_bytes};
 ghost use Rattle.std.proofs.Props.{props};
-ghost use Rattle.mr_store.specs.Stored.{told_bytes, stands_for, IsStore, Keeps, IsSameMap, IsMapOf};
+ghost use Rattle.mr_store.specs.Stored.{told_bytes, stands_for, room, IsStore, Keeps, IsSameMap, IsMapOf};
 
 use crate::fetching::show_node;
 use crate::kept::Kept;
@@ -85,8 +85,17 @@ impl<S: Shelf, H: Hash32> Nodes for Paged<S, H> {
         // What was read is blamed only where a read was counted.
         ensures read { IfErr result
             (Reread (S.state self.old.shelf).reads (S.state self.new.shelf).reads) }
+        // Some bytes of a page are refused just so.
+        ensures given { IfErr result (IsGiven H.of self.old.head.pages child.now) }
         // The page is kept.
         ensures caches { OnOk result (IsHeld self.new.cache.entries child.now) }
+        // So is all else, but for what was used longest ago, where the cache is full.
+        ensures uses { IsHeld self.old.cache.entries child.now →
+            self.new.cache.entries ≡ used child.now.id self.old.cache.entries }
+        ensures puts { ¬ (IsHeld self.old.cache.entries child.now) → OnOk result
+            (Puts room self.old.cache.entries self.new.cache.entries child.now into.new) }
+        ensures leaves { OnErr result (self.new.cache.entries ≡ self.old.cache.entries) }
+        ensures few { length self.new.cache.entries ≤ room }
     {
         self.fetches = self.fetches.saturating_add(1);
         let result = show_node::<H, S>(
@@ -101,6 +110,7 @@ impl<S: Shelf, H: Hash32> Nodes for Paged<S, H> {
         if let Err(error) = &result {
             self.refusal = Some(*error);
         }
+        let _len = self.cache.len();
         result
     }
 

@@ -10,6 +10,7 @@ ghost use Rattle.mr_store.specs.Stored.{told_bytes, room};
 ghost use Rattle.mr_tree.specs.declared.tree.Tree.{Tree};
 ghost use Rattle.mr_pages.specs.Source.{MayKeep, AreMade, Stay};
 ghost use Rattle.mr_store.specs.Paging.{sourced, Holds, IsPaging};
+ghost use Rattle.mr_store.specs.Kept.{node_of, Puts};
 
 use crate::cache::put;
 use crate::kept::Kept;
@@ -81,6 +82,8 @@ impl<S: Shelf, H: Hashes> Source for Paging<S, H> {
         ensures made { IfOk result (λ m. (ts : List Tree) →
             AreMade (λ one t. ⊤) _below.items ts → ⊤) }
         ensures kept { OnOk result (Holds self.new.pages self.new.cache.entries child.now.id) }
+        ensures puts { OnOk result (Puts self.old.cache.cap self.old.cache.entries
+            self.new.cache.entries child.now (node_of node)) }
         ensures stay { Stay (Holds self.old.pages self.old.cache.entries)
             (Holds self.new.pages self.new.cache.entries) }
     {

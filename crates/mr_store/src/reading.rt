@@ -6,7 +6,7 @@ ghost use Rattle.mr_pages.specs.Page as pages_spec;
 ghost use Rattle.mr_pages.specs.PageBytes.{first_form};
 ghost use Rattle.mr_pages.specs.Walking.{page_node};
 ghost use Rattle.mr_store.specs.Kept.{AreInside};
-ghost use Rattle.mr_store.specs.Again.{Outside, IsRead, IsSaid, TellsNode, TellsAgain, IsBlamed, IsRefused, ReadsOne, Refuses};
+ghost use Rattle.mr_store.specs.Again.{outside_of, judged, Judges, IsGiven, Outside, IsRead, IsSaid, TellsNode, TellsAgain, IsBlamed, IsRefused, ReadsOne, Refuses};
 
 use mr_outside::{Shelf, ShelfErr};
 use mr_pages::{PAGE_SIZE, digest_on, page_into, read_page};
@@ -21,7 +21,8 @@ pub(crate) fn are_same(a: &[u8; 32], b: &[u8; 32]) -> bool
 
 // The first child's page that is page 0, or not in a file of so many pages.
 fn outside(view: &NodeView, pages: u32) -> Option<u32>
-    ensures { MatchOption result (AreInside pages view.now) (Outside pages view.now) }
+    ensures far { MatchOption result (AreInside pages view.now) (Outside pages view.now) }
+    ensures first { result ≡ outside_of pages (page_node view.now) }
 {
     let children = view.children();
     for child in children {
@@ -39,6 +40,7 @@ pub fn judge<H: Hashes>(
     child: &Child,
     into: &mut NodeView,
 ) -> Result<(), NodesErr>
+    ensures exact { Judges result into.new (judged H.of pages child.now page.now) }
     ensures read { OnOk result (IsRead H.of pages child.now into.new) }
     ensures told { (m : pages_spec.Node) → first_form.node_in page.now ≡ Some m →
         IsSaid H.of pages child.now m → TellsNode m result into.new }
@@ -85,6 +87,7 @@ pub(crate) fn read_again<H: Hashes, S: Shelf>(
     ensures read { OnOk result (IsRead H.of pages child.now into.new) }
     ensures told { OfFile (S.state shelf.old).files name.now ⊤
         (TellsAgain H.of pages child.now result into.new) }
+    ensures given { IfErr result (IsGiven H.of pages child.now) }
     ensures refused { IfErr result
         (IsRefused pages name.now child.now (S.state shelf.old) (S.state shelf.new)) }
     ensures quiet { OnOk result ((S.state shelf.new).faults ≡ (S.state shelf.old).faults) }

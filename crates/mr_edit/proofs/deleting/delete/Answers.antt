@@ -1,4 +1,7 @@
 use Rattle.std.proofs.Common.{true, refl, sym, subst, ◌∙◌}
+use Rattle.std.specs.Prelude.{IfSome}
+use Rattle.mr_edit.specs.declared.left.Left.{Left}
+use Rattle.mr_edit.specs.Outcome.{IsLow}
 use Rattle.std.proofs.lemmas.Result.{IfOk-weaker}
 use Rattle.mr_record.specs.declared.version.Version.TheVariants.{One}
 use Rattle.mr_tree.specs.Digest.{by}
@@ -108,3 +111,9 @@ returns-clause-twice g c =
     (g.F.PageFile.told c.take_out.new.desk.file) c.take_out.new.desk.free c.in-Some.child c.args.number
     c.args.rect.now) c.in-Some-found.is c.in_ok-found.ensures.searches)
     (c.deref.ensures.value ∙ c.in_ok-sort_by_number.ensures) c.take_out.ensures.twice c.put_all.ensures.reads
+
+pub returns-clause-low : goal.returns-clause-low
+returns-clause-low g c =
+    IfOk-weaker c.put_all.result _ _
+    (λ r h. h (subst (λ o. IfSome o (λ (l : Left). IsLow l.entry)) c.in-Some-found.is c.in_ok-found.ensures.low))
+    c.put_all.ensures.low

@@ -15,6 +15,7 @@ loop-one-init g c = record {
   inserts = inserts_none (by One g.F.Hash.Hashes.of) (g.F.PageFile.told c.args.desk.now.file) c.args.desk.now.free
       c.args.root;
   reads = omega arith;
+  low = λ is. is;
   kept = g.met.F.PageFile.kept_self c.args.desk.now.file;
   quiet = refl;
 }
@@ -32,6 +33,7 @@ loop-one-preserved g c = record {
     c.insert.ensures.reads,
     taken_more c.args.records.now c.loop-one.one-index c.loop-one-test.true,
   );
+  low = λ is. c.in_ok-child.ensures.low;
   kept = g.met.F.PageFile.kept_on c.args.desk.now.file c.loop-one.desk.file c.insert.new.desk.file
       c.loop-one.invariant.kept c.insert.ensures.kept;
   quiet = c.in_ok-child.ensures.quiet ∙ c.loop-one.invariant.quiet;

@@ -13,6 +13,7 @@ use Rattle.mr_edit.specs.Book.{HasNode}
 use Rattle.mr_edit.specs.Held.{entries}
 use Rattle.mr_edit.specs.Outcome.{PutsInner}
 use Rattle.mr_edit.specs.Growing.{CanGrow}
+use Rattle.mr_edit.proofs.Results.{on_any}
 use Rattle.mr_edit.proofs.Levels.{AreBelow, replaced_below, replaced_length, few_entries}
 use Rattle.mr_edit.proofs.Descending.{grows_leaf, grows_below}
 use Rattle.mr_edit.proofs.Growth.{leaf_put, child_grow, inner_put}
@@ -161,3 +162,13 @@ returns-in_ok-children-2-clause-kept g t c =
     law c.args.desk.now.file c.look.new.file c.put_inner.new.desk.file c.look.ensures.kept
     (law c.look.new.file c.put_into.new.desk.file c.put_inner.new.desk.file c.put_into.ensures.kept
     c.put_inner.ensures.kept)
+
+pub returns-in_ok-records-clause-low : goal.returns-in_ok-records-clause-low
+returns-in_ok-records-clause-low g t c =
+    on_any c.put_leaf.result
+    (omega (arith, c.in_ok-look.ensures.level, c.level-level.ensures.value, c.level-level.ensures.low))
+
+pub returns-in_ok-children-2-clause-low : goal.returns-in_ok-children-2-clause-low
+returns-in_ok-children-2-clause-low g t c =
+    on_any c.put_inner.result
+    (omega (arith, c.in_ok-look.ensures.level, c.level-level.ensures.value, c.level-level.ensures.low))

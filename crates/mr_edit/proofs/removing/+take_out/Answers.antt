@@ -79,12 +79,12 @@ loop-n-preserved-then-not-may_hold g t c = record {
       c.args.number c.args.rect.now c.loop-n.n c.turn-turn.result c.tried-at.result c.index-children-at.result
       c.tried-at.ensures (omega (arith, c.if-at-children.false)) c.index-children-at.is
       (outside (by One g.F.Hash.Hashes.of) (g.F.PageFile.told c.look.new.file) c.index-children-at.result c.args.number
-      c.args.rect.now (c.may_hold.ensures c.if-not-may_hold.true)) c.loop-n.invariant.none;
+      c.args.rect.now (c.may_hold.ensures.outside c.if-not-may_hold.true)) c.loop-n.invariant.none;
   turned = λ some. turned_on (by One g.F.Hash.Hashes.of) (g.F.PageFile.told c.look.new.file)
       c.children-children.result.now c.args.number c.args.rect.now c.loop-n.n c.turn-turn.result c.tried-at.result
       c.index-children-at.result c.tried-at.ensures (omega (arith, c.if-at-children.false)) c.index-children-at.is
       (outside (by One g.F.Hash.Hashes.of) (g.F.PageFile.told c.look.new.file) c.index-children-at.result c.args.number
-      c.args.rect.now (c.may_hold.ensures c.if-not-may_hold.true)) c.loop-n.invariant.turned;
+      c.args.rect.now (c.may_hold.ensures.outside c.if-not-may_hold.true)) c.loop-n.invariant.turned;
   tried = tried_still (by One g.F.Hash.Hashes.of) (g.F.PageFile.told c.look.new.file) c.children-children.result.now
       c.turn-turn.result c.loop-n.n (g.F.PageFile.reads c.look.new.file) (g.F.PageFile.reads c.loop-n.desk.file)
       c.loop-n.invariant.tried;

@@ -1,4 +1,4 @@
-use Rattle.std.proofs.Common.{refl}
+use Rattle.std.proofs.Common.{refl, arith}
 use Rattle.std.proofs.lemmas.Result.{IfOk-weaker, IfErr-weaker}
 use Rattle.mr_record.specs.declared.version.Version.TheVariants.{One}
 use Rattle.mr_tree.specs.Digest.{by}
@@ -30,3 +30,7 @@ returns-clause-sound g c =
     (λ e h. never e _ _ (add_write told (g.F.PageFile.told c.take_page.new.desk.file) c.args.desk.now.free
     c.take_page.new.desk.free c.in_ok-page.page c.in_ok-page.ensures.takes) h)
     c.write_leaf.ensures.sound
+
+pub returns-clause-low : goal.returns-clause-low
+returns-clause-low g c =
+    IfOk-weaker c.write_leaf.result _ _ (λ child e. omega (arith, e)) c.write_leaf.ensures.level

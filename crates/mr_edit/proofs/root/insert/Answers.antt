@@ -5,7 +5,7 @@ use Rattle.mr_record.specs.declared.version.Version.TheVariants.{One}
 use Rattle.mr_tree.specs.Digest.{by}
 use Rattle.mr_edit.specs.Drafted.{Inserts}
 use Rattle.mr_edit.specs.Growing.{CanInsert}
-use Rattle.mr_edit.specs.Outcome.{NeverMap, IsOfRoot, root_page}
+use Rattle.mr_edit.specs.Outcome.{IsOfRoot, root_page}
 use Rattle.mr_edit.proofs.Alike.{alike_never, alike_cause, of_no_root}
 use Rattle.mr_edit.proofs.Growth.{at_root, first_add}
 use Rattle.mr_edit.proofs.Sound.{never}

@@ -1,3 +1,4 @@
+use Rattle.std.proofs.Common.{arith}
 use Rattle.std.specs.Prelude.{Some}
 use Rattle.std.proofs.lemmas.Result.{IfOk-weaker, IfErr-weaker}
 use Rattle.mr_record.specs.declared.version.Version.TheVariants.{One}
@@ -45,3 +46,6 @@ returns-in-Some-clause-sound g c =
     (λ k. root_raise hash told (g.F.PageFile.told c.put_into.new.desk.file) free c.put_into.new.desk.free
     c.args.root.now c.args.one.now s c.in-Some.second c.in-Some.is c.in_ok-first.ensures.grows k) h)
     c.raise.ensures.sound
+
+pub returns-in-None-clause-low : goal.returns-in-None-clause-low
+returns-in-None-clause-low g c = omega (arith, c.in_ok-first.ensures.level.0, c.in_ok-first.ensures.low)

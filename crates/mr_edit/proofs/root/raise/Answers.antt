@@ -1,4 +1,5 @@
-use Rattle.std.proofs.lemmas.Result.{IfErr-weaker}
+use Rattle.std.proofs.Common.{arith}
+use Rattle.std.proofs.lemmas.Result.{IfOk-weaker, IfErr-weaker}
 use Rattle.mr_edit.specs.Growing.{CanRaise}
 use Rattle.mr_edit.proofs.Growth.{raise_take, raise_write}
 use Rattle.mr_edit.proofs.Sound.{never, handed}
@@ -19,3 +20,8 @@ returns-clause-sound g c =
     (λ e h. never e _ _ (raise_write told (g.F.PageFile.told c.take_page.new.desk.file) c.args.desk.now.free
     c.take_page.new.desk.free c.in_ok-page.page c.args.first.level c.in_ok-page.ensures.takes) h)
     c.write_inner.ensures.sound
+
+pub returns-clause-low : goal.returns-clause-low
+returns-clause-low g c =
+    IfOk-weaker c.write_inner.result _ _ (λ child e. omega (arith, e, c.if-first-ge-LEVEL_LIMIT.false))
+    c.write_inner.ensures.level

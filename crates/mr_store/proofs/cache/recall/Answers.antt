@@ -18,3 +18,6 @@ returns-clause-caches c = λ is.
     (held_promoted c.args.cache.now.entries c.args.child.now c.find.new.into
     (found_there c.args.cache.now.entries c.args.child.now c.find.result c.find.new.into c.if-not-find.false
     c.find.ensures))
+
+pub returns-clause-uses : goal.returns-clause-uses
+returns-clause-uses c = λ is. ap (λ (m : LruCache Rattle.std.proofs.Common.ℕ Kept). m.entries) c.promote.ensures.entries

@@ -55,6 +55,7 @@ pub loop-one-init : goal.loop-one-init
 loop-one-init g t c = record {
   kept = c.look.ensures.kept;
   quiet = c.in_ok-records.ensures.quiet;
+  unrefused = c.in_ok-records.ensures.answered.none;
   all = subst (λ xs. AreCopied g.N.Hash.Hashes.of (g.N.Nodes.stands c.args.nodes.now) [] xs c.args.list.now.items
       c.args.list.now.items c.args.seen.now c.args.seen.now) (sym c.new-below.ensures.items)
       (none_copied g.N.Hash.Hashes.of (g.N.Nodes.stands c.args.nodes.now) c.args.list.now.items c.args.seen.now
@@ -75,6 +76,7 @@ loop-one-preserved g t c =
       kept = g.met.N.Nodes.kept_on c.args.nodes.now c.loop-one.nodes c.copy.new.nodes c.loop-one.invariant.kept
           c.copy.ensures.kept;
       quiet = c.in_ok-copied-in-Inner.ensures.quiet ∙ c.loop-one.invariant.quiet;
+      unrefused = c.in_ok-copied-in-Inner.ensures.answered.none ∙ c.loop-one.invariant.unrefused;
       all = next_copied hash s c.deref-one-items.result.now c.loop-one.below.items c.push.new.self.items
           c.one-item.result c.in_ok-copied-in-Inner.copied c.loop-one.one-index c.args.list.now.items
           c.loop-one.list.items c.copy.new.list.items c.args.seen.now c.loop-one.seen c.copy.new.seen

@@ -50,6 +50,7 @@ returns-in-Ok g c = record {
     );
     none = c.over.ensures.fetches;
   };
+  unrefused = c.over.ensures.refusal;
 }
 
 pub returns-in-Err : goal.returns-in-Err
@@ -77,4 +78,5 @@ returns-in-Err g c =
             more = c.in-Err.ensures.goes.more;
             few = omega (arith, c.in-Err.ensures.goes.few);
           });
+      unrefused = tt;
     }

@@ -1,6 +1,6 @@
 use Rattle.std.proofs.Common.{sym, ◌∙◌, ◌≡◌, true, false}
 use Rattle.std.proofs.lemmas.Slice.Eq.{bytes_eq-Decides}
-use Rattle.mr_store.proofs.PageReads.{shown_is, digest_shown, read_of}
+use Rattle.mr_store.proofs.PageReads.{shown_is, digest_shown, read_of, none_judged, changed_judged, same_judged}
 use Rattle.mr_store.proofs.reading.judge.Goals as goal
 
 pub returns-then-not-are_same-clause-told : goal.returns-then-not-are_same-clause-told
@@ -16,4 +16,27 @@ pub returns-in-None-clause-read : goal.returns-in-None-clause-read
 returns-in-None-clause-read g c =
     read_of g.H.Hashes.of c.args.pages c.args.child.now c.read_page.new.into c.args.page.now c.digest_on-found.result
     c.is_view.ensures (c.read_page.ensures.written c.if-not-read_page.false) c.digest_on-found.ensures
-    ((bytes_eq-Decides _ _).0 (sym c.are_same.ensures ∙ c.if-not-are_same.false)) c.in-None.ensures
+    ((bytes_eq-Decides _ _).0 (sym c.are_same.ensures ∙ c.if-not-are_same.false)) c.in-None.ensures.far
+
+pub returns-then-not-read_page-clause-exact : goal.returns-then-not-read_page-clause-exact
+returns-then-not-read_page-clause-exact g c =
+    none_judged g.H.Hashes.of c.args.pages c.args.child.now c.args.page.now c.read_page.result c.read_page.new.into
+    c.read_page.ensures.exact c.if-not-read_page.true
+
+pub returns-then-not-are_same-clause-exact : goal.returns-then-not-are_same-clause-exact
+returns-then-not-are_same-clause-exact g c =
+    changed_judged g.H.Hashes.of c.args.pages c.args.child.now c.args.page.now c.read_page.result c.read_page.new.into
+    c.digest_on-found.result c.read_page.ensures.exact c.if-not-read_page.false c.digest_on-found.ensures
+    (sym c.are_same.ensures ∙ c.if-not-are_same.true)
+
+pub returns-in-Some-clause-exact : goal.returns-in-Some-clause-exact
+returns-in-Some-clause-exact g c =
+    same_judged g.H.Hashes.of c.args.pages c.args.child.now c.args.page.now c.read_page.result c.read_page.new.into
+    c.digest_on-found.result c.read_page.ensures.exact c.if-not-read_page.false c.digest_on-found.ensures _
+    (sym c.are_same.ensures ∙ c.if-not-are_same.false) c.in-Some.ensures.first
+
+pub returns-in-None-clause-exact : goal.returns-in-None-clause-exact
+returns-in-None-clause-exact g c =
+    same_judged g.H.Hashes.of c.args.pages c.args.child.now c.args.page.now c.read_page.result c.read_page.new.into
+    c.digest_on-found.result c.read_page.ensures.exact c.if-not-read_page.false c.digest_on-found.ensures _
+    (sym c.are_same.ensures ∙ c.if-not-are_same.false) c.in-None.ensures.first

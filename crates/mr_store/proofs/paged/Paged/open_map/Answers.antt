@@ -17,6 +17,7 @@ returns-in-Err g c = record {
     reads = none_read (g.S.Shelf.state c.args.shelf) (g.S.Shelf.state c.make_ready.new.shelf) c.args.name.now
         c.make_ready.ensures.reads;
   };
+  unrefused = tt;
 }
 
 pub returns-in-Ok : goal.returns-in-Ok
@@ -35,4 +36,5 @@ returns-in-Ok g c =
           c.are_sized.ensures
           c.make_ready.ensures.are (string_bytes c.in-Ok.made.name) (g.S.Shelf.state r.0) r.1 c.in-Ok.ensures.name o)
           c.checked.ensures.opened;
+      unrefused = c.checked.ensures.unrefused;
     }
