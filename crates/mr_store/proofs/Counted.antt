@@ -2,7 +2,7 @@
 use Rattle.std.proofs.Common.{◌≡◌, ℕ, ◌+◌, ◌<◌, ◌≤◌, List, [], ◌∷◌, map, length, get_or, take, refl, sym, ap, subst, ◌∙◌, arith}
 use Rattle.std.specs.Prelude.{Option, Some, None, IfSome, IsSome, IsSomeAnd}
 use Rattle.std.specs.List.{flat_map, sum_by}
-use Rattle.std.proofs.lemmas.List.{length-append}
+use Rattle.std.proofs.lemmas.List.{length-append, length-map}
 use Rattle.std.proofs.lemmas.List.Concat.{length-flat_map}
 use Rattle.std.proofs.lemmas.List.Sums.{sum_by-cons, sum_by_more, sum_by-take-le}
 use Rattle.mr_geom.specs.Rectangle.{Rectangle}
@@ -19,7 +19,10 @@ use Rattle.mr_tree.specs.declared.tree.Tree.TheOpen.{Empty, Leaf, Inner}
 use Rattle.mr_tree.proofs.Equations.{entry_rect, rect-Empty}
 use Rattle.mr_tree.proofs.Induction.{tree_induction}
 use Rattle.mr_tree.proofs.Subtrees.{subtrees-Leaf, subtrees-Inner}
-use Rattle.mr_store.specs.Copying.{nodes_at, nodes_in}
+use Rattle.mr_tree.specs.Snapshot.{IsSnapshot, tree_of, tree_over, trees}
+use Rattle.mr_tree.specs.declared.nodes.Top.{Top}
+use Rattle.mr_tree.specs.declared.stored.Stored.{Stored}
+use Rattle.mr_store.specs.Copying.{IsPut, nodes_at, nodes_in}
 use Rattle.mr_store.proofs.Copies.{some_of}
 
 sum_by_map : {X Y : Type 0} (f : Y → ℕ) (g : X → Y) (xs : List X) → sum_by f (map g xs) ≡ sum_by (λ x. f (g x)) xs
@@ -106,3 +109,19 @@ fetched_more s s' cs i d old between new stands is within a b told =
     let next : new ≤ between + f d =
     subst (λ (x : Standing). IsSome x.tree → new ≤ between + nodes_at (x.node d.id)) stands b told in
     omega arith
+
+-- ---- each node that is fetched is put behind the others
+
+pub once_looked : (before now old : ℕ) → now ≡ next_count before → now + old ≤ before + 1 + old
+once_looked before now old e = let more = next_count-≤ before in omega arith
+
+pub once_put : (before now : ℕ) (first old new : List Stored) (n : Stored) (said c : Child)
+    → now + length first ≤ before + 1 + length old → IsPut old new n said c → now + length first ≤ before + length new
+once_put before now first old new n said c once put =
+    let long : length new ≡ length old + 1 = ap length put.list ∙ length-append old (n ∷ []) in omega arith
+
+-- the nodes of a map in memory are those of its tree
+pub nodes_listed : (hash : List ℕ → List ℕ) (ns : List Stored) (top : Top) → IsSnapshot hash ns top
+    → length (subtrees (tree_of ns top)) ≡ length ns
+nodes_listed hash ns top is =
+    sym (ap length is.whole) ∙ sym (ap length is.linked.over) ∙ length-map ns (tree_over (trees ns))

@@ -5,7 +5,7 @@ ghost use Rattle.mr_outside.specs.Faults.{next_count};
 ghost use Rattle.mr_record.specs.declared.version.Version.TheVariants.{One};
 ghost use Rattle.mr_tree.specs.Digest.{by};
 ghost use Rattle.mr_tree.specs.Nodes.{IsTop, MayFetch, Shows, TellsRefusal, subtrees};
-ghost use Rattle.mr_tree.specs.Snapshot.{AreLinked, standing};
+ghost use Rattle.mr_tree.specs.Snapshot.{AreLinked, standing, tree_of};
 ghost use Rattle.mr_tree.specs.declared.stored.Stored.TheVariants as stored;
 ghost use Rattle.mr_pages.specs.Walking.{owned};
 ghost use Rattle.mr_store.specs.Copying.{IsJudged, IsUnfit, Suits, IsFull, CanCopy, Adds, IsPut, IsCopied, nodes_at, Stops, StopsAll, IsHandedOn, IsTwice};
@@ -111,6 +111,9 @@ fn copy<N: Nodes>(
         list.old.items list.new.items seen.old seen.new) }
     ensures fetched { IsSome (N.stands nodes.old).tree → N.fetches nodes.new ≤
         N.fetches nodes.old + nodes_at ((N.stands nodes.old).node child.now.id) }
+    // Told or not, each node that is fetched is put behind the others.
+    ensures once { IfOk result (λ c. N.fetches nodes.new + length list.old.items
+        ≤ N.fetches nodes.old + length list.new.items) }
     ensures quiet { OnOk result (N.faults nodes.new ≡ N.faults nodes.old) }
     ensures handed { IfErr result (IsHandedOn (N.refusal nodes.new)) }
     ensures answered { TellsRefusal stops.Nodes (N.refusal nodes.old) (N.refusal nodes.new) result }
@@ -146,6 +149,8 @@ fn copied_from<N: Nodes>(
     ensures says { IfOk result (λ p. IsSaid N.Hash.of top.now (standing p.nodes.items p.top)) }
     ensures fetched { IfSome (N.stands nodes.old).tree (λ t. N.fetches nodes.new ≤
         N.fetches nodes.old + length (subtrees t)) }
+    ensures once { IfOk result (λ p. N.fetches nodes.new
+        ≤ N.fetches nodes.old + length (subtrees (tree_of p.nodes.items p.top))) }
     ensures quiet { OnOk result (N.faults nodes.new ≡ N.faults nodes.old) }
     ensures handed { IfErr result (IsHandedOn (N.refusal nodes.new)) }
     ensures answered { TellsRefusal stops.Nodes (N.refusal nodes.old) (N.refusal nodes.new) result }
@@ -190,6 +195,8 @@ pub(crate) fn copied<N: Nodes>(
     ensures says { IfOk result (λ p. IsSaid N.Hash.of top.now (standing p.nodes.items p.top)) }
     ensures fetched { IfSome (N.stands nodes.old).tree (λ t. N.fetches nodes.new ≤
         N.fetches nodes.old + length (subtrees t)) }
+    ensures once { IfOk result (λ p. N.fetches nodes.new
+        ≤ N.fetches nodes.old + length (subtrees (tree_of p.nodes.items p.top))) }
     ensures quiet { OnOk result (N.faults nodes.new ≡ N.faults nodes.old) }
     ensures handed { IfErr result (IsHandedOn (N.refusal nodes.new)) }
     ensures answered { TellsRefusal stops.Nodes (N.refusal nodes.old) (N.refusal nodes.new) result }

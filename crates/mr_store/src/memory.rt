@@ -3,7 +3,7 @@
 ghost use Rattle.std.specs.Prelude.{◌≡◌, ◌≤◌, ◌+◌, length, IfOk, IfErr, IfSome, OnOk};
 ghost use Rattle.std.specs.String.{string_bytes};
 ghost use Rattle.mr_tree.specs.Nodes.{HasSomeCause, TellsRefusal, subtrees};
-ghost use Rattle.mr_tree.specs.Snapshot.{standing};
+ghost use Rattle.mr_tree.specs.Snapshot.{standing, tree_of};
 ghost use Rattle.mr_store.specs.Stored.{told_bytes, stands_for, top_in, IsSaid, Keeps, StandsFor};
 
 use crate::copying::copied;
@@ -44,6 +44,9 @@ impl<S: Shelf, H: Hash32> Paged<S, H> {
         ensures fetched { IfSome (stands_for self.old.head
             (told_bytes (S.state self.old.shelf).files (string_bytes self.old.name))).tree
             (λ t. self.new.fetches ≤ self.old.fetches + length (subtrees t)) }
+        // Told or not, there are no more of them than nodes of the map in memory.
+        ensures once { IfOk result (λ p. self.new.fetches
+            ≤ self.old.fetches + length (subtrees (tree_of p.nodes.items p.top))) }
         ensures cause { IfErr result (HasSomeCause (stands_for self.old.head
             (told_bytes (S.state self.old.shelf).files (string_bytes self.old.name)))
             (S.state self.old.shelf).faults (S.state self.new.shelf).faults) }

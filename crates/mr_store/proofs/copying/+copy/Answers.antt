@@ -1,4 +1,4 @@
-use Rattle.std.proofs.Common.{◌+◌, rules, [], false, arith, refl, sym, subst, ◌∙◌}
+use Rattle.std.proofs.Common.{◌+◌, rules, [], length, false, arith, refl, sym, subst, ◌∙◌}
 use Rattle.std.proofs.lemmas.List.{take_all}
 use Rattle.std.proofs.lemmas.Result.{err_from_is_err_and}
 use Rattle.mr_outside.specs.Faults.{next_count}
@@ -9,7 +9,7 @@ use Rattle.mr_pages.specs.Walking.{owned}
 use Rattle.mr_store.specs.Copying.{Suits, IsFull, CanCopy, IsPut, IsCopied, AreCopied}
 use Rattle.mr_store.proofs.Copies.{leaf_copied, inner_copied, none_copied, next_copied}
 use Rattle.mr_store.proofs.Blames.{twice_stops, twice_handed, stops_along, may_next, next_can, if_ok, if_err}
-use Rattle.mr_store.proofs.Counted.{one_fetch, some_fetches, fetched_more}
+use Rattle.mr_store.proofs.Counted.{one_fetch, some_fetches, fetched_more, once_looked, once_put}
 use Rattle.mr_store.proofs.copying.+copy.Goals as goal
 
 pub returns-in_err-records-clause-cause : goal.returns-in_err-records-clause-cause
@@ -61,6 +61,8 @@ loop-one-init g t c = record {
       (none_copied g.N.Hash.Hashes.of (g.N.Nodes.stands c.args.nodes.now) c.args.list.now.items c.args.seen.now
       c.requires.linked);
   fetched = λ told. omega (arith, c.look.ensures.counted);
+  once = once_looked (g.N.Nodes.fetches c.args.nodes.now) (g.N.Nodes.fetches c.look.new.nodes)
+      (length c.args.list.now.items) c.look.ensures.counted;
 }
 
 pub loop-one-preserved : goal.loop-one-preserved
@@ -85,6 +87,7 @@ loop-one-preserved g t c =
           c.loop-one.one-index c.one-item.result (next_count (g.N.Nodes.fetches c.args.nodes.now))
           (g.N.Nodes.fetches c.loop-one.nodes) (g.N.Nodes.fetches c.copy.new.nodes) same c.one-item.is
           c.loop-one-test.true (c.loop-one.invariant.fetched told) c.copy.ensures.fetched told;
+      once = omega (arith, c.loop-one.invariant.once, c.in_ok-copied-in-Inner.ensures.once);
     }
 
 pub returns-in_err-copied-in-Inner-clause-cause : goal.returns-in_err-copied-in-Inner-clause-cause
@@ -195,3 +198,17 @@ returns-in_ok-put-in-Inner-clause-fetched g t c =
     λ told. some_fetches hash s c.args.child.now c.requires.may told c.in-Inner.children.items
     c.deref-one-items.result.now c.deref-one-items.ensures.value shows c.loop-one.one-index
     (g.N.Nodes.fetches c.args.nodes.now) (g.N.Nodes.fetches c.loop-one.nodes) (c.loop-one.invariant.fetched told)
+
+pub returns-in-Leaf-clause-once : goal.returns-in-Leaf-clause-once
+returns-in-Leaf-clause-once g t c =
+    if_ok c.copy_leaf.result _ _
+    (λ x p. once_put (g.N.Nodes.fetches c.args.nodes.now) (g.N.Nodes.fetches c.look.new.nodes) c.args.list.now.items
+    c.args.list.now.items c.copy_leaf.new.list.items _ c.args.child.now x
+    (once_looked (g.N.Nodes.fetches c.args.nodes.now) (g.N.Nodes.fetches c.look.new.nodes)
+    (length c.args.list.now.items) c.look.ensures.counted) p.0) c.copy_leaf.ensures.put
+
+pub returns-in_ok-put-in-Inner-clause-once : goal.returns-in_ok-put-in-Inner-clause-once
+returns-in_ok-put-in-Inner-clause-once g t c =
+    once_put (g.N.Nodes.fetches c.args.nodes.now) (g.N.Nodes.fetches c.loop-one.nodes) c.args.list.now.items
+    c.loop-one.list.items c.put.new.list.items _ c.args.child.now c.in_ok-put-in-Inner.field-0
+    c.loop-one.invariant.once c.in_ok-put-in-Inner.ensures

@@ -1,4 +1,4 @@
-use Rattle.std.proofs.Common.{◌≡◌, ◌+◌, ◌≤◌, take}
+use Rattle.std.proofs.Common.{◌≡◌, ◌+◌, ◌≤◌, length, take}
 use Rattle.std.specs.Prelude.{IsSome}
 use Rattle.mr_outside.specs.Faults.{next_count}
 use Rattle.mr_store.specs.Copying.{AreCopied, nodes_in}
@@ -18,4 +18,6 @@ invariant-loop-one g l = record {
   fetched : IsSome (g.N.Nodes.stands l.fn.nodes).tree → g.N.Nodes.fetches l.nodes ≤
       next_count (g.N.Nodes.fetches l.fn.nodes)
       + nodes_in (g.N.Nodes.stands l.fn.nodes) (take l.one-index l.one-items);
+  once : g.N.Nodes.fetches l.nodes + length l.fn.list.items
+      ≤ g.N.Nodes.fetches l.fn.nodes + 1 + length l.list.items;
 }

@@ -1,9 +1,10 @@
-use Rattle.std.proofs.Common.{subst, sym, ◌∙◌}
+use Rattle.std.proofs.Common.{◌+◌, length, subst, sym, ap, ◌∙◌, arith}
 use Rattle.std.specs.Prelude.{IfSome}
 use Rattle.std.proofs.lemmas.Result.{err_from_is_err_and}
-use Rattle.mr_tree.specs.Nodes.{MayFetch}
+use Rattle.mr_tree.specs.Nodes.{Standing, MayFetch}
 use Rattle.mr_store.specs.Stored.{IsSaid}
 use Rattle.mr_store.proofs.Wholes.{none_linked, whole_well, whole_said, whole_snapshot, whole_stands, miscounted, stops_all, none_fetched, root_fetched}
+use Rattle.mr_store.proofs.Counted.{nodes_listed}
 use Rattle.mr_store.proofs.copying.copied_from.Goals as goal
 
 pub copy-requires-clause-may : goal.copy-requires-clause-may
@@ -85,3 +86,14 @@ returns-clause-fetched g c =
 pub returns-in_err-seen-clause-fetched : goal.returns-in_err-seen-clause-fetched
 returns-in_err-seen-clause-fetched g c =
     none_fetched (g.N.Nodes.stands c.args.nodes.now).tree (g.N.Nodes.fetches c.args.nodes.now)
+
+pub returns-clause-once : goal.returns-clause-once
+returns-clause-once g c =
+    let whole = whole_snapshot g.N.Hash.Hashes.of (g.N.Nodes.stands c.args.nodes.now) c.args.top.now c.args.root.now
+    c.in_ok-copied.copied c.new-list.result.items c.copy.new.list.items c.in_ok-seen.seen c.copy.new.seen c.args.pages
+    c.requires.top c.requires.root c.new-list.ensures.items c.in_ok-seen.ensures.told c.in_ok-copied.ensures.copied
+    (sym c.if-count-top.false ∙ c.count.ensures) in
+    let nodes = nodes_listed g.N.Hash.Hashes.of c.copy.new.list.items _ whole in
+    let spans = ap (λ (s : Standing). s.span) c.over.ensures in
+    let none = ap length c.new-list.ensures.items in
+    omega (arith, nodes, spans, none, c.in_ok-copied.ensures.once)
