@@ -1,14 +1,14 @@
 -- Records that differ in their numbers have one answer, in whatever order they stand.
-use Rattle.std.proofs.Common.{◌≡◌, ℕ, ◌+◌, ◌<◌, ◌≤◌, Bool, true, false, cond, ◌&&◌, List, [], ◌∷◌, length, refl, sym, ap, ◌∙◌, arith}
+use Rattle.std.proofs.Common.{◌≡◌, ℕ, ◌+◌, ◌<◌, ◌≤◌, Bool, true, false, cond, ◌&&◌, List, [], ◌∷◌, length, refl, sym, ap, subst, ◌∙◌, inl, inr, arith}
 use Rattle.std.specs.Prelude.{◌==◌, count_by}
 use Rattle.std.specs.List.{AllByRecursion, filter}
 use Rattle.std.specs.Cmp.{IsStrictWeakOrder}
-use Rattle.std.specs.List.Sorted.{IsPermutation, ties}
+use Rattle.std.specs.List.Sorted.{IsPermutation, IsNonDecreasing, ties}
 use Rattle.std.specs.Ordering.{is_lt, nat_cmp}
-use Rattle.std.proofs.lemmas.Bool.{ltb-true}
+use Rattle.std.proofs.lemmas.Bool.{ltb-true, lt-ltb, cases_lt, eq-eqb}
 use Rattle.std.proofs.lemmas.Cmp.{nat_cmp_total}
 use Rattle.std.proofs.lemmas.List.Elements.{All-from_recursion, recursion_from_All}
-use Rattle.std.proofs.lemmas.List.Sorted.{ranks_by, sum_by-IsPermutation, All-permutation}
+use Rattle.std.proofs.lemmas.List.Sorted.{ranks_by, sum_by-IsPermutation, All-permutation, IsNonDecreasingBy-drop}
 use Rattle.std.proofs.lemmas.List.Sums.{sum_by-cons, length-filter}
 use borrow.Author.Tests.{eqb-true}
 use Rattle.mr_geom.specs.Plane.{touches}
@@ -83,6 +83,44 @@ each_once rs ns mixed up k = omega (
   sum_by-IsPermutation (λ m. cond (m == k) 1 0) (numbers_of rs) ns mixed,
   once_each k ns up,
 )
+
+-- ---- and numbers that stand once each rise, put in order
+
+stands_twice : (n : ℕ) (ns : List ℕ) → count_by (λ m. m == n) (n ∷ n ∷ ns) ≤ 1 → ⊥
+stands_twice n ns few =
+    let itself : (n == n) ≡ true = eq-eqb n n refl in
+    omega (arith, few, one_number_more n n (n ∷ ns) true itself, one_number_more n n ns true itself)
+
+no_more : (k m : ℕ) (ms : List ℕ) → count_by (λ z. z == k) (m ∷ ms) ≤ 1 → (b : Bool) → (m == k) ≡ b
+    → count_by (λ z. z == k) ms ≤ 1
+no_more k m ms few true e = omega (arith, few, one_number_more k m ms true e)
+no_more k m ms few false e = omega (arith, few, one_number_more k m ms false e)
+
+rises_after : (last : ℕ) (ns : List ℕ) → IsNonDecreasing (last ∷ ns)
+    → ((k : ℕ) → count_by (λ m. m == k) (last ∷ ns) ≤ 1) → rise_after last ns ≡ true
+rises_after last [] up once = refl
+rises_after last (n ∷ ns) up once =
+    let low : last ≤ n = up 0 1 0 (omega arith) (omega arith) in
+    let rest = rises_after n ns (IsNonDecreasingBy-drop (λ m. m) 1 (last ∷ n ∷ ns) up)
+    (λ k. no_more k last (n ∷ ns) (once k) (last == k) refl) in
+    elim (cases_lt last n) [
+      | inl less ↦ rw (lt-ltb last n less) rest
+      | inr not ↦ let same : last ≡ n = omega arith in
+          absurd (stands_twice n ns (subst (λ z. count_by (λ m. m == n) (z ∷ n ∷ ns) ≤ 1) same (once n)))
+    ]
+
+rises : (ns : List ℕ) → IsNonDecreasing ns → ((k : ℕ) → count_by (λ m. m == k) ns ≤ 1) → rise ns ≡ true
+rises [] up once = refl
+rises (n ∷ ns) up once = rises_after n ns up once
+
+pub all_rise : (rs : List Record) (ns : List ℕ) → IsPermutation (numbers_of rs) ns → IsNonDecreasing ns
+    → EachOnce rs → rise ns ≡ true
+all_rise rs ns mixed up once = rises ns up (λ k. omega (
+  arith,
+  of_numbers k rs,
+  sum_by-IsPermutation (λ m. cond (m == k) 1 0) (numbers_of rs) ns mixed,
+  once k,
+))
 
 -- ---- what passes a test that at most one passes
 

@@ -1,5 +1,6 @@
 -- Records that differ in their numbers. This serves private functions.
 use Rattle.std.specs.Prelude.{ℕ, ◌≤◌, ◌==◌, ◌&&◌, nat_lt, Bool, true, List, [], ◌∷◌, map, count_by}
+use Rattle.std.specs.List.Sorted.{IsNonDecreasingBy}
 use Rattle.mr_record.specs.declared.record.Record.{Record}
 
 -- each number is above the one before it, where `last` stands before the others
@@ -17,3 +18,7 @@ numbers_of records = map (λ (r : Record). r.number) records
 -- no two of the records have one number
 abbrev pub EachOnce : List Record → Type 0
 EachOnce records = (n : ℕ) → count_by (λ (r : Record). r.number == n) records ≤ 1
+
+-- no number is below one before it
+abbrev pub AreInOrder : List Record → Type 0
+AreInOrder records = IsNonDecreasingBy (λ (r : Record). r.number) records

@@ -1,10 +1,11 @@
 //! The records that were kept, put in rising number where they lie.
 
 ghost use Rattle.std.specs.Prelude.{◌≡◌, true, IfOk, OnOk};
-ghost use Rattle.std.specs.List.Sorted.{IsPermutation};
+ghost use Rattle.std.specs.List.Sorted.{IsPermutation, IsNonDecreasing};
+ghost use Rattle.mr_geom.specs.Rectangle.{Rectangle};
 ghost use Rattle.mr_query.specs.Scan.{scan};
 ghost use Rattle.mr_query.specs.declared.query.Query.TheVariants as queries;
-ghost use Rattle.mr_check.specs.Differing.{rise, rise_after, numbers_of, EachOnce};
+ghost use Rattle.mr_check.specs.Differing.{rise, rise_after, numbers_of, EachOnce, AreInOrder};
 
 use mr_geom::Rect;
 use mr_query::Query;
@@ -13,7 +14,8 @@ use std::alloc::{AllocError, Global};
 
 // The numbers of these records, in rising order.
 fn numbers(alloc: Global, records: &[Record]) -> Result<Vec<u64>, AllocError>
-    ensures { IfOk result (λ v. IsPermutation (numbers_of records.now) v.items) }
+    ensures permutation { IfOk result (λ v. IsPermutation (numbers_of records.now) v.items) }
+    ensures sorted { IfOk result (λ v. IsNonDecreasing v.items) }
 {
     let mut numbers: Vec<u64> = records.iter().map(|record| record.number).collect(alloc)?;
     numbers.sort_unstable();
@@ -44,7 +46,8 @@ fn rise(numbers: &[u64]) -> bool
 
 // Whether no two records have one number.
 fn differ(alloc: Global, records: &[Record]) -> Result<bool, AllocError>
-    ensures { IfOk result (λ b. b ≡ true → EachOnce records.now) }
+    ensures once { IfOk result (λ b. b ≡ true → EachOnce records.now) }
+    ensures all { IfOk result (λ b. EachOnce records.now → b ≡ true) }
 {
     let numbers = numbers(alloc, records)?;
     Ok(rise(&numbers))
@@ -52,14 +55,16 @@ fn differ(alloc: Global, records: &[Record]) -> Result<bool, AllocError>
 
 // Sorts with no room beside the records.
 fn sort(records: &mut Vec<Record>)
-    ensures { IsPermutation records.old.items records.new.items }
+    ensures permutation { IsPermutation records.old.items records.new.items }
+    ensures sorted { AreInOrder records.new.items }
 {
     records.sort_unstable_by_key(|record| record.number);
 }
 
 fn arrange_window(records: &mut Vec<Record>, window: &Rect) -> Result<(), AllocError>
-    ensures { OnOk result (scan records.new.items (queries.Window window.now)
+    ensures same { OnOk result (scan records.new.items (queries.Window window.now)
         ≡ scan records.old.items (queries.Window window.now)) }
+    ensures in_order { OnOk result (EachOnce records.old.items → AreInOrder records.new.items) }
 {
     let alloc = *records.allocator();
     if differ(alloc, records)? {
@@ -72,7 +77,9 @@ fn arrange_window(records: &mut Vec<Record>, window: &Rect) -> Result<(), AllocE
 // A sort that keeps equal ones in their order takes room for as many records again, unless it finds
 // them in order.
 pub(crate) fn arrange(records: &mut Vec<Record>, q: &Query) -> Result<(), AllocError>
-    ensures { OnOk result (scan records.new.items q.now ≡ scan records.old.items q.now) }
+    ensures same { OnOk result (scan records.new.items q.now ≡ scan records.old.items q.now) }
+    ensures in_order { (w : Rectangle) → q.now ≡ queries.Window w
+        → OnOk result (EachOnce records.old.items → AreInOrder records.new.items) }
 {
     match q {
         Query::Window(window) => arrange_window(records, window),

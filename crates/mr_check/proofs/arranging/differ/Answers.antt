@@ -1,9 +1,15 @@
 use Rattle.std.proofs.Common.{sym, ◌∙◌, ap}
 use Rattle.mr_check.specs.Differing.{rise}
-use Rattle.mr_check.proofs.Differing.{each_once}
+use Rattle.mr_check.proofs.Differing.{each_once, all_rise}
 use Rattle.mr_check.proofs.arranging.differ.Goals as goal
 
-pub returns : goal.returns
-returns c = λ up.
-    each_once c.args.records.now c.in_ok-numbers.numbers.items c.in_ok-numbers.ensures
+pub returns-clause-once : goal.returns-clause-once
+returns-clause-once c = λ up.
+    each_once c.args.records.now c.in_ok-numbers.numbers.items c.in_ok-numbers.ensures.permutation
     (ap rise (sym c.deref.ensures.value) ∙ sym c.rise.ensures ∙ up)
+
+pub returns-clause-all : goal.returns-clause-all
+returns-clause-all c = λ each.
+    c.rise.ensures ∙ ap rise c.deref.ensures.value
+    ∙ all_rise c.args.records.now c.in_ok-numbers.numbers.items c.in_ok-numbers.ensures.permutation
+    c.in_ok-numbers.ensures.sorted each
