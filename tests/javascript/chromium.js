@@ -66,13 +66,20 @@ class Browser {
         for (const domain of ["Network", "Runtime", "Page", "DOM"]) {
             await this.call(`${domain}.enable`);
         }
+        await this.go(url);
+    }
+
+    /** Goes to an address, where `script` runs before the page's own. */
+    async go(url, script = "") {
+        await this.call("Page.addScriptToEvaluateOnNewDocument", { source: script });
         await this.call("Page.navigate", { url });
         await this.until("document.readyState === 'complete' && location.href !== 'about:blank'");
     }
 
-    /** The value of an expression in the page. */
+    /** The value of an expression in the page, or what it promises. */
     async value(expression) {
-        const { result } = await this.call("Runtime.evaluate", { expression, returnByValue: true });
+        const how = { expression, returnByValue: true, awaitPromise: true };
+        const { result } = await this.call("Runtime.evaluate", how);
         return result.value;
     }
 

@@ -163,6 +163,19 @@ async function geojsonHolds(bench, browser, room) {
     bench.equal(told, "-50 1.5 -0.0025 0 none none", "coordinates in a unit");
 }
 
+/** The page may ask no other place, and says so where a browser gives it no SHA-256. */
+async function limitsHold(bench, browser, page) {
+    const refused = await browser.value(`new Promise((done) => {
+        addEventListener("securitypolicyviolation", (event) => done(event.violatedDirective));
+        fetch("https://example.org/").catch(() => {});
+    })`);
+    bench.equal(refused, "connect-src", "a call to another place");
+    const without = "Object.defineProperty(Crypto.prototype, 'subtle', { get: () => undefined })";
+    await browser.go(`${page}?without`, without);
+    const trouble = await browser.value("document.getElementById('trouble').innerText");
+    bench.holds(/^This browser gives SHA-256 to no page/.test(trouble), `no SHA-256: ${trouble}`);
+}
+
 /** A picture of the page with the sample, where one is asked for. */
 async function shoot(browser, picture) {
     await given(browser, PLACES, WINDOW, path.join(EXAMPLES, "places-window.proof"));
@@ -178,7 +191,8 @@ async function main([picture]) {
     const room = fs.mkdtempSync(path.join(os.tmpdir(), "web-page-"));
     const browser = new Browser(find(), path.join(room, "profile"));
     try {
-        await browser.open(pathToFileURL(path.join(WEB, "verify.html")).href);
+        const page = pathToFileURL(path.join(WEB, "verify.html")).href;
+        await browser.open(page);
         await sampleHolds(bench, browser);
         await refusalsHold(bench, browser, room);
         await othersHold(bench, browser, room);
@@ -189,6 +203,7 @@ async function main([picture]) {
         bench.holds(isSeen, "what is asked for is seen");
         bench.equal(String(browser.told), "", "failures in the page");
         await (picture && shoot(browser, picture));
+        await limitsHold(bench, browser, page);
     } finally {
         await browser.close();
         fs.rmSync(room, { recursive: true, force: true });
