@@ -27,6 +27,7 @@ const PIECE = 65536; // bytes that are judged at once
 const [LETTER_E, LETTER_K, LETTER_L, LETTER_N, LETTER_P, LETTER_R, LETTER_W] = [..."EKLNPRW"].map(
     (letter) => letter.charCodeAt(0)
 );
+const PAIRS = Array.from({ length: 256 }, (_, byte) => byte.toString(16).padStart(2, "0"));
 // What an opened node may hold, and of how many bytes its preimage may be.
 const LEAF = { tag: LETTER_L, most: 16, longest: 2 + 16 * 225 };
 const INNER = { tag: LETTER_N, most: 64, longest: 3 + 64 * 48 };
@@ -43,14 +44,19 @@ async function digestOf(bytes) {
 
 /** Bytes as lower-case hexadecimal digits. */
 function hexOf(bytes) {
-    return Array.from(bytes, (byte) => byte.toString(16).padStart(2, "0")).join("");
+    let digits = "";
+    for (const byte of bytes) {
+        digits += PAIRS[byte];
+    }
+    return digits;
 }
 
 // ---- rectangles
 
 /** The rectangle in 16 bytes of a DataView. */
 function rectAt(view, at) {
-    return [0, 4, 8, 12].map((side) => view.getInt32(at + side));
+    const [x0, y0] = [view.getInt32(at), view.getInt32(at + 4)];
+    return [x0, y0, view.getInt32(at + 8), view.getInt32(at + 12)];
 }
 
 /** Whether the sides of a rectangle are in order. */
@@ -319,7 +325,8 @@ class Judge {
 
     /** Says which field comes next; it is Long where it would end too far behind. */
     expect(size, then) {
-        Object.assign(this, { size, then });
+        this.size = size;
+        this.then = then;
         if (this.place + size > MOST_BYTES) {
             this.refuse("Long", this.place);
         }
@@ -474,7 +481,8 @@ class Judge {
     }
 
     takeRect() {
-        if (!isInOrder(rectAt(this.view, 0))) {
+        this.rect = rectAt(this.view, 0);
+        if (!isInOrder(this.rect)) {
             return this.refuse("BadRect", this.last);
         }
         this.parent().append(this.field.subarray(0, 16));
@@ -498,12 +506,10 @@ class Judge {
     /** Keeps a record that is whole, where the region meets it. */
     endRecord() {
         const leaf = this.parent();
-        const record = leaf.preimage.subarray(this.record, leaf.used);
-        const rect = rectAt(new DataView(record.buffer, record.byteOffset), 8);
-        if (this.meets(rect)) {
-            this.kept.add(record);
+        if (this.meets(this.rect)) {
+            this.kept.add(leaf.preimage.subarray(this.record, leaf.used));
         }
-        leaf.rect = around(leaf.rect, rect);
+        leaf.rect = around(leaf.rect, this.rect);
         leaf.left -= 1;
         this.expectPart();
     }
@@ -666,18 +672,24 @@ class Source {
     }
 }
 
+/** The length of a bundle's next part, which 4 bytes say; null where they are not there. */
+async function readLength(source) {
+    const bytes = [];
+    for await (const piece of source.part(4)) {
+        bytes.push(...piece);
+    }
+    return bytes.length < 4 ? null : bytes.reduce((length, byte) => 256 * length + byte, 0);
+}
+
 /** The verdict on the next part of a bundle; null where the part is not whole. */
 async function judgePart(root, query, source) {
-    const length = [];
-    for await (const piece of source.part(4)) {
-        length.push(...piece);
-    }
-    if (length.length < 4) {
+    const length = await readLength(source);
+    if (length === null) {
         return null;
     }
-    const end = source.place + length.reduce((size, byte) => 256 * size + byte, 0);
+    const end = source.place + length;
     const judge_ = new Judge(root, query);
-    for await (const piece of source.part(end - source.place)) {
+    for await (const piece of source.part(length)) {
         judge_.push(piece);
         await judge_.settle();
     }

@@ -7,6 +7,7 @@ const path = require("path");
 
 const NAMES = ["chromium", "chromium-browser", "google-chrome"];
 const PATIENCE = 60000; // milliseconds
+const FAILURES = ["Runtime.exceptionThrown", "Page.javascriptDialogOpening"];
 
 /** The path of a Chromium; undefined where there is none. */
 function find() {
@@ -23,8 +24,9 @@ function pause(milliseconds) {
 /** One browser with one page; `asked` are the addresses that it asked for. */
 class Browser {
     constructor(program, folder) {
-        const flags = ["--headless=new", "--no-sandbox", "--window-size=1000,1200", "--disable-gpu", "--disable-dev-shm-usage"];
-        const own = [`--user-data-dir=${folder}`, "--remote-debugging-pipe", "--no-first-run"];
+        const flags = ["--headless=new", "--no-sandbox", "--disable-gpu", "--no-first-run"];
+        const own = [`--user-data-dir=${folder}`, "--remote-debugging-pipe"];
+        own.push("--window-size=1000,1200", "--disable-dev-shm-usage");
         const stdio = ["ignore", "ignore", "ignore", "pipe", "pipe"];
         this.process = child.spawn(program, [...flags, ...own, "about:blank"], { stdio });
         Object.assign(this, { waiting: new Map(), count: 0, asked: [], told: [], rest: "" });
@@ -38,7 +40,7 @@ class Browser {
         for (const { id, method, params, result, error } of texts.map((text) => JSON.parse(text))) {
             if (method === "Network.requestWillBeSent") {
                 this.asked.push(params.request.url);
-            } else if (["Runtime.exceptionThrown", "Page.javascriptDialogOpening"].includes(method)) {
+            } else if (FAILURES.includes(method)) {
                 this.told.push(JSON.stringify(params));
             } else if (this.waiting.has(id)) {
                 const [done, failed] = this.waiting.get(id);
@@ -64,13 +66,20 @@ class Browser {
         for (const domain of ["Network", "Runtime", "Page", "DOM"]) {
             await this.call(`${domain}.enable`);
         }
+        await this.go(url);
+    }
+
+    /** Goes to an address, where `script` runs before the page's own. */
+    async go(url, script = "") {
+        await this.call("Page.addScriptToEvaluateOnNewDocument", { source: script });
         await this.call("Page.navigate", { url });
         await this.until("document.readyState === 'complete' && location.href !== 'about:blank'");
     }
 
-    /** The value of an expression in the page. */
+    /** The value of an expression in the page, or what it promises. */
     async value(expression) {
-        const { result } = await this.call("Runtime.evaluate", { expression, returnByValue: true });
+        const how = { expression, returnByValue: true, awaitPromise: true };
+        const { result } = await this.call("Runtime.evaluate", how);
         return result.value;
     }
 

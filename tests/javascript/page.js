@@ -24,8 +24,16 @@ const ROWS = [
     "102 133761000 525186000 133761000 525186000 Reichstag",
 ];
 const GEOJSON = `{"type":"FeatureCollection","features":[
-{"type":"Feature","id":101,"properties":{"name":"Brandenburger Tor"},"geometry":{"type":"Point","coordinates":[13.3777,52.5163]}},
-{"type":"Feature","id":102,"properties":{"name":"Reichstag"},"geometry":{"type":"Point","coordinates":[13.3761,52.5186]}}
+${[
+    [101, "Brandenburger Tor", [13.3777, 52.5163]],
+    [102, "Reichstag", [13.3761, 52.5186]],
+]
+    .map(([id, name, coordinates]) => ({
+        ...{ type: "Feature", id, properties: { name } },
+        geometry: { type: "Point", coordinates },
+    }))
+    .map((feature) => JSON.stringify(feature))
+    .join(",\n")}
 ]}
 `;
 
@@ -47,7 +55,7 @@ const SEEN = `(() => {
 
 /** What the page shows once it has a verdict on what is given. */
 async function seen(browser) {
-    await browser.until("document.querySelector('#verdict').dataset.state !== 'waiting'");
+    await browser.until("document.getElementById('verdict').dataset.state !== 'waiting'");
     return browser.value(SEEN);
 }
 
@@ -62,7 +70,8 @@ async function given(browser, root, query, file) {
 /** A file with a proof of the map of one record with this payload; answers its root digest. */
 function oneRecord(file, payload) {
     const rect = Buffer.from("00000001000000020000000100000002", "hex");
-    const leaf = Buffer.concat([Buffer.from("4c010000000000000007", "hex"), rect, Buffer.from([payload.length]), payload]);
+    const front = Buffer.from("4c010000000000000007", "hex");
+    const leaf = Buffer.concat([front, rect, Buffer.from([payload.length]), payload]);
     const sha = (bytes) => crypto.createHash("sha256").update(bytes).digest();
     const counts = Buffer.from("0000000000000000000000000000000100", "hex");
     fs.writeFileSync(file, Buffer.concat([Buffer.from("MRVO\x01W"), counts, leaf]));
@@ -71,7 +80,8 @@ function oneRecord(file, payload) {
 
 /** The sample, dropped and chosen. */
 async function sampleHolds(bench, browser) {
-    const dropped = await given(browser, PLACES, WINDOW, path.join(EXAMPLES, "places-window.proof"));
+    const file = path.join(EXAMPLES, "places-window.proof");
+    const dropped = await given(browser, PLACES, WINDOW, file);
     bench.equal(dropped.state, "accepted", "the sample, dropped");
     bench.equal(dropped.line, "accepted: 2 of the map's 4 records, at batch 0", "its line");
     bench.equal(String(dropped.rows), String(ROWS), "its table");
@@ -87,23 +97,23 @@ async function sampleHolds(bench, browser) {
     bench.equal(String(chosen.rows), String(ROWS), "their table");
     await browser.type("#root", PLACES.slice(1));
     const wanting = await browser.value(SEEN);
-    bench.holds(wanting.state === "waiting" && wanting.rows === null, "a verdict stands beside half a root");
+    const isCleared = wanting.state === "waiting" && wanting.rows === null;
+    bench.holds(isCleared, "a verdict stands beside half a root");
 }
 
 /** Proofs that are refused: as the program says it, and nothing of them is shown. */
 async function refusalsHold(bench, browser, room) {
     const proof = fs.readFileSync(path.join(EXAMPLES, "places-window.proof"));
     const file = path.join(room, "bent.proof");
-    for (const [place, length] of [[50, 172], [0, 172], [30, 172], [0, 171], [0, 0]]) {
+    for (const [place, length] of [[50, 172], [0, 172], [30, 172], [171, 171], [0, 0]]) {
         const bent = Buffer.from(proof.subarray(0, length));
-        if (length === 172) {
-            bent[place] ^= 1;
-        }
+        bent[place] ^= 1; // not where it is cut off
         fs.writeFileSync(file, bent);
         const meant = client.refusalOf(await client.check(PLACES, WINDOW, new Uint8Array(bent)));
         const told = await given(browser, PLACES, WINDOW, file);
         bench.equal(told.line, meant, `byte ${place} of ${length}`);
-        bench.holds(told.state === "refused" && told.rows === null, `what is shown of byte ${place}`);
+        const isNone = told.state === "refused" && told.rows === null && told.drawn === null;
+        bench.holds(isNone, `what is shown of byte ${place}`);
         bench.holds(told.means.length > 20, "what it means");
     }
 }
@@ -117,19 +127,21 @@ async function othersHold(bench, browser, room) {
     const rows = records.map((one) => client.lineOf(one).slice(0, -1));
     bench.equal(String(points.rows), String(rows), "the table of a map of three levels");
     bench.equal(points.shown, "nodes opened: 3; parts pruned: 62", "what is told of it");
-    bench.equal(await browser.value("document.querySelectorAll('#map .pruned').length"), 62, "the whole map");
+    const pruned = await browser.value("document.querySelectorAll('#map .pruned').length");
+    bench.equal(pruned, 62, "the whole map");
     const file = path.join(room, "one.proof");
     const text = "<img src=x onerror=alert(1)>";
     const root = oneRecord(file, Buffer.from(text));
     const one = await given(browser, root, "window:0,0,9,9", file);
     bench.equal(String(one.rows), `7 1 2 1 2 ${text}`, "a payload of HTML");
     bench.equal(await browser.value("document.images.length"), 0, "images");
-    const bytes = await given(browser, oneRecord(file, Buffer.from("ff00", "hex")), "window:0,0,9,9", file);
+    const other = oneRecord(file, Buffer.from("ff00", "hex"));
+    const bytes = await given(browser, other, "window:0,0,9,9", file);
     bench.equal(String(bytes.rows), "7 1 2 1 2 0xff00", "a payload that is no text");
     fs.writeFileSync(file, Buffer.from("4d52564f015700000000000000000000000000000000", "hex"));
     const empty = "3192817fd1840eb7f63b1b289a173abad1772411a7b2a52117cfe44a09df8c30";
     const none = await given(browser, empty, "window:0,0,9,9", file);
-    bench.equal(none.line, "accepted: 0 of the map's 0 records, at batch 0", "a map without records");
+    bench.equal(none.line, "accepted: 0 of the map's 0 records, at batch 0", "an empty map");
 }
 
 /** The answer as GeoJSON, as it is saved. */
@@ -144,17 +156,33 @@ async function geojsonHolds(bench, browser, room) {
         await pause(100);
     }
     bench.equal(fs.existsSync(file) ? fs.readFileSync(file, "utf8") : "", GEOJSON, "the GeoJSON");
-    const scaled = "[scaled(-5, readUnit('10')), scaled(15, readUnit('0.1')), scaled(-1, readUnit('2.5e-3')), " +
-        "scaled(0, readUnit('1e3')), String(readUnit('0')), String(readUnit('x'))].join(' ')";
-    bench.equal(await browser.value(scaled), "-50 1.5 -0.0025 0 null null", "coordinates in a unit");
+    const told = await browser.value(`
+        [[-5, "10"], [15, "0.1"], [-1, "2.5e-3"], [0, "1e3"], [0, "0"], [0, "x"]].map(
+            ([units, unit]) => [units, readUnit(unit)]).map(
+            ([units, unit]) => unit === null ? "none" : scaled(units, unit)).join(" ")`);
+    bench.equal(told, "-50 1.5 -0.0025 0 none none", "coordinates in a unit");
+}
+
+/** The page may ask no other place, and says so where a browser gives it no SHA-256. */
+async function limitsHold(bench, browser, page) {
+    const refused = await browser.value(`new Promise((done) => {
+        addEventListener("securitypolicyviolation", (event) => done(event.violatedDirective));
+        fetch("https://example.org/").catch(() => {});
+    })`);
+    bench.equal(refused, "connect-src", "a call to another place");
+    const without = "Object.defineProperty(Crypto.prototype, 'subtle', { get: () => undefined })";
+    await browser.go(`${page}?without`, without);
+    const trouble = await browser.value("document.getElementById('trouble').innerText");
+    bench.holds(/^This browser gives SHA-256 to no page/.test(trouble), `no SHA-256: ${trouble}`);
 }
 
 /** A picture of the page with the sample, where one is asked for. */
 async function shoot(browser, picture) {
     await given(browser, PLACES, WINDOW, path.join(EXAMPLES, "places-window.proof"));
     const { cssContentSize } = await browser.call("Page.getLayoutMetrics");
-    const clip = { x: 0, y: 0, width: cssContentSize.width, height: cssContentSize.height, scale: 1 };
-    const { data } = await browser.call("Page.captureScreenshot", { clip, captureBeyondViewport: true });
+    const { width, height } = cssContentSize;
+    const how = { clip: { x: 0, y: 0, width, height, scale: 1 }, captureBeyondViewport: true };
+    const { data } = await browser.call("Page.captureScreenshot", how);
     fs.writeFileSync(picture, Buffer.from(data, "base64"));
 }
 
@@ -163,16 +191,19 @@ async function main([picture]) {
     const room = fs.mkdtempSync(path.join(os.tmpdir(), "web-page-"));
     const browser = new Browser(find(), path.join(room, "profile"));
     try {
-        await browser.open(pathToFileURL(path.join(WEB, "verify.html")).href);
+        const page = pathToFileURL(path.join(WEB, "verify.html")).href;
+        await browser.open(page);
         await sampleHolds(bench, browser);
         await refusalsHold(bench, browser, room);
         await othersHold(bench, browser, room);
         await geojsonHolds(bench, browser, room);
-        const asked = browser.asked.filter((url) => !url.startsWith("file:") && !url.startsWith("blob:"));
-        bench.equal(String(asked), "", "addresses that the page asks for");
-        bench.holds(browser.asked.some((url) => url.endsWith("/mrtree_check.js")), "what is asked for is seen");
+        const elsewhere = browser.asked.filter((url) => !/^(file|blob):/.test(url));
+        bench.equal(String(elsewhere), "", "addresses that the page asks for");
+        const isSeen = browser.asked.some((url) => url.endsWith("/mrtree_check.js"));
+        bench.holds(isSeen, "what is asked for is seen");
         bench.equal(String(browser.told), "", "failures in the page");
         await (picture && shoot(browser, picture));
+        await limitsHold(bench, browser, page);
     } finally {
         await browser.close();
         fs.rmSync(room, { recursive: true, force: true });

@@ -1,0 +1,104 @@
+"use strict";
+/** The client in clients/web as a module: what its calls take; no bytes make them throw. */
+
+const crypto = require("crypto");
+const fs = require("fs");
+const path = require("path");
+const { EXAMPLES, WEB, Bench, cut } = require("./bench.js");
+const client = require(path.join(WEB, "mrtree_check.js"));
+
+const PLACES = "b136e9ea66645cc4c87feaf0addfecbc0d52bd619bc06f05e004ff35cbfaff04";
+const WINDOW = "window:133700000,525100000,133800000,525200000";
+const POINTS = "94f0cf13ea902a3c351f1c6ad540cf8917c2f9b63f400144e03cdb1dda1daf4c";
+const FILE = path.join(EXAMPLES, "places-window.proof");
+const PROOF = new Uint8Array(fs.readFileSync(FILE));
+const ROUNDS = 3000; // strings of random bytes
+const ROOTS = ["", PLACES.slice(1), PLACES.toUpperCase(), `${PLACES}\n`, `${PLACES}0`, null, 7];
+const QUERIES = [
+    ...["", "window", "window:", "window:0,0,0", "window:0,0,0,0,0", "window:1,0,0,0"],
+    ...["window:0,1,0,0", "window:00,0,0,0", "window:-0,0,0,0", "window:+1,0,1,1"],
+    ...["window:0,0,0,2147483648", "window:0,0,0,0 ", "window:0,0,0,0\n", "Window:0,0,0,0"],
+    ...["nearest:0,0,0", "nearest:0,0,1025", "nearest:0,0,-1", "nearest:0,0", "nearest:0,0,1,1"],
+    ...["window:0,0,0,1e1", "window:0,0,0,\u0663", "window:NaN,0,0,0", undefined, null, 7],
+];
+
+/** What a call is ended by: the name of an error, or the numbers of the records. */
+async function ended(...words) {
+    try {
+        const verdict = await client.check(...words);
+        const { accepted, records, rule } = verdict;
+        return accepted ? records.map(({ number }) => number).join(" ") : rule;
+    } catch (error) {
+        return error.name;
+    }
+}
+
+/** A proof comes as bytes or in pieces. */
+async function waysHold(bench) {
+    const pieces = [PROOF.subarray(0, 30), new Uint8Array(0), PROOF.subarray(30)];
+    const stream = fs.createReadStream(FILE);
+    const ways = { bytes: PROOF, buffer: PROOF.buffer, pieces, cut: cut(PROOF, 7), stream };
+    for (const [name, proof] of Object.entries(ways)) {
+        bench.equal(await ended(PLACES, WINDOW, proof), "101 102", `a proof as ${name}`);
+    }
+}
+
+/** What is no proof, no root or no query is told. */
+async function othersHold(bench) {
+    const calls = [
+        ...[undefined, null, 7, {}, ["ab"], [null]].map((proof) => ["Type", PLACES, WINDOW, proof]),
+        ...ROOTS.map((root) => ["Range", root, WINDOW, PROOF]),
+        ...QUERIES.map((query) => ["Range", PLACES, query, PROOF]),
+    ];
+    for (const [kind, ...words] of calls) {
+        bench.equal(await ended(...words), `${kind}Error`, `the call ${words}`);
+    }
+}
+
+/** Nothing behind the piece with a fault is asked for; items are seen, children first. */
+async function judgesHold(bench) {
+    let asked = 0;
+    const zeros = (function* () {
+        for (;;) {
+            asked += 1;
+            yield new Uint8Array(10);
+        }
+    })();
+    bench.equal(await ended(PLACES, WINDOW, zeros), "BadMagic", "zeros without an end");
+    bench.equal(asked, 1, "pieces that are asked for");
+    const seen = [];
+    const level = fs.readFileSync(path.join(EXAMPLES, "vectors", "level-2-window.proof"));
+    const watch = (item) => seen.push(item);
+    await client.check(POINTS, "window:100,100,150,120", new Uint8Array(level), watch);
+    const tags = seen.map(({ tag }) => tag).join("");
+    bench.equal(tags.replace(/P+/g, "P"), "PLPNPN", "the items that are seen");
+    bench.equal(seen[seen.length - 1].level, 2, "the level of the last");
+    const leaf = seen.find(({ tag }) => tag === "L");
+    bench.holds(client.recordsOf(leaf.bytes).length > 0, "the records of a leaf");
+    const both = await Promise.all([PROOF, PROOF].map((proof) => ended(PLACES, WINDOW, proof)));
+    bench.equal(String(both), "101 102,101 102", "two at once");
+}
+
+/** Random bytes behind fronts of a proof: a verdict comes of each, in pieces the same. */
+async function bytesHold(bench) {
+    for (let round = 0; round < ROUNDS; round++) {
+        const front = PROOF.subarray(0, crypto.randomInt(PROOF.length));
+        const bytes = Uint8Array.of(...front, ...crypto.randomBytes(crypto.randomInt(300)));
+        const query = round % 2 === 0 ? WINDOW : "nearest:133777000,525163000,2";
+        const one = await ended(PLACES, query, bytes);
+        const other = await ended(PLACES, query, cut(bytes, 1 + crypto.randomInt(9)));
+        const isSo = one === other && !one.endsWith("Error");
+        bench.holds(isSo, `${one}, ${other}: ${client.hexOf(bytes)}`);
+    }
+}
+
+async function main() {
+    const bench = new Bench("calls");
+    await waysHold(bench);
+    await othersHold(bench);
+    await judgesHold(bench);
+    await bytesHold(bench);
+    bench.end();
+}
+
+main();
