@@ -33,7 +33,6 @@ RULES = """TooMany NoEnd Head Form Number Coordinate Order Payload Repeat Query 
 def style(bench: Bench) -> None:
     """Examples hold, functions are short, typed and told, and nothing is imported but the standard library."""
     bench.holds(doctest.testmod(vectors).failed == 0, "the examples of the reader of vectors")
-    bench.holds(doctest.testmod(pages).failed == 0, "the examples of the reader of pages")
     for name in ("mrtree_check", "records", "draw"):
         module = importlib.import_module(name)
         results = doctest.testmod(module)

@@ -17,10 +17,12 @@ What was printed is what stands on standard output, or with what stands on stand
 >>> [(one.lines, one.shown, one.named) for one in examples_of(page)]
 [(['echo a; echo b'], ['b'], ['a'])]
 """
+import doctest
 import os
 import re
 import shutil
 import subprocess
+import sys
 from typing import Dict, List, NamedTuple, Optional, Tuple
 
 from bench import TOP, Bench
@@ -294,7 +296,8 @@ def page_holds(bench: Bench, page: str, text: str) -> int:
 
 
 def wrong_pages_fail(bench: Bench) -> None:
-    """A page that does not hold is told from one that does."""
+    """A page that does not hold is told from one that does, and the functions here do what their heads say."""
+    bench.holds(doctest.testmod(sys.modules[__name__]).failed == 0, "the examples of the reader of pages")
     for text in TRUE + FALSE:
         quiet = Quiet(bench.program_path, False)
         page_holds(quiet, "", text)
