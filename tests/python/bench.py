@@ -58,7 +58,8 @@ class Bench:
         return status, text.encode()
 
     def script(self, name: str, words: List[str], **how) -> Ended:
-        """What a script of clients/python says, as a process of its own."""
+        """What a script of clients/python prints, as a process of its own."""
+        how.setdefault("stderr", subprocess.DEVNULL)
         ran = subprocess.run([sys.executable, os.path.join(CLIENTS, name), *words], stdout=subprocess.PIPE, **how)
         return ran.returncode, ran.stdout
 
