@@ -192,6 +192,8 @@ def shapes_of(name: str, form: Optional[str], options: Options, records: Sequenc
                 number = sources.number_of_feature(one, sources.properties_of(one), options.number)
                 if number in wanted and sources.digest_of(one) == wanted[number]:
                     found[number] = sources.canonical(one)
+    except RecursionError:
+        raise Unfit(reading.where() + sources.DEEP) from None
     except Unfit as unfit:
         raise Unfit(reading.where() + str(unfit)) from None
     missing = [record.number for record in records if record.number not in found]
@@ -287,12 +289,12 @@ def tell_state(state: State) -> None:
     reading = state.reading
     told = extent(sources.unpacked(state.packed), reading.options.grid) + ", %d without payload" % reading.bare
     if reading.skipped:
-        told += ", and %d features without geometry left out" % reading.skipped
+        told += "; left out, since without geometry: %d" % reading.skipped
     outputs.tell(SCRIPT, told)
     if reading.cut:
-        places = ", ".join(map(str, reading.cut[:MOST_TOLD])) + (" .." if reading.cut[MOST_TOLD:] else "")
-        words = "cut at 180 degrees (%s %s), so their boxes go round the earth: make two features of each"
-        outputs.tell(SCRIPT, "%d features are " % len(reading.cut) + words % (reading.part, places))
+        places = ", ".join(reading.cut[:MOST_TOLD]) + (" .." if reading.cut[MOST_TOLD:] else "")
+        words = "cut at the antimeridian, so that the box goes round the earth (make two features of each): %d, %s"
+        outputs.tell(SCRIPT, words % (len(reading.cut), places))
 
 
 # ---- the commands
@@ -462,6 +464,7 @@ COMMANDS = {
     "answers": (answers_command, ["ROOT", "SCRIPT", "BUNDLE", "OUT"]),
     "features": (features_command, ["LINES", "OUT"]),
 }
+ENDS = tuple(sources.FORMS)
 TYPES: Dict[str, Any] = {"--unit": unit_of, "--place": place_of, "--delimiter": delimiter_of, "--most": most_of}
 
 
@@ -495,8 +498,8 @@ def arguments(words: List[str]) -> argparse.Namespace:
     if given.digest and given.payload:
         raise Unfit("the payload is either what --payload names or, with --digest, a digest")
     files = [vars(given)[name] for name in ("FILE", "OLD", "NEW") if name in given]
-    is_text = files and (given.form == "text" or all(sources.form_of(name) == "text" for name in files))
-    if given.unit is None and not (is_text and given.form in (None, "text")):
+    is_text = given.form == "text" or not (given.form or any(name.lower().endswith(ENDS) for name in files))
+    if given.unit is None and not (files and is_text):
         raise Unfit("--unit has to be given: how large a map unit is in the file's unit")
     return given
 

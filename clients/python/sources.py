@@ -24,6 +24,7 @@ else:
 
 MOST = 2**20  # records of a map, and changes of a batch
 PIECE = 2**18  # bytes of GeoJSON that are read at once
+DEEP = "there are too many brackets in one another"
 CLIPPED = 80  # characters of a value that are told
 DEPTHS = {"Point": 0, "MultiPoint": 1, "LineString": 1, "MultiLineString": 2, "Polygon": 2, "MultiPolygon": 3}
 NUMBER = r"[+-]?(?:[0-9]+(?:\.[0-9]*)?|\.[0-9]+)(?:[eE][+-]?[0-9]{1,6})?"
@@ -57,7 +58,7 @@ class Grid:
         133777000
         >>> Grid(Decimal("1e-7")).units(Decimal("1e999999"))
         Traceback (most recent call last):
-        outputs.Unfit: the coordinate 1E+999999 is out of range: with --unit 1E-7 from -214.7483648 to 214.7483647
+        outputs.Unfit: the coordinate 1E+999999 is out of range: with --unit 1e-7 from -214.7483648 to 214.7483647
         """
         if -self.most <= value <= self.most:
             scaled = EXACT.multiply(value, self.times) if self.is_exact else EXACT.divide(value, self.unit)
@@ -65,9 +66,8 @@ class Grid:
             if -(2**31) <= units < 2**31:
                 return units
         ends = spelled(self.unit * -(2**31)), spelled(self.unit * (2**31 - 1))
-        raise Unfit(
-            "the coordinate %s is out of range: with --unit %s from %s to %s" % (clipped(value), self.unit, *ends)
-        )
+        told = clipped(value), str(self.unit).lower(), *ends
+        raise Unfit("the coordinate %s is out of range: with --unit %s from %s to %s" % told)
 
     def rect(self, box: Box) -> Rect:
         """A box in map units: a point at the nearest one, else the least rectangle that holds it. Raises Unfit.
@@ -115,7 +115,7 @@ class Reading:
         self.part, self.at = "", 0  # what is being read: "line" or "feature", and the how many-th
         self.skipped = self.bare = 0  # features that are left out, and records without a payload
         self.has_payload = False  # whether some feature has the property of the payload
-        self.cut: List[int] = []  # the features that are cut at the antimeridian
+        self.cut: List[str] = []  # the features that are cut at the antimeridian, each by its line or number
 
     def where(self) -> str:
         """Where reading is, to be put before what is wrong."""
@@ -132,7 +132,7 @@ def clipped(value: Any) -> str:
     ('null', '1E+2', '"a\\\\u001b"', 'a list')
     """
     if isinstance(value, (list, dict)):
-        return "a list" if isinstance(value, list) else "an object"
+        return "[..]" if isinstance(value, list) else "{..}"
     if isinstance(value, Decimal):
         text = str(value) if value.is_finite() and len(value.as_tuple().digits) < CLIPPED else "%.40s.." % value
     else:
@@ -240,7 +240,7 @@ def scanned(text: str, at: int) -> Tuple[Any, int]:
     try:
         return SCANNER.raw_decode(text, at)
     except RecursionError:
-        raise Unfit("there are too many brackets in one another") from None
+        raise Unfit(DEEP) from None
     except InvalidOperation:
         raise Unfit("a number has too many digits") from None
 
@@ -332,6 +332,8 @@ def features_of(file: IO[bytes]) -> Iterator[Any]:
     [Decimal('1'), 'a']
     """
     text, members, sign = Text(file), {}, ","
+    if text.sign() != "{":
+        raise Unfit("it is no object of JSON, so neither a feature nor a collection of features")
     text.take("{")
     if text.sign() == "}":
         sign = text.take("}")
@@ -348,7 +350,7 @@ def features_of(file: IO[bytes]) -> Iterator[Any]:
         sign = text.take(",}")
     if text.sign():
         text.fail("something stands behind it (--form geojsonseq, if each line is a feature)", text.at)
-    if members.get("type") == "Feature":
+    if members.get("type") == "Feature" and members.get("features", [0]) != []:
         yield members
     elif members.get("type") != "FeatureCollection" or members.get("features") != []:
         raise Unfit("it has neither a feature nor a collection of features")
@@ -361,7 +363,7 @@ def sequence(reading: Reading, file: IO[bytes]) -> Iterator[bytes]:
         if line[:1] == b"\x1e":
             if held:
                 yield b"".join(held)
-            reading.part, held = "feature", [line[1:]]
+            reading.part, held = "feature", [line.lstrip(b"\x1e")]
             reading.at += 1
         elif held:
             held.append(line)
@@ -452,7 +454,7 @@ def rect_of(geometry: Any, reading: Reading) -> Optional[Rect]:
     if not found:
         return None
     if len(found) > 1 and is_cut(found):
-        reading.cut.append(reading.at)
+        reading.cut.append("%s %d" % (reading.part, reading.at))
     x0s, y0s, x1s, y1s = zip(*found)
     return grid.rect((min(x0s), min(y0s), max(x1s), max(y1s)))
 
@@ -571,8 +573,6 @@ def digest_of(feature: Dict[str, Any]) -> bytes:
         return hashlib.sha256(canonical(feature).encode("utf-8")).digest()
     except UnicodeEncodeError:
         raise Unfit("a text in it is not UTF-8") from None
-    except RecursionError:
-        raise Unfit("there are too many brackets in one another") from None
 
 
 # ---- well-known text, as GDAL writes it to CSV
@@ -670,10 +670,7 @@ def geometry_of(text: str) -> Optional[Dict[str, Any]]:
 # ---- CSV (RFC 4180)
 
 POINT = re.compile(r"\s*POINT\s*\(\s*(%s)\s+(%s)\s*\)\s*" % (NUMBER, NUMBER), re.I)
-QUOTES = {
-    "unexpected end of data": "a quote is still open at the end of the file",
-    "line contains NUL": "there is a zero byte",
-}
+OPEN_QUOTE = "unexpected end of data"  # as Python's reader has it
 
 
 def lines_of_csv(file: IO[bytes], reading: Reading) -> Iterator[str]:
@@ -682,6 +679,8 @@ def lines_of_csv(file: IO[bytes], reading: Reading) -> Iterator[str]:
     for line in file:
         reading.at += 1
         text = utf8(line, reading.at == 1)
+        if "\0" in text:
+            raise Unfit("there is a zero byte in it")
         if "\r" in text[:-2]:
             pieces = [piece for piece in re.split(r"(?<=\r)(?!\n)", text) if piece]
             reading.at += len(pieces) - 1
@@ -747,6 +746,7 @@ def from_rows(rows: Iterator[List[str]], reading: Reading) -> Iterator[Record]:
     """The records of rows, of which the first names the columns. Raises Unfit."""
     options, columns = reading.options, next(rows, [])
     if not columns:
+        reading.part = ""
         raise Unfit("there is no line with the names of the columns")
     number_at = column(columns, options.number or "number", "--number")
     place_at = place_columns(columns, options.place)
@@ -772,7 +772,9 @@ def from_csv(file: IO[bytes], reading: Reading) -> Iterator[Record]:
     try:
         yield from from_rows(rows, reading)
     except csv.Error as error:
-        raise Unfit(QUOTES.get(str(error), "something stands between a quote and the end of its field")) from None
+        is_open = str(error) == OPEN_QUOTE
+        told = "a quote is still open at the end" if is_open else "something stands between a quote and the delimiter"
+        raise Unfit(told) from None
 
 
 # ---- record texts
@@ -862,6 +864,8 @@ def read_state(name: str, form: Optional[str], options: Options) -> State:
         if options.payload and form != "text" and packed and not reading.has_payload:
             reading.part = ""
             raise Unfit("no feature has the property %s, which is to be the payload" % clipped(options.payload))
+    except RecursionError:
+        raise Unfit(reading.where() + DEEP) from None
     except Unfit as unfit:
         raise Unfit(reading.where() + str(unfit)) from None
     return State(packed, reading)

@@ -70,6 +70,12 @@ class Bench:
             status = module.main(words)
         return status, told.getvalue().encode()
 
+    def told(self, name: str, words: List[str], **how) -> Ended:
+        """What a script of clients/python says on standard error, as a process of its own."""
+        call = [sys.executable, os.path.join(CLIENTS, name), *words]
+        ran = subprocess.run(call, stdout=subprocess.DEVNULL, stderr=subprocess.PIPE, **how)
+        return ran.returncode, ran.stderr
+
     def script_to(self, name: str, words: List[str], out: IO[bytes]) -> int:
         """The status of a script that prints to this file."""
         return subprocess.run([sys.executable, os.path.join(CLIENTS, name), *words], stdout=out).returncode

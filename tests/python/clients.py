@@ -12,6 +12,7 @@ from typing import Callable, List, Optional, Tuple
 from bench import TOP, Bench, read, write
 import chances
 import foretold
+import inputs
 import mrtree_check
 import tables
 import trips
@@ -32,7 +33,8 @@ RULES = """TooMany NoEnd Head Form Number Coordinate Order Payload Repeat Query 
 
 def style(bench: Bench) -> None:
     """Examples hold, functions are short, typed and told, and nothing is imported but the standard library."""
-    bench.holds(doctest.testmod(vectors).failed == 0, "the examples of the reader of vectors")
+    for module in (vectors, inputs):
+        bench.holds(doctest.testmod(module).failed == 0, "the examples of " + module.__name__)
     for name in MODULES:
         module = importlib.import_module(name)
         results = doctest.testmod(module)
@@ -188,6 +190,7 @@ def main(how: str, program: str) -> int:
         ("the tables of the program's tests", rows_hold),
         ("the same tables, foretold", foretold.tables_hold),
         ("proofs at random", chances.random_proofs),
+        ("files that are odd or do not fit", inputs.inputs_hold),
         ("from files of publishers and back", trips.trips_hold),
     ]
     if bench.is_long:
