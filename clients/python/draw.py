@@ -1,45 +1,54 @@
 #!/usr/bin/env python3
 """Draws a proof as an SVG picture: what it shows of the map, what it leaves out, and the answer.
 
-usage: draw.py ROOT QUERY PROOF SVG
+usage: draw.py [--most BYTES] ROOT QUERY PROOF SVG
 
-The proof is checked first, and only one that is accepted is drawn: on the rectangle round the map's records the opened
-nodes, the pruned parts, the records that are shown and those of the answer, and the window, or the circle through the
-last of the nearest records. North is up. `-` is the standard input or output. A refused proof is told on standard
-error, with status 2. This script is tested and not proved.
+The proof is checked first, and only one that is accepted is drawn: round the query and the answer the opened nodes, the
+pruned parts, the records that are shown and those of the answer, and the window, or the circle through the last of the
+nearest records. A small picture below shows where on the map that is. North is up. Of more than 4,000 shapes the first
+are drawn, those of the answer before others, and that is told. `-` is the standard input or output. Exit statuses are
+those of `records.py`. This script is tested and not proved.
 """
 from __future__ import annotations
 
 import html
 import math
-import os
 import sys
-from typing import List, NamedTuple, Tuple
+from typing import Callable, Iterator, List, NamedTuple, Optional, Tuple
 
-sys.path.insert(0, os.path.dirname(os.path.abspath(__file__)))
-import mrtree_check as client  # noqa: E402
-from mrtree_check import Query, Record, Rect  # noqa: E402
+if __package__:
+    from . import mrtree_check as client
+    from . import outputs
+    from .mrtree_check import Answer, Query, Record, Rect
+else:
+    import mrtree_check as client
+    import outputs
+    from mrtree_check import Answer, Query, Record, Rect
 
-WIDTH = 640  # of the map's rectangle, in pixels
+WIDTH = 640  # of what is drawn of the map, in pixels
 HEIGHT = 480  # at most
-MARGIN = 24  # round the map's rectangle, in pixels
+MARGIN = 24  # round it, in pixels
+SMALL = 150, 88  # the most that the picture of the whole map takes, in pixels
+MOST_SHAPES = 4000
+MOST_SMALL = 400  # shapes in the picture of the whole map
 MOST_NAMES = 20  # answers with more records have no names in the picture
 STYLE = """
 text { font: 11px sans-serif; fill: #222 }
 .inner { fill: none; stroke: #1b7f4d; stroke-width: 1.5 }
-.leaf { fill: #bfe8d0; fill-opacity: 0.7; stroke: #1b7f4d }
-.pruned { fill: #d8d8d8; fill-opacity: 0.7; stroke: #8a8a8a }
-.other { fill: #fff; stroke: #555 }
-.answer { fill: #1f5fbf; stroke: #1f5fbf }
+.leaf { fill: #bfe8d0; fill-opacity: 0.5; stroke: #1b7f4d }
+.pruned { fill: #d8d8d8; fill-opacity: 0.5; stroke: #8a8a8a }
+.other { fill: #fff; fill-opacity: 0.6; stroke: #555 }
+.answer { fill: #1f5fbf; fill-opacity: 0.5; stroke: #1f5fbf }
+.frame { fill: none; stroke: #8a8a8a }
 .region { fill: #d0402b; fill-opacity: 0.08; stroke: #d0402b; stroke-width: 1.5 }
 """
 LEGEND = [
     ("inner", "opened inner node"),
-    ("leaf", "opened leaf"),
     ("pruned", "pruned part"),
+    ("leaf", "opened leaf"),
     ("answer", "record of the answer"),
-    ("other", "other record shown"),
     ("region", "what was asked for"),
+    ("other", "other record shown"),
 ]
 
 
@@ -51,35 +60,80 @@ class Item(NamedTuple):
     rect: Rect
     records: List[Record]
 
+    def kind(self) -> str:
+        """How it is drawn."""
+        return {"N": "inner", "L": "leaf", "P": "pruned"}[self.tag]
+
 
 class Frame(NamedTuple):
-    """Where the map lies in the picture: its rectangle in map units, and how many pixels a map unit has."""
+    """Which part of the map is drawn where: a rectangle in map units, its upper left corner and the size of a map unit
+    in pixels."""
 
-    map: Rect
+    part: Rect
+    left: float
+    top: float
     scale: float
 
-    def at(self, x: int, y: int) -> Tuple[float, float]:
+    def at(self, x: float, y: float) -> Tuple[float, float]:
         """The place of a point of the map, in pixels from the picture's upper left corner.
 
-        >>> Frame((0, 0, 10, 10), 2.0).at(10, 10)
+        >>> Frame((0, 0, 10, 10), 24, 24, 2.0).at(10, 10)
         (44.0, 24.0)
         """
-        return MARGIN + (x - self.map[0]) * self.scale, MARGIN + (self.map[3] - y) * self.scale
+        return self.left + (x - self.part[0]) * self.scale, self.top + (self.part[3] - y) * self.scale
 
 
-def frame_of(rect: Rect) -> Frame:
-    """The frame of a map with this rectangle, of at most 640 times 480 pixels.
+def frame_of(part: Rect, left: float, top: float, size: Tuple[int, int]) -> Frame:
+    """The frame of a part of the map that stands at this place and takes at most so many pixels.
 
-    >>> frame_of((0, 0, 320, 10)).scale
+    >>> frame_of((0, 0, 320, 10), 24, 24, (640, 480)).scale
     2.0
     """
-    return Frame(rect, min(WIDTH / max(rect[2] - rect[0], 1), HEIGHT / max(rect[3] - rect[1], 1)))
+    return Frame(part, left, top, min(size[0] / max(part[2] - part[0], 1), size[1] / max(part[3] - part[1], 1)))
+
+
+def around(rects: List[Rect]) -> Rect:
+    """The rectangle round some rectangles."""
+    x0s, y0s, x1s, y1s = zip(*rects)
+    return min(x0s), min(y0s), max(x1s), max(y1s)
+
+
+def grown(rect: Rect, part: int) -> Rect:
+    """A rectangle with a border of one part in so many of its longer side.
+
+    >>> grown((0, 0, 100, 10), 10)
+    (-10, -10, 110, 20)
+    """
+    more = max(rect[2] - rect[0], rect[3] - rect[1], part) // part
+    return rect[0] - more, rect[1] - more, rect[2] + more, rect[3] + more
+
+
+def reach(query: Query, answer: Answer) -> int:
+    """How far from its point a query for the k nearest asked, in map units; 0 of a window, or where fewer are there."""
+    if query.k == 0 or len(answer.records) < query.k:
+        return 0
+    return math.isqrt(client.distance(query.rect, answer.records[-1].rect)) + 1
+
+
+def view(whole: Rect, query: Query, answer: Answer) -> Rect:
+    """The part of a map with this rectangle that is drawn: query and answer with what is round them, at least 4 to 3."""
+    far = reach(query, answer)
+    x0, y0, x1, y1 = query.rect
+    asked = around([(x0 - far, y0 - far, x1 + far, y1 + far), *(record.rect for record in answer.records)])
+    part, most = grown(asked, 2), grown(whole, 20)
+    if client.meet(asked, most):
+        part = max(part[0], most[0]), max(part[1], most[1]), min(part[2], most[2]), min(part[3], most[3])
+    more = max((part[3] - part[1]) * WIDTH // HEIGHT - (part[2] - part[0]), 0) // 2
+    return part[0] - more, part[1], part[2] + more, part[3]
+
+
+# ---- shapes
 
 
 def box(frame: Frame, rect: Rect, kind: str) -> str:
     """A rectangle of the map, at least two pixels wide and high.
 
-    >>> box(Frame((0, 0, 10, 10), 2.0), (0, 0, 10, 5), "leaf")
+    >>> box(Frame((0, 0, 10, 10), 24, 24, 2.0), (0, 0, 10, 5), "leaf")
     '<rect class="leaf" x="24.0" y="34.0" width="20.0" height="10.0"/>'
     """
     (x, y), (right, low) = frame.at(rect[0], rect[3]), frame.at(rect[2], rect[1])
@@ -105,81 +159,117 @@ def name(frame: Frame, one: Record) -> str:
     except UnicodeDecodeError:
         told = ""
     x, y = frame.at(one.rect[2], one.rect[3])
-    words = html.escape("%d %s" % (one.number, told if told.isprintable() else "")).strip()
+    words = html.escape("%d %s" % (one.number, told[:40] if told.isprintable() else "")).strip()
     return '<text x="%.1f" y="%.1f">%s</text>' % (x + 6, y + 4, words)
 
 
-def region(frame: Frame, query: Query, answer: List[Record]) -> List[str]:
+def region(frame: Frame, query: Query, answer: Answer) -> List[str]:
     """What a query asked for: its window; or its point, and the circle through the last of k records."""
     x, y = query.rect[:2]
     if query.k == 0:
         return [box(frame, query.rect, "region")]
     shapes = [dot(frame, x, y, 4, "region")]
-    if len(answer) == query.k:
-        far = math.sqrt(client.distance(query.rect, answer[-1].rect))
+    if reach(query, answer):
+        far = math.sqrt(client.distance(query.rect, answer.records[-1].rect))
         shapes.append(dot(frame, x, y, max(far * frame.scale, 4), "region"))
     return shapes
 
 
-def legend(top: float) -> List[str]:
+def seen(frame: Frame, items: List[Item], answer: Answer) -> Tuple[List[str], int]:
+    """The shapes of items and records in a frame, the lowest first, and how many are left out."""
+    meets: Callable[[Rect], bool] = lambda rect: client.meet(frame.part, rect)
+    chosen = set(answer.records)
+    answers = [one for one in answer.records if meets(one.rect)]
+    nodes = [item for item in items if meets(item.rect)]
+    others = [one for item in nodes for one in item.records if one not in chosen and meets(one.rect)]
+    room = MOST_SHAPES
+    kept: List[List[str]] = []
+    for kind, found in (("answer", answers), ("other", others)):
+        kept.append([record(frame, one, kind) for one in found[:room]])
+        room -= len(kept[-1])
+    order = {"pruned": 0, "leaf": 1, "inner": 2}
+    drawn = sorted(sorted(nodes, key=lambda item: -item.level)[:room], key=lambda item: order[item.kind()])
+    shapes = [box(frame, item.rect, item.kind()) for item in drawn] + kept[1] + kept[0]
+    return shapes, len(answers) + len(others) + len(nodes) - len(shapes)
+
+
+# ---- the picture
+
+
+def legend(top: float) -> Iterator[str]:
     """What the colours mean, below the map."""
-    lines = []
     for at, (kind, words) in enumerate(LEGEND):
-        x, y = MARGIN + at % 3 * 215, top + at // 3 * 18
-        lines.append('<rect class="%s" x="%d" y="%.1f" width="12" height="10"/>' % (kind, x, y))
-        lines.append('<text x="%d" y="%.1f">%s</text>' % (x + 18, y + 9, words))
-    return lines
+        x, y = MARGIN + SMALL[0] + 30 + at % 2 * 215, top + at // 2 * 18
+        yield '<rect class="%s" x="%d" y="%.1f" width="12" height="10"/>' % (kind, x, y)
+        yield '<text x="%d" y="%.1f">%s</text>' % (x + 18, y + 9, words)
 
 
-def picture(query: Query, items: List[Item], answer: List[Record]) -> str:
-    """The SVG of an accepted proof with these items, of which the last is the root's, and with this answer."""
-    frame = frame_of(items[-1].rect if items else query.rect)
-    low = frame.at(0, frame.map[1])[1]
-    opened = sorted((item for item in items if item.tag == "N"), key=lambda item: -item.level)
-    shapes = [box(frame, item.rect, "pruned") for item in items if item.tag == "P"]
-    shapes += [box(frame, item.rect, "leaf") for item in items if item.tag == "L"]
-    shapes += [box(frame, item.rect, "inner") for item in opened]
+def small(frame: Frame, items: List[Item], part: Rect) -> Iterator[str]:
+    """The whole map as a small picture: its largest nodes and parts, and where the part is that is drawn."""
+    for item in sorted(items, key=lambda item: -item.level)[:MOST_SMALL]:
+        yield box(frame, item.rect, item.kind())
+    yield box(frame, part, "region")
+
+
+def counts(items: List[Item], answer: Answer, left_out: int) -> List[str]:
+    """What the picture says of the proof, in lines."""
+    opened = sum(item.tag != "P" for item in items)
+    told = "records in the answer: %d; nodes opened: %d; parts pruned: %d"
+    lines = [told % (len(answer.records), opened, len(items) - opened)]
+    return lines + ["not drawn: %d shapes" % left_out] * (left_out > 0)
+
+
+def picture(query: Query, items: List[Item], answer: Answer) -> Tuple[str, int]:
+    """The SVG of an accepted proof with these items, of which the last is the root's; and how much is not drawn."""
+    whole = items[-1].rect if items else query.rect
+    frame = frame_of(view(whole, query, answer), MARGIN, MARGIN, (WIDTH, HEIGHT))
+    low = frame.at(0, frame.part[1])[1]
+    shapes, left_out = seen(frame, items, answer)
     shapes += region(frame, query, answer)
-    chosen = set(answer)
-    shapes += [record(frame, one, "other") for item in items for one in item.records if one not in chosen]
-    shapes += [record(frame, one, "answer") for one in answer]
-    shapes += [name(frame, one) for one in answer if len(answer) <= MOST_NAMES]
-    width, height = WIDTH + 2 * MARGIN, low + MARGIN + 80
-    counts = len(answer), sum(item.tag != "P" for item in items), sum(item.tag == "P" for item in items)
-    words = "records in the answer: %d; nodes opened: %d; parts pruned: %d" % counts
-    lines = ['<svg xmlns="http://www.w3.org/2000/svg" viewBox="0 0 %d %.0f" width="%d">' % (width, height, width)]
+    names = [name(frame, one) for one in answer.records if len(answer.records) <= MOST_NAMES]
+    corner = frame_of(around([whole, frame.part]), MARGIN, low + MARGIN, SMALL)
+    size = WIDTH + 2 * MARGIN, low + MARGIN + SMALL[1] + MARGIN
+    lines = ['<svg xmlns="http://www.w3.org/2000/svg" viewBox="0 0 %d %.0f" width="%d">' % (*size, size[0])]
     lines += ["<style>%s</style>" % STYLE, '<rect width="100%" height="100%" fill="#fff"/>']
-    lines += ['<clipPath id="map"><rect width="%d" height="%.1f"/></clipPath>' % (width, low + MARGIN)]
-    lines += ['<g clip-path="url(#map)">', *shapes, "</g>", *legend(low + MARGIN + 8)]
-    lines += ['<text x="%d" y="%.1f">%s</text>' % (MARGIN, low + MARGIN + 62, words), "</svg>"]
-    return "\n".join(lines) + "\n"
+    lines += ['<clipPath id="map">%s</clipPath>' % box(frame, frame.part, "map")]
+    lines += ['<g clip-path="url(#map)">', *shapes, "</g>", box(frame, frame.part, "frame"), *names]
+    lines += [*small(corner, items, frame.part), *legend(low + MARGIN)]
+    for at, words in enumerate(counts(items, answer, left_out)):
+        x, y = MARGIN + SMALL[0] + 30, low + MARGIN + 68 + at * 15
+        lines.append('<text x="%d" y="%.1f">%s</text>' % (x, y, words))
+    return "\n".join([*lines, "</svg>"]) + "\n", left_out
 
 
-def drawn(root: str, word: str, proof: client.Pieces) -> str:
-    """The SVG of a proof. Raises Refused where the proof is refused, ValueError where the words are none."""
+def drawn(root: str, word: str, proof: client.Pieces) -> Tuple[str, int]:
+    """The SVG of a proof, and how much is not drawn. Raises Refused, or ValueError where the words are none."""
     items: List[Item] = []
     answer = client.check(root, word, proof, lambda *item: items.append(Item(*item)))
     return picture(client.read_query(word), items, answer)
 
 
-def main(words: List[str]) -> int:
-    """Runs the words of a command line; answers the exit status, as the program's `check` has it."""
+def run(words: List[str]) -> None:
+    """Does what the words of a command line say. Raises what outputs.status_of tells."""
+    most = None
     try:
+        if words[:1] == ["--most"]:
+            most, words = client.read_most("".join(words[1:2])), words[2:]
+        if len(words) != 4:
+            raise ValueError("usage: draw.py [--most BYTES] ROOT QUERY PROOF SVG")
         root, word, proof, out = words
-        whole = drawn(root, word, client.read_pieces(proof))
-        with open(1 if out == "-" else out, "w", encoding="utf-8", newline="\n") as file:
-            file.write(whole)
-    except ValueError:
-        print("usage: draw.py ROOT QUERY PROOF SVG", file=sys.stderr)
-        return 1
-    except client.Refused as fault:
-        print("draw.py: %s" % fault, file=sys.stderr)
-        return 2
-    except (client.Ended, OSError) as error:
-        print("draw.py: %s" % (error.line if isinstance(error, client.Ended) else error), file=sys.stderr)
-        return 7
-    return 0
+        outputs.refuse_same(out, [proof])
+        whole, left_out = drawn(root, word, client.read_pieces(proof, most))
+    except ValueError as fault:
+        raise outputs.Unfit(str(fault)) from None
+    with outputs.written(out, [proof]) as file:
+        file.write(whole.encode("utf-8"))
+    if left_out:
+        outputs.tell("draw.py", "%d shapes are not drawn, since %d are the most" % (left_out, MOST_SHAPES))
+
+
+def main(words: Optional[List[str]] = None) -> int:
+    """Runs the words of a command line; answers the exit status."""
+    return outputs.status_of("draw.py", lambda: run(sys.argv[1:] if words is None else words))
 
 
 if __name__ == "__main__":
-    sys.exit(main(sys.argv[1:]))
+    sys.exit(main())

@@ -1,14 +1,15 @@
 #!/usr/bin/env python3
 """The client, in Python: says whether an answer is that of the map with a root digest. It follows docs/FORMATS.md.
 
-usage: mrtree_check.py [check] ROOT QUERY PROOF
-       mrtree_check.py check-all ROOT SCRIPT BUNDLE
+usage: mrtree_check.py [--most BYTES] [check] ROOT QUERY PROOF
+       mrtree_check.py [--most BYTES] check-all ROOT SCRIPT BUNDLE
 
-Lines and exit statuses are those of the program's commands `check` and `check-all`, with two differences: a file may be
-a pipe too, and the name `-` is the standard input. It is tested against the program, and not proved.
+Lines and exit statuses are those of the program's commands `check` and `check-all`, with three differences: a file may
+be a pipe too, the name `-` is the standard input, and of a proof or bundle no more is read than `--most` allows: a
+longer one ends with status 7. It is tested against the program, and not proved.
 
-As a module: `check(root, query, proof)` answers the records, or raises `Refused`. Coordinates and rectangles are in
-map units, distances are squared map units, places are numbers of bytes.
+As a module: `check(root, query, proof)` answers the records, the batch and the count of the map, or raises `Refused`.
+Coordinates and rectangles are in map units, distances are squared map units, places are numbers of bytes.
 """
 from __future__ import annotations
 
@@ -19,6 +20,9 @@ import stat
 import struct
 import sys
 from typing import Callable, Iterable, Iterator, List, NamedTuple, Optional, Tuple, Union
+
+__version__ = "1.0.0"
+__all__ = ["Answer", "Query", "Record", "Refused", "Verdict", "check", "check_all", "distance", "meet"]
 
 Rect = Tuple[int, int, int, int]  # x0, y0, x1, y1 in map units, with x0 <= x1 and y0 <= y1; the sides belong to it
 Bytes = Union[bytes, bytearray, memoryview]
@@ -45,6 +49,17 @@ class Record(NamedTuple):
         '7 1 2 3 4 6162'
         """
         return " ".join(map(str, (self.number, *self.rect, self.payload.hex() or "-")))
+
+
+class Answer(NamedTuple):
+    """What an accepted proof shows: the records of the answer, and of the map the batch and the count of its records.
+
+    Of a window the records are in rising number, of nearest records by rising squared distance and then number.
+    """
+
+    records: List[Record]
+    batch: int
+    count: int
 
 
 class Query(NamedTuple):
@@ -264,7 +279,7 @@ def root_digest(head: Head, item: Optional[Tuple[Rect, bytes]]) -> bytes:
     return digest(struct.pack(">2sQQB4i", b"R\x01", head.batch, head.count, head.level, *rect) + found)
 
 
-def judge(root: bytes, query: Query, proof: Pieces, watch: Optional[Watch] = None) -> List[Record]:
+def judge(root: bytes, query: Query, proof: Pieces, watch: Optional[Watch] = None) -> Answer:
     """The answer that a proof proves. Raises Refused with the proof's first fault; no piece behind it is taken."""
     fields = Fields(proof)
     head = read_head(fields, query)
@@ -275,32 +290,55 @@ def judge(root: bytes, query: Query, proof: Pieces, watch: Optional[Watch] = Non
         raise Refused("WrongRoot", fields.place, found)
     records = reading.records
     if query.k == 0:
-        return sorted(records, key=lambda record: record.number)
+        return Answer(sorted(records, key=lambda record: record.number), head.batch, head.count)
     radius = head.radius
     nearer = [record for record in records if radius is None or distance(query.rect, record.rect) < radius]
     if len(nearer) >= query.k or (radius is not None and len(records) < query.k):
         raise Refused("WrongRadius", fields.place)
-    return sorted(records, key=lambda record: (distance(query.rect, record.rect), record.number))[: query.k]
+    records.sort(key=lambda record: (distance(query.rect, record.rect), record.number))
+    return Answer(records[: query.k], head.batch, head.count)
 
 
-def check(root: str, query: str, proof: Union[Bytes, Pieces], watch: Optional[Watch] = None) -> List[Record]:
-    """The records of the answer to a query word on the map with a root digest, as a proof shows it.
+def only_bytes(given: Union[Bytes, Pieces], what: str) -> Pieces:
+    """What is given, as pieces of bytes. Raises TypeError where it is no such, at once or when that piece is taken."""
+    if isinstance(given, (bytes, bytearray, memoryview)):
+        return iter([bytes(given)])
+    if isinstance(given, str) or not hasattr(given, "__iter__"):
+        raise TypeError("%s is bytes or pieces of bytes, and this is %s" % (what, type(given).__name__))
+    return map(lambda piece: one_piece(piece, what), given)
 
-    `root` is 64 lower-case hexadecimal digits, `proof` is bytes or pieces of bytes. Of a window the records are in
-    rising number, of nearest records by rising squared distance and then number. Raises Refused where the proof is
-    refused, and ValueError where root or query is no such word.
+
+def one_piece(piece: bytes, what: str) -> bytes:
+    """A piece of bytes. Raises TypeError where it is none."""
+    if not isinstance(piece, (bytes, bytearray, memoryview)):
+        raise TypeError("a piece of %s is bytes, and this is %s" % (what, type(piece).__name__))
+    return bytes(piece)
+
+
+def refuse_other_words(*words: str) -> None:
+    """Raises TypeError where something is no text."""
+    for word in words:
+        if not isinstance(word, str):
+            raise TypeError("a root and a query are words, so text, and this is %s" % type(word).__name__)
+
+
+def check(root: str, query: str, proof: Union[Bytes, Pieces], watch: Optional[Watch] = None) -> Answer:
+    """The answer to a query word on the map with a root digest, as a proof shows it.
+
+    `root` is 64 lower-case hexadecimal digits, `proof` is bytes or pieces of bytes. Raises Refused where the proof is
+    refused, ValueError where root or query is no such word, and TypeError where something is no text or no bytes.
 
     >>> proof = bytes.fromhex("4d52564f01570000000000000000000000000000000100" "4c01"
     ...     "00000000000000010000000200000003000000040000000500")
     >>> root = "c6de89b68a6b5fd22d3e6042a5ef2f0bfbb8bec15b7d8801400b012791166514"
     >>> check(root, "window:0,0,9,9", proof)
-    [Record(number=1, rect=(2, 3, 4, 5), payload=b'')]
+    Answer(records=[Record(number=1, rect=(2, 3, 4, 5), payload=b'')], batch=0, count=1)
     >>> check(root, "window:0,0,1,1", [proof[:30], proof[30:]])
     Traceback (most recent call last):
     mrtree_check.Refused: refused Needless at 49
     """
-    pieces = [bytes(proof)] if isinstance(proof, (bytes, bytearray, memoryview)) else proof
-    return judge(read_root(root), read_query(query), pieces, watch)
+    refuse_other_words(root, query)
+    return judge(read_root(root), read_query(query), only_bytes(proof, "a proof"), watch)
 
 
 # ---- words and scripts
@@ -321,14 +359,14 @@ def read_decimal(word: str, least: int, most: int) -> int:
 
 
 def read_root(word: str) -> bytes:
-    """The root digest that 64 lower-case hexadecimal digits spell. Raises ValueError."""
+    """The root digest that 64 lower-case hexadecimal digits spell. Raises ValueError, with what is wrong."""
     if not re.fullmatch("[0-9a-f]{64}", word):
-        raise ValueError(word)
+        raise ValueError("the root digest is not 64 lower-case hexadecimal digits")
     return bytes.fromhex(word)
 
 
 def read_query(word: str) -> Query:
-    """The query that a word spells. Raises ValueError.
+    """The query that a word spells. Raises ValueError, with what is wrong, where it spells none.
 
     >>> read_query("window:0,0,9,9"), read_query("nearest:5,-5,2")
     (Query(rect=(0, 0, 9, 9), k=0), Query(rect=(5, -5, 5, -5), k=2))
@@ -336,11 +374,15 @@ def read_query(word: str) -> Query:
     kind, _, rest = word.partition(":")
     parts = rest.split(",")
     if (kind, len(parts)) not in (("window", 4), ("nearest", 3)):
-        raise ValueError(word)
-    k = read_decimal(parts.pop(), 1, 1024) if kind == "nearest" else 0
-    x0, y0, x1, y1 = [read_decimal(part, -(2**31), 2**31 - 1) for part in (parts * 2)[:4]]
+        raise ValueError("the query is neither window:x0,y0,x1,y1 nor nearest:x,y,k")
+    try:
+        k = read_decimal(parts.pop(), 1, 1024) if kind == "nearest" else 0
+        x0, y0, x1, y1 = [read_decimal(part, -(2**31), 2**31 - 1) for part in (parts * 2)[:4]]
+    except ValueError:
+        ranges = "coordinates from -2147483648 to 2147483647, k from 1 to 1024"
+        raise ValueError("the query has to have whole numbers of map units: " + ranges) from None
     if x0 > x1 or y0 > y1:
-        raise ValueError(word)
+        raise ValueError("the sides of the window are out of order: x0 is at most x1, and y0 at most y1")
     return Query((x0, y0, x1, y1), k)
 
 
@@ -390,7 +432,7 @@ class Part:
 class Verdict(NamedTuple):
     """What comes of one query of a script: its answer, or why it is refused; neither where its part is missing."""
 
-    records: Optional[List[Record]]
+    answer: Optional[Answer]
     refused: Optional[Refused]
 
 
@@ -429,10 +471,33 @@ def judge_bundle(root: bytes, queries: List[Query], pieces: Pieces) -> Tuple[Lis
     return verdicts, end if any(Part(bundle, 1)) else None
 
 
+def check_all(root: str, queries: List[str], bundle: Union[Bytes, Pieces]) -> List[Verdict]:
+    """The verdict of each of some query words, in order, on their parts of a bundle. Raises as `check` of the words.
+
+    A part that is not there has a verdict with neither an answer nor a fault.
+    """
+    refuse_other_words(root, *queries)
+    pieces = only_bytes(bundle, "a bundle")
+    return judge_bundle(read_root(root), [read_query(query) for query in queries], pieces)[0]
+
+
 # ---- the two commands
 
 
-def read_pieces(name: str) -> Iterator[bytes]:
+def read_pieces(name: str, most: Optional[int] = None) -> Iterator[bytes]:
+    """The bytes of a file or pipe in pieces of up to 65,536, at most so many.
+
+    Raises Ended where it is missing, cannot be read or has more.
+    """
+    taken = 0
+    for piece in pieces_of(name):
+        taken += len(piece)
+        if most is not None and taken > most:
+            raise Ended(7, "longer than %d bytes" % most)
+        yield piece
+
+
+def pieces_of(name: str) -> Iterator[bytes]:
     """The bytes of a file or pipe in pieces of up to 65,536. Raises Ended where it is missing or cannot be read."""
     try:
         if name != "-":
@@ -451,31 +516,65 @@ def read_pieces(name: str) -> Iterator[bytes]:
         raise Ended(7, "shelf fault") from None
 
 
-def check_lines(root: bytes, query: Query, name: str) -> Tuple[int, List[str]]:
+def check_lines(root: bytes, query: Query, name: str, most: Optional[int]) -> Tuple[int, List[str]]:
     """Status and lines of `check` of the proof in a file. Raises Ended."""
     try:
-        return 0, [record.line() for record in judge(root, query, read_pieces(name))]
+        return 0, [record.line() for record in judge(root, query, read_pieces(name, most)).records]
     except Refused as fault:
         return 2, [str(fault)]
 
 
-def check_all_lines(root: bytes, script: str, name: str) -> Tuple[int, List[str]]:
+def check_all_lines(root: bytes, script: str, name: str, most: Optional[int]) -> Tuple[int, List[str]]:
     """Status and lines of `check-all` of a script and the bundle in a file. Raises Ended."""
     queries = read_script(b"".join(read_pieces(script)))
-    verdicts, broken = judge_bundle(root, queries, read_pieces(name))
+    verdicts, broken = judge_bundle(root, queries, read_pieces(name, most))
     lines = []
-    for number, (records, refused) in enumerate(verdicts, 1):
-        if records is not None:
-            lines.append("query %d ok %d" % (number, len(records)))
-            lines += [record.line() for record in records]
+    for number, (answer, refused) in enumerate(verdicts, 1):
+        if answer is not None:
+            lines.append("query %d ok %d" % (number, len(answer.records)))
+            lines += [record.line() for record in answer.records]
         else:
             lines.append("query %d %s" % (number, refused or "missing"))
-    accepted = sum(verdict.records is not None for verdict in verdicts)
+    accepted = sum(verdict.answer is not None for verdict in verdicts)
     missing = verdicts.count(MISSING)
     lines.append("accepted %d refused %d missing %d" % (accepted, len(verdicts) - accepted - missing, missing))
     if broken is not None:
         lines.append("bundle broken at %d" % broken)
     return (0 if accepted == len(verdicts) and broken is None else 2), lines
+
+
+class Words(NamedTuple):
+    """The words of a command line: the command, the root digest, the query of `check`, the file or two, the limit."""
+
+    command: str
+    root: bytes
+    query: Optional[Query]
+    script: str
+    name: str
+    most: Optional[int]
+
+
+def read_words(words: List[str]) -> Words:
+    """What the words of a command line mean. Raises ValueError, with what is wrong, where they spell no command."""
+    most = None
+    if words[:1] == ["--most"]:
+        most, words = read_most("".join(words[1:2])), words[2:]
+    command, *rest = words if len(words) == 4 else ["check", *words]
+    if command not in ("check", "check-all") or len(rest) != 3 or "" in rest:
+        raise ValueError((__doc__ or "").split("\n\n")[1])
+    root = read_root(rest[0])
+    query = read_query(rest[1]) if command == "check" else None
+    if rest[1] == rest[2]:
+        raise ValueError("the script and the bundle have one name")
+    return Words(command, root, query, rest[1], rest[2], most)
+
+
+def read_most(word: str) -> int:
+    """The limit that a word spells. Raises ValueError, with what is wrong."""
+    try:
+        return read_decimal(word, 0, 2**63 - 1)
+    except ValueError:
+        raise ValueError("--most stands before a whole number of bytes") from None
 
 
 def run(words: List[str]) -> Tuple[int, str]:
@@ -485,15 +584,14 @@ def run(words: List[str]) -> Tuple[int, str]:
     (1, 'bad words\\n')
     """
     try:
-        command, root_word, asked, name = words if len(words) == 4 else ["check", *words]
-        root = read_root(root_word)
-        query = read_query(asked) if command == "check" else None
-        if command not in ("check", "check-all") or "" in words or asked == name:
-            raise ValueError
+        command, root, query, script, name, most = read_words(words)
     except ValueError:
         return 1, "bad words\n"
     try:
-        status, lines = check_lines(root, query, name) if query else check_all_lines(root, asked, name)
+        if query:
+            status, lines = check_lines(root, query, name, most)
+        else:
+            status, lines = check_all_lines(root, script, name, most)
         return status, "".join(line + "\n" for line in lines)
     except Ended as ended:
         return ended.status, ended.line + "\n"
@@ -501,19 +599,31 @@ def run(words: List[str]) -> Tuple[int, str]:
         return 8, ""
 
 
+def explain(words: List[str]) -> None:
+    """Says in a terminal, on standard error, why words spell no command."""
+    try:
+        if sys.stderr and sys.stderr.isatty():
+            read_words(words)
+    except ValueError as fault:
+        print("mrtree_check.py: %s" % fault, file=sys.stderr)
+
+
 def main() -> int:
     """Runs the words of the command line, and prints to standard output alone; answers the exit status."""
     try:
         words = [os.fsencode(word).decode() for word in sys.argv[1:]]
-    except UnicodeDecodeError:
-        return 7
-    status, text = run(words)
-    left = memoryview(text.encode())
-    try:
+        status, text = run(words)
+        left = memoryview(text.encode())
         while left:
             left = left[os.write(1, left) :]
-    except OSError:
+        if status == 1:
+            explain(words)
+    except (UnicodeDecodeError, OSError):
         return 7
+    except MemoryError:
+        return 8
+    except KeyboardInterrupt:
+        return 130
     return status
 
 

@@ -1,348 +1,130 @@
 #!/usr/bin/env python3
 """Record texts from the files that publishers have, batches from two states of a file, and answers as GeoJSON.
 
-usage: records.py text FILE RECORDS [options]        the record text of a file
-       records.py batch N OLD NEW BATCH [options]    the text of batch N, from one state of a file to another
-       records.py features LINES GEOJSON [options]   record lines, as `check` prints them, as GeoJSON
+usage: records.py text FILE RECORDS [options]              the record text of a file
+       records.py batch N OLD NEW BATCH [options]          the text of batch N, from one state of a file to another
+       records.py query window X0 Y0 X1 Y1 --unit UNIT     the word of a query, by coordinates in the file's unit
+       records.py query nearest X Y K --unit UNIT
+       records.py answer ROOT QUERY PROOF OUT [options]    checks a proof, and writes the answer as GeoJSON
+       records.py answers ROOT SCRIPT BUNDLE OUT [options] the same of a bundle, where each part of it is accepted
+       records.py features LINES OUT [options]             what `list`, `check`, `check-all` or `audit` printed, as GeoJSON
 
-A file is GeoJSON where its name ends with .geojson or .json, CSV where it ends with .csv, and else a record text. `-`
-is the standard input or output. Each feature of GeoJSON becomes a record: a point, or the box round a line or an area.
-A point goes to the nearest map unit, and a box is rounded outwards. The number is the feature's id, or the property or
-column that --number names; the payload is the text of the property or column that --payload names, in UTF-8.
+A file is GeoJSON, a GeoJSON text sequence, CSV or a record text: by the end of its name, or as --form says. `-` is the
+standard input or output. Each feature becomes a record: a point, or the box round a line or an area. A point goes to
+the nearest map unit, and a box is rounded outwards. The number is the feature's id, or the property or column that
+--number names; the payload is the text or number that --payload names, in UTF-8.
 
-What does not fit is said on standard error with its feature or line; then nothing is written, and the exit status is 1.
-This script is tested and not proved.
+What does not fit is told on standard error, and then the output is left as it was. Exit statuses: 0, 1 where words or a
+file do not fit, 2 where a proof is refused, 7 where a file cannot be read or written, 8 without memory. This script is
+tested and not proved.
 """
 from __future__ import annotations
 
 import argparse
-import csv
-import io
 import json
-import os
 import re
 import sys
-from contextlib import contextmanager
-from decimal import ROUND_CEILING, ROUND_FLOOR, ROUND_HALF_EVEN, Decimal, InvalidOperation, localcontext
-from typing import Any, Dict, Iterator, List, NamedTuple, NoReturn, Optional, Sequence, Tuple
+from contextlib import suppress
+from decimal import Decimal
+from typing import IO, Any, Dict, Iterable, Iterator, List, NamedTuple, NoReturn, Optional, Sequence, Tuple
 
-sys.path.insert(0, os.path.dirname(os.path.abspath(__file__)))
-from mrtree_check import Record, read_decimal  # noqa: E402
+if __package__:
+    from . import mrtree_check as client
+    from . import outputs, sources
+    from .mrtree_check import Query, Record
+    from .outputs import Unfit
+    from .sources import Grid, Options, State, clipped, number_of
+else:
+    import mrtree_check as client
+    import outputs
+    import sources
+    from mrtree_check import Query, Record
+    from outputs import Unfit
+    from sources import Grid, Options, State, clipped, number_of
 
-MOST = 2**20  # records of a map, and changes of a batch
+SCRIPT = "records.py"
 MOST_EXACT = 2**53 - 1  # the greatest whole number that every reader of JSON keeps
-DEPTHS = {"Point": 0, "MultiPoint": 1, "LineString": 1, "MultiLineString": 2, "Polygon": 2, "MultiPolygon": 3}
-Placed = Iterator[Tuple[str, Record]]  # records, each with where it stands in its file
-
-
-class Unfit(Exception):
-    """Something in a file does not fit: where it stands, and what is wrong."""
-
-
-class Options(NamedTuple):
-    """How a file is read: the size of a map unit in the file's unit, and the names of what is taken from it."""
-
-    unit: Decimal
-    number: Optional[str] = None
-    payload: Optional[str] = None
-    place: Sequence[str] = ("x", "y")
-    delimiter: str = ","
-
-
-@contextmanager
-def standing(where: str) -> Iterator[None]:
-    """Puts where it stands before what is wrong."""
-    try:
-        yield
-    except Unfit as unfit:
-        raise Unfit("%s: %s" % (where, unfit)) from None
-
-
-# ---- records
-
-
-def in_units(value: Decimal, unit: Decimal, rounding: str) -> int:
-    """A coordinate in map units. Raises Unfit where it is out of range.
-
-    >>> in_units(Decimal("13.3777"), Decimal("1e-7"), ROUND_HALF_EVEN)
-    133777000
-    >>> in_units(Decimal("1e999999"), Decimal("1e-7"), ROUND_HALF_EVEN)
-    Traceback (most recent call last):
-    records.Unfit: the coordinate 1E+999999 is out of range
-    """
-    with localcontext() as context:
-        context.prec = 80
-        if value.copy_abs() <= unit * 2**32:
-            units = int((value / unit).to_integral_value(rounding))
-            if -(2**31) <= units < 2**31:
-                return units
-    raise Unfit("the coordinate %.80s is out of range" % value)
-
-
-def box_in_units(box: Sequence[Decimal], unit: Decimal) -> Tuple[int, int, int, int]:
-    """A box in map units: a point at the nearest one, else the least that holds it. Raises Unfit.
-
-    >>> box_in_units([Decimal("1.5"), Decimal("0.2"), Decimal("1.5"), Decimal("0.2")], Decimal(1))
-    (2, 0, 2, 0)
-    >>> box_in_units([Decimal("1.5"), Decimal("0.2"), Decimal("1.6"), Decimal("0.2")], Decimal(1))
-    (1, 0, 2, 1)
-    """
-    x0, y0, x1, y1 = box
-    if x0 > x1 or y0 > y1:
-        raise Unfit("the sides %s are out of order" % " ".join(map(str, box)))
-    low, high = (ROUND_HALF_EVEN, ROUND_HALF_EVEN) if (x0, y0) == (x1, y1) else (ROUND_FLOOR, ROUND_CEILING)
-    return in_units(x0, unit, low), in_units(y0, unit, low), in_units(x1, unit, high), in_units(y1, unit, high)
-
-
-def number_of(value: Any) -> int:
-    """A record number, from 0 and below 2^64, of a whole number or its digits. Raises Unfit.
-
-    >>> number_of(7), number_of("18446744073709551615")
-    (7, 18446744073709551615)
-    """
-    try:
-        if type(value) not in (int, str):
-            raise ValueError
-        return read_decimal(str(value), 0, 2**64 - 1)
-    except ValueError:
-        raise Unfit("the number %.80r is no whole number from 0 and below 2^64" % (value,)) from None
-
-
-def payload_of(value: Any) -> bytes:
-    """The payload that a text is in UTF-8, none where there is no text. Raises Unfit where it is above 200 bytes.
-
-    >>> payload_of("Tor"), payload_of(None)
-    (b'Tor', b'')
-    """
-    if value is not None and type(value) is not str:
-        raise Unfit("the payload %.80r is no text" % (value,))
-    try:
-        payload = (value or "").encode("utf-8")
-    except UnicodeEncodeError:
-        raise Unfit("the payload is not UTF-8") from None
-    if len(payload) > 200:
-        raise Unfit("the payload has %d bytes, and 200 are the most" % len(payload))
-    return payload
-
-
-def gathered(placed: Placed) -> List[Record]:
-    """The records of a map, in rising number. Raises Unfit where a number stands twice, or they are too many."""
-    records: Dict[int, Record] = {}
-    for where, record in placed:
-        with standing(where):
-            if record.number in records:
-                raise Unfit("the number %d stands twice" % record.number)
-            if len(records) == MOST:
-                raise Unfit("a map has at most %d records" % MOST)
-        records[record.number] = record
-    return [records[number] for number in sorted(records)]
-
-
-def text_of(data: bytes) -> str:
-    """A file as text, without a byte-order mark. Raises Unfit, with its line, where it is not UTF-8.
-
-    >>> text_of(bytes([97, 10, 255]))
-    Traceback (most recent call last):
-    records.Unfit: line 2: it is not UTF-8
-    """
-    try:
-        return data.decode("utf-8-sig")
-    except UnicodeDecodeError as error:
-        raise Unfit("line %d: it is not UTF-8" % (data.count(b"\n", 0, error.start) + 1)) from None
-
-
-# ---- from GeoJSON (RFC 7946)
-
-
-def positions(coordinates: Any, depth: int) -> Iterator[Tuple[Decimal, Decimal]]:
-    """The positions in an array of arrays so deep, in the file's unit. Raises Unfit."""
-    if not isinstance(coordinates, list):
-        raise Unfit("its coordinates are not those of its type")
-    if depth:
-        for part in coordinates:
-            yield from positions(part, depth - 1)
-    elif len(coordinates) >= 2 and all(type(side) in (int, Decimal) for side in coordinates[:2]):
-        yield Decimal(coordinates[0]), Decimal(coordinates[1])
-    else:
-        raise Unfit("a position of it is not two numbers")
-
-
-def places(geometry: Any) -> Iterator[Tuple[Decimal, Decimal]]:
-    """The positions of a geometry, in the file's unit. Raises Unfit."""
-    kind = geometry.get("type") if isinstance(geometry, dict) else None
-    if kind == "GeometryCollection" and isinstance(geometry.get("geometries"), list):
-        for part in geometry["geometries"]:
-            yield from places(part)
-    elif kind in DEPTHS:
-        yield from positions(geometry.get("coordinates"), DEPTHS[kind])
-    else:
-        raise Unfit("it has no geometry")
-
-
-def record_of_feature(feature: Any, options: Options) -> Record:
-    """The record of a feature. Raises Unfit."""
-    if not isinstance(feature, dict) or feature.get("type") != "Feature":
-        raise Unfit("it is no feature")
-    properties = feature.get("properties") or {}
-    if not isinstance(properties, dict):
-        raise Unfit("its properties are no object")
-    number = number_of(properties.get(options.number) if options.number else feature.get("id"))
-    found = list(places(feature.get("geometry")))
-    if not found:
-        raise Unfit("it has no position")
-    xs, ys = zip(*found)
-    rect = box_in_units((min(xs), min(ys), max(xs), max(ys)), options.unit)
-    return Record(number, rect, payload_of(properties.get(options.payload) if options.payload else None))
-
-
-def no_number(word: str) -> NoReturn:
-    """Refuses NaN and the infinities, which Python's reader would take."""
-    raise Unfit("%s is no number" % word)
-
-
-def from_geojson(data: bytes, options: Options) -> Placed:
-    """The records of a GeoJSON file: of a feature or a collection of features. Raises Unfit.
-
-    >>> data = b'{"type": "Feature", "id": 7, "geometry": {"type": "Point", "coordinates": [1.5, 2]}}'
-    >>> [(where, record.line()) for where, record in from_geojson(data, Options(Decimal("0.1")))]
-    [('feature 1', '7 15 20 15 20 -')]
-    """
-    try:
-        whole = json.loads(text_of(data), parse_float=Decimal, parse_constant=no_number)
-    except json.JSONDecodeError as error:
-        raise Unfit("line %d: %s" % (error.lineno, error.msg)) from None
-    except (ValueError, InvalidOperation, RecursionError) as error:
-        raise Unfit("this JSON cannot be read: %s" % error) from None
-    kind = whole.get("type") if isinstance(whole, dict) else None
-    features = [whole] if kind == "Feature" else whole.get("features") if kind == "FeatureCollection" else None
-    if not isinstance(features, list):
-        raise Unfit("it has neither a feature nor a collection of features")
-    for at, feature in enumerate(features, 1):
-        where = "feature %d" % at
-        with standing(where):
-            record = record_of_feature(feature, options)
-        yield where, record
-
-
-# ---- from CSV (RFC 4180) and from record lines
-
-
-def decimal_of(field: str) -> Decimal:
-    """The number that a field spells, in the file's unit. Raises Unfit."""
-    if not re.fullmatch(r"[+-]?([0-9]+(\.[0-9]*)?|\.[0-9]+)([eE][+-]?[0-9]{1,6})?", field.strip()):
-        raise Unfit("%.80r is no number" % field)
-    return Decimal(field.strip())
-
-
-def columns_at(columns: List[str], options: Options) -> List[int]:
-    """Where the columns of the number, of the sides and of the payload, if any, stand. Raises Unfit."""
-    needed = [options.number or "number", *options.place, *([options.payload] if options.payload else [])]
-    for name in needed:
-        if columns.count(name) != 1:
-            raise Unfit("line 1: the column %r stands there %d times" % (name, columns.count(name)))
-    return [columns.index(name) for name in needed]
-
-
-def record_of_row(fields: List[str], options: Options) -> Record:
-    """The record of the fields of number, sides and payload, if any. Raises Unfit."""
-    number = number_of(fields[0].strip())
-    sides = [decimal_of(field) for field in fields[1 : 1 + len(options.place)]]
-    payload = payload_of(fields[-1] if options.payload else None)
-    return Record(number, box_in_units((sides * 2)[:4], options.unit), payload)
-
-
-def from_csv(data: bytes, options: Options) -> Placed:
-    """The records of a CSV file, whose first line names its columns. Raises Unfit.
-
-    >>> [(where, record.line()) for where, record in from_csv(b"y,x,number\\n1,2,7\\n", Options(Decimal(1)))]
-    [('line 2', '7 2 1 2 1 -')]
-    """
-    rows = csv.reader(io.StringIO(text_of(data), newline=""), delimiter=options.delimiter, strict=True)
-    try:
-        columns = next(rows, [])
-        at = columns_at(columns, options)
-        for fields in rows:
-            where = "line %d" % rows.line_num
-            with standing(where):
-                if len(fields) != len(columns):
-                    raise Unfit("it has %d fields, and there are %d columns" % (len(fields), len(columns)))
-                record = record_of_row([fields[place] for place in at], options)
-            yield where, record
-    except csv.Error as error:
-        raise Unfit("line %d: %s" % (rows.line_num, error)) from None
-
-
-def record_of_line(line: str) -> Record:
-    """The record that a record line spells. Raises Unfit.
-
-    >>> record_of_line("7 1 2 3 4 6162")
-    Record(number=7, rect=(1, 2, 3, 4), payload=b'ab')
-    """
-    fields = line.split(" ")
-    try:
-        if len(fields) != 6 or not re.fullmatch("-|([0-9a-f]{2}){1,200}", fields[5]):
-            raise ValueError
-        number = read_decimal(fields[0], 0, 2**64 - 1)
-        x0, y0, x1, y1 = [read_decimal(field, -(2**31), 2**31 - 1) for field in fields[1:5]]
-        if x0 > x1 or y0 > y1:
-            raise ValueError
-    except ValueError:
-        raise Unfit("it is no record line") from None
-    return Record(number, (x0, y0, x1, y1), bytes.fromhex(fields[5].strip("-")))
-
-
-def from_lines(data: bytes) -> Placed:
-    """The records of record lines, in their order. Raises Unfit."""
-    lines = text_of(data).split("\n")
-    if lines[-1]:
-        raise Unfit("line %d: it has no line feed" % len(lines))
-    for at, line in enumerate(lines[:-1], 1):
-        where = "line %d" % at
-        with standing(where):
-            record = record_of_line(line)
-        yield where, record
+QUERIES = "queries"  # the property that tells which queries of a script a feature answers
+MOST_TOLD = 5  # features that are told by their number
+HELP = """--unit: a map unit in the file's unit, as 1e-7 of a degree, or 1 metre
+--number: the property or column of the number, for the feature's id or the column number
+--payload: the property or column of the payload, which else is none
+--digest: the payload is the SHA-256 of the feature's canonical bytes, by RFC 8785
+--shapes: of an answer made with --digest, the file that has the features
+--place: the columns x,y of a point, x0,y0,x1,y1 of a box, or that of well-known text; else x,y or WKT
+--delimiter: what stands between the fields of CSV, a comma or one character, or tab
+--form: how the input is written, where its name does not tell: geojson, geojsonseq, csv or text
+--skip-empty: leaves out features without geometry, and counts them
+--most: the most bytes of a proof or bundle that are read"""
 
 
 # ---- what is made of records
 
 
-def text(records: List[Record]) -> str:
-    """The record text of some records."""
-    return "".join(record.line() + "\n" for record in records)
+def text(packed: Iterable[bytes]) -> Iterator[str]:
+    """The lines of a record text."""
+    for record in sources.unpacked(packed):
+        yield record.line() + "\n"
 
 
-def batch(number: int, old: List[Record], new: List[Record]) -> str:
-    """The text of the batch of this number that leads from one state of a map to another. Raises Unfit.
+def batch(number: int, old: List[bytes], new: List[bytes]) -> List[str]:
+    """The lines of the batch of this number that leads from one state of a map to another. Raises Unfit.
 
     What left or changed goes out in rising number, and then what came or changed comes in.
 
-    >>> one, two, three = [Record(number, (0, 0, 0, 0), b"") for number in (1, 2, 3)]
-    >>> batch(5, [one, two], [two._replace(payload=b"a"), three]).split("\\n")
-    ['batch 5', '- 1', '- 2', '+ 2 0 0 0 0 61', '+ 3 0 0 0 0 -', '']
+    >>> one, two, three = [client.record_bytes(Record(number, (0, 0, 0, 0), b"")) for number in (1, 2, 3)]
+    >>> batch(5, [one, two], [client.record_bytes(Record(2, (0, 0, 0, 0), b"a")), three])
+    ['batch 5\\n', '- 1\\n', '- 2\\n', '+ 2 0 0 0 0 61\\n', '+ 3 0 0 0 0 -\\n']
     """
     before, after = set(old), set(new)
-    lines = ["- %d" % record.number for record in old if record not in after]
-    lines += ["+ " + record.line() for record in new if record not in before]
-    if len(lines) > MOST:
-        raise Unfit("%d changes, and a batch has at most %d" % (len(lines), MOST))
-    return "".join(line + "\n" for line in ["batch %d" % number, *lines])
+    gone = [one for one in old if one not in after]
+    come = [one for one in new if one not in before]
+    if len(gone) + len(come) > sources.MOST:
+        raise Unfit("%d changes, and a batch has at most %d" % (len(gone) + len(come), sources.MOST))
+    lines = ["- %d\n" % record.number for record in sources.unpacked(gone)]
+    return ["batch %d\n" % number, *lines, *("+ " + line for line in text(come))]
 
 
-def in_file(units: int, unit: Decimal) -> str:
-    """A coordinate in the file's unit, as a number of JSON.
+def query_word(words: Sequence[str], grid: Grid) -> str:
+    """The word of a query whose coordinates are in the file's unit: a window is rounded outwards. Raises Unfit.
 
-    >>> in_file(133777000, Decimal("1e-7")), in_file(-5, Decimal(10))
-    ('13.3777', '-50')
+    >>> query_word(["window", "13.37", "52.51", "13.38", "52.52"], Grid(Decimal("1e-7")))
+    'window:133700000,525100000,133800000,525200000'
+    >>> query_word(["nearest", "13.3777", "52.5163", "2"], Grid(Decimal("1e-7")))
+    'nearest:133777000,525163000,2'
     """
-    with localcontext() as context:
-        context.prec = 80
-        digits = format(units * unit, "f")
-    return digits.rstrip("0").rstrip(".") if "." in digits else digits
+    kind, *given = words
+    if (kind, len(given)) not in (("window", 4), ("nearest", 3)):
+        raise Unfit("a query is: window X0 Y0 X1 Y1, or: nearest X Y K")
+    if kind == "window":
+        x0, y0, x1, y1 = map(sources.decimal_of, given)
+        rect = grid.rect((x0, y0, x1, y1))
+        return "window:%d,%d,%d,%d" % rect
+    k = number_of(given[2])
+    if not 1 <= k <= 1024:
+        raise Unfit("%d nearest records are asked for, and 1 to 1024 can be" % k)
+    return "nearest:%d,%d,%d" % (*(grid.units(sources.decimal_of(side)) for side in given[:2]), k)
 
 
-def feature(record: Record, options: Options) -> str:
-    """The feature of a record: a point, a line or an area, the rectangle's. Raises Unfit."""
-    x0, y0, x1, y1 = [in_file(side, options.unit) for side in record.rect]
+# ---- GeoJSON of records
+
+
+class Naming(NamedTuple):
+    """How a record becomes a feature: its map units, and the names of the properties that it is to have."""
+
+    grid: Grid
+    number: Optional[str] = None
+    payload: Optional[str] = None
+    is_digest: bool = False  # whether the payload is a digest, which becomes the property `digest`
+
+
+def geometry(record: Record, grid: Grid) -> str:
+    """The rectangle of a record as a geometry: a point, a line or an area.
+
+    >>> geometry(Record(7, (15, 20, 15, 25), b""), Grid(Decimal("0.1")))
+    '{"type":"LineString","coordinates":[[1.5,2],[1.5,2.5]]}'
+    """
+    x0, y0, x1, y1 = map(grid.in_file, record.rect)
     corners = ["[%s,%s]" % corner for corner in ((x0, y0), (x1, y0), (x1, y1), (x0, y1), (x0, y0))]
     if (x0, y0) == (x1, y1):
         kind, coordinates = "Point", corners[0]
@@ -350,111 +132,388 @@ def feature(record: Record, options: Options) -> str:
         kind, coordinates = "LineString", "[%s,%s]" % (corners[0], corners[2])
     else:
         kind, coordinates = "Polygon", "[[%s]]" % ",".join(corners)
-    number = record.number if record.number <= MOST_EXACT else str(record.number)
-    properties: Dict[str, Any] = {options.number: number} if options.number else {}
-    if options.payload and record.payload:
-        try:
-            properties[options.payload] = record.payload.decode("utf-8")
-        except UnicodeDecodeError:
-            raise Unfit("the payload is not UTF-8") from None
-    told = '"id":%s,"properties":%s' % (json.dumps(number), json.dumps(properties, ensure_ascii=False))
-    return '{"type":"Feature",%s,"geometry":{"type":"%s","coordinates":%s}}' % (told, kind, coordinates)
+    return '{"type":"%s","coordinates":%s}' % (kind, coordinates)
 
 
-def features(placed: Placed, options: Options) -> str:
-    """The GeoJSON of some records, in their order, a line each. Raises Unfit.
+def feature(record: Record, naming: Naming, queries: Sequence[int] = ()) -> str:
+    """The feature of a record, which answers these queries of a script. Raises Unfit.
 
-    >>> print(features(iter([("", Record(7, (15, 20, 15, 20), b""))]), Options(Decimal("0.1"))), end="")
-    {"type":"FeatureCollection","features":[
+    >>> print(feature(Record(7, (15, 20, 15, 20), b""), Naming(Grid(Decimal("0.1")))))
     {"type":"Feature","id":7,"properties":{},"geometry":{"type":"Point","coordinates":[1.5,2]}}
-    ]}
     """
-    lines = []
-    for where, record in placed:
-        with standing(where):
-            lines.append(feature(record, options))
-    return '{"type":"FeatureCollection","features":[\n%s\n]}\n' % ",\n".join(lines)
+    number = record.number if record.number <= MOST_EXACT else str(record.number)
+    properties: Dict[str, Any] = {naming.number: number} if naming.number else {}
+    if naming.payload and record.payload:
+        try:
+            properties[naming.payload] = record.payload.decode("utf-8")
+        except UnicodeDecodeError:
+            raise Unfit("the payload of record %d is not UTF-8" % record.number) from None
+    if naming.is_digest:
+        properties["digest"] = record.payload.hex()
+    if queries:
+        properties[QUERIES] = list(queries)
+    told = '"id":%s,"properties":%s' % (json.dumps(number), compact(properties))
+    return '{"type":"Feature",%s,"geometry":%s}' % (told, geometry(record, naming.grid))
 
 
-# ---- the three commands
+def compact(value: Any) -> str:
+    """A value as JSON without spaces."""
+    return json.dumps(value, ensure_ascii=False, separators=(",", ":"))
 
 
-def read(name: str) -> bytes:
-    """The bytes of a file, or of the standard input. Raises OSError."""
-    with open(0 if name == "-" else name, "rb") as file:
-        return file.read()
+def collection(features: Iterable[str]) -> Iterator[str]:
+    """The GeoJSON of some features, a line each.
+
+    >>> "".join(collection(["1", "2"]))
+    '{"type":"FeatureCollection","features":[\\n1,\\n2\\n]}\\n'
+    """
+    yield '{"type":"FeatureCollection","features":[\n'
+    between = ""
+    for one in features:
+        yield between + one
+        between = ",\n"
+    yield "\n]}\n"
 
 
-def read_file(name: str, options: Options) -> List[Record]:
-    """The records of a file by its name's end, in rising number. Raises Unfit and OSError."""
-    with standing(name):
-        if name.endswith((".geojson", ".json")):
-            return gathered(from_geojson(read(name), options))
-        if name.endswith(".csv"):
-            return gathered(from_csv(read(name), options))
-        return gathered(from_lines(read(name)))
+# ---- features by their digests
 
 
-def unit_of(word: str) -> Decimal:
-    """The size of a map unit, a number above 0. Raises ValueError."""
+def shapes_of(name: str, form: Optional[str], options: Options, records: Sequence[Record]) -> List[str]:
+    """The features of a file whose digests are the payloads of these records, in their order. Raises Unfit, OSError."""
+    wanted, found = {record.number: record.payload for record in records}, {}
+    reading = sources.Reading(name, options)
+    form = form or sources.form_of(name)
+    if form not in ("geojson", "geojsonseq"):
+        raise Unfit("%s: --shapes takes GeoJSON" % name)
     try:
-        unit = decimal_of(word)
-    except Unfit:
-        raise ValueError(word) from None
-    if not Decimal("1e-30") <= unit <= Decimal("1e30"):
-        raise ValueError(word)
-    return unit
+        with open(name, "rb") as file:
+            all_ = sources.features_of(file) if form == "geojson" else sources.values_of(reading, file)
+            for one in sources.counted(all_, reading) if form == "geojson" else all_:
+                number = sources.number_of_feature(one, sources.properties_of(one), options.number)
+                if number in wanted and sources.digest_of(one) == wanted[number]:
+                    found[number] = sources.canonical(one)
+    except RecursionError:
+        raise Unfit(reading.where() + sources.DEEP) from None
+    except Unfit as unfit:
+        raise Unfit(reading.where() + str(unfit)) from None
+    missing = [record.number for record in records if record.number not in found]
+    if missing:
+        raise Unfit("%s: it has no feature of the number %d with the digest of the answer" % (name, missing[0]))
+    return [found[record.number] for record in records]
+
+
+# ---- lines that were printed
+
+
+def printed(file: Iterable[bytes]) -> Iterator[Tuple[Record, List[int]]]:
+    """The records of printed lines, each with the queries that it answers, none but of `check-all`. Raises Unfit."""
+    lines = iter(file)
+    first = next(lines, b"")
+    if not first:
+        raise Unfit("it has no lines, as after a check that failed: `answer` checks a proof and writes its answer")
+    reading = sources.Reading("", Options(Grid(Decimal(1))))
+    try:
+        if re.match(rb"query \d+ ", first):
+            yield from merged(verdicts([first, *lines], reading))
+            return
+        reading.at = 1 if first == b"sound\n" else 0
+        rest = lines if reading.at else joined(first, lines)
+        for record in sources.from_lines(rest, reading):
+            yield record, []
+    except Unfit as unfit:
+        raise Unfit("line %d: %s" % (reading.at, unfit)) from None
+
+
+def joined(first: bytes, lines: Iterator[bytes]) -> Iterator[bytes]:
+    """Some lines behind a first one."""
+    yield first
+    yield from lines
+
+
+def verdicts(lines: List[bytes], reading: sources.Reading) -> Iterator[Tuple[int, List[Record]]]:
+    """The answers in what `check-all` printed, each with the number of its query. Raises Unfit unless all are there."""
+    number = 0
+    while reading.at < len(lines):
+        line = lines[reading.at]
+        reading.at += 1
+        head = re.fullmatch(rb"query (\d{1,5}) ok (\d{1,7})\n", line)
+        if not head:
+            if line == b"accepted %d refused 0 missing 0\n" % number and reading.at == len(lines):
+                return
+            raise Unfit("not each part of the bundle was accepted, or lines are missing")
+        number, size = number + 1, int(head[2])
+        start = reading.at
+        records = list(sources.from_lines(lines[start : start + size], reading))
+        if int(head[1]) != number or len(records) != size:
+            raise Unfit("the answer to query %d is not there whole" % number)
+        yield number, records
+    raise Unfit("the last line is missing, which tells how many parts were accepted")
+
+
+def merged(answers: Iterable[Tuple[int, List[Record]]]) -> Iterator[Tuple[Record, List[int]]]:
+    """The records of the answers to several queries, each once, in rising number, with the queries that it answers."""
+    found: Dict[Record, List[int]] = {}
+    for number, records in answers:
+        for record in records:
+            found.setdefault(record, []).append(number)
+    yield from sorted(found.items())
+
+
+# ---- what is told of it
+
+
+def extent(records: Iterable[Record], grid: Grid) -> str:
+    """How many records there are, and where they lie in the file's unit.
+
+    >>> extent([Record(7, (15, 20, 15, 20), b""), Record(8, (0, -5, 9, 9), b"")], Grid(Decimal("0.1")))
+    '2 records from 0 -0.5 to 1.5 2'
+    """
+    rects, count = [], 0
+    for record in records:
+        count += 1
+        rects.append(record.rect)
+        if len(rects) == 1024:
+            rects = [around(rects)]
+    ends = "" if not rects else " from %s %s to %s %s" % tuple(map(grid.in_file, around(rects)))
+    return "%d record%s%s" % (count, "" if count == 1 else "s", ends)
+
+
+def around(rects: List[client.Rect]) -> client.Rect:
+    """The rectangle round some rectangles."""
+    x0s, y0s, x1s, y1s = zip(*rects)
+    return min(x0s), min(y0s), max(x1s), max(y1s)
+
+
+def tell_state(state: State) -> None:
+    """Says on standard error what a file gave: how many records, how many without payload, and what was left out."""
+    reading = state.reading
+    told = extent(sources.unpacked(state.packed), reading.options.grid) + ", %d without payload" % reading.bare
+    if reading.skipped:
+        told += "; left out, since without geometry: %d" % reading.skipped
+    outputs.tell(SCRIPT, told)
+    if reading.cut:
+        places = ", ".join(reading.cut[:MOST_TOLD]) + (" .." if reading.cut[MOST_TOLD:] else "")
+        words = "cut at the antimeridian, so that the box goes round the earth (make two features of each): %d, %s"
+        outputs.tell(SCRIPT, words % (len(reading.cut), places))
+
+
+# ---- the commands
+
+
+def text_command(given: argparse.Namespace) -> None:
+    """Writes the record text of a file."""
+    state = sources.read_state(given.FILE, given.form, options_of(given))
+    write(given.RECORDS, [given.FILE], text(state.packed))
+    tell_state(state)
+
+
+def batch_command(given: argparse.Namespace) -> None:
+    """Writes the batch from one state of a file to another."""
+    number, options = number_of(given.N), options_of(given)
+    old = sources.read_state(given.OLD, given.form, options)
+    new = sources.read_state(given.NEW, given.form, options)
+    lines = batch(number, old.packed, new.packed)
+    write(given.BATCH, [given.OLD, given.NEW], lines)
+    gone = sum(line[0] == "-" for line in lines)
+    outputs.tell(SCRIPT, "%d records go and %d come, and then there are:" % (gone, len(lines) - 1 - gone))
+    tell_state(new)
+
+
+def query_command(given: argparse.Namespace) -> None:
+    """Prints the word of a query."""
+    write("-", [], [query_word(given.WORDS, given.unit) + "\n"])
+
+
+def answer_command(given: argparse.Namespace) -> None:
+    """Writes the answer that a proof proves."""
+    root, query = root_and_query(given.ROOT, given.QUERY)
+    answer = client.judge(root, query, client.read_pieces(given.PROOF, given.most))
+    inputs, naming = [given.PROOF], naming_of(given)
+    features = [feature(record, naming) for record in answer.records]
+    if given.shapes:
+        inputs.append(given.shapes)
+        features = shapes_of(given.shapes, given.form, options_of(given), answer.records)
+    write(given.OUT, inputs, collection(features))
+    told = extent(answer.records, naming.grid) + ", of a map of %d at batch %d" % (answer.count, answer.batch)
+    outputs.tell(SCRIPT, told)
+
+
+def answers_command(given: argparse.Namespace) -> None:
+    """Writes the answers that the parts of a bundle prove, where all are accepted."""
+    root, _ = root_and_query(given.ROOT, "window:0,0,0,0")
+    queries = client.read_script(b"".join(client.read_pieces(given.SCRIPT)))
+    found, broken = client.judge_bundle(root, queries, client.read_pieces(given.BUNDLE, given.most))
+    for number, verdict in enumerate(found, 1):
+        if verdict.answer is None:
+            raise client.Ended(2, "query %d %s" % (number, verdict.refused or "missing"))
+    if broken is not None:
+        raise client.Ended(2, "bundle broken at %d" % broken)
+    answers = ((at, verdict.answer.records if verdict.answer else []) for at, verdict in enumerate(found, 1))
+    records = list(merged(answers))
+    write_several(given, records, [given.SCRIPT, given.BUNDLE])
+
+
+def features_command(given: argparse.Namespace) -> None:
+    """Writes printed lines as GeoJSON."""
+    try:
+        with open(0 if given.LINES == "-" else given.LINES, "rb", closefd=given.LINES != "-") as file:
+            records = list(printed(file))
+    except Unfit as unfit:
+        raise Unfit("%s: %s" % (given.LINES, unfit)) from None
+    write_several(given, records, [given.LINES])
+
+
+def write_several(given: argparse.Namespace, records: List[Tuple[Record, List[int]]], inputs: List[str]) -> None:
+    """Writes the features of records, each with the queries that it answers."""
+    naming = naming_of(given)
+    write(given.OUT, inputs, collection([feature(record, naming, queries) for record, queries in records]))
+    outputs.tell(SCRIPT, extent((record for record, _ in records), naming.grid))
+
+
+def write(name: str, inputs: Sequence[str], lines: Iterable[str]) -> None:
+    """Writes lines to a file that has this name once all of them are there. Raises Unfit and OSError."""
+    outputs.refuse_same(name, inputs)
+    with outputs.written(name, inputs) as file:
+        write_lines(file, lines)
+
+
+def write_lines(file: IO[bytes], lines: Iterable[str]) -> None:
+    """Writes lines to an open file. Raises Unfit where one is not UTF-8."""
+    for line in lines:
+        try:
+            file.write(line.encode("utf-8"))
+        except UnicodeEncodeError:
+            raise Unfit("a name that is to be written is not UTF-8") from None
+
+
+# ---- words
+
+
+def root_and_query(root: str, query: str) -> Tuple[bytes, Query]:
+    """What the words of a root digest and a query mean. Raises Unfit."""
+    try:
+        return client.read_root(root), client.read_query(query)
+    except ValueError as fault:
+        raise Unfit(str(fault)) from None
+
+
+def options_of(given: argparse.Namespace) -> Options:
+    """How the files of a command line are read."""
+    grid, place = given.unit or Grid(Decimal(1)), given.place
+    names = given.number, given.payload, place, given.delimiter
+    return Options(grid, *names, given.skip_empty, given.digest or bool(given.shapes))
+
+
+def naming_of(given: argparse.Namespace) -> Naming:
+    """How the records of an answer become features."""
+    if given.payload == given.number and given.payload or QUERIES in (given.payload, given.number):
+        raise Unfit("--number and --payload name different properties, and neither %s" % QUERIES)
+    return Naming(given.unit, given.number, given.payload, given.digest)
+
+
+def unit_of(word: str) -> Grid:
+    """The map units whose size is a number above 0. Raises ArgumentTypeError."""
+    with suppress(Unfit):
+        unit = sources.decimal_of(word)
+        if Decimal("1e-30") <= unit <= Decimal("1e30"):
+            return Grid(unit)
+    raise argparse.ArgumentTypeError("%s is no number above 0" % clipped(word))
+
+
+def place_of(word: str) -> List[str]:
+    """The names of one, two or four columns. Raises ArgumentTypeError."""
+    names = word.split(",")
+    if len(names) not in (1, 2, 4):
+        raise argparse.ArgumentTypeError("it names one, two or four columns")
+    return names
+
+
+def delimiter_of(word: str) -> str:
+    """What stands between fields. Raises ArgumentTypeError."""
+    word = "\t" if word in ("tab", "\\t") else word
+    if len(word) != 1 or word in '"\r\n' or ord(word) > 0xFFFF:
+        raise argparse.ArgumentTypeError("it is one character, or tab")
+    return word
+
+
+def most_of(word: str) -> int:
+    """A number of bytes. Raises ArgumentTypeError."""
+    try:
+        return client.read_most(word)
+    except ValueError:
+        raise argparse.ArgumentTypeError("%s is no whole number of bytes" % clipped(word)) from None
+
+
+class Parser(argparse.ArgumentParser):
+    """A parser of command lines that tells in a line what is wrong."""
+
+    def error(self, message: str) -> NoReturn:
+        """Raises Unfit."""
+        raise Unfit("%s (%s --help)" % (message, SCRIPT))
+
+    def print_help(self, file: Any = None) -> None:
+        """Prints how the script is used."""
+        write("-", [], [self.format_help()])
+
+
+COMMANDS = {
+    "text": (text_command, ["FILE", "RECORDS"]),
+    "batch": (batch_command, ["N", "OLD", "NEW", "BATCH"]),
+    "query": (query_command, ["WORDS"]),
+    "answer": (answer_command, ["ROOT", "QUERY", "PROOF", "OUT"]),
+    "answers": (answers_command, ["ROOT", "SCRIPT", "BUNDLE", "OUT"]),
+    "features": (features_command, ["LINES", "OUT"]),
+}
+ENDS = tuple(sources.FORMS)
+TYPES: Dict[str, Any] = {"--unit": unit_of, "--place": place_of, "--delimiter": delimiter_of, "--most": most_of}
+
+
+def parser() -> Parser:
+    """The parser of all command lines."""
+    shared = Parser(add_help=False, allow_abbrev=False)
+    for option, told in (line.split(": ", 1) for line in HELP.split("\n")):
+        if option in ("--digest", "--skip-empty"):
+            shared.add_argument(option, action="store_true", help=told)
+        else:
+            shared.add_argument(option, type=TYPES.get(option), help=told)
+    shared.set_defaults(delimiter=",")
+    raw = argparse.RawDescriptionHelpFormatter
+    whole = Parser(prog=SCRIPT, description=__doc__, usage=argparse.SUPPRESS, formatter_class=raw)
+    commands = whole.add_subparsers(dest="command", required=True, help=argparse.SUPPRESS)
+    for command, (_, names) in COMMANDS.items():
+        one = commands.add_parser(command, prog="%s %s" % (SCRIPT, command), parents=[shared], allow_abbrev=False)
+        for name in names:
+            one.add_argument(name, nargs="+" if name == "WORDS" else None)
+    return whole
 
 
 def arguments(words: List[str]) -> argparse.Namespace:
-    """The words of a command line. Ends the run with status 2 where they are none."""
-    parser = argparse.ArgumentParser(description=(__doc__ or "").split("\n", 1)[0])
-    shared = argparse.ArgumentParser(add_help=False)
-    shared.add_argument("--unit", type=unit_of, help="a map unit in the file's unit: 1e-7 of a degree, or 1 metre")
-    shared.add_argument("--number", help="the property or column of the number (the feature's id, the column number)")
-    shared.add_argument("--payload", help="the property or column of the payload (none)")
-    shared.add_argument("--place", default="x,y", help="the columns x,y of a point, or x0,y0,x1,y1 of a box (x,y)")
-    shared.add_argument("--delimiter", default=",", help="what stands between the fields of CSV (,)")
-    commands = parser.add_subparsers(dest="command", required=True)
-    for command, names in {"text": "FILE OUT", "batch": "N OLD NEW OUT", "features": "FILE OUT"}.items():
-        one = commands.add_parser(command, parents=[shared])
-        for name in names.split():
-            one.add_argument(name)
-    given = parser.parse_args(words)
-    given.place = given.place.split(",")
-    if len(given.place) not in (2, 4) or len(given.delimiter) != 1:
-        parser.error("--place names two or four columns, and --delimiter is one character")
-    needs_unit = given.command == "features" or any(
-        vars(given).get(name, "").endswith((".geojson", ".json", ".csv")) for name in ("FILE", "OLD", "NEW")
+    """What the words of a command line mean. Raises Unfit."""
+    negative = re.compile(r"-[0-9.]+[eE][+-]?[0-9]{1,2}")
+    given = parser().parse_args(
+        [sources.spelled(sources.decimal_of(word)) if negative.fullmatch(word) else word for word in words]
     )
-    if needs_unit and given.unit is None:
-        parser.error("--unit has to be given")
+    if given.form not in (None, *sources.FORMS.values(), "text"):
+        raise Unfit("--form is geojson, geojsonseq, csv or text, and not %s" % clipped(given.form))
+    if given.digest and given.payload:
+        raise Unfit("the payload is either what --payload names or, with --digest, a digest")
+    files = [vars(given)[name] for name in ("FILE", "OLD", "NEW") if name in given]
+    is_text = given.form == "text" or not (given.form or any(name.lower().endswith(ENDS) for name in files))
+    if given.unit is None and not (files and is_text):
+        raise Unfit("--unit has to be given: how large a map unit is in the file's unit")
     return given
 
 
-def made(given: argparse.Namespace) -> str:
-    """What a command line is to write. Raises Unfit and OSError."""
-    options = Options(given.unit or Decimal(1), given.number, given.payload, given.place, given.delimiter)
-    if given.command == "text":
-        return text(read_file(given.FILE, options))
-    if given.command == "batch":
-        return batch(number_of(given.N), read_file(given.OLD, options), read_file(given.NEW, options))
-    with standing(given.FILE):
-        return features(from_lines(read(given.FILE)), options)
-
-
-def main(words: List[str]) -> int:
-    """Runs the words of a command line; answers the exit status."""
+def run(words: List[str]) -> None:
+    """Does what the words of a command line say. Raises what outputs.status_of tells."""
     given = arguments(words)
-    try:
-        whole = made(given).encode("utf-8")
-        with open(1 if given.OUT == "-" else given.OUT, "wb") as file:
-            file.write(whole)
-    except (Unfit, OSError, RecursionError) as error:
-        print("records.py: %s" % error, file=sys.stderr)
-        return 1
-    return 0
+    COMMANDS[given.command][0](given)
+
+
+def main(words: Optional[List[str]] = None) -> int:
+    """Runs the words of a command line; answers the exit status."""
+    return outputs.status_of(SCRIPT, lambda: run(sys.argv[1:] if words is None else words))
 
 
 if __name__ == "__main__":
-    sys.exit(main(sys.argv[1:]))
+    sys.exit(main())

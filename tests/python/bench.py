@@ -58,7 +58,8 @@ class Bench:
         return status, text.encode()
 
     def script(self, name: str, words: List[str], **how) -> Ended:
-        """What a script of clients/python says, as a process of its own."""
+        """What a script of clients/python prints, as a process of its own."""
+        how.setdefault("stderr", subprocess.DEVNULL)
         ran = subprocess.run([sys.executable, os.path.join(CLIENTS, name), *words], stdout=subprocess.PIPE, **how)
         return ran.returncode, ran.stdout
 
@@ -68,6 +69,12 @@ class Bench:
         with contextlib.redirect_stderr(told):
             status = module.main(words)
         return status, told.getvalue().encode()
+
+    def told(self, name: str, words: List[str], **how) -> Ended:
+        """What a script of clients/python says on standard error, as a process of its own."""
+        call = [sys.executable, os.path.join(CLIENTS, name), *words]
+        ran = subprocess.run(call, stdout=subprocess.DEVNULL, stderr=subprocess.PIPE, **how)
+        return ran.returncode, ran.stderr
 
     def script_to(self, name: str, words: List[str], out: IO[bytes]) -> int:
         """The status of a script that prints to this file."""

@@ -12,6 +12,7 @@ from typing import Callable, List, Optional, Tuple
 from bench import TOP, Bench, read, write
 import chances
 import foretold
+import inputs
 import mrtree_check
 import pages
 import tables
@@ -19,6 +20,7 @@ import trips
 import vectors
 
 LONGEST = 40  # lines of a function
+MODULES = ["mrtree_check", "outputs", "sources", "records", "draw", "packing"]
 MOST_IN_SHORT = 2**17  # bytes of a proof that the short run takes from a story
 # The rules by which texts, batches, map files and proofs are refused.
 RULES = """TooMany NoEnd Head Form Number Coordinate Order Payload Repeat Query OutOfOrder Present Full Absent
@@ -32,11 +34,13 @@ RULES = """TooMany NoEnd Head Form Number Coordinate Order Payload Repeat Query 
 
 def style(bench: Bench) -> None:
     """Examples hold, functions are short, typed and told, and nothing is imported but the standard library."""
-    bench.holds(doctest.testmod(vectors).failed == 0, "the examples of the reader of vectors")
-    for name in ("mrtree_check", "records", "draw"):
+    for module in (vectors, inputs):
+        bench.holds(doctest.testmod(module).failed == 0, "the examples of " + module.__name__)
+    for name in MODULES:
         module = importlib.import_module(name)
         results = doctest.testmod(module)
-        bench.holds(results.failed == 0 and results.attempted > 0, "%s: its examples" % name)
+        has_some = results.attempted > 0 or name in ("outputs", "packing")
+        bench.holds(results.failed == 0 and has_some, "%s: its examples" % name)
         with open(module.__file__) as file:
             tree = ast.parse(file.read(), feature_version=(3, 9))
         for node in ast.walk(tree):
@@ -48,7 +52,7 @@ def style(bench: Bench) -> None:
                 typed = node.returns is not None and all(a.annotation or a.arg == "self" for a in node.args.args)
                 bench.holds(typed, "%s: %s has no types" % (name, node.name))
             for imported in names_imported(node):
-                known = getattr(sys, "stdlib_module_names", {imported}) | {"mrtree_check"}
+                known = getattr(sys, "stdlib_module_names", {imported}) | {*MODULES, ""}
                 bench.holds(imported in known, "%s imports %s" % (name, imported))
 
 
@@ -187,6 +191,7 @@ def main(how: str, program: str) -> int:
         ("the tables of the program's tests", rows_hold),
         ("the same tables, foretold", foretold.tables_hold),
         ("proofs at random", chances.random_proofs),
+        ("files that are odd or do not fit", inputs.inputs_hold),
         ("from files of publishers and back", trips.trips_hold),
         ("the examples on pages", pages.pages_hold),
     ]

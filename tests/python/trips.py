@@ -16,53 +16,9 @@ from proofs import plain
 UNIT = Decimal("1e-7")
 SCRIPT = "records.py"
 
-# What does not fit: the name of a file, what stands in it, the options, and a part of what is said.
-UNFIT: List[Tuple[str, bytes, List[str], str]] = [
-    ("a.json", b'{"type": "FeatureCollection",\n "features": [}', [], "line 2: "),
-    ("a.json", b'{"type":\n"\xff"}', [], "line 2: it is not UTF-8"),
-    ("a.json", b'{"type": "Point", "coordinates": [1, 2]}', [], "neither a feature nor"),
-    ("a.csv", b"number,x,y\n1,2,3\n1,4,5\n", [], "line 3: the number 1 stands twice"),
-    ("a.csv", b"number,x,y\n1,2,3\n2,2,214.7483648\n", [], "line 3: the coordinate 214.7483648 is out of range"),
-    ("a.csv", b"number,x,y\n1,2,\n", [], "line 2: '' is no number"),
-    ("a.csv", b"number,x,y\n1,2,NaN\n", [], "line 2: 'NaN' is no number"),
-    ("a.csv", b"number,x,y\n1,2\n", [], "line 2: it has 2 fields"),
-    ("a.csv", b"number,x\n1,2\n", [], "line 1: the column 'y' stands there 0 times"),
-    ("a.csv", b"number,x,y\n-1,2,3\n", [], "line 2: the number '-1' is no whole number"),
-    ("a.csv", b"number,x,y,n\n1,2,3,\xff\n", ["--payload", "n"], "line 2: it is not UTF-8"),
-    ("a.csv", b"number,x,y,n\n1,2,3," + b"a" * 201 + b"\n", ["--payload", "n"], "line 2: the payload has 201 bytes"),
-    ("a.csv", b"number,a,b,c,d\n1,3,2,2,4\n", ["--place", "a,b,c,d"], "line 2: the sides 3 2 2 4 are out of order"),
-    ("a.txt", b"1 2 3 4 5 -\n1 2 3 4 5\n", [], "line 2: it is no record line"),
-    ("a.txt", b"1 2 3 4 5 -\n1 2 3 4 5 -\n", [], "line 2: the number 1 stands twice"),
-    ("a.txt", b"1 2 3 4 5 -", [], "line 1: it has no line feed"),
-]
-
-# Second features that do not fit, and a part of what is said of them.
-UNFIT_FEATURES: List[Tuple[Dict[str, Any], str]] = [
-    ({"id": 1}, "the number 1 stands twice"),
-    ({"id": None}, "is no whole number"),
-    ({"id": 1.5}, "is no whole number"),
-    ({"id": True}, "is no whole number"),
-    ({"id": 2**64}, "is no whole number"),
-    ({"id": "07"}, "is no whole number"),
-    ({"geometry": None}, "it has no geometry"),
-    ({"geometry": {"type": "Point", "coordinates": [1]}}, "not two numbers"),
-    ({"geometry": {"type": "Point", "coordinates": ["1", "2"]}}, "not two numbers"),
-    ({"geometry": {"type": "Polygon", "coordinates": [[1, 2]]}}, "not those of its type"),
-    ({"geometry": {"type": "MultiPoint", "coordinates": []}}, "it has no position"),
-    ({"geometry": {"type": "Point", "coordinates": [214.7483648, 0]}}, "the coordinate 214.7483648 is out of range"),
-    ({"geometry": {"type": "Point", "coordinates": [0, -214.7483649]}}, "is out of range"),
-    ({"properties": {"name": "\u00e4" * 101}}, "the payload has 202 bytes"),
-    ({"properties": {"name": 5}}, "the payload 5 is no text"),
-    ({"properties": {"name": "\ud800"}}, "the payload is not UTF-8"),
-    ({"properties": [1]}, "its properties are no object"),
-    ({"type": "Point"}, "it is no feature"),
-]
-
-
 def trips_hold(bench: Bench) -> None:
     """All of it."""
     sample_holds(bench)
-    unfit_are_told(bench)
     chance = random.Random(7)
     for size in (0, 1, 30, 400, 3000) if bench.is_long else (0, 1, 100):
         trip_holds(bench, chance, size)
@@ -95,32 +51,6 @@ def sample_holds(bench: Bench) -> None:
     bench.holds(is_so, "a refused proof is drawn, or it is said %s" % (said,))
 
 
-# ---- what does not fit
-
-
-def unfit_are_told(bench: Bench) -> None:
-    """What does not fit is told with its feature or line, and nothing is written."""
-    for name, bytes_, options, says in UNFIT:
-        write(name, bytes_)
-        is_told(bench, ["text", name, "out", "--unit", "1e-7", *options], says)
-    good = {"type": "Feature", "id": 1, "properties": {}, "geometry": {"type": "Point", "coordinates": [1, 2]}}
-    for other, says in UNFIT_FEATURES:
-        whole = {"type": "FeatureCollection", "features": [good, {**good, "id": 2, **other}]}
-        write("a.geojson", json.dumps(whole).encode())
-        options = ["--unit", "1e-7", "--payload", "name"]
-        is_told(bench, ["text", "a.geojson", "out", *options], "a.geojson: feature 2: ", says)
-    write("a.txt", b"1 2 3 4 5 ff\n")
-    is_told(bench, ["features", "a.txt", "out", "--unit", "1", "--payload", "name"], "line 1: the payload is not UTF-8")
-    is_told(bench, ["text", "none.csv", "out", "--unit", "1"], "none.csv")
-    is_told(bench, ["batch", "01", "a.txt", "a.txt", "out"], "the number '01' is no whole number")
-
-
-def is_told(bench: Bench, words: List[str], *says: str) -> None:
-    """The script says these things on standard error, writes nothing and ends with status 1."""
-    status, said = bench.call(records, words)
-    told = said.decode()
-    is_so = status == 1 and all(part in told for part in says) and not os.path.exists("out")
-    bench.holds(is_so, "records.py %s: status %d, %s, and %s was meant" % (" ".join(words), status, told, says))
 
 
 # ---- to a map and back
@@ -209,8 +139,8 @@ def trip_holds(bench: Bench, chance: random.Random, size: int) -> None:
     for query in [(-(10**9), -(10**9), 10**9, 10**9), (-(2**31), -(2**31), 2**31 - 1, 2**31 - 1), ((0, 0), 25)]:
         word = proofs.word_of(query)
         bench.program(["prove", "m", word, "p"])
-        write("answer", bench.script("mrtree_check.py", [root, word, "p"])[1])
-        bench.call(records, ["features", "answer", "back.geojson", *options])
+        said = bench.call(records, ["answer", root, word, "p", "back.geojson", *options])
+        bench.holds(said[0] == 0, "the answer to %s: %s" % (word, said))
         back = json.loads(read("back.geojson") or "{}", parse_float=Decimal, parse_int=Decimal).get("features")
         scan = plain.answer(meant, query)
         bench.holds([decoded(one) for one in back] == (sorted(scan) if len(query) == 4 else scan), "back by " + word)
