@@ -105,11 +105,15 @@ module _ (hash : List ℕ → List ℕ) (h : MapHead) (es : Entries) (bytes : Li
     blank = take_at (zeros page_size) (drop page_size bytes) page_size (length_zeros page_size);
   }
 
+  pub whole_nodes : (nodes : List ℕ) → nodes ≡ take ((max 1 h.pages - 1) * page_size) (drop page_size bytes) →
+      nodes ≡ drop page_size bytes
+  whole_nodes nodes e =
+      e ∙ take_all ((max 1 h.pages - 1) * page_size) (drop page_size bytes)
+      (omega (arith, spans.whole, spans.some, length-drop page_size bytes))
+
   pub whole_copy : (nodes : List ℕ) → nodes ≡ take ((max 1 h.pages - 1) * page_size) (drop page_size bytes) →
       zeros page_size ++ nodes ≡ copy_of bytes
-  whole_copy nodes e = ap (λ xs. zeros page_size ++ xs)
-      (e ∙ take_all ((max 1 h.pages - 1) * page_size) (drop page_size bytes)
-      (omega (arith, spans.whole, spans.some, length-drop page_size bytes)))
+  whole_copy nodes e = ap (λ xs. zeros page_size ++ xs) (whole_nodes nodes e)
 
   -- ---- the draft over it
 
@@ -191,6 +195,16 @@ module _ (hash : List ℕ → List ℕ) (h : MapHead) (es : Entries) (cap : ℕ)
     there = set_bytes name (zeros page_size ++ c.nodes) before.files after.files files is c.files
         ∙ ap Some (whole_copy hash h es bytes op c.nodes (c.so_far bytes found (spans hash h es bytes op).whole));
   }
+
+  -- each page but page 0 is as before
+  same_at : (o : Option (List ℕ)) → told_bytes before.files old ≡ o → IfSome o (IsOpen hash h es) →
+      IfSome o (λ was. c.nodes ≡ drop page_size was)
+  same_at None found op = tt
+  same_at (Some bytes) found op =
+      whole_nodes hash h es bytes op c.nodes (c.so_far bytes found (spans hash h es bytes op).whole)
+
+  pub copy_same : IfSome (told_bytes before.files old) (λ was. c.nodes ≡ drop page_size was)
+  copy_same = same_at (told_bytes before.files old) refl store.open_
 
   have_at : (files : Option Files) → before.files ≡ files → (o : Option (List ℕ)) → told_bytes before.files old ≡ o →
       IfSome o (IsOpen hash h es) → IsFiled files old → IfSome (told_bytes after.files name) (HasPages h.pages)

@@ -23,11 +23,11 @@ use Rattle.mr_pages.specs.Walking.{child_link}
 use Rattle.mr_batch.specs.Changes.{Changes}
 use Rattle.mr_batch.specs.Directory.{Entries as Directed}
 use Rattle.mr_store.specs.Kept.{Entries}
-use Rattle.mr_store.specs.Stored.{IsStore}
+use Rattle.mr_store.specs.Stored.{IsRootOf, IsStore}
 use Rattle.mr_edit.specs.Causes.{HasEditCause}
 use Rattle.mr_edit.specs.Changing.{CanReplay}
 use Rattle.mr_draft.specs.Draft.{Drawn, drawn, DraftOf, IsTop, IsOff, Copies, CopyFails, CanApply, Applies, KeepsDraft}
-use Rattle.mr_edit.specs.Outcome.{NeverMap}
+use Rattle.mr_edit.specs.Outcome.{NeverMap, IsLow}
 use Rattle.mr_edit.specs.Replayed.{Replays}
 use Rattle.mr_edit.specs.Shelves.{HasShelfCause}
 use Rattle.mr_draft.specs.Sheets.{zeros, book_on, HasPages, ArePages, HasCopied, CopyStops, KeepsSheets}
@@ -35,7 +35,7 @@ use Rattle.mr_edit.specs.declared.error.EditErr.{EditErr}
 use Rattle.mr_edit.specs.Counted.{ReplaysWithin}
 use Rattle.mr_edit.specs.Reads.{reads_along}
 use Rattle.mr_edit.specs.declared.error.EditErr.TheVariants as errors
-use Rattle.mr_draft.proofs.Copies.{copy_draft}
+use Rattle.mr_draft.proofs.Copies.{copy_draft, copy_same}
 use Rattle.mr_draft.proofs.ReadPages.{book_size}
 use Rattle.mr_edit.proofs.Room.{few_nodes}
 use Rattle.mr_draft.proofs.Seals.{unsealed_front, unsealed_none, unsealed_pages}
@@ -45,6 +45,10 @@ use Rattle.mr_draft.proofs.Seals.{unsealed_front, unsealed_none, unsealed_pages}
 pub moved : (Q : Shelved → List ℕ → MapHead → Type 0) (a b : Shelved) (m n : List ℕ) (g h : MapHead) → a ≡ b → m ≡ n →
     g ≡ h → Q a m g → Q b n h
 moved Q a b m n g h p q r x = subst (λ s. Q s n h) p (subst (λ k. Q a k h) q (subst (λ k. Q a m k) r x))
+
+low_at : (pages : ℕ) (root : Option Child) → IfSome root (IsRootOf pages) → IsLow root
+low_at pages None r = tt
+low_at pages (Some c) r = r.low
 
 module _ (hash : List ℕ → List ℕ) (h : MapHead) (es : Entries) (cap : ℕ) (old name : List ℕ)
     (before after : Shelved) where
@@ -58,7 +62,11 @@ module _ (hash : List ℕ → List ℕ) (h : MapHead) (es : Entries) (cap : ℕ)
     root = refl;
     free = refl;
     count = refl;
+    low = low_at h.pages h.root store.root;
     bytes = zeros page_size ++ c.nodes;
+    others = c.nodes;
+    blank = refl;
+    same = copy_same hash h es cap old name before after store c;
     unsealed = unsealed_front hash (zeros page_size ++ c.nodes)
         (c.nodes, [], sym (append-nil (zeros page_size ++ c.nodes)));
     files = c.files;

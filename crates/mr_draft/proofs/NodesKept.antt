@@ -36,9 +36,10 @@ use Rattle.mr_edit.specs.Book.{Sheet, Book, HasNode, node_sheet, free_sheet, wit
 use Rattle.mr_edit.specs.Causes.{CanRead}
 use Rattle.mr_edit.specs.Held.{IsEntryOf}
 use Rattle.mr_edit.specs.Outcome.{NeverMap}
-use Rattle.mr_edit.specs.Shelves.{blamed}
+use Rattle.mr_edit.specs.Shelves.{HasShelfCause, blamed}
 use Rattle.mr_edit.specs.declared.error.EditErr.{EditErr}
-use Rattle.mr_draft.specs.Sheets.{sheet_of, AreOn, AreKept, ChangesPage, LosesPages, Forgets}
+use Rattle.mr_edit.specs.declared.error.EditErr.TheVariants as errors
+use Rattle.mr_draft.specs.Sheets.{sheet_of, AreOn, AreKept, RefusesRead, ChangesPage, LosesPages, Forgets}
 use Rattle.mr_draft.proofs.Copies.{sheet_node}
 use Rattle.mr_edit.proofs.Entries.{said_leaf, said_inner}
 use Rattle.mr_edit.proofs.Frame.{times_first, times_rest, times-append}
@@ -340,3 +341,23 @@ module _ (pages : ℕ) (hash : List ℕ → List ℕ) where
       (tells_none A e n (CanRead hash told c) (λ can.
       let t = is_there told c size can in
       (t.node, tells t.node (spelled told can.book c.id p t.node can.is sheet t.there) t.said)))
+
+-- ---- why a read is refused
+
+module _ (hash : List ℕ → List ℕ) (pages : ℕ) (c : Child) where
+  pub memory_refuses : RefusesRead hash pages c errors.NoMemory
+  memory_refuses = record { error = nodes.NoMemory; is = refl; given = inl tt }
+
+  pub shelf_refuses : (before after : ℕ) (e : EditErr) → HasShelfCause before after e → RefusesRead hash pages c e
+  shelf_refuses before after (errors.Map fault) h = absurd h
+  shelf_refuses before after errors.Missing h = record { error = nodes.Missing; is = refl; given = inl tt }
+  shelf_refuses before after errors.Fault h = record { error = nodes.Fault; is = refl; given = inl tt }
+  shelf_refuses before after errors.NoMemory h = memory_refuses
+
+  pub outside_refuses : (c.id ≡ 0) ⊎ (pages ≤ c.id) →
+      RefusesRead hash pages c (blamed (nodes.Outside c.id))
+  outside_refuses out = record {
+    error = nodes.Outside c.id;
+    is = refl;
+    given = inr (refl, λ some. elim out [ inl none ↦ absurd (omega (arith, some, none)) | inr high ↦ high ]);
+  }

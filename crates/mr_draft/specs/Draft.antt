@@ -1,5 +1,5 @@
 -- A draft of a map: a copy of its file on whose pages changes are made, until it is sealed.
-use Rattle.std.specs.Prelude.{◌≡◌, ◌⊎◌, ℕ, ◌+◌, ◌*◌, ◌<◌, ◌≤◌, max, List, [], ◌∷◌, length, Option, Some, None, option_map, IfSome}
+use Rattle.std.specs.Prelude.{◌≡◌, ◌⊎◌, ℕ, ◌+◌, ◌*◌, ◌<◌, ◌≤◌, max, List, [], ◌∷◌, ◌++◌, length, drop, Option, Some, None, option_map, IfSome}
 use Rattle.mr_record.specs.declared.version.Version.TheVariants.{One}
 use Rattle.mr_outside.specs.Files.{with_file}
 use Rattle.mr_outside.specs.State.{Shelved}
@@ -25,7 +25,8 @@ use Rattle.mr_batch.specs.Directory.{Entries, IsDirectoryOf}
 use Rattle.mr_batch.specs.Peak.{peak}
 use Rattle.mr_batch.specs.Replay.{replay}
 use Rattle.mr_edit.specs.Drafted.{Drafted}
-use Rattle.mr_draft.specs.Sheets.{book_on}
+use Rattle.mr_edit.specs.Outcome.{IsLow}
+use Rattle.mr_draft.specs.Sheets.{book_on, zeros}
 use Rattle.mr_edit.specs.Shelves.{HasShelfCause}
 use Rattle.mr_edit.specs.declared.error.EditErr.{EditErr}
 use Rattle.mr_edit.specs.declared.error.EditErr.TheVariants as errors
@@ -95,7 +96,13 @@ pub record Copies (hash : List ℕ → List ℕ) (name : List ℕ) (h : MapHead)
   pub root : d.root ≡ h.root
   pub free : d.free ≡ h.free
   pub count : d.count ≡ h.count
+  -- told or not, no higher than a map's root may be
+  pub low : IsLow d.root
   pub bytes : List ℕ
+  -- page 0 is zeros, and each other page as in the map's file, where that is told
+  pub others : List ℕ
+  pub blank : bytes ≡ zeros page_size ++ others
+  pub same : IfSome (told_bytes before.files name) (λ was. others ≡ drop page_size was)
   pub unsealed : IsUnsealed first_form hash bytes
   pub files : IsChanged (with_file new) bytes before.files d.shelf.files
   pub quiet : d.shelf.faults ≡ before.faults

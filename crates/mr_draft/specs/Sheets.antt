@@ -7,17 +7,21 @@ use Rattle.mr_outside.specs.State.{Shelved}
 use Rattle.mr_outside.specs.Writing.{IsChanged}
 use Rattle.mr_tree.specs.View.{level_of, preimage_of}
 use Rattle.mr_tree.specs.Snapshot.{HasShape}
+use Rattle.mr_tree.specs.declared.child.Child.{Child}
+use Rattle.mr_tree.specs.declared.nodes.NodesErr.{NodesErr}
+use Rattle.mr_tree.specs.declared.nodes.NodesErr.TheVariants as nodes
 use Rattle.mr_pages.specs.Page.{page_limit}
 use Rattle.mr_pages.specs.PageBytes.{page_size, first_form}
 use Rattle.mr_pages.specs.File.{page_at}
 use Rattle.mr_pages.specs.Saved.{Leaves}
 use Rattle.mr_pages.specs.Source.{told_bytes}
 use Rattle.mr_pages.specs.Walking.{page_node}
+use Rattle.mr_store.specs.Again.{IsGiven}
 use Rattle.mr_store.specs.Kept.{Entries, node_of}
 use Rattle.mr_store.specs.Stored.{room}
 use Rattle.mr_store.specs.declared.kept.Kept.{Kept}
 use Rattle.mr_edit.specs.Book.{Sheet, Book, HasNode}
-use Rattle.mr_edit.specs.Shelves.{HasShelfCause}
+use Rattle.mr_edit.specs.Shelves.{HasShelfCause, blamed}
 use Rattle.mr_edit.specs.declared.error.EditErr.{EditErr}
 use Rattle.mr_edit.specs.declared.error.EditErr.TheVariants as errors
 
@@ -77,8 +81,18 @@ pub record AreKept (hash : List ℕ → List ℕ) (told : Option Book) (es : Ent
 -- what is known of a file under edit, whether or not it is told
 pub record IsSheets (hash : List ℕ → List ℕ) (told : Option Files) (name : List ℕ) (pages : ℕ)
     (es : Entries) (cap : ℕ) : Type 0 where
+  pub few : pages ≤ page_limit
   pub file_ : ArePages told name pages
   pub kept : AreKept hash (book_on told name pages) es cap
+
+-- why a read of the child's node is refused, in a change's own words: what was read is refused just
+-- as some bytes of a page are, or the child's page is not in the file
+pub record RefusesRead (hash : List ℕ → List ℕ) (pages : ℕ) (c : Child) (e : EditErr) : Type 0
+  where
+    pub error : NodesErr
+    pub is : e ≡ blamed error
+    pub given : IsGiven hash pages c error
+        ⊎ ((error ≡ nodes.Outside c.id) × (1 ≤ c.id → pages ≤ c.id))
 
 -- ---- what calls leave
 

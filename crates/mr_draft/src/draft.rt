@@ -3,7 +3,9 @@
 ghost use Rattle.std.specs.Prelude.{◌≡◌, ◌≢◌, ◌+◌, ◌≤◌, ◌↔◌, [], max, IfOk, IfErr, OnOk, MatchResult, IsTrue};
 ghost use Rattle.std.specs.String.{string_bytes};
 ghost use Rattle.mr_tree.specs.declared.tree.Tree.{Tree};
+ghost use Rattle.mr_pages.specs.Page.{page_limit};
 ghost use Rattle.mr_edit.specs.Causes.{HasEditCause};
+ghost use Rattle.mr_edit.specs.Outcome.{IsLow};
 ghost use Rattle.mr_draft.specs.Draft.{drawn, IsTop, IsOff, Copies, CopyFails, CanApply, Applies, KeepsDraft};
 ghost use Rattle.mr_edit.specs.Reads.{reads_along};
 ghost use Rattle.mr_draft.specs.Sheets.{HasCopied, CopyStops, IsFiled, IsSheets};
@@ -171,6 +173,8 @@ impl<S: Shelf, H: Hashes> Draft<S, H> {
         ensures batch { OnOk result (self.new.batch ≡ batch.now.number) }
         // Whether or not the files are told, a map may have so many records and this root.
         ensures top { OnOk result (IsTop self.new.count self.new.root) }
+        ensures low { OnOk result (IsLow self.old.root → IsLow self.new.root) }
+        ensures few { self.new.desk.file.pages ≤ page_limit }
         ensures kept { KeepsDraft H.of
             (drawn (S.state self.old.desk.file.shelf) (string_bytes self.old.desk.file.name)
             self.old.desk.file.pages self.old.desk.free self.old.root self.old.count self.old.batch)

@@ -8,7 +8,8 @@ ghost use Rattle.mr_edit.specs.Causes.{HasEditCause, CanRead};
 ghost use Rattle.mr_edit.specs.Held.{IsEntryOf};
 ghost use Rattle.mr_edit.specs.Outcome.{NeverMap, CanWrite};
 ghost use Rattle.mr_store.specs.Again.{IsRead};
-ghost use Rattle.mr_draft.specs.Sheets.{book_on, ArePages, IsSheets, KeepsSheets, Forgets};
+ghost use Rattle.mr_store.specs.Kept.{IsHeld};
+ghost use Rattle.mr_draft.specs.Sheets.{book_on, ArePages, IsSheets, KeepsSheets, RefusesRead, Forgets};
 ghost use Rattle.mr_edit.specs.Shelves.{blamed};
 
 use crate::pages::{put_page, read_bytes};
@@ -70,6 +71,7 @@ fn read_node<H: Hashes, S: Shelf>(
     ensures faults { (S.state shelf.old).faults ≤ (S.state shelf.new).faults }
     ensures one { (S.state shelf.new).reads ≤ (S.state shelf.old).reads + 1 }
     ensures quiet { OnOk result ((S.state shelf.new).faults ≡ (S.state shelf.old).faults) }
+    ensures given { IfErr result (RefusesRead H.of pages child.now) }
     ensures cause { IfErr result (HasEditCause (S.state shelf.old).faults
         (S.state shelf.new).faults) }
     ensures sound { IfErr result (λ e. NeverMap e
@@ -108,7 +110,11 @@ fn show_inside<H: Hashes, S: Shelf>(
         (S.state shelf.new) }
     ensures files { (S.state shelf.new).files ≡ (S.state shelf.old).files }
     ensures one { (S.state shelf.new).reads ≤ (S.state shelf.old).reads + 1 }
+    ensures caches { OnOk result (IsHeld cache.new.entries child.now) }
+    ensures held { IsHeld cache.old.entries child.now →
+        (S.state shelf.new).reads ≡ (S.state shelf.old).reads }
     ensures quiet { OnOk result ((S.state shelf.new).faults ≡ (S.state shelf.old).faults) }
+    ensures given { IfErr result (RefusesRead H.of pages child.now) }
     ensures cause { IfErr result (HasEditCause (S.state shelf.old).faults
         (S.state shelf.new).faults) }
     ensures sound { IfErr result (λ e. NeverMap e
@@ -146,7 +152,11 @@ pub(crate) fn show_node<H: Hashes, S: Shelf>(
         (S.state shelf.new) }
     ensures files { (S.state shelf.new).files ≡ (S.state shelf.old).files }
     ensures one { (S.state shelf.new).reads ≤ (S.state shelf.old).reads + 1 }
+    ensures caches { OnOk result (IsHeld cache.new.entries child.now) }
+    ensures held { IsHeld cache.old.entries child.now →
+        (S.state shelf.new).reads ≡ (S.state shelf.old).reads }
     ensures quiet { OnOk result ((S.state shelf.new).faults ≡ (S.state shelf.old).faults) }
+    ensures given { IfErr result (RefusesRead H.of pages child.now) }
     ensures cause { IfErr result (HasEditCause (S.state shelf.old).faults
         (S.state shelf.new).faults) }
     ensures sound { IfErr result (λ e. NeverMap e
@@ -181,6 +191,7 @@ pub(crate) fn write_node<H: Hashes, S: Shelf>(
     ensures put { OnOk result (book_on (S.state shelf.new).files name.now pages
         ≡ option_map (with_sheet child.now.id (node_sheet (page_node view.now)))
         (book_on (S.state shelf.old).files name.now pages)) }
+    ensures caches { OnOk result (IsHeld cache.new.entries child.now) }
     ensures sound { IfErr result (λ e. NeverMap e
         (CanWrite (book_on (S.state shelf.old).files name.now pages) child.now.id)) }
     ensures kept { KeepsSheets name.now name.now pages pages (S.state shelf.old)

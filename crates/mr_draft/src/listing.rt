@@ -5,7 +5,7 @@ ghost use Rattle.std.specs.BTreeMap.{IsFromIterResult};
 ghost use Rattle.std.specs.Ordering.{nat_cmp};
 ghost use Rattle.mr_tree.specs.Tree.{records as records_in};
 ghost use Rattle.mr_tree.specs.declared.nodes.NodesErr.TheVariants as errors;
-ghost use Rattle.mr_tree.specs.Nodes.{MayFetch, Shows, HasSomeCause, subtrees};
+ghost use Rattle.mr_tree.specs.Nodes.{MayFetch, Shows, HasSomeCause, TellsRefusal, subtrees};
 ghost use Rattle.mr_batch.specs.Directory.{IsDirectoryOf};
 ghost use Rattle.mr_outside.specs.Faults.{next_count};
 ghost use Rattle.mr_pages.specs.Judging.{Fills};
@@ -35,6 +35,7 @@ fn look<N: Nodes>(
     ensures blames { IfErr result (Blames child.now.id) }
     ensures counted { N.fetches nodes.new ≡ next_count (N.fetches nodes.old) }
     ensures quiet { OnOk result (N.faults nodes.new ≡ N.faults nodes.old) }
+    ensures answered { TellsRefusal (λ e. e) (N.refusal nodes.old) (N.refusal nodes.new) result }
     ensures cause { IfErr result (Refuses (N.stands nodes.old) (N.faults nodes.old)
         (N.faults nodes.new) (IsFull (N.stands nodes.old) root child.now)) }
 {
@@ -93,6 +94,7 @@ fn list<N: Nodes>(
     ensures fetched { IsSome (N.stands nodes.old).tree → N.fetches nodes.new
         ≤ N.fetches nodes.old + nodes_at ((N.stands nodes.old).node child.now.id) }
     ensures quiet { OnOk result (N.faults nodes.new ≡ N.faults nodes.old) }
+    ensures answered { TellsRefusal (λ e. e) (N.refusal nodes.old) (N.refusal nodes.new) result }
     ensures cause { IfErr result (Refuses (N.stands nodes.old) (N.faults nodes.old)
         (N.faults nodes.new) (CanCopy (N.stands nodes.old) root seen.old child.now)) }
 {
@@ -144,6 +146,7 @@ fn walk<N: Nodes>(
     ensures fetched { IsSome (N.stands nodes.old).tree → N.fetches nodes.new
         ≤ N.fetches nodes.old + nodes_at ((N.stands nodes.old).node root.now.id) }
     ensures quiet { OnOk result (N.faults nodes.new ≡ N.faults nodes.old) }
+    ensures answered { TellsRefusal (λ e. e) (N.refusal nodes.old) (N.refusal nodes.new) result }
     ensures cause { IfErr result (Refuses (N.stands nodes.old) (N.faults nodes.old)
         (N.faults nodes.new) (CanList (N.stands nodes.old) root.now)) }
 {
@@ -196,6 +199,7 @@ fn list_all<N: Nodes>(
     ensures fetched { IsSome (N.stands nodes.old).tree → N.fetches nodes.new
         ≤ N.fetches nodes.old + nodes_at ((N.stands nodes.old).node root.now.id) }
     ensures quiet { OnOk result (N.faults nodes.new ≡ N.faults nodes.old) }
+    ensures answered { TellsRefusal (λ e. e) (N.refusal nodes.old) (N.refusal nodes.new) result }
     ensures cause { IfErr result (Refuses (N.stands nodes.old) (N.faults nodes.old)
         (N.faults nodes.new) (CanListAll (N.stands nodes.old) root.now count)) }
 {
@@ -229,6 +233,8 @@ pub fn directory<N: Nodes>(alloc: Global, nodes: &mut N) -> Result<Directory, No
     ensures fetched { IfSome (N.stands nodes.old).tree (λ t. N.fetches nodes.new
         ≤ N.fetches nodes.old + length (subtrees t)) }
     ensures quiet { OnOk result (N.faults nodes.new ≡ N.faults nodes.old) }
+    // What a fetch refused is what is answered.
+    ensures answered { TellsRefusal (λ e. e) (N.refusal nodes.old) (N.refusal nodes.new) result }
     ensures cause { IfErr result (HasSomeCause (N.stands nodes.old)
         (N.faults nodes.old) (N.faults nodes.new)) }
 {

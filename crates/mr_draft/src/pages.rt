@@ -3,7 +3,8 @@
 ghost use Rattle.std.specs.Prelude.{◌≡◌, ◌+◌, ◌<◌, ◌≤◌, length, replicate, option_map, IfOk, IfErr, OnOk, OnErr, IfSome, IsSomeAnd, ℕ};
 ghost use Rattle.mr_record.specs.Bytes.{AreBytes};
 ghost use Rattle.mr_pages.specs.Page.{page_limit};
-ghost use Rattle.mr_pages.specs.PageBytes.{page_size};
+ghost use Rattle.mr_pages.specs.PageBytes.{page_size, first_form};
+ghost use Rattle.mr_pages.specs.Source.{IsPage};
 ghost use Rattle.mr_edit.specs.Book.{HasFree, with_sheet, longer};
 ghost use Rattle.mr_edit.specs.Causes.{HasEditCause};
 ghost use Rattle.mr_edit.specs.Outcome.{NeverMap, CanWrite};
@@ -184,6 +185,7 @@ pub(crate) fn read_bytes<S: Shelf>(
     requires pages { ArePages (S.state shelf.old).files name.now pages }
     ensures sheet { IfOk result (λ p. IfSome (book_on (S.state shelf.old).files name.now pages)
         (λ b. b.sheet page ≡ sheet_of p)) }
+    ensures is { IfOk result (IsPage first_form) }
     ensures files { (S.state shelf.new).files ≡ (S.state shelf.old).files }
     ensures reads { (S.state shelf.old).reads ≤ (S.state shelf.new).reads }
     ensures faults { (S.state shelf.old).faults ≤ (S.state shelf.new).faults }

@@ -1,6 +1,6 @@
 //! A draft's file becomes a map.
 
-ghost use Rattle.std.specs.Prelude.{◌≡◌, ◌<◌, ◌≤◌, ◌^◌, length, option_map, OnOk, IfErr, MatchResult};
+ghost use Rattle.std.specs.Prelude.{◌≡◌, ◌<◌, ◌≤◌, ◌^◌, length, option_map, OnOk, IfOk, IfErr, MatchResult};
 ghost use Rattle.std.specs.String.{string_bytes};
 ghost use Rattle.mr_record.specs.declared.version.Version.TheVariants.{One};
 ghost use Rattle.mr_tree.specs.Digest.{root_preimage};
@@ -108,6 +108,8 @@ fn seal_file<S: Shelf, H: Hashes>(
         head.now.root head.now.count head.now.batch) digest (S.state shelf.new))
         (SealFails H.of (drawn (S.state shelf.old) name.now head.now.pages head.now.free
         head.now.root head.now.count head.now.batch) (S.state shelf.new)) }
+    ensures digest { IfOk result (λ digest. digest ≡ H.of
+        (root_preimage One head.now.batch head.now.count (root_entry head.now.root))) }
     ensures reads { (S.state shelf.new).reads ≡ (S.state shelf.old).reads }
 {
     is_word(head.batch);
@@ -127,6 +129,9 @@ impl<S: Shelf, H: Hashes> Draft<S, H> {
             (SealFails H.of (drawn (S.state self.desk.file.shelf)
             (string_bytes self.desk.file.name) self.desk.file.pages self.desk.free self.root
             self.count self.batch) (S.state result.0)) }
+        // Told or not, the digest is that of the draft's batch, count and root.
+        ensures digest { IfOk result.1 (λ digest. digest ≡ H.of
+            (root_preimage One self.batch self.count (root_entry self.root))) }
         ensures reads { (S.state result.0).reads ≡ (S.state self.desk.file.shelf).reads }
     {
         let Draft {

@@ -1,9 +1,16 @@
 //! A file of pages under edit on a shelf, with a cache of node pages.
 
-ghost use Rattle.std.specs.Prelude.{◌≡◌};
+ghost use Rattle.std.specs.Prelude.{◌≡◌, ◌+◌, ◌≤◌, option_map, IfErr, OnOk, IfSome};
 ghost use Rattle.std.specs.String.{string_bytes};
 ghost use Rattle.std.proofs.Props.{props};
-ghost use Rattle.mr_draft.specs.Sheets.{book_on, IsSheets, KeepsSheets};
+ghost use Rattle.mr_tree.specs.View.{size, level_of};
+ghost use Rattle.mr_pages.specs.Walking.{page_node};
+ghost use Rattle.mr_edit.specs.Book.{HasNode, node_sheet, with_sheet};
+ghost use Rattle.mr_edit.specs.Causes.{HasEditCause, CanRead};
+ghost use Rattle.mr_edit.specs.Held.{IsEntryOf};
+ghost use Rattle.mr_edit.specs.Outcome.{NeverMap, CanWrite};
+ghost use Rattle.mr_store.specs.Kept.{IsHeld};
+ghost use Rattle.mr_draft.specs.Sheets.{book_on, IsSheets, KeepsSheets, RefusesRead};
 
 use crate::keeping::{free_page, show_node, write_node};
 use crate::pages::{add_page, next_free};
@@ -42,7 +49,32 @@ impl<S: Shelf, H: Hashes> PageFile for Sheets<S, H> {
     ghost kept = { λ s t. KeepsSheets (string_bytes s.name) (string_bytes t.name) s.pages t.pages
         (S.state s.shelf) (S.state t.shelf) };
 
-    fn read(&mut self, child: &Child, into: &mut NodeView) -> Result<(), EditErr> {
+    fn read(&mut self, child: &Child, into: &mut NodeView) -> Result<(), EditErr>
+        ensures same { book_on (S.state self.new.shelf).files (string_bytes self.new.name)
+            self.new.pages ≡ book_on (S.state self.old.shelf).files (string_bytes self.old.name)
+            self.old.pages }
+        ensures page { OnOk result (1 ≤ child.now.id) }
+        ensures level { OnOk result (level_of into.new ≡ child.now.level) }
+        ensures some { OnOk result (1 ≤ size into.new) }
+        ensures node { OnOk result (IfSome (book_on (S.state self.old.shelf).files
+            (string_bytes self.old.name) self.old.pages)
+            (λ b. HasNode b child.now.id (page_node into.new))) }
+        ensures kept { KeepsSheets (string_bytes self.old.name) (string_bytes self.new.name)
+            self.old.pages self.new.pages (S.state self.old.shelf) (S.state self.new.shelf) }
+        ensures reads { (S.state self.new.shelf).reads ≤ (S.state self.old.shelf).reads + 1 }
+        ensures quiet { OnOk result
+            ((S.state self.new.shelf).faults ≡ (S.state self.old.shelf).faults) }
+        ensures cause { IfErr result (HasEditCause (S.state self.old.shelf).faults
+            (S.state self.new.shelf).faults) }
+        ensures sound { IfErr result (λ e. NeverMap e (CanRead H.of
+            (book_on (S.state self.old.shelf).files (string_bytes self.old.name) self.old.pages)
+            child.now)) }
+        ensures given { IfErr result (RefusesRead H.of self.old.pages child.now) }
+        // The node is kept, and one that is kept is not read.
+        ensures caches { OnOk result (IsHeld self.new.cache.entries child.now) }
+        ensures held { IsHeld self.old.cache.entries child.now →
+            (S.state self.new.shelf).reads ≡ (S.state self.old.shelf).reads }
+    {
         show_node::<H, S>(
             self.alloc,
             &mut self.shelf,
@@ -58,7 +90,28 @@ impl<S: Shelf, H: Hashes> PageFile for Sheets<S, H> {
         next_free::<S>(&mut self.shelf, self.name.as_str(), self.pages, page)
     }
 
-    fn write(&mut self, child: &Child, view: &NodeView) -> Result<(), EditErr> {
+    fn write(&mut self, child: &Child, view: &NodeView) -> Result<(), EditErr>
+        requires page { 1 ≤ child.now.id }
+        requires some { 1 ≤ size view.now }
+        requires said { IsEntryOf H.of child.now view.now }
+        ensures sound { IfErr result (λ e. NeverMap e (CanWrite
+            (book_on (S.state self.old.shelf).files (string_bytes self.old.name) self.old.pages)
+            child.now.id)) }
+        ensures put { OnOk result (book_on (S.state self.new.shelf).files
+            (string_bytes self.new.name) self.new.pages
+            ≡ option_map (with_sheet child.now.id (node_sheet (page_node view.now)))
+            (book_on (S.state self.old.shelf).files (string_bytes self.old.name)
+            self.old.pages)) }
+        ensures kept { KeepsSheets (string_bytes self.old.name) (string_bytes self.new.name)
+            self.old.pages self.new.pages (S.state self.old.shelf) (S.state self.new.shelf) }
+        ensures reads { (S.state self.new.shelf).reads ≡ (S.state self.old.shelf).reads }
+        ensures quiet { OnOk result
+            ((S.state self.new.shelf).faults ≡ (S.state self.old.shelf).faults) }
+        ensures cause { IfErr result (HasEditCause (S.state self.old.shelf).faults
+            (S.state self.new.shelf).faults) }
+        // The node is kept.
+        ensures caches { OnOk result (IsHeld self.new.cache.entries child.now) }
+    {
         write_node::<H, S>(
             self.alloc,
             &mut self.shelf,

@@ -24,6 +24,7 @@ over-requires g c =
     (subst (λ n. IsSheets g.H.Hashes.of after.files n old.head.pages c.in-Ok.ready.cache.entries
     c.in-Ok.ready.cache.cap) (sym c.in-Ok.ensures.name)
     (record {
+      few = store.paged;
       file_ = copy_pages g.H.Hashes.of old.head old.cache.entries old.cache.cap (string_bytes old.name) c.args.new.now
           (g.S.Shelf.state old.shelf) after store done;
       kept = none_kept g.H.Hashes.of (book_on after.files c.args.new.now old.head.pages) c.in-Ok.ready.cache.entries

@@ -5,6 +5,7 @@ use Rattle.mr_draft.proofs.keeping.free_page.Goals as goal
 
 pub returns-clause-sheets : goal.returns-clause-sheets
 returns-clause-sheets g c = record {
+  few = c.requires.sheets.few;
   file_ = c.put_page.ensures.pages;
   kept = kept_elsewhere g.H.Hashes.of (book_on (g.S.Shelf.state c.args.shelf.now).files c.args.name.now c.args.pages)
       c.args.cache.now.entries c.args.cache.now.cap c.requires.sheets.kept c.args.page

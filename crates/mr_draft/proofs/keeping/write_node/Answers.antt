@@ -8,6 +8,7 @@ use Rattle.mr_draft.proofs.keeping.write_node.Goals as goal
 
 pub returns-in_err-put_page-clause-sheets : goal.returns-in_err-put_page-clause-sheets
 returns-in_err-put_page-clause-sheets g c = record {
+  few = c.requires.sheets.few;
   file_ = c.put_page.ensures.pages;
   kept = kept_elsewhere g.H.Hashes.of (book_on (g.S.Shelf.state c.args.shelf.now).files c.args.name.now c.args.pages)
       c.args.cache.now.entries c.args.cache.now.cap c.requires.sheets.kept c.args.child.now.id
@@ -20,6 +21,7 @@ returns-in_err-remember-clause-sheets g c =
     subst (λ (m : LruCache ℕ Kept). IsSheets g.H.Hashes.of (g.S.Shelf.state c.put_page.new.shelf).files
     c.args.name.now c.args.pages m.entries m.cap) (sym c.in_err-remember.ensures.same)
     (record {
+      few = c.requires.sheets.few;
       file_ = c.put_page.ensures.pages;
       kept = kept_elsewhere g.H.Hashes.of
           (book_on (g.S.Shelf.state c.args.shelf.now).files c.args.name.now c.args.pages)
@@ -34,6 +36,7 @@ returns-clause-sheets g c =
     let told = book_on (g.S.Shelf.state c.args.shelf.now).files c.args.name.now c.args.pages in
     let after = book_on (g.S.Shelf.state c.put_page.new.shelf).files c.args.name.now c.args.pages in
     record {
+      few = c.requires.sheets.few;
       file_ = c.put_page.ensures.pages;
       kept = kept_more g.H.Hashes.of after c.forget.new.cache.entries c.forget.new.cache.cap
           (kept_elsewhere g.H.Hashes.of told c.args.cache.now.entries c.args.cache.now.cap c.requires.sheets.kept

@@ -38,6 +38,7 @@ loop-one-preserved g t c =
       kept = g.met.N.Nodes.kept_on c.args.nodes.now c.loop-one.nodes c.list.new.nodes c.loop-one.invariant.kept
           c.list.ensures.kept;
       quiet = c.in_ok-list.ensures.quiet ∙ c.loop-one.invariant.quiet;
+      unrefused = c.in_ok-list.ensures.answered.none ∙ c.loop-one.invariant.unrefused;
       all = lists_more s (g.N.Nodes.stands c.loop-one.nodes) c.children-one-items.result.now c.loop-one.one-index
           c.one-item.result c.args.all.now.items c.loop-one.all.items c.list.new.all.items
           c.args.seen.now c.loop-one.seen c.list.new.seen same c.loop-one-test.true c.one-item.is
@@ -89,6 +90,7 @@ pub loop-one-init : goal.loop-one-init
 loop-one-init g t c = record {
   kept = c.look.ensures.kept;
   quiet = c.in_ok-look.ensures.quiet;
+  unrefused = c.in_ok-look.ensures.answered.none;
   all = lists_none (g.N.Nodes.stands c.args.nodes.now) c.args.all.now.items c.args.seen.now;
   fetched = λ told. omega (arith, c.look.ensures.counted);
 }

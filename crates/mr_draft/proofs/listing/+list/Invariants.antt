@@ -13,6 +13,7 @@ abbrev pub invariant-loop-one : goal.invariant-loop-one
 invariant-loop-one g l = record {
   kept : g.N.Nodes.kept l.fn.nodes l.nodes;
   quiet : g.N.Nodes.faults l.nodes ≡ g.N.Nodes.faults l.fn.nodes;
+  unrefused : g.N.Nodes.refusal l.nodes ≡ g.N.Nodes.refusal l.fn.nodes;
   all : ListsAll (g.N.Nodes.stands l.fn.nodes) (take l.one-index l.one-items) l.fn.all.items l.all.items
       l.fn.seen l.seen;
   fetched : IsSome (g.N.Nodes.stands l.fn.nodes).tree → g.N.Nodes.fetches l.nodes ≤

@@ -80,3 +80,12 @@ returns-clause-within g c =
     (drawn (g.S.Shelf.state s.desk.file.shelf) (string_bytes s.desk.file.name) s.desk.file.pages s.desk.free s.root
     s.count s.batch) c.args.dir.now c.args.batch.now (g.S.Shelf.state s.desk.file.shelf).reads
     (g.S.Shelf.state c.replay.new.desk.file.shelf).reads c.replay.ensures.within
+
+pub returns-clause-low : goal.returns-clause-low
+returns-clause-low g c = on_any c.judge_top.result c.in_ok-root.ensures.low
+
+pub returns-in_err-root-clause-few : goal.returns-in_err-root-clause-few
+returns-in_err-root-clause-few g c = c.replay.new.desk.file.sheets.few
+
+pub returns-clause-few : goal.returns-clause-few
+returns-clause-few g c = c.replay.new.desk.file.sheets.few

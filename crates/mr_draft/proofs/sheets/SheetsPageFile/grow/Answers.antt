@@ -19,6 +19,7 @@ invariant_of-self-2 g c =
       sheets = subst (λ n. IsSheets g.H.Hashes.of after n (s.pages + 1) s.cache.entries s.cache.cap)
           c.as_str.ensures.value
           (record {
+            few = omega (arith, c.in_ok-add_page.ensures.small);
             file_ = c.in_ok-add_page.ensures.more;
             kept = kept_longer g.H.Hashes.of (book_on before c.as_str.result.now s.pages) s.cache.entries s.cache.cap
                 old.kept (book_on after c.as_str.result.now (s.pages + 1)) c.in_ok-add_page.ensures.told;
