@@ -39,7 +39,7 @@ pub fn proof_of_nodes<N: Nodes>(
     ensures cause { IfErr result (HasSomeCause (N.stands nodes.old) (N.faults nodes.old)
         (N.faults nodes.new)) }
     ensures quiet { OnOk result (N.faults nodes.new ≡ N.faults nodes.old) }
-    // Told or not, what a fetch refused is what is answered.
+    // Told or not, what a fetch refused is what is answered, unless memory ran out.
     ensures refused { IfErr result (IsLastRefusal (N.refusal nodes.new)) }
     ensures answered { TellsRefusal as_given (N.refusal nodes.old) (N.refusal nodes.new) result }
 {

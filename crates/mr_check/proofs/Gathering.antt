@@ -21,7 +21,7 @@ use Rattle.mr_check.specs.declared.error.CheckErr.TheVariants as errors
 use Rattle.mr_check.specs.declared.outline.Outline.{Outline}
 use Rattle.mr_check.specs.declared.outline.Collected.{Collected}
 use Rattle.mr_check.specs.declared.verifier.Verifier.{Verifier}
-use Rattle.mr_check.specs.Judged.{WasFed, Took, IsStopped, TookSoFar, Closing, Collects}
+use Rattle.mr_check.specs.Judged.{WasFed, Took, IsStopped, TookSoFar, EndsAs, AnswersCollected}
 use Rattle.mr_check.specs.Answers.{Checks}
 use Rattle.mr_check.proofs.Pieces.{take_both}
 use Rattle.mr_check.proofs.Judging.{none_out, refused}
@@ -108,25 +108,25 @@ module _ {H : Type 0} {G : Ghosts H} (hash : List ℕ → List ℕ) (holds : H �
   started root w kept stands none = record { stands = stands; handed = none ∙ sym (none_out q) }
 
   pub gathered : (root : List ℕ) (w : Verifier H G) (bytes : List ℕ) (kept : Vec Record) (o : Outline)
-      → Took hash holds root q w kept.items bytes → Closing hash root q bytes (Ok o)
-      → Collects hash root q bytes (Ok (record { outline = o; records = kept }))
+      → Took hash holds root q w kept.items bytes → EndsAs hash root q bytes (Ok o)
+      → AnswersCollected hash root q bytes (Ok (record { outline = o; records = kept }))
   gathered root w bytes kept o took ends =
       (ends.said, ends.hands.is_read, record { outline = ends.outline; records = took.handed ∙ ends.hands.all })
 
 pub stopped : (hash : List ℕ → List ℕ) (root : List ℕ) (q : Question) (bytes : List ℕ) (e : CheckErr)
-    → IsStopped hash root q bytes e → Collects hash root q bytes (Err e)
+    → IsStopped hash root q bytes e → AnswersCollected hash root q bytes (Err e)
 stopped hash root q bytes (errors.Fault f) stops = ap (checked hash root q) (sym (append-nil bytes)) ∙ stops []
 stopped hash root q bytes errors.NoMemory stops = tt
 
 -- ---- queries
 
 pub unanswered : (hash : List ℕ → List ℕ) (root : List ℕ) (q : Query) (bytes : List ℕ) (e : CheckErr)
-    → Collects hash root (question q) bytes (Err e) → Checks (Err e) (verdict hash root q bytes)
+    → AnswersCollected hash root (question q) bytes (Err e) → Checks (Err e) (verdict hash root q bytes)
 unanswered hash root q bytes (errors.Fault f) g = refused hash root q bytes f g
 unanswered hash root q bytes errors.NoMemory g = tt
 
 pub answered : (hash : List ℕ → List ℕ) (root : List ℕ) (q : Query) (bytes : List ℕ) (o : Collected)
-    (answer : List Record) → IsQuery q → IsBytes bytes → Collects hash root (question q) bytes (Ok o)
+    (answer : List Record) → IsQuery q → IsBytes bytes → AnswersCollected hash root (question q) bytes (Ok o)
     → answer ≡ scan o.records.items q → verdict hash root q bytes ≡ Ok answer
 unfolding verdict
 answered hash root q bytes o answer is fits g same =

@@ -39,11 +39,11 @@ use Rattle.mr_proof.specs.Handed.{handed_out}
 use Rattle.mr_check.specs.Stops.{Stop, waits, fails, stop_of}
 use Rattle.mr_proof.specs.Feeding.{IsUnsettled, IsFinal, HandsOut, Ends}
 use Rattle.mr_check.specs.declared.outline.Outline.{Outline}
-use Rattle.mr_check.specs.Judged.{Closing}
+use Rattle.mr_check.specs.Judged.{EndsAs}
 use Rattle.mr_check.specs.Answers.{taken_of, Feeds}
 use Rattle.mr_check.specs.Stages.{head_want, want_at, room_in}
 use Rattle.mr_check.specs.Counting.{no_counts}
-use Rattle.mr_check.specs.Standing.{asked, IsOpen, AtEnd}
+use Rattle.mr_check.specs.Standing.{is_handed_out, IsOpen, AtEnd}
 use Rattle.mr_check.specs.Reads.{want_of, StandsAt, StandsBy, FedBy, FaultFed, found_at, EndsAt}
 use Rattle.mr_check.proofs.Stopping.{ends_at, checked_stop, fault_settled}
 use Rattle.mr_check.proofs.Turning.{stays, stands_in}
@@ -269,7 +269,7 @@ ends_well hash root q x s none same right =
 
 -- of the records that were handed out, and of all that are opened, the radius is another or not alike
 other_alike : (q : Question) (h : Head) (given : List Record) (part : Option Cut) → IsLawful q
-    → given ≡ filter (asked q h) (opened_records part)
+    → given ≡ filter (is_handed_out q h) (opened_records part)
     → has_other_radius q.around h.radius given ≡ has_other_radius q.around h.radius (opened_records part)
 other_alike q h given part law kept =
     ap (has_other_radius q.around h.radius) kept ∙ other_asked q h.radius (opened_records part) law
@@ -277,7 +277,7 @@ other_alike q h given part law kept =
 pub end_last : {H : Type 0} (hash : List ℕ → List ℕ) (holds : H → List ℕ → Type 0) (root : List ℕ) (q : Question)
     (r : Reader H) (node : Entry) (bytes : List ℕ) (result : Result Outline Fault) → r.machine.stage ≡ stage.End node
     → length r.held < room_in (want_of r) → IsLawful q → EndsAt hash root q r node result
-    → StandsAt hash holds q r bytes → Closing hash root q bytes result
+    → StandsAt hash holds q r bytes → EndsAs hash root q bytes result
 end_last hash holds root q r node bytes (Ok o) is short law ends at =
     let z = ended hash holds root q r node bytes is short at in
     let h = r.machine.head in
@@ -352,7 +352,7 @@ handed_scan hash root q bytes x is fits h =
     (right_of hash root q bytes x is fits h.is_read)) ∙ ap (λ (rs : List Record). scan rs q) (sym h.all))
 
 pub query_ends : (hash : List ℕ → List ℕ) (root : List ℕ) (q : Query) (bytes : List ℕ)
-    (result : Result Outline Fault) → IsQuery q → IsBytes bytes → Closing hash root (question q) bytes result
+    (result : Result Outline Fault) → IsQuery q → IsBytes bytes → EndsAs hash root (question q) bytes result
     → Ends hash root q bytes result
 query_ends hash root q bytes (Ok o) is fits c = record {
   said = c.said;

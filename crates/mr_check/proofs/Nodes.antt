@@ -13,7 +13,7 @@ use Rattle.mr_proof.specs.declared.want.Want.TheVariants as want
 use Rattle.mr_proof.specs.Cut.{Cut, rect, digest}
 use Rattle.mr_proof.specs.Spelling.{Said, said, version_of}
 use Rattle.mr_proof.specs.declared.way.Way.{Way}
-use Rattle.mr_proof.specs.Tight.{seen_at, seen, met_by, Question}
+use Rattle.mr_proof.specs.Tight.{seen_at, seen, opens_seen, Question}
 use Rattle.mr_proof.specs.Grammar.{Grammar, done, reads, tag_in}
 use Rattle.mr_proof.proofs.Preimages.{entry-rect}
 use Rattle.mr_check.specs.declared.frame.Frame.{Frame}
@@ -22,7 +22,7 @@ use Rattle.mr_check.specs.declared.stage.Stage.TheVariants as stage
 use Rattle.mr_check.specs.declared.radius_counts.RadiusCounts.{RadiusCounts}
 use Rattle.mr_check.specs.declared.machine.Machine.{Machine}
 use Rattle.mr_check.specs.Stops.{past_notes}
-use Rattle.mr_check.specs.Standing.{Open, after, node_next, region_of, asked, scheme, AreFrames, IsRead, WaitsPast, Closes}
+use Rattle.mr_check.specs.Standing.{Open, after, node_next, ways_at, is_handed_out, scheme, AreFrames, IsRead, WaitsPast, Closes}
 use Rattle.mr_check.proofs.Opening.{Adds, IsClosing, grown, one_on, stays_open, closed, said_closed, rect_closed, records_closed, records_on, item_waits, after_more, after_last, past_met, past_missed}
 
 -- the root node
@@ -30,7 +30,7 @@ pub closed_root : {H : Type 0} (hash : List ℕ → List ℕ) (holds : H → Lis
     (s : Stack (Frame H)) (node : Entry) (given : List Record) (os : List Open) (P : Cut)
     → IsRead hash holds q m.head [] m.tally node given os P
     → WaitsPast hash holds q (record m { frames = s; stage = stage.End node }) given
-    (after (region_of q m.head) m.head node.level os P)
+    (after (ways_at q m.head) m.head node.level os P)
 closed_root hash holds q m s node given [] P r =
     let at : node.level ≡ m.head.level = omega (arith, r.depth) in
     let place : node.rect ≡ rect P = sym (ap (λ (y : Entry). y.rect) r.says)
@@ -62,18 +62,18 @@ pub closed_child : {H : Type 0} (hash : List ℕ → List ℕ) (holds : H → Li
     → reverse s.list.items ≡ record { node = n; left = f.left - 1 } ∷ fs
     → IsRead hash holds q m.head (f ∷ fs) m.tally node given os P
     → WaitsPast hash holds q (record m { frames = s; stage = stage.Tag node.level }) given
-    (after (region_of q m.head) m.head node.level os P)
+    (after (ways_at q m.head) m.head node.level os P)
 closed_child hash holds q m s f n fs node given [] P adds some there r = absurd r.frames
 closed_child hash holds q m s f n fs node given (o ∷ os) P adds some there r =
-    let region = region_of q m.head in
+    let way = ways_at q m.head in
     let v = node.level in
     let more = grown (scheme hash m.head) holds f n o P node r.frames.0 r.says adds in
     let on : 0 < o.left = omega (arith, r.frames.0.left) in
-    let next = after region m.head v (one_on o P ∷ os) in
-    let reads_on : after region m.head v (o ∷ os) P ≡ reads (want.Tag v) (λ t. node_next region v next (tag_in t)) =
-    after_more region m.head v o os P on ∙ item_waits region v next in
+    let next = after way m.head v (one_on o P ∷ os) in
+    let reads_on : after way m.head v (o ∷ os) P ≡ reads (want.Tag v) (λ t. node_next way v next (tag_in t)) =
+    after_more way m.head v o os P on ∙ item_waits way v next in
     record {
-      next = reads (want.Tag v) (λ t. node_next region v next (tag_in t));
+      next = reads (want.Tag v) (λ t. node_next way v next (tag_in t));
       past = ap past_notes reads_on;
       waits = record {
         above = record { nodes = one_on o P ∷ os; records = [] };
@@ -86,7 +86,7 @@ closed_child hash holds q m s f n fs node given (o ∷ os) P adds some there r =
             frames = subst (λ (gs : List (Frame _)). AreFrames (scheme hash m.head) holds v gs (one_on o P ∷ os))
                 (sym there)
                 (stays_open (scheme hash m.head) holds f n o P v more r.frames.0.left some, r.frames.1);
-            kept = r.kept ∙ ap (filter (asked q m.head)) (records_on os o P);
+            kept = r.kept ∙ ap (filter (is_handed_out q m.head)) (records_on os o P);
             tally = r.tally;
           },
         );
@@ -98,19 +98,19 @@ pub missed_parent : {H : Type 0} (hash : List ℕ → List ℕ) (holds : H → L
     (t : RadiusCounts) (f : Frame H) (n : Gathering H) (fs : List (Frame H)) (node x : Entry) (given : List Record)
     (os : List Open) (P : Cut) → Adds holds f.node n node → f.left ≡ 0
     → IsClosing (scheme hash h) holds n (node.level + 1) x
-    → met_by (region_of q h) (option_map seen_at x.rect) ≡ false
+    → opens_seen (ways_at q h) (option_map seen_at x.rect) ≡ false
     → IsRead hash holds q h (f ∷ fs) t node given os P
-    → past_notes (after (region_of q h) h node.level os P) ≡ Err rule.Needless
+    → past_notes (after (ways_at q h) h node.level os P) ≡ Err rule.Needless
 missed_parent hash holds q h t f n fs node x given [] P adds none c missed r = absurd r.frames
 missed_parent hash holds q h t f n fs node x given (o ∷ os) P adds none c missed r =
-    let region = region_of q h in
+    let way = ways_at q h in
     let v = node.level in
     let more = grown (scheme hash h) holds f n o P node r.frames.0 r.says adds in
     let whole : o.left ≡ 0 = sym r.frames.0.left ∙ none in
-    let here : met_by region (seen (closed o P)) ≡ false = ap
-    (λ (z : Option Rectangle). met_by region (option_map seen_at z)) (sym
+    let here : opens_seen way (seen (closed o P)) ≡ false = ap
+    (λ (z : Option Rectangle). opens_seen way (option_map seen_at z)) (sym
     (rect_closed (scheme hash h) holds n o P v x more c)) ∙ missed in
-    ap past_notes (after_last region h v o os P whole) ∙ past_missed region (closed o P) (after region h (v + 1) os)
+    ap past_notes (after_last way h v o os P whole) ∙ past_missed way (closed o P) (after way h (v + 1) os)
     here
 
 closes_as : {H : Type 0} (hash : List ℕ → List ℕ) (holds : H → List ℕ → Type 0) (q : Question) (m : Machine H)
@@ -124,28 +124,28 @@ pub closed_parent : {H : Type 0} (hash : List ℕ → List ℕ) (holds : H → L
     (t : RadiusCounts) (m : Machine H) (f : Frame H) (n : Gathering H) (fs : List (Frame H)) (node x : Entry)
     (given : List Record) (result : Option Rule) (os : List Open) (P : Cut) → Adds holds f.node n node → f.left ≡ 0
     → IsClosing (scheme hash h) holds n (node.level + 1) x
-    → met_by (region_of q h) (option_map seen_at x.rect) ≡ true
+    → opens_seen (ways_at q h) (option_map seen_at x.rect) ≡ true
     → ((os : List Open) (P : Cut) → IsRead hash holds q h fs t x given os P
-    → Closes hash holds q m given (after (region_of q h) h x.level os P) result)
+    → Closes hash holds q m given (after (ways_at q h) h x.level os P) result)
     → IsRead hash holds q h (f ∷ fs) t node given os P
-    → Closes hash holds q m given (after (region_of q h) h node.level os P) result
+    → Closes hash holds q m given (after (ways_at q h) h node.level os P) result
 closed_parent hash holds q h t m f n fs node x given result [] P adds none c met behind_it r = absurd r.frames
 closed_parent hash holds q h t m f n fs node x given result (o ∷ os) P adds none c met behind_it r =
-    let region = region_of q h in
+    let way = ways_at q h in
     let v = node.level in
     let more = grown (scheme hash h) holds f n o P node r.frames.0 r.says adds in
     let whole : o.left ≡ 0 = sym r.frames.0.left ∙ none in
-    let here : met_by region (seen (closed o P)) ≡ true = ap
-    (λ (z : Option Rectangle). met_by region (option_map seen_at z)) (sym
+    let here : opens_seen way (seen (closed o P)) ≡ true = ap
+    (λ (z : Option Rectangle). opens_seen way (option_map seen_at z)) (sym
     (rect_closed (scheme hash h) holds n o P v x more c)) ∙ met in
-    closes_as hash holds q m given (after region h v (o ∷ os) P) (after region h x.level os (closed o P)) result
-    (ap past_notes (after_last region h v o os P whole)
-    ∙ past_met region (closed o P) (after region h (v + 1) os) here
-    ∙ ap (λ (k : ℕ). past_notes (after region h k os (closed o P))) (sym c.level))
+    closes_as hash holds q m given (after way h v (o ∷ os) P) (after way h x.level os (closed o P)) result
+    (ap past_notes (after_last way h v o os P whole)
+    ∙ past_met way (closed o P) (after way h (v + 1) os) here
+    ∙ ap (λ (k : ℕ). past_notes (after way h k os (closed o P))) (sym c.level))
     (behind_it os (closed o P) (record {
       says = said_closed (scheme hash h) holds n o P v x more whole c;
       depth = omega (arith, r.depth, c.level);
       frames = subst (λ (k : ℕ). AreFrames (scheme hash h) holds k fs os) (sym c.level) r.frames.1;
-      kept = r.kept ∙ ap (filter (asked q h)) (records_closed os o P);
+      kept = r.kept ∙ ap (filter (is_handed_out q h)) (records_closed os o P);
       tally = r.tally;
     }))

@@ -19,7 +19,7 @@ use Rattle.mr_proof.specs.declared.want.Want.TheVariants as want
 use Rattle.mr_proof.specs.Cut.{Cut, Cuts, Inner, no_more, first, cuts_of, rect, entry, entries, records, all_records}
 use Rattle.mr_proof.specs.Spelling.{Said}
 use Rattle.mr_proof.specs.declared.way.Way.{Way}
-use Rattle.mr_proof.specs.Tight.{Seen, seen, met_by, Question}
+use Rattle.mr_proof.specs.Tight.{Seen, seen, opens_seen, Question}
 use Rattle.mr_proof.specs.Grammar.{Grammar, reads, opened, some_items, item, tag_in}
 use Rattle.mr_proof.proofs.Preimages.{entries-rects}
 use Rattle.mr_check.specs.declared.frame.Frame.{Frame}
@@ -164,54 +164,54 @@ records_on os o P =
 
 -- ---- what follows a node
 
-pub item_waits : (region : Seen → Way) (v : ℕ) (next : Cut → Grammar Said)
-    → item region v next ≡ reads (want.Tag v) (λ t. node_next region v next (tag_in t))
-item_waits region zero next = refl
-item_waits region (suc v) next = refl
+pub item_waits : (way : Seen → Way) (v : ℕ) (next : Cut → Grammar Said)
+    → item way v next ≡ reads (want.Tag v) (λ t. node_next way v next (tag_in t))
+item_waits way zero next = refl
+item_waits way (suc v) next = refl
 
-items_more : (region : Seen → Way) (w n : ℕ) (front : List Cut) (P : Cut) (X : Cuts → Grammar Said)
-    → some_items (item region w) (suc n) (λ Ps. X (with_front front (first P Ps)))
-    ≡ item region w (λ Q. some_items (item region w) n (λ Ps. X (with_front (front ++ P ∷ []) (first Q Ps))))
-items_more region w n front P X =
-    λ j. item region w (λ Q. some_items (item region w) n (λ Ps. X (with_front-append front P (first Q Ps) j)))
+items_more : (way : Seen → Way) (w n : ℕ) (front : List Cut) (P : Cut) (X : Cuts → Grammar Said)
+    → some_items (item way w) (suc n) (λ Ps. X (with_front front (first P Ps)))
+    ≡ item way w (λ Q. some_items (item way w) n (λ Ps. X (with_front (front ++ P ∷ []) (first Q Ps))))
+items_more way w n front P X =
+    λ j. item way w (λ Q. some_items (item way w) n (λ Ps. X (with_front-append front P (first Q Ps) j)))
 
 -- where more children follow, the next one's item does
-pub after_more : (region : Seen → Way) (h : Head) (w : ℕ) (o : Open) (os : List Open) (P : Cut) → 0 < o.left
-    → after region h w (o ∷ os) P ≡ item region w (after region h w (one_on o P ∷ os))
-after_more region h w o os P some =
+pub after_more : (way : Seen → Way) (h : Head) (w : ℕ) (o : Open) (os : List Open) (P : Cut) → 0 < o.left
+    → after way h w (o ∷ os) P ≡ item way w (after way h w (one_on o P ∷ os))
+after_more way h w o os P some =
     let e : o.left ≡ suc (o.left - 1) = omega arith in
-    let X = λ (Ps : Cuts). opened region (Inner Ps) (after region h (w + 1) os) in
-    ap (λ (n : ℕ). some_items (item region w) n (λ Ps. X (with_front o.front (first P Ps)))) e
-    ∙ items_more region w (o.left - 1) o.front P X
+    let X = λ (Ps : Cuts). opened way (Inner Ps) (after way h (w + 1) os) in
+    ap (λ (n : ℕ). some_items (item way w) n (λ Ps. X (with_front o.front (first P Ps)))) e
+    ∙ items_more way w (o.left - 1) o.front P X
 
 -- where none does, the node is whole
-pub after_last : (region : Seen → Way) (h : Head) (w : ℕ) (o : Open) (os : List Open) (P : Cut) → o.left ≡ 0
-    → after region h w (o ∷ os) P ≡ opened region (closed o P) (after region h (w + 1) os)
-after_last region h w o os P none =
-    let X = λ (Ps : Cuts). opened region (Inner Ps) (after region h (w + 1) os) in
-    ap (λ (n : ℕ). some_items (item region w) n (λ Ps. X (with_front o.front (first P Ps)))) none
+pub after_last : (way : Seen → Way) (h : Head) (w : ℕ) (o : Open) (os : List Open) (P : Cut) → o.left ≡ 0
+    → after way h w (o ∷ os) P ≡ opened way (closed o P) (after way h (w + 1) os)
+after_last way h w o os P none =
+    let X = λ (Ps : Cuts). opened way (Inner Ps) (after way h (w + 1) os) in
+    ap (λ (n : ℕ). some_items (item way w) n (λ Ps. X (with_front o.front (first P Ps)))) none
     ∙ ap X (with_front-append o.front P no_more ∙ with_front-none (o.front ++ P ∷ []))
 
-items_quiet : (region : Seen → Way) (w n : ℕ) (X : Cuts → Grammar Said) → ((Ps : Cuts) → noted (X Ps) ≡ [])
-    → noted (some_items (item region w) n X) ≡ []
-items_quiet region w zero X quiet = quiet no_more
-items_quiet region w (suc n) X quiet =
-    ap noted (item_waits region w (λ P. some_items (item region w) n (λ Ps. X (first P Ps))))
+items_quiet : (way : Seen → Way) (w n : ℕ) (X : Cuts → Grammar Said) → ((Ps : Cuts) → noted (X Ps) ≡ [])
+    → noted (some_items (item way w) n X) ≡ []
+items_quiet way w zero X quiet = quiet no_more
+items_quiet way w (suc n) X quiet =
+    ap noted (item_waits way w (λ P. some_items (item way w) n (λ Ps. X (first P Ps))))
 
 -- no record is noted behind a node
-pub after_quiet : (region : Seen → Way) (h : Head) (w : ℕ) (os : List Open) (P : Cut)
-    → noted (after region h w os P) ≡ []
-after_quiet region h w [] P = refl
-after_quiet region h w (o ∷ os) P =
-    items_quiet region w o.left
-    (λ Ps. opened region (Inner (with_front o.front (first P Ps))) (after region h (w + 1) os))
-    (λ Ps. after_quiet region h (w + 1) os (Inner (with_front o.front (first P Ps))))
+pub after_quiet : (way : Seen → Way) (h : Head) (w : ℕ) (os : List Open) (P : Cut)
+    → noted (after way h w os P) ≡ []
+after_quiet way h w [] P = refl
+after_quiet way h w (o ∷ os) P =
+    items_quiet way w o.left
+    (λ Ps. opened way (Inner (with_front o.front (first P Ps))) (after way h (w + 1) os))
+    (λ Ps. after_quiet way h (w + 1) os (Inner (with_front o.front (first P Ps))))
 
 -- past an opened node that the region meets, or misses
-pub past_met : (region : Seen → Way) (P : Cut) (next : Cut → Grammar Said) → met_by region (seen P) ≡ true
-    → past_notes (opened region P next) ≡ past_notes (next P)
-past_met region P next met = rw met refl
+pub past_met : (way : Seen → Way) (P : Cut) (next : Cut → Grammar Said) → opens_seen way (seen P) ≡ true
+    → past_notes (opened way P next) ≡ past_notes (next P)
+past_met way P next met = rw met refl
 
-pub past_missed : (region : Seen → Way) (P : Cut) (next : Cut → Grammar Said) → met_by region (seen P) ≡ false
-    → past_notes (opened region P next) ≡ Err rule.Needless
-past_missed region P next missed = rw missed refl
+pub past_missed : (way : Seen → Way) (P : Cut) (next : Cut → Grammar Said) → opens_seen way (seen P) ≡ false
+    → past_notes (opened way P next) ≡ Err rule.Needless
+past_missed way P next missed = rw missed refl

@@ -21,7 +21,7 @@ use Rattle.mr_proof.specs.Cut.{Cut, Cuts, Pruned, Leaf, Inner, entry_shown, rect
 use Rattle.mr_proof.specs.declared.shown.Shown.{Shown}
 use Rattle.mr_proof.specs.Spelling.{Said, said}
 use Rattle.mr_proof.specs.declared.way.Way.{Way}
-use Rattle.mr_proof.specs.Tight.{Seen, seen_at, seen, met_by, Question, opens_at, keeps_at}
+use Rattle.mr_proof.specs.Tight.{Seen, seen_at, seen, opens_seen, Question, opens_at, keeps_at}
 use Rattle.mr_proof.specs.Grammar.{Grammar, done, reads, notes, opens, number_in, tag_in, bytes_in, some_records, opened, some_items, item, part}
 use Rattle.mr_check.specs.declared.frame.Frame.{Frame}
 use Rattle.mr_check.specs.declared.frame.Stack.{Stack}
@@ -34,7 +34,7 @@ use Rattle.mr_check.specs.declared.machine.Stepped.TheVariants as stepped
 use Rattle.mr_check.specs.Stops.{past_notes, noted}
 use Rattle.mr_check.specs.Counting.{Counts}
 use Rattle.mr_check.specs.Heads.{head_left}
-use Rattle.mr_check.specs.Standing.{Open, Above, after, after_record, node_next, shown_next, stage_of, stage_behind, opened_item, behind_number, behind_sides, behind_length, head_next, region_of, asked, frames_of, AreFrames, IsLeaf, so_far, scheme, InTree, InHead, IsRead, LeafRead, Waits, WaitsPast, Steps, Closes, stepped_by, found_by, plus}
+use Rattle.mr_check.specs.Standing.{Open, Above, after, after_record, node_next, shown_next, stage_of, stage_behind, opened_item, behind_number, behind_sides, behind_length, head_next, ways_at, is_handed_out, frames_of, AreFrames, IsLeaf, so_far, scheme, InTree, InHead, IsRead, LeafRead, Waits, WaitsPast, Steps, Closes, stepped_by, found_by, plus}
 use Rattle.mr_check.proofs.Opening.{IsClosing, item_waits, after_quiet, past_met, past_missed}
 
 -- ---- a step from what it waits for
@@ -81,11 +81,11 @@ behind_head hash holds q m given h kind is = elim (cases_Bool (eqb h.count 0)) [
       rw (here, there) steps
   | inr f ↦
       let here : stage_behind h None ≡ stage.Tag h.level = rw f refl in
-      let region = q.way h.radius in
-      let next = after region h h.level [] in
-      let there : part q.way h ≡ reads (want.Tag h.level) (λ t. node_next region h.level next (tag_in t)) =
-      (rw f refl) ∙ item_waits region h.level next in
-      let g = reads (want.Tag h.level) (λ t. node_next region h.level next (tag_in t)) in
+      let way = q.way h.radius in
+      let next = after way h h.level [] in
+      let there : part q.way h ≡ reads (want.Tag h.level) (λ t. node_next way h.level next (tag_in t)) =
+      (rw f refl) ∙ item_waits way h.level next in
+      let g = reads (want.Tag h.level) (λ t. node_next way h.level next (tag_in t)) in
       let steps : Steps hash holds q (record m { head = h; stage = stage.Tag h.level }) given g stepped.On =
       waits_on hash holds q (record m { head = h; stage = stage.Tag h.level }) given g g refl refl (record {
         above = record { nodes = []; records = [] };
@@ -121,7 +121,7 @@ behind_left hash holds q m given h (Some f) kind is =
 
 pub headed : {H : Type 0} (hash : List ℕ → List ℕ) (holds : H → List ℕ → Type 0) (q : Question) (m : Machine H)
     (given : List Record) (h : Head) (next : Option HeadField) (at : HeadField) (v : Field) → h.kind ≡ m.head.kind
-    → ((region : Option ℕ → Seen → Way) → head_next region m.head at v ≡ head_left region h next)
+    → ((way : Option ℕ → Seen → Way) → head_next way m.head at v ≡ head_left way h next)
     → InHead q m.head (frames_of m) m.tally given
     → Steps hash holds q (record m { head = h; stage = stage_behind h next }) given
     (head_next q.way m.head at v) stepped.On
@@ -135,19 +135,19 @@ opened_steps : {H : Type 0} (hash : List ℕ → List ℕ) (holds : H → List �
     (v : ℕ) (given : List Record) (a : Above) → a.records ≡ []
     → InTree hash holds q m.head (frames_of m) m.tally v given a
     → Steps hash holds q (record m { stage = (if v == 0 then stage.Records else stage.Entries (v - 1)) }) given
-    (opened_item (region_of q m.head) v (after (region_of q m.head) m.head v a.nodes)) stepped.On
+    (opened_item (ways_at q m.head) v (after (ways_at q m.head) m.head v a.nodes)) stepped.On
 opened_steps hash holds q m zero given a none is =
-    let g = opened_item (region_of q m.head) 0 (after (region_of q m.head) m.head 0 a.nodes) in
+    let g = opened_item (ways_at q m.head) 0 (after (ways_at q m.head) m.head 0 a.nodes) in
     waits_on hash holds q (record m { stage = stage.Records }) given g g refl refl
     (record { above = a; whole = None; waits = refl; is_open = (none, is) })
 opened_steps hash holds q m (suc w) given a none is =
-    let region = region_of q m.head in
+    let way = ways_at q m.head in
     let below : suc w - 1 ≡ w = omega arith in
     let up : suc w ≡ w + 1 = omega arith in
     let not_leaf : eqb (suc w) 0 ≡ false = ne_eqb (suc w) 0 (λ e. omega arith) in
-    let g = opened_item region (suc w) (after region m.head (suc w) a.nodes) in
-    let k = opened_item region (suc w) (after region m.head (w + 1) a.nodes) in
-    let same : k ≡ g = ap (λ (n : ℕ). opened_item region (suc w) (after region m.head n a.nodes)) (sym up) in
+    let g = opened_item way (suc w) (after way m.head (suc w) a.nodes) in
+    let k = opened_item way (suc w) (after way m.head (w + 1) a.nodes) in
+    let same : k ≡ g = ap (λ (n : ℕ). opened_item way (suc w) (after way m.head n a.nodes)) (sym up) in
     let steps : Steps hash holds q (record m { stage = stage.Entries w }) given k stepped.On =
     waits_on hash holds q (record m { stage = stage.Entries w }) given k k refl refl (record {
       above = a;
@@ -165,30 +165,30 @@ pub tagged : {H : Type 0} (hash : List ℕ → List ℕ) (holds : H → List ℕ
     (v t : ℕ) (given : List Record) (a : Above) → a.records ≡ []
     → InTree hash holds q m.head (frames_of m) m.tally v given a
     → Steps hash holds q (record m { stage = stage_of v t }) given
-    (node_next (region_of q m.head) v (after (region_of q m.head) m.head v a.nodes) t) stepped.On
+    (node_next (ways_at q m.head) v (after (ways_at q m.head) m.head v a.nodes) t) stepped.On
 tagged hash holds q m v t given a none is = elim (cases_Bool (eqb t pruned_tag)) [
   | inl p ↦ rw p
       (waits_on hash holds q (record m { stage = stage.Shown v }) given
-      (node_next (region_of q m.head) v (after (region_of q m.head) m.head v a.nodes) pruned_tag)
-      (node_next (region_of q m.head) v (after (region_of q m.head) m.head v a.nodes) pruned_tag) refl refl
+      (node_next (ways_at q m.head) v (after (ways_at q m.head) m.head v a.nodes) pruned_tag)
+      (node_next (ways_at q m.head) v (after (ways_at q m.head) m.head v a.nodes) pruned_tag) refl refl
       (record { above = a; whole = None; waits = refl; is_open = (none, is) }))
   | inr o ↦ rw o (opened_steps hash holds q m v given a none is)
 ]
 
-pub shown_met : (region : Seen → Way) (r : Rectangle) (next : Cut → Grammar Said) → opens_at region r ≡ true
-    → past_notes (shown_next region next r) ≡ Err rule.Hidden
-shown_met region r next met = rw met refl
+pub shown_met : (way : Seen → Way) (r : Rectangle) (next : Cut → Grammar Said) → opens_at way r ≡ true
+    → past_notes (shown_next way next r) ≡ Err rule.Hidden
+shown_met way r next handed_on = rw handed_on refl
 
 pub shown_missed : {H : Type 0} (hash : List ℕ → List ℕ) (holds : H → List ℕ → Type 0) (q : Question) (m : Machine H)
-    (v : ℕ) (r : Rectangle) (given : List Record) (a : Above) → opens_at (region_of q m.head) r ≡ false
+    (v : ℕ) (r : Rectangle) (given : List Record) (a : Above) → opens_at (ways_at q m.head) r ≡ false
     → a.records ≡ [] → InTree hash holds q m.head (frames_of m) m.tally v given a
     → Steps hash holds q (record m { stage = stage.Digest v r }) given
-    (shown_next (region_of q m.head) (after (region_of q m.head) m.head v a.nodes) r) stepped.On
+    (shown_next (ways_at q m.head) (after (ways_at q m.head) m.head v a.nodes) r) stepped.On
 shown_missed hash holds q m v r given a missed none is =
-    let next = after (region_of q m.head) m.head v a.nodes in
+    let next = after (ways_at q m.head) m.head v a.nodes in
     let g = reads want.Digest (λ d. next (Pruned (record { rect = r; digest = bytes_in d }))) in
-    let past : past_notes (shown_next (region_of q m.head) next r) ≡ Ok g = rw missed refl in
-    waits_on hash holds q (record m { stage = stage.Digest v r }) given (shown_next (region_of q m.head) next r) g refl
+    let past : past_notes (shown_next (ways_at q m.head) next r) ≡ Ok g = rw missed refl in
+    waits_on hash holds q (record m { stage = stage.Digest v r }) given (shown_next (ways_at q m.head) next r) g refl
     past (record { above = a; whole = None; waits = refl; is_open = (none, is) })
 
 pub pruned_read : {H : Type 0} (hash : List ℕ → List ℕ) (holds : H → List ℕ → Type 0) (q : Question) (h : Head)
@@ -201,17 +201,17 @@ pruned_read hash holds q h fs t v part x given a says none is =
       says = ap (λ (k : ℕ). entry_shown k part) low ∙ sym says;
       depth = omega (arith, is.depth, low);
       frames = subst (λ (k : ℕ). AreFrames (scheme hash h) holds k fs a.nodes) (sym low) is.frames;
-      kept = is.kept ∙ ap (λ (rs : List Record). filter (asked q h) (so_far a.nodes ++ rs)) none;
+      kept = is.kept ∙ ap (λ (rs : List Record). filter (is_handed_out q h) (so_far a.nodes ++ rs)) none;
       tally = is.tally;
     }
 
 -- what a node of this level that was read whole leads to, where it is said of by its own level
 pub closed_at : {H : Type 0} (hash : List ℕ → List ℕ) (holds : H → List ℕ → Type 0) (q : Question) (m : Machine H)
-    (h : Head) (given : List Record) (region : Seen → Way) (v w : ℕ) (os : List Open) (P : Cut) (broken : Option Rule)
-    → w ≡ v → Closes hash holds q m given (after region h w os P) broken
-    → Closes hash holds q m given (after region h v os P) broken
-closed_at hash holds q m h given region v w os P broken e c =
-    subst (λ (k : ℕ). Closes hash holds q m given (after region h k os P) broken) e c
+    (h : Head) (given : List Record) (way : Seen → Way) (v w : ℕ) (os : List Open) (P : Cut) (broken : Option Rule)
+    → w ≡ v → Closes hash holds q m given (after way h w os P) broken
+    → Closes hash holds q m given (after way h v os P) broken
+closed_at hash holds q m h given way v w os P broken e c =
+    subst (λ (k : ℕ). Closes hash holds q m given (after way h k os P) broken) e c
 
 pub inner_opened : {H : Type 0} (hash : List ℕ → List ℕ) (holds : H → List ℕ → Type 0) (q : Question) (m : Machine H)
     (s : Stack (Frame H)) (x : Gathering H) (w n : ℕ) (given : List Record) (a : Above) → 1 ≤ n
@@ -219,19 +219,19 @@ pub inner_opened : {H : Type 0} (hash : List ℕ → List ℕ) (holds : H → Li
     → reverse s.list.items ≡ record { node = x; left = n - 1 } ∷ frames_of m
     → a.records ≡ [] → InTree hash holds q m.head (frames_of m) m.tally (w + 1) given a
     → Steps hash holds q (record m { frames = s; stage = stage.Tag w }) given
-    (some_items (item (region_of q m.head) w) n (λ Ps. opened (region_of q m.head) (Inner Ps)
-    (after (region_of q m.head) m.head (w + 1) a.nodes))) stepped.On
+    (some_items (item (ways_at q m.head) w) n (λ Ps. opened (ways_at q m.head) (Inner Ps)
+    (after (ways_at q m.head) m.head (w + 1) a.nodes))) stepped.On
 inner_opened hash holds q m s x w n given a some gathers there none is =
-    let region = region_of q m.head in
-    let X = λ (Ps : Cuts). opened region (Inner Ps) (after region m.head (w + 1) a.nodes) in
+    let way = ways_at q m.head in
+    let X = λ (Ps : Cuts). opened way (Inner Ps) (after way m.head (w + 1) a.nodes) in
     let o : Open = record { front = []; left = n - 1 } in
-    let next = after region m.head w (o ∷ a.nodes) in
-    let g = reads (want.Tag w) (λ t. node_next region w next (tag_in t)) in
+    let next = after way m.head w (o ∷ a.nodes) in
+    let g = reads (want.Tag w) (λ t. node_next way w next (tag_in t)) in
     let count : n ≡ suc (n - 1) = omega arith in
-    let reads_on : some_items (item region w) n X ≡ g = ap (λ (k : ℕ). some_items (item region w) k X) count
-    ∙ item_waits region w next in
+    let reads_on : some_items (item way w) n X ≡ g = ap (λ (k : ℕ). some_items (item way w) k X) count
+    ∙ item_waits way w next in
     let total : n ≡ 0 + ((n - 1) + 1) = omega arith in
-    waits_on hash holds q (record m { frames = s; stage = stage.Tag w }) given (some_items (item region w) n X) g
+    waits_on hash holds q (record m { frames = s; stage = stage.Tag w }) given (some_items (item way w) n X) g
     (ap noted reads_on) (ap past_notes reads_on) (record {
       above = record { nodes = o ∷ a.nodes; records = [] };
       whole = None;
@@ -250,7 +250,7 @@ inner_opened hash holds q m s x w n given a some gathers there none is =
                 },
                 is.frames,
               );
-          kept = is.kept ∙ ap (filter (asked q m.head))
+          kept = is.kept ∙ ap (filter (is_handed_out q m.head))
               (ap (λ (rs : List Record). so_far a.nodes ++ rs) none
               ∙ sym (append-nil (so_far a.nodes ++ [])));
           tally = is.tally;
@@ -260,36 +260,36 @@ inner_opened hash holds q m s x w n given a some gathers there none is =
 
 -- ---- records
 
-record_waits : (region : Seen → Way) (h : Head) (n : ℕ) (os : List Open) (rs : List Record) (r : Record)
-    → some_records region (suc n) (λ ts. opened region (Leaf (rs ++ r ∷ ts)) (after region h 0 os))
-    ≡ reads want.Number (λ v. behind_number (after_record region h n os (rs ++ r ∷ [])) (number_in v))
-record_waits region h n os rs r =
-    λ j. reads want.Number (λ v. behind_number (λ (x : Record). notes (opens x (keeps_at region x.rect))
-    (some_records region n (λ ts. opened region (Leaf (sym (append_assoc rs (r ∷ []) (x ∷ ts)) j))
-    (after region h 0 os)))) (number_in v))
+record_waits : (way : Seen → Way) (h : Head) (n : ℕ) (os : List Open) (rs : List Record) (r : Record)
+    → some_records way (suc n) (λ ts. opened way (Leaf (rs ++ r ∷ ts)) (after way h 0 os))
+    ≡ reads want.Number (λ v. behind_number (after_record way h n os (rs ++ r ∷ [])) (number_in v))
+record_waits way h n os rs r =
+    λ j. reads want.Number (λ v. behind_number (λ (x : Record). notes (opens x (keeps_at way x.rect))
+    (some_records way n (λ ts. opened way (Leaf (sym (append_assoc rs (r ∷ []) (x ∷ ts)) j))
+    (after way h 0 os)))) (number_in v))
 
-first_waits : (region : Seen → Way) (h : Head) (n : ℕ) (os : List Open)
-    → some_records region (suc n) (λ ts. opened region (Leaf ts) (after region h 0 os))
-    ≡ reads want.Number (λ v. behind_number (after_record region h n os []) (number_in v))
-first_waits region h n os = refl
+first_waits : (way : Seen → Way) (h : Head) (n : ℕ) (os : List Open)
+    → some_records way (suc n) (λ ts. opened way (Leaf ts) (after way h 0 os))
+    ≡ reads want.Number (λ v. behind_number (after_record way h n os []) (number_in v))
+first_waits way h n os = refl
 
 pub leaf_opened : {H : Type 0} (hash : List ℕ → List ℕ) (holds : H → List ℕ → Type 0) (q : Question) (m : Machine H)
     (x : Gathering H) (n : ℕ) (given : List Record) (a : Above) → 1 ≤ n
     → Gathers (holds x.hasher) x.rect (leaf_tag ∷ n ∷ []) []
     → a.records ≡ [] → InTree hash holds q m.head (frames_of m) m.tally 0 given a
     → Steps hash holds q (record m { leaf = record { node = x; left = n - 1 }; stage = stage.Number })
-    given (some_records (region_of q m.head) n (λ rs. opened (region_of q m.head) (Leaf rs)
-    (after (region_of q m.head) m.head 0 a.nodes))) stepped.On
+    given (some_records (ways_at q m.head) n (λ rs. opened (ways_at q m.head) (Leaf rs)
+    (after (ways_at q m.head) m.head 0 a.nodes))) stepped.On
 leaf_opened hash holds q m x n given a some gathers none is =
-    let region = region_of q m.head in
-    let X = λ (rs : List Record). opened region (Leaf rs) (after region m.head 0 a.nodes) in
-    let g = reads want.Number (λ v. behind_number (after_record region m.head (n - 1) a.nodes []) (number_in v)) in
+    let way = ways_at q m.head in
+    let X = λ (rs : List Record). opened way (Leaf rs) (after way m.head 0 a.nodes) in
+    let g = reads want.Number (λ v. behind_number (after_record way m.head (n - 1) a.nodes []) (number_in v)) in
     let count : n ≡ suc (n - 1) = omega arith in
-    let reads_on : some_records region n X ≡ g = ap (λ (k : ℕ). some_records region k X) count
-    ∙ first_waits region m.head (n - 1) a.nodes in
+    let reads_on : some_records way n X ≡ g = ap (λ (k : ℕ). some_records way k X) count
+    ∙ first_waits way m.head (n - 1) a.nodes in
     let total : n ≡ 0 + ((n - 1) + 1) = omega arith in
     waits_on hash holds q (record m { leaf = record { node = x; left = n - 1 }; stage = stage.Number })
-    given (some_records region n X) g (ap noted reads_on) (ap past_notes reads_on) (record {
+    given (some_records way n X) g (ap noted reads_on) (ap past_notes reads_on) (record {
       above = record { nodes = a.nodes; records = [] };
       whole = None;
       waits = refl;
@@ -298,29 +298,32 @@ leaf_opened hash holds q m x n given a some gathers none is =
         record {
           depth = is.depth;
           frames = is.frames;
-          kept = is.kept ∙ ap (λ (rs : List Record). filter (asked q m.head) (so_far a.nodes ++ rs)) none;
+          kept = is.kept ∙ ap (λ (rs : List Record). filter (is_handed_out q m.head) (so_far a.nodes ++ rs)) none;
           tally = is.tally;
         },
       );
     })
 
 -- a record that is met is handed out
-pub kept_more : (q : Question) (h : Head) (met : Bool) (given rs : List Record) (r : Record) → met ≡ asked q h r
-    → given ≡ filter (asked q h) rs → plus met given r ≡ filter (asked q h) (rs ++ r ∷ [])
-kept_more q h true given rs r met kept =
-    let one : filter (asked q h) (r ∷ []) ≡ r ∷ [] = rw (sym met) refl in
-    ap (λ (xs : List Record). xs ++ r ∷ []) kept ∙ ap (λ (xs : List Record). filter (asked q h) rs ++ xs) (sym one)
-    ∙ sym (filter-append (asked q h) rs (r ∷ []))
-kept_more q h false given rs r met kept =
-    let none : filter (asked q h) (r ∷ []) ≡ [] = rw (sym met) refl in
-    kept ∙ sym (append-nil (filter (asked q h) rs)) ∙ ap (λ (xs : List Record). filter (asked q h) rs ++ xs) (sym none)
-    ∙ sym (filter-append (asked q h) rs (r ∷ []))
+pub kept_more : (q : Question) (h : Head) (handed_on : Bool) (given rs : List Record) (r : Record) → handed_on
+    ≡ is_handed_out q h r
+    → given ≡ filter (is_handed_out q h) rs → plus handed_on given r ≡ filter (is_handed_out q h) (rs ++ r ∷ [])
+kept_more q h true given rs r handed_on kept =
+    let one : filter (is_handed_out q h) (r ∷ []) ≡ r ∷ [] = rw (sym handed_on) refl in
+    ap (λ (xs : List Record). xs ++ r ∷ []) kept ∙ ap (λ (xs : List Record). filter (is_handed_out q h) rs ++ xs)
+    (sym one)
+    ∙ sym (filter-append (is_handed_out q h) rs (r ∷ []))
+kept_more q h false given rs r handed_on kept =
+    let none : filter (is_handed_out q h) (r ∷ []) ≡ [] = rw (sym handed_on) refl in
+    kept ∙ sym (append-nil (filter (is_handed_out q h) rs)) ∙ ap (λ (xs : List Record). filter (is_handed_out q h) rs ++
+    xs) (sym none)
+    ∙ sym (filter-append (is_handed_out q h) rs (r ∷ []))
 
 -- a step that hands out the record where it is met
 found_steps : {H : Type 0} (hash : List ℕ → List ℕ) (holds : H → List ℕ → Type 0) (q : Question) (m : Machine H)
-    (given : List Record) (met : Bool) (r : Record) (g : Grammar Said) → m.latest ≡ r → noted g ≡ []
-    → WaitsPast hash holds q m (plus met given r) g
-    → Steps hash holds q m given (notes (opens r met) g) (found_by None met)
+    (given : List Record) (handed_on : Bool) (r : Record) (g : Grammar Said) → m.latest ≡ r → noted g ≡ []
+    → WaitsPast hash holds q m (plus handed_on given r) g
+    → Steps hash holds q m given (notes (opens r handed_on) g) (found_by None handed_on)
 found_steps hash holds q m given true r g is quiet w = (
   (λ i. sym is i ∷ quiet i),
   record {
@@ -347,30 +350,30 @@ added holds m n r rs k j e adds is =
     (λ i. (e i, sym (map-append of_record rs (r ∷ [])) i)) (adds (leaf_tag ∷ k ∷ []) (map of_record rs) is)
 
 pub record_on : {H : Type 0} (hash : List ℕ → List ℕ) (holds : H → List ℕ → Type 0) (q : Question) (m : Machine H)
-    (n : Gathering H) (t : RadiusCounts) (met : Bool) (given : List Record) (a : Above)
-    → AddsRecord holds m.leaf.node n m.latest → 0 < m.leaf.left → met ≡ asked q m.head m.latest
-    → Counts q.around m.head.radius (plus met given m.latest) t
+    (n : Gathering H) (t : RadiusCounts) (handed_on : Bool) (given : List Record) (a : Above)
+    → AddsRecord holds m.leaf.node n m.latest → 0 < m.leaf.left → handed_on ≡ is_handed_out q m.head m.latest
+    → Counts q.around m.head.radius (plus handed_on given m.latest) t
     → IsLeaf holds m.leaf a.records → InTree hash holds q m.head (frames_of m) m.tally 0 given a
     → Steps hash holds q (record m {
       leaf = record { node = n; left = m.leaf.left - 1 };
       tally = t;
       stage = stage.Number;
     })
-    given (after_record (region_of q m.head) m.head m.leaf.left a.nodes a.records m.latest) (found_by None met)
-record_on hash holds q m n t met given a adds some is_met counts leaf is =
-    let region = region_of q m.head in
+    given (after_record (ways_at q m.head) m.head m.leaf.left a.nodes a.records m.latest) (found_by None handed_on)
+record_on hash holds q m n t handed_on given a adds some is_met counts leaf is =
+    let way = ways_at q m.head in
     let r = m.latest in
     let left = m.leaf.left in
     let all = a.records ++ r ∷ [] in
-    let X = λ (ts : List Record). opened region (Leaf (a.records ++ r ∷ ts)) (after region m.head 0 a.nodes) in
-    let k = reads want.Number (λ v. behind_number (after_record region m.head (left - 1) a.nodes all) (number_in v)) in
+    let X = λ (ts : List Record). opened way (Leaf (a.records ++ r ∷ ts)) (after way m.head 0 a.nodes) in
+    let k = reads want.Number (λ v. behind_number (after_record way m.head (left - 1) a.nodes all) (number_in v)) in
     let count : left ≡ suc (left - 1) = omega arith in
-    let reads_on : some_records region left X ≡ k = ap (λ (n : ℕ). some_records region n X) count
-    ∙ record_waits region m.head (left - 1) a.nodes a.records r in
+    let reads_on : some_records way left X ≡ k = ap (λ (n : ℕ). some_records way n X) count
+    ∙ record_waits way m.head (left - 1) a.nodes a.records r in
     let total : length a.records + (left + 1) ≡ length all + ((left - 1) + 1) = omega
     (arith, length-append a.records (r ∷ [])) in
     let after_it = record m { leaf = record { node = n; left = left - 1 }; tally = t; stage = stage.Number } in
-    let w : WaitsPast hash holds q after_it (plus met given r) (some_records region left X) = record {
+    let w : WaitsPast hash holds q after_it (plus handed_on given r) (some_records way left X) = record {
       next = k;
       past = ap past_notes reads_on;
       waits = record {
@@ -383,25 +386,25 @@ record_on hash holds q m n t met given a adds some is_met counts leaf is =
           record {
             depth = is.depth;
             frames = is.frames;
-            kept = kept_more q m.head met given (so_far a.nodes ++ a.records) r is_met is.kept
-                ∙ ap (filter (asked q m.head)) (append_assoc (so_far a.nodes) a.records (r ∷ []));
+            kept = kept_more q m.head handed_on given (so_far a.nodes ++ a.records) r is_met is.kept
+                ∙ ap (filter (is_handed_out q m.head)) (append_assoc (so_far a.nodes) a.records (r ∷ []));
             tally = counts;
           },
         );
       };
     } in
-    subst (λ (b : Bool). Steps hash holds q after_it given (notes (opens r b) (some_records region left X))
-    (found_by None met)) is_met
-    (found_steps hash holds q after_it given met r (some_records region left X) refl (ap noted reads_on) w)
+    subst (λ (b : Bool). Steps hash holds q after_it given (notes (opens r b) (some_records way left X))
+    (found_by None handed_on)) is_met
+    (found_steps hash holds q after_it given handed_on r (some_records way left X) refl (ap noted reads_on) w)
 
 -- the last record of a leaf
 pub leaf_read : {H : Type 0} (hash : List ℕ → List ℕ) (holds : H → List ℕ → Type 0) (q : Question) (h : Head)
-    (fs : List (Frame H)) (old new : RadiusCounts) (f : Frame H) (n : Gathering H) (met : Bool) (r : Record)
-    (given : List Record) (a : Above) → AddsRecord holds f.node n r → f.left ≡ 0 → met ≡ asked q h r
-    → Counts q.around h.radius (plus met given r) new
+    (fs : List (Frame H)) (old new : RadiusCounts) (f : Frame H) (n : Gathering H) (handed_on : Bool) (r : Record)
+    (given : List Record) (a : Above) → AddsRecord holds f.node n r → f.left ≡ 0 → handed_on ≡ is_handed_out q h r
+    → Counts q.around h.radius (plus handed_on given r) new
     → IsLeaf holds f a.records → InTree hash holds q h fs old 0 given a
-    → LeafRead hash holds q h fs new (record { node = n; left = f.left }) (plus met given r) a r
-leaf_read hash holds q h fs old new f n met r given a adds none is_met counts leaf is =
+    → LeafRead hash holds q h fs new (record { node = n; left = f.left }) (plus handed_on given r) a r
+leaf_read hash holds q h fs old new f n handed_on r given a adds none is_met counts leaf is =
     let total : length a.records + (f.left + 1) ≡ length (a.records ++ r ∷ []) = omega
     (arith, length-append a.records (r ∷ [])) in
     record {
@@ -409,8 +412,8 @@ leaf_read hash holds q h fs old new f n met r given a adds none is_met counts le
           adds leaf;
       depth = omega (arith, is.depth);
       frames = is.frames;
-      kept = kept_more q h met given (so_far a.nodes ++ a.records) r is_met is.kept
-          ∙ ap (filter (asked q h)) (append_assoc (so_far a.nodes) a.records (r ∷ []));
+      kept = kept_more q h handed_on given (so_far a.nodes ++ a.records) r is_met is.kept
+          ∙ ap (filter (is_handed_out q h)) (append_assoc (so_far a.nodes) a.records (r ∷ []));
       tally = counts;
     }
 
@@ -434,62 +437,67 @@ leaf_rect : {H : Type 0} (hash : List ℕ → List ℕ) (holds : H → List ℕ 
     (fs : List (Frame H)) (t : RadiusCounts) (f : Frame H) (x : Entry) (given : List Record) (a : Above) (r : Record)
     (b : Bool)
     → IsClosing (scheme hash h) holds f.node 0 x
-    → met_by (region_of q h) (option_map seen_at x.rect) ≡ b
+    → opens_seen (ways_at q h) (option_map seen_at x.rect) ≡ b
     → LeafRead hash holds q h fs t f given a r
-    → met_by (region_of q h) (seen (Leaf (a.records ++ r ∷ []))) ≡ b
-leaf_rect hash holds q h fs t f x given a r b c met is =
+    → opens_seen (ways_at q h) (seen (Leaf (a.records ++ r ∷ []))) ≡ b
+leaf_rect hash holds q h fs t f x given a r b c handed_on is =
     let place : x.rect ≡ rect (Leaf (a.records ++ r ∷ [])) =
     sym (ap (λ (y : Entry). y.rect) (leaf_said hash holds q h fs t f x given a r c is).says) in
-    ap (λ (z : Option Rectangle). met_by (region_of q h) (option_map seen_at z)) (sym place) ∙ met
+    ap (λ (z : Option Rectangle). opens_seen (ways_at q h) (option_map seen_at z)) (sym place) ∙ handed_on
 
 pub leaf_missed : {H : Type 0} (hash : List ℕ → List ℕ) (holds : H → List ℕ → Type 0) (q : Question) (h : Head)
     (fs : List (Frame H)) (t : RadiusCounts) (f : Frame H) (x : Entry) (given : List Record) (a : Above) (r : Record)
     → IsClosing (scheme hash h) holds f.node 0 x
-    → met_by (region_of q h) (option_map seen_at x.rect) ≡ false
+    → opens_seen (ways_at q h) (option_map seen_at x.rect) ≡ false
     → LeafRead hash holds q h fs t f given a r
-    → past_notes (after_record (region_of q h) h 0 a.nodes a.records r) ≡ Err rule.Needless
+    → past_notes (after_record (ways_at q h) h 0 a.nodes a.records r) ≡ Err rule.Needless
 leaf_missed hash holds q h fs t f x given a r c missed is =
-    past_missed (region_of q h) (Leaf (a.records ++ r ∷ [])) (after (region_of q h) h 0 a.nodes)
+    past_missed (ways_at q h) (Leaf (a.records ++ r ∷ [])) (after (ways_at q h) h 0 a.nodes)
     (leaf_rect hash holds q h fs t f x given a r false c missed is)
 
 leaf_found : {H : Type 0} (hash : List ℕ → List ℕ) (holds : H → List ℕ → Type 0) (q : Question) (m : Machine H)
-    (given : List Record) (met : Bool) (r : Record) (g k : Grammar Said) (broken : Option Rule) → m.latest ≡ r
+    (given : List Record) (handed_on : Bool) (r : Record) (g k : Grammar Said) (broken : Option Rule) → m.latest ≡ r
     → noted g ≡ [] → past_notes g ≡ past_notes k
-    → Closes hash holds q m (plus met given r) k broken
-    → Steps hash holds q m given (notes (opens r met) g) (found_by broken met)
-leaf_found hash holds q m given met r g k None same quiet e w =
-    found_steps hash holds q m given met r g same quiet (record { next = w.next; past = e ∙ w.past; waits = w.waits })
-leaf_found hash holds q m given met r g k (Some d) same quiet e w = e ∙ w
+    → Closes hash holds q m (plus handed_on given r) k broken
+    → Steps hash holds q m given (notes (opens r handed_on) g) (found_by broken handed_on)
+leaf_found hash holds q m given handed_on r g k None same quiet e w =
+    found_steps hash holds q m given handed_on r g same quiet (record {
+      next = w.next;
+      past = e
+          ∙ w.past;
+      waits = w.waits;
+    })
+leaf_found hash holds q m given handed_on r g k (Some d) same quiet e w = e ∙ w
 
 pub leaf_closed : {H : Type 0} (hash : List ℕ → List ℕ) (holds : H → List ℕ → Type 0) (q : Question) (h : Head)
-    (fs : List (Frame H)) (t : RadiusCounts) (m : Machine H) (f : Frame H) (x : Entry) (met : Bool)
+    (fs : List (Frame H)) (t : RadiusCounts) (m : Machine H) (f : Frame H) (x : Entry) (handed_on : Bool)
     (given : List Record)
     (a : Above) (r : Record) (broken : Option Rule) → m.latest ≡ r → IsClosing (scheme hash h) holds f.node 0 x
-    → met_by (region_of q h) (option_map seen_at x.rect) ≡ true → met ≡ asked q h r
-    → ((os : List Open) (P : Cut) → IsRead hash holds q h fs t x (plus met given r) os P
-    → Closes hash holds q m (plus met given r) (after (region_of q h) h x.level os P) broken)
-    → LeafRead hash holds q h fs t f (plus met given r) a r
-    → Steps hash holds q m given (after_record (region_of q h) h 0 a.nodes a.records r) (found_by broken met)
-leaf_closed hash holds q h fs t m f x met given a r broken same c meets is_met behind_it is =
-    let region = region_of q h in
+    → opens_seen (ways_at q h) (option_map seen_at x.rect) ≡ true → handed_on ≡ is_handed_out q h r
+    → ((os : List Open) (P : Cut) → IsRead hash holds q h fs t x (plus handed_on given r) os P
+    → Closes hash holds q m (plus handed_on given r) (after (ways_at q h) h x.level os P) broken)
+    → LeafRead hash holds q h fs t f (plus handed_on given r) a r
+    → Steps hash holds q m given (after_record (ways_at q h) h 0 a.nodes a.records r) (found_by broken handed_on)
+leaf_closed hash holds q h fs t m f x handed_on given a r broken same c meets is_met behind_it is =
+    let way = ways_at q h in
     let all = a.records ++ r ∷ [] in
-    let behind = opened region (Leaf all) (after region h 0 a.nodes) in
-    subst (λ (b : Bool). Steps hash holds q m given (notes (opens r b) behind) (found_by broken met)) is_met
-    (leaf_found hash holds q m given met r behind (after region h 0 a.nodes (Leaf all)) broken same
-    (after_quiet region h 0 a.nodes (Leaf all))
-    (past_met region (Leaf all) (after region h 0 a.nodes)
-    (leaf_rect hash holds q h fs t f x (plus met given r) a r true c meets is))
-    (closed_at hash holds q m h (plus met given r) region 0 x.level a.nodes (Leaf all) broken c.level
-    (behind_it a.nodes (Leaf all) (leaf_said hash holds q h fs t f x (plus met given r) a r c is))))
+    let behind = opened way (Leaf all) (after way h 0 a.nodes) in
+    subst (λ (b : Bool). Steps hash holds q m given (notes (opens r b) behind) (found_by broken handed_on)) is_met
+    (leaf_found hash holds q m given handed_on r behind (after way h 0 a.nodes (Leaf all)) broken same
+    (after_quiet way h 0 a.nodes (Leaf all))
+    (past_met way (Leaf all) (after way h 0 a.nodes)
+    (leaf_rect hash holds q h fs t f x (plus handed_on given r) a r true c meets is))
+    (closed_at hash holds q m h (plus handed_on given r) way 0 x.level a.nodes (Leaf all) broken c.level
+    (behind_it a.nodes (Leaf all) (leaf_said hash holds q h fs t f x (plus handed_on given r) a r c is))))
 
 -- a field of a record that is not its last
 pub sides_on : {H : Type 0} (hash : List ℕ → List ℕ) (holds : H → List ℕ → Type 0) (q : Question) (m : Machine H)
     (n : ℕ) (given : List Record) (a : Above) → IsLeaf holds m.leaf a.records
     → InTree hash holds q m.head (frames_of m) m.tally 0 given a
     → Steps hash holds q (record m { stage = stage.Sides n }) given
-    (behind_number (after_record (region_of q m.head) m.head m.leaf.left a.nodes a.records) n) stepped.On
+    (behind_number (after_record (ways_at q m.head) m.head m.leaf.left a.nodes a.records) n) stepped.On
 sides_on hash holds q m n given a leaf is =
-    let g = behind_number (after_record (region_of q m.head) m.head m.leaf.left a.nodes a.records) n in
+    let g = behind_number (after_record (ways_at q m.head) m.head m.leaf.left a.nodes a.records) n in
     waits_on hash holds q (record m { stage = stage.Sides n }) given g g refl refl
     (record { above = a; whole = None; waits = refl; is_open = (leaf, is) })
 
@@ -497,9 +505,9 @@ pub length_on : {H : Type 0} (hash : List ℕ → List ℕ) (holds : H → List 
     (n : ℕ) (r : Rectangle) (given : List Record) (a : Above) → IsLeaf holds m.leaf a.records
     → InTree hash holds q m.head (frames_of m) m.tally 0 given a
     → Steps hash holds q (record m { stage = stage.Length n r }) given
-    (behind_sides (after_record (region_of q m.head) m.head m.leaf.left a.nodes a.records) n r) stepped.On
+    (behind_sides (after_record (ways_at q m.head) m.head m.leaf.left a.nodes a.records) n r) stepped.On
 length_on hash holds q m n r given a leaf is =
-    let g = behind_sides (after_record (region_of q m.head) m.head m.leaf.left a.nodes a.records) n r in
+    let g = behind_sides (after_record (ways_at q m.head) m.head m.leaf.left a.nodes a.records) n r in
     waits_on hash holds q (record m { stage = stage.Length n r }) given g g refl refl
     (record { above = a; whole = None; waits = refl; is_open = (leaf, is) })
 
@@ -507,9 +515,9 @@ pub payload_on : {H : Type 0} (hash : List ℕ → List ℕ) (holds : H → List
     (n : ℕ) (r : Rectangle) (l : ℕ) (given : List Record) (a : Above) → 0 < l → IsLeaf holds m.leaf a.records
     → InTree hash holds q m.head (frames_of m) m.tally 0 given a
     → Steps hash holds q (record m { stage = stage.Payload n r l }) given
-    (behind_length (after_record (region_of q m.head) m.head m.leaf.left a.nodes a.records) n r l) stepped.On
+    (behind_length (after_record (ways_at q m.head) m.head m.leaf.left a.nodes a.records) n r l) stepped.On
 payload_on hash holds q m n r l given a some leaf is =
-    let next = after_record (region_of q m.head) m.head m.leaf.left a.nodes a.records in
+    let next = after_record (ways_at q m.head) m.head m.leaf.left a.nodes a.records in
     let is_not : eqb l 0 ≡ false = ne_eqb l 0 (λ e. omega arith) in
     let g = reads (want.Payload l) (λ p. next (record { number = n; rect = r; payload = bytes_in p })) in
     let here : behind_length next n r l ≡ g = rw is_not refl in

@@ -27,7 +27,7 @@ use Rattle.mr_check.specs.declared.reader.Turn.TheVariants as turns
 use Rattle.mr_proof.specs.Handed.{is_fixed, handed, handed_out}
 use Rattle.mr_check.specs.Stops.{Stop, waits, fails, stop, longer, at_place, resume, noted, stop_of}
 use Rattle.mr_check.specs.Stages.{want_at, size_in, room_in}
-use Rattle.mr_check.specs.Standing.{Above, IsOpen, Waits, WaitsPast, after_record, behind_number, next_at, left_at, region_of}
+use Rattle.mr_check.specs.Standing.{Above, IsOpen, Waits, WaitsPast, after_record, behind_number, next_at, left_at, ways_at}
 use Rattle.mr_check.specs.Reads.{want_of, last_field, IsWhole, StandsAt, WaitsBehind, Behind, Turns, TakesSome, TakesJust}
 use Rattle.mr_check.proofs.Whole.{record_on, quiet_on}
 use Rattle.mr_check.proofs.Stopping.{stop_more, handed_on, handed_more}
@@ -35,32 +35,32 @@ use Rattle.mr_check.proofs.Noting.{read_stop, read_handed, broken_stop, broken_h
 
 -- ---- in front of the field under way
 
-left_stop : (region : Option ℕ → Seen → Way) (h : Head) (left : ℕ) (a : Above) (p : Option Cut) (w : Option Want)
+left_stop : (way : Option ℕ → Seen → Way) (h : Head) (left : ℕ) (a : Above) (p : Option Cut) (w : Option Want)
     (s : Stage) (at last : ℕ) → 1 ≤ room_in w → at + size_in w ≤ place_limit
-    → stop (left_at region h left a p w s) (at_place at last) ≡ waits (left_at region h left a p w s) (at_place at last)
-left_stop region h left a p None s at last some within = end_stop (said h p) (at_place at last) refl
-left_stop region h left a p (Some w) s at last some within =
-    short_stop w (next_at region h left a s) (at_place at last) within some
+    → stop (left_at way h left a p w s) (at_place at last) ≡ waits (left_at way h left a p w s) (at_place at last)
+left_stop way h left a p None s at last some within = end_stop (said h p) (at_place at last) refl
+left_stop way h left a p (Some w) s at last some within =
+    short_stop w (next_at way h left a s) (at_place at last) within some
 
-left_fixed : (region : Option ℕ → Seen → Way) (h : Head) (left : ℕ) (a : Above) (p : Option Cut) (w : Option Want)
-    (s : Stage) (at : ℕ) → at + size_in w ≤ place_limit → is_fixed (left_at region h left a p w s) at ≡ false
-left_fixed region h left a p None s at within = refl
-left_fixed region h left a p (Some w) s at within = short_fixed w (next_at region h left a s) at within
+left_fixed : (way : Option ℕ → Seen → Way) (h : Head) (left : ℕ) (a : Above) (p : Option Cut) (w : Option Want)
+    (s : Stage) (at : ℕ) → at + size_in w ≤ place_limit → is_fixed (left_at way h left a p w s) at ≡ false
+left_fixed way h left a p None s at within = refl
+left_fixed way h left a p (Some w) s at within = short_fixed w (next_at way h left a s) at within
 
-left_handed : (region : Option ℕ → Seen → Way) (h : Head) (left : ℕ) (a : Above) (p : Option Cut) (w : Option Want)
-    (s : Stage) (at last : ℕ) → 1 ≤ room_in w → handed (left_at region h left a p w s) (at_place at last) ≡ []
-left_handed region h left a p None s at last some = refl
-left_handed region h left a p (Some w) s at last some =
-    short_handed w (next_at region h left a s) (at_place at last) some
+left_handed : (way : Option ℕ → Seen → Way) (h : Head) (left : ℕ) (a : Above) (p : Option Cut) (w : Option Want)
+    (s : Stage) (at last : ℕ) → 1 ≤ room_in w → handed (left_at way h left a p w s) (at_place at last) ≡ []
+left_handed way h left a p None s at last some = refl
+left_handed way h left a p (Some w) s at last some =
+    short_handed w (next_at way h left a s) (at_place at last) some
 
-left_long : (region : Option ℕ → Seen → Way) (h : Head) (left : ℕ) (a : Above) (p : Option Cut) (w : Option Want)
+left_long : (way : Option ℕ → Seen → Way) (h : Head) (left : ℕ) (a : Above) (p : Option Cut) (w : Option Want)
     (s : Stage) (at last : ℕ) → at ≤ place_limit → place_limit < at + size_in w
-    → (stop (left_at region h left a p w s) (at_place at last) ≡ fails (fault rule.Long at))
-    × (is_fixed (left_at region h left a p w s) at ≡ true)
-left_long region h left a p None s at last low past = absurd (omega arith)
-left_long region h left a p (Some w) s at last low past = (
-  long_stop w (next_at region h left a s) (at_place at last) past,
-  long_fixed w (next_at region h left a s) at past,
+    → (stop (left_at way h left a p w s) (at_place at last) ≡ fails (fault rule.Long at))
+    × (is_fixed (left_at way h left a p w s) at ≡ true)
+left_long way h left a p None s at last low past = absurd (omega arith)
+left_long way h left a p (Some w) s at last low past = (
+  long_stop w (next_at way h left a s) (at_place at last) past,
+  long_fixed w (next_at way h left a s) at past,
 )
 
 -- ---- behind a field
@@ -71,14 +71,14 @@ pub behind_long : {H : Type 0} (hash : List ℕ → List ℕ) (holds : H → Lis
     → ltb place_limit (r.at + size_in (want_of r)) ≡ true → WaitsPast hash holds q r.machine given g
     → (handed g (at_place r.at last) ≡ []) × (stop g (at_place r.at last) ≡ fails (fault rule.Long r.at))
 behind_long hash holds q r given g last some low long w =
-    let region = q.way in
+    let way = q.way in
     let m = r.machine in
     let a = w.waits.above in
     let p = w.waits.whole in
     let past = ltb-true place_limit (r.at + size_in (want_of r)) long in
-    let both = left_long region m.head m.leaf.left a p (want_of r) m.stage r.at last low past in
+    let both = left_long way m.head m.leaf.left a p (want_of r) m.stage r.at last low past in
     let none : handed w.next (at_place r.at last) ≡ [] = ap (λ (k : Grammar Said). handed k (at_place r.at last))
-    w.waits.waits ∙ left_handed region m.head m.leaf.left a p (want_of r) m.stage r.at last some in
+    w.waits.waits ∙ left_handed way m.head m.leaf.left a p (want_of r) m.stage r.at last some in
     let fixed : is_fixed w.next r.at ≡ true = ap (λ (k : Grammar Said). is_fixed k r.at) w.waits.waits ∙ both.1 in (
       past_handed g w.next (at_place r.at last) w.past none
           ∙ ap (λ (b : Bool). unless b (noted g)) fixed,
@@ -93,18 +93,18 @@ pub behind_short : {H : Type 0} (hash : List ℕ → List ℕ) (holds : H → Li
     → WaitsPast hash holds q r.machine given g
     → (handed g (at_place r.at last) ≡ noted g) × WaitsBehind hash holds q given r.at last r g
 behind_short hash holds q r given g last some short empty w =
-    let region = q.way in
+    let way = q.way in
     let m = r.machine in
     let a = w.waits.above in
     let p = w.waits.whole in
     let within = ltb-false place_limit (r.at + size_in (want_of r)) short in
     let none : handed w.next (at_place r.at last) ≡ [] = ap (λ (k : Grammar Said). handed k (at_place r.at last))
-    w.waits.waits ∙ left_handed region m.head m.leaf.left a p (want_of r) m.stage r.at last some in
+    w.waits.waits ∙ left_handed way m.head m.leaf.left a p (want_of r) m.stage r.at last some in
     let open_here : is_fixed w.next r.at ≡ false = ap (λ (k : Grammar Said). is_fixed k r.at) w.waits.waits
-    ∙ left_fixed region m.head m.leaf.left a p (want_of r) m.stage r.at within in
+    ∙ left_fixed way m.head m.leaf.left a p (want_of r) m.stage r.at within in
     let next_stop : stop w.next (at_place r.at last) ≡ waits w.next (at_place r.at last) =
     subst (λ (k : Grammar Said). stop k (at_place r.at last) ≡ waits k (at_place r.at last)) (sym w.waits.waits)
-    (left_stop region m.head m.leaf.left a p (want_of r) m.stage r.at last some within) in (
+    (left_stop way m.head m.leaf.left a p (want_of r) m.stage r.at last some within) in (
       past_handed g w.next (at_place r.at last) w.past none
           ∙ ap (λ (b : Bool). unless b (noted g)) open_here,
       record {
@@ -308,11 +308,11 @@ pub turn_record : {H : Type 0} (hash : List ℕ → List ℕ) (holds : H → Lis
     (s piece : List ℕ) (n : ℕ) (one : Record) (turn : Turn) → IsWhole r piece one n
     → ((given : List Record) (a : Above) (p : Option Cut) → IsOpen hash holds q r.machine stage.Number given a p
     → Behind hash holds q given (r.at + n) (last_field r.at one) n new
-    (after_record (region_of q r.machine.head) r.machine.head r.machine.leaf.left a.nodes a.records one) turn)
+    (after_record (ways_at q r.machine.head) r.machine.head r.machine.leaf.left a.nodes a.records one) turn)
     → StandsAt hash holds q r s → Turns hash holds q s piece new turn
 turn_record hash holds q r new s piece n one turn w behind at =
     let i = record_waits hash holds q r s w.stage w.held at in
-    let X = after_record (region_of q r.machine.head) r.machine.head r.machine.leaf.left i.above.nodes i.above.records
+    let X = after_record (ways_at q r.machine.head) r.machine.head r.machine.leaf.left i.above.nodes i.above.records
     in
     let g = reads want.Number (λ v. behind_number X (number_in v)) in
     let t : Stand = record { at = r.at; last = i.last; rest = [] } in

@@ -44,16 +44,16 @@ pub record IsOutline (x : Said) (o : Outline) : Type 0 where
 
 -- the bytes are accepted, with this outline, and the records handed out are all that are not left
 -- out
-pub record EndsWell (hash : List ℕ → List ℕ) (root : List ℕ) (q : Question) (bytes : List ℕ)
+pub record EndsAccepted (hash : List ℕ → List ℕ) (root : List ℕ) (q : Question) (bytes : List ℕ)
     (o : Outline) : Type 0 where
   pub said : Said
   pub hands : HandsOut hash root q bytes said
   pub outline : IsOutline said o
 
 -- what is answered at the end of the bytes
-abbrev pub Closing : (List ℕ → List ℕ) → List ℕ → Question → List ℕ → Result Outline Fault → Type 0
-Closing hash root q bytes (Ok o) = EndsWell hash root q bytes o
-Closing hash root q bytes (Err f) = checked hash root q bytes ≡ Err f
+abbrev pub EndsAs : (List ℕ → List ℕ) → List ℕ → Question → List ℕ → Result Outline Fault → Type 0
+EndsAs hash root q bytes (Ok o) = EndsAccepted hash root q bytes o
+EndsAs hash root q bytes (Err f) = checked hash root q bytes ≡ Err f
 
 -- ---- a proof that is taken piece by piece, with the records that are handed out
 
@@ -108,12 +108,13 @@ pub record IsCollected (x : Said) (q : Question) (o : Collected) : Type 0 where
       ≡ filter (λ (r : Record). keeps_at (q.way x.head.radius) r.rect) (opened_records x.part)
 
 -- what is answered for bytes: their verdict, unless memory ran out
-abbrev pub Collects : (List ℕ → List ℕ) → List ℕ → Question → List ℕ → Result Collected CheckErr
+abbrev pub AnswersCollected : (List ℕ → List ℕ) → List ℕ → Question → List ℕ
+    → Result Collected CheckErr
     → Type 0
-Collects hash root q bytes (Ok o) = (x : Said) × (checked hash root q bytes ≡ Ok x)
+AnswersCollected hash root q bytes (Ok o) = (x : Said) × (checked hash root q bytes ≡ Ok x)
     × IsCollected x q o
-Collects hash root q bytes (Err (errors.Fault f)) = checked hash root q bytes ≡ Err f
-Collects hash root q bytes (Err errors.NoMemory) = ⊤
+AnswersCollected hash root q bytes (Err (errors.Fault f)) = checked hash root q bytes ≡ Err f
+AnswersCollected hash root q bytes (Err errors.NoMemory) = ⊤
 
 -- ---- queries
 
@@ -123,7 +124,7 @@ pub record StandsFor {H : Type 0} {G : Ghosts H} (hash : List ℕ → List ℕ)
     (bytes : List ℕ) : Type 0 where
   pub asked : j.query ≡ q
   pub is : IsQuery q
-  pub verifiers : WasFed hash holds root (question q) j.verifier bytes
+  pub fed : WasFed hash holds root (question q) j.verifier bytes
 
 -- this much of the proof was taken in, for the query and against the root digest
 pub record IsTaken {H : Type 0} {G : Ghosts H} (hash : List ℕ → List ℕ)

@@ -49,24 +49,24 @@ abbrev pub with_front : List Cut → Cuts → Cuts
 with_front [] Ps = Ps
 with_front (P ∷ front) Ps = first P (with_front front Ps)
 
-abbrev pub region_of : Question → Head → Seen → Way
-region_of q h = q.way h.radius
+abbrev pub ways_at : Question → Head → Seen → Way
+ways_at q h = q.way h.radius
 
 abbrev pub asked : Question → Head → Record → Bool
-asked q h r = keeps_at (q.way h.radius) r.rect
+is_handed_out q h r = keeps_at (q.way h.radius) r.rect
 
 -- what follows a node of this level below these open nodes, its parent first
 abbrev pub after : (Seen → Way) → Head → ℕ → List Open → Cut → Grammar Said
-after region h level [] P = done (said h (Some P))
-after region h level (o ∷ os) P =
-    some_items (item region level) o.left (λ Ps.
-    opened region (Inner (with_front o.front (first P Ps))) (after region h (level + 1) os))
+after way h level [] P = done (said h (Some P))
+after way h level (o ∷ os) P =
+    some_items (item way level) o.left (λ Ps.
+    opened way (Inner (with_front o.front (first P Ps))) (after way h (level + 1) os))
 
 -- what follows a record of a leaf, behind these and with so many more to come
 abbrev pub after_record : (Seen → Way) → Head → ℕ → List Open → List Record → Record → Grammar Said
-after_record region h left os rs r =
-    notes (opens r (keeps_at region r.rect)) (some_records region left (λ ts.
-    opened region (Leaf (rs ++ r ∷ ts)) (after region h 0 os)))
+after_record way h left os rs r =
+    notes (opens r (keeps_at way r.rect)) (some_records way left (λ ts.
+    opened way (Leaf (rs ++ r ∷ ts)) (after way h 0 os)))
 
 -- ---- what follows the field under way
 
@@ -74,34 +74,34 @@ abbrev pub head_so : Kind → ℕ → ℕ → Option ℕ → ℕ → Head
 head_so k b c r l = record { kind = k; batch = b; count = c; radius = r; level = l }
 
 abbrev pub after_radius : (Option ℕ → Seen → Way) → Kind → ℕ → ℕ → Option ℕ → Grammar Said
-after_radius region k b c r = level c (λ l. part region (head_so k b c r l))
+after_radius way k b c r = level c (λ l. part way (head_so k b c r l))
 
 abbrev pub after_count : (Option ℕ → Seen → Way) → Kind → ℕ → ℕ → Grammar Said
-after_count region k b c = radius k (λ r. after_radius region k b c r)
+after_count way k b c = radius k (λ r. after_radius way k b c r)
 
 abbrev pub after_kind : (Option ℕ → Seen → Way) → Kind → Grammar Said
-after_kind region k =
-    reads want.Batch (λ b. reads want.Count (λ c. after_count region k (number_in b) (number_in c)))
+after_kind way k =
+    reads want.Batch (λ b. reads want.Count (λ c. after_count way k (number_in b) (number_in c)))
 
 abbrev pub head_next : (Option ℕ → Seen → Way) → Head → HeadField → Field → Grammar Said
-head_next region h field.Magic v =
-    reads want.Version (λ _. reads (want.Kind h.kind) (λ _. after_kind region h.kind))
-head_next region h field.Version v = reads (want.Kind h.kind) (λ _. after_kind region h.kind)
-head_next region h field.Kind v = after_kind region h.kind
-head_next region h field.Batch v =
-    reads want.Count (λ c. after_count region h.kind (number_in v) (number_in c))
-head_next region h field.Count v = after_count region h.kind h.batch (number_in v)
-head_next region h field.Flag v =
-    if number_in v == 0 then after_radius region h.kind h.batch h.count None
-    else reads want.Radius (λ r. after_radius region h.kind h.batch h.count (Some (wide_in r)))
-head_next region h field.Radius v = after_radius region h.kind h.batch h.count (Some (wide_in v))
-head_next region h field.Level v =
-    part region (head_so h.kind h.batch h.count h.radius (number_in v))
+head_next way h field.Magic v =
+    reads want.Version (λ _. reads (want.Kind h.kind) (λ _. after_kind way h.kind))
+head_next way h field.Version v = reads (want.Kind h.kind) (λ _. after_kind way h.kind)
+head_next way h field.Kind v = after_kind way h.kind
+head_next way h field.Batch v =
+    reads want.Count (λ c. after_count way h.kind (number_in v) (number_in c))
+head_next way h field.Count v = after_count way h.kind h.batch (number_in v)
+head_next way h field.Flag v =
+    if number_in v == 0 then after_radius way h.kind h.batch h.count None
+    else reads want.Radius (λ r. after_radius way h.kind h.batch h.count (Some (wide_in r)))
+head_next way h field.Radius v = after_radius way h.kind h.batch h.count (Some (wide_in v))
+head_next way h field.Level v =
+    part way (head_so h.kind h.batch h.count h.radius (number_in v))
 
 -- an opened node behind its tag
 abbrev pub opened_item : (Seen → Way) → ℕ → (Cut → Grammar Said) → Grammar Said
-opened_item region zero next = leaf region next
-opened_item region (suc w) next = inner region (item region w) next
+opened_item way zero next = leaf way next
+opened_item way (suc w) next = inner way (item way w) next
 
 -- the stage behind a tag
 abbrev pub stage_of : ℕ → ℕ → Stage
@@ -110,13 +110,13 @@ stage_of level t =
     else stage.Entries (level - 1)
 
 abbrev pub node_next : (Seen → Way) → ℕ → (Cut → Grammar Said) → ℕ → Grammar Said
-node_next region v next t =
-    if t == pruned_tag then pruned region next else opened_item region v next
+node_next way v next t =
+    if t == pruned_tag then pruned way next else opened_item way v next
 
 -- a pruned part behind its rectangle
 abbrev pub shown_next : (Seen → Way) → (Cut → Grammar Said) → Rectangle → Grammar Said
-shown_next region next r =
-    notes (must rule.Hidden (not (opens_at region r))) (reads want.Digest (λ d.
+shown_next way next r =
+    notes (must rule.Hidden (not (opens_at way r))) (reads want.Digest (λ d.
     next (Pruned (record { rect = r; digest = bytes_in d }))))
 
 -- a record behind its number, behind its rectangle too, and behind its length too
@@ -136,35 +136,35 @@ pub record Above : Type 0 where
 
 -- what follows the field under way, by its value
 abbrev pub next_at : (Option ℕ → Seen → Way) → Head → ℕ → Above → Stage → Field → Grammar Said
-next_at region h left a (stage.Head f) v = head_next region h f v
-next_at region h left a (stage.Tag l) v =
-    node_next (region h.radius) l (after (region h.radius) h l a.nodes) (tag_in v)
-next_at region h left a (stage.Shown l) v =
-    shown_next (region h.radius) (after (region h.radius) h l a.nodes) (rect_in v)
-next_at region h left a (stage.Digest l r) v =
-    after (region h.radius) h l a.nodes (Pruned (record { rect = r; digest = bytes_in v }))
-next_at region h left a (stage.Entries w) v =
-    some_items (item (region h.radius) w) (number_in v)
-    (λ Ps. opened (region h.radius) (Inner Ps) (after (region h.radius) h (w + 1) a.nodes))
-next_at region h left a stage.Records v =
-    some_records (region h.radius) (number_in v)
-    (λ rs. opened (region h.radius) (Leaf rs) (after (region h.radius) h 0 a.nodes))
-next_at region h left a stage.Number v =
-    behind_number (after_record (region h.radius) h left a.nodes a.records) (number_in v)
-next_at region h left a (stage.Sides n) v =
-    behind_sides (after_record (region h.radius) h left a.nodes a.records) n (rect_in v)
-next_at region h left a (stage.Length n r) v =
-    behind_length (after_record (region h.radius) h left a.nodes a.records) n r (number_in v)
-next_at region h left a (stage.Payload n r l) v =
-    after_record (region h.radius) h left a.nodes a.records (record
+next_at way h left a (stage.Head f) v = head_next way h f v
+next_at way h left a (stage.Tag l) v =
+    node_next (way h.radius) l (after (way h.radius) h l a.nodes) (tag_in v)
+next_at way h left a (stage.Shown l) v =
+    shown_next (way h.radius) (after (way h.radius) h l a.nodes) (rect_in v)
+next_at way h left a (stage.Digest l r) v =
+    after (way h.radius) h l a.nodes (Pruned (record { rect = r; digest = bytes_in v }))
+next_at way h left a (stage.Entries w) v =
+    some_items (item (way h.radius) w) (number_in v)
+    (λ Ps. opened (way h.radius) (Inner Ps) (after (way h.radius) h (w + 1) a.nodes))
+next_at way h left a stage.Records v =
+    some_records (way h.radius) (number_in v)
+    (λ rs. opened (way h.radius) (Leaf rs) (after (way h.radius) h 0 a.nodes))
+next_at way h left a stage.Number v =
+    behind_number (after_record (way h.radius) h left a.nodes a.records) (number_in v)
+next_at way h left a (stage.Sides n) v =
+    behind_sides (after_record (way h.radius) h left a.nodes a.records) n (rect_in v)
+next_at way h left a (stage.Length n r) v =
+    behind_length (after_record (way h.radius) h left a.nodes a.records) n r (number_in v)
+next_at way h left a (stage.Payload n r l) v =
+    after_record (way h.radius) h left a.nodes a.records (record
     { number = n; rect = r; payload = bytes_in v })
-next_at region h left a (stage.End node) v = done (said h None)
+next_at way h left a (stage.End node) v = done (said h None)
 
 -- what is still to be read
 abbrev pub left_at : (Option ℕ → Seen → Way) → Head → ℕ → Above → Option Cut → Option Want → Stage
     → Grammar Said
-left_at region h left a whole None s = done (said h whole)
-left_at region h left a whole (Some w) s = reads w (next_at region h left a s)
+left_at way h left a whole None s = done (said h whole)
+left_at way h left a whole (Some w) s = reads w (next_at way h left a s)
 
 -- ---- what is kept of what was read
 
@@ -225,7 +225,7 @@ pub record LeafRead {H : Type 0} (hash : List ℕ → List ℕ) (holds : H → L
       (leaf_tag ∷ length (a.records ++ r ∷ []) ∷ []) (map of_record (a.records ++ r ∷ []))
   pub depth : length a.nodes ≡ h.level
   pub frames : AreFrames (scheme hash h) holds 0 fs a.nodes
-  pub kept : given ≡ filter (asked q h) (so_far a.nodes ++ (a.records ++ r ∷ []))
+  pub kept : given ≡ filter (is_handed_out q h) (so_far a.nodes ++ (a.records ++ r ∷ []))
   pub tally : Counts q.around h.radius given t
 
 -- below the open nodes a node of this level is under way; of all records so far these were handed
@@ -235,7 +235,7 @@ pub record InTree {H : Type 0} (hash : List ℕ → List ℕ) (holds : H → Lis
     (a : Above) : Type 0 where
   pub depth : v + length a.nodes ≡ h.level
   pub frames : AreFrames (scheme hash h) holds v fs a.nodes
-  pub kept : given ≡ filter (asked q h) (so_far a.nodes ++ a.records)
+  pub kept : given ≡ filter (is_handed_out q h) (so_far a.nodes ++ a.records)
   pub tally : Counts q.around h.radius given t
 
 -- in the head
@@ -257,7 +257,7 @@ pub record AtEnd (hash : List ℕ → List ℕ) (q : Question) (h : Head) (t : R
     (given : List Record) (whole : Option Cut) : Type 0 where
   pub root : root_preimage (version_of h) h.batch h.count node ≡ root_bytes hash h whole
   pub rect : node.rect ≡ rect_round whole
-  pub kept : given ≡ filter (asked q h) (opened_records whole)
+  pub kept : given ≡ filter (is_handed_out q h) (opened_records whole)
   pub tally : Counts q.around h.radius given t
 
 abbrev pub IsOpen : {H : Type 0} → (List ℕ → List ℕ) → (H → List ℕ → Type 0) → Question → Machine H
@@ -287,7 +287,7 @@ pub record IsRead {H : Type 0} (hash : List ℕ → List ℕ) (holds : H → Lis
   pub says : entry (scheme hash h) node.level P ≡ node
   pub depth : node.level + length os ≡ h.level
   pub frames : AreFrames (scheme hash h) holds node.level fs os
-  pub kept : given ≡ filter (asked q h) (so_far os ++ records P)
+  pub kept : given ≡ filter (is_handed_out q h) (so_far os ++ records P)
   pub tally : Counts q.around h.radius given t
 
 -- The machine waits for this, and these records were handed out.
@@ -333,13 +333,13 @@ abbrev pub stepped_by : Option Rule → Stepped
 stepped_by None = stepped.On
 stepped_by (Some rule) = stepped.Broken rule
 
--- the records handed out, with one more where the region meets it
+-- the records handed out, with one more where it is handed out too
 abbrev pub plus : Bool → List Record → Record → List Record
-plus met given r = if met then given ++ r ∷ [] else given
+plus handed_on given r = if handed_on then given ++ r ∷ [] else given
 
 abbrev pub found_by : Option Rule → Bool → Stepped
-found_by (Some rule) met = stepped.Broken rule
-found_by None met = if met then stepped.Found else stepped.On
+found_by (Some rule) handed_on = stepped.Broken rule
+found_by None handed_on = if handed_on then stepped.Found else stepped.On
 
 -- the stage behind a field of a head, which is not whole or whole
 abbrev pub stage_behind : Head → Option HeadField → Stage

@@ -34,8 +34,8 @@ fn answered_by<H: Hashes>(
 {
     is_query(q);
     query_is_lawful(q);
-    let opened = check_question::<H, Query>(alloc, root, q, proof)?;
-    Ok(answer_of(opened, q)?)
+    let collected = check_question::<H, Query>(alloc, root, q, proof)?;
+    Ok(answer_of(collected, q)?)
 }
 
 /// The records that the proof proves to be the answer to the query on the map with this root

@@ -3,8 +3,8 @@
 ghost use Rattle.std.specs.Prelude.{◌≡◌, ◌+◌, ◌≤◌, List, option_map, vec_len};
 ghost use Rattle.mr_record.specs.declared.record.Record as types;
 ghost use Rattle.mr_proof.specs.Cut.{Cut};
-ghost use Rattle.mr_proof.specs.Tight.{met_by, seen_at};
-ghost use Rattle.mr_check.specs.Standing.{frames_of, Open, IsRead, Closes, CloseFits, after, region_of};
+ghost use Rattle.mr_proof.specs.Tight.{opens_seen, seen_at};
+ghost use Rattle.mr_check.specs.Standing.{frames_of, Open, IsRead, Closes, CloseFits, after, ways_at};
 
 use crate::frame::{pop, push};
 use crate::machine::Machine;
@@ -13,8 +13,8 @@ use mr_proof::{AsQuestion, Head, Rule};
 use mr_tree::{Entry, Hashes};
 
 // Whether the node is to be opened.
-pub(crate) fn meets<A: AsQuestion>(q: &A, head: &Head, node: &Entry) -> bool
-    ensures { result ≡ met_by (region_of (A.question q.now) head.now)
+pub(crate) fn is_to_be_opened<A: AsQuestion>(q: &A, head: &Head, node: &Entry) -> bool
+    ensures { result ≡ opens_seen (ways_at (A.question q.now) head.now)
         (option_map seen_at node.now.rect) }
 {
     match node.rect {
@@ -36,7 +36,7 @@ pub(crate) fn close<H: Hashes, A: AsQuestion>(
         → IsRead H.of H.holds (A.question q.now) m.old.head (frames_of m.old) m.old.tally node.now
         given os P
         → Closes H.of H.holds (A.question q.now) m.new given
-        (after (region_of (A.question q.now) m.old.head) m.old.head node.now.level os P) result }
+        (after (ways_at (A.question q.now) m.old.head) m.old.head node.now.level os P) result }
 {
     match pop(&mut m.frames) {
         None => {
@@ -52,7 +52,7 @@ pub(crate) fn close<H: Hashes, A: AsQuestion>(
                 return None;
             }
             let parent = frame.node.close(node.level + 1);
-            if !meets(q, &m.head, &parent) {
+            if !is_to_be_opened(q, &m.head, &parent) {
                 return Some(Rule::Needless);
             }
             close(q, m, &parent)

@@ -7,7 +7,7 @@ ghost use Rattle.mr_proof.specs.Tight.{IsLawful};
 ghost use Rattle.mr_proof.specs.Halves.{ShowsJust, FaultsJust, SpellsOneOf, FindsPairOf, StaysRefused, AcceptsHonestProof};
 ghost use Rattle.mr_proof.specs.Headline.{AcceptedMatchesHonest};
 ghost use Rattle.mr_proof.specs.Feeding.{IsUnsettled, HandsOpened};
-ghost use Rattle.mr_check.specs.Judged.{Took, Takes, IsStopped, Collects};
+ghost use Rattle.mr_check.specs.Judged.{Took, Takes, IsStopped, AnswersCollected};
 
 use crate::outline::Collected;
 use crate::{CheckErr, Fed, Verifier};
@@ -52,7 +52,7 @@ fn gather<H: Hashes, A: AsQuestion>(
 impl<H: Hashes> Collector<H> {
     ghost use Rattle.mr_check.specs.Judged.{HasCollected};
 
-    /// A proof of which nothing has come yet. Room is made for all that watching needs, and later
+    /// A proof of which nothing has come yet. Room is made for all that reading needs, and later
     /// for the records alone.
     pub fn new<A: AsQuestion>(
         alloc: Global,
@@ -88,9 +88,13 @@ impl<H: Hashes> Collector<H> {
 
     /// The verdict of the bytes that were taken, and what they show.
     pub fn end<A: AsQuestion>(self, q: &A) -> Result<Collected, CheckErr>
-        ensures { (root : List ℕ) (bytes : List ℕ)
+        ensures exact { (root : List ℕ) (bytes : List ℕ)
             → HasCollected H.of H.holds root (A.question q.now) self bytes
-            → Collects H.of root (A.question q.now) bytes result }
+            → AnswersCollected H.of root (A.question q.now) bytes result }
+        // What accepted bytes are worth: they are the honest proof, or show a collision.
+        ensures accepted { (v : Version) (root : List ℕ) (bytes : List ℕ)
+            → HasCollected H.of H.holds root (A.question q.now) self bytes
+            → AcceptedMatchesHonest (by v H.of) (A.question q.now) bytes }
     {
         let outline = self.verifier.end(q)?;
         Ok(Collected {
@@ -108,7 +112,7 @@ fn collected_by<H: Hashes, A: AsQuestion>(
     proof: &[u8],
 ) -> Result<Collected, CheckErr>
     requires { IsLawful (A.question q.now) }
-    ensures { Collects H.of root.now (A.question q.now) proof.now result }
+    ensures { AnswersCollected H.of root.now (A.question q.now) proof.now result }
 {
     let collector = Collector::<H>::new(alloc, root, q)?;
     let taken = collector.take(q, proof)?;
@@ -124,7 +128,7 @@ pub fn check_question<H: Hashes, A: AsQuestion>(
 ) -> Result<Collected, CheckErr>
     requires { IsLawful (A.question q.now) }
     // What is answered: the verdict, which is the head and cut that the bytes show, or their fault.
-    ensures exact { Collects H.of root.now (A.question q.now) proof.now result }
+    ensures exact { AnswersCollected H.of root.now (A.question q.now) proof.now result }
     ensures shows { ShowsJust H.of root.now (A.question q.now) proof.now }
     ensures faults { FaultsJust H.of root.now (A.question q.now) proof.now }
     // What accepted bytes are worth: they are the honest proof of the map with this root, and show

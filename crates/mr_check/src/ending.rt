@@ -8,7 +8,7 @@ ghost use Rattle.mr_record.specs.declared.version.Version.{Version};
 ghost use Rattle.mr_tree.specs.Digest.{by};
 ghost use Rattle.mr_proof.specs.Tight.{IsLawful};
 ghost use Rattle.mr_proof.specs.Headline.{AcceptedIsHonest, OthersFail};
-ghost use Rattle.mr_check.specs.Judged.{Closing};
+ghost use Rattle.mr_check.specs.Judged.{EndsAs};
 ghost use Rattle.mr_check.specs.Reads.{FitsReader, StandsBy, StandsAt, OtherRadius, found_at, EndsAt};
 
 use crate::outline::Outline;
@@ -60,7 +60,7 @@ fn at_end<H: Hashes, A: AsQuestion>(root: &[u8; 32], q: &A, r: &Reader<H>) -> Re
     requires { FitsReader r.now }
     ensures { (bytes : List ℕ) → IsLawful (A.question q.now)
         → StandsAt H.of H.holds (A.question q.now) r.now bytes
-        → Closing H.of root.now (A.question q.now) bytes result }
+        → EndsAs H.of root.now (A.question q.now) bytes result }
 {
     match &r.machine.stage {
         Stage::End(node) => at_last::<H, A>(root, q, r, node),
@@ -85,7 +85,7 @@ pub(crate) fn verdict_of<H: Hashes, A: AsQuestion>(
     requires { FitsReader r.now }
     ensures { (bytes : List ℕ) → IsLawful (A.question q.now)
         → StandsBy H.of H.holds (A.question q.now) r.now r.now.fault bytes
-        → Closing H.of root.now (A.question q.now) bytes result }
+        → EndsAs H.of root.now (A.question q.now) bytes result }
 {
     match r.fault {
         Some(fault) => Err(fault),

@@ -9,7 +9,7 @@ use crate::reader::{Reader, Turn, advance};
 use mr_proof::AsQuestion;
 use mr_tree::Hashes;
 
-// The fields of a piece, up to the first record of the region or the first fault.
+// The fields of a piece, up to the first record that is handed out or the first fault.
 pub(crate) fn read_piece<H: Hashes, A: AsQuestion>(q: &A, r: &mut Reader<H>, piece: &[u8]) -> Fed
     requires fits { FitsReader r.old }
     requires none { r.old.fault ≡ None }

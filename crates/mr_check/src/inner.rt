@@ -4,7 +4,7 @@ ghost use Rattle.std.specs.Prelude.{◌≡◌, ◌+◌, ◌≤◌, [], List, vec
 ghost use Rattle.mr_record.specs.declared.record.Record as types;
 ghost use Rattle.mr_proof.specs.Cut.{Pruned, Inner, Leaf};
 ghost use Rattle.mr_proof.specs.Grammar.{item, some_items, some_records, opened};
-ghost use Rattle.mr_check.specs.Standing.{frames_of, Above, InTree, Steps, StepFits, after, node_next, region_of, shown_next, stage_of, stepped_by};
+ghost use Rattle.mr_check.specs.Standing.{frames_of, Above, InTree, Steps, StepFits, after, node_next, ways_at, shown_next, stage_of, stepped_by};
 
 use crate::closing::close;
 use crate::frame::{Frame, push};
@@ -41,8 +41,8 @@ pub(crate) fn tagged<H: Hashes, A: AsQuestion>(
         → InTree H.of H.holds (A.question q.now) m.old.head (frames_of m.old) m.old.tally level
         given a
         → Steps H.of H.holds (A.question q.now) m.new given (node_next
-        (region_of (A.question q.now) m.old.head) level
-        (after (region_of (A.question q.now) m.old.head) m.old.head level a.nodes) tag) result }
+        (ways_at (A.question q.now) m.old.head) level
+        (after (ways_at (A.question q.now) m.old.head) m.old.head level a.nodes) tag) result }
 {
     m.stage = stage_of(level, tag);
     Stepped::On
@@ -61,8 +61,8 @@ pub(crate) fn shown<H: Hashes, A: AsQuestion>(
         → InTree H.of H.holds (A.question q.now) m.old.head (frames_of m.old) m.old.tally level
         given a
         → Steps H.of H.holds (A.question q.now) m.new given
-        (shown_next (region_of (A.question q.now) m.old.head)
-        (after (region_of (A.question q.now) m.old.head) m.old.head level a.nodes) rect.now)
+        (shown_next (ways_at (A.question q.now) m.old.head)
+        (after (ways_at (A.question q.now) m.old.head) m.old.head level a.nodes) rect.now)
         result }
 {
     if q.way(m.head.radius, rect).is_open() {
@@ -94,7 +94,7 @@ pub(crate) fn pruned<H: Hashes, A: AsQuestion>(
         → InTree H.of H.holds (A.question q.now) m.old.head (frames_of m.old) m.old.tally level
         given a
         → Steps H.of H.holds (A.question q.now) m.new given (after
-        (region_of (A.question q.now) m.old.head) m.old.head level
+        (ways_at (A.question q.now) m.old.head) m.old.head level
         a.nodes (Pruned part.now)) result }
 {
     let node = part.entry(level);
@@ -115,9 +115,9 @@ pub(crate) fn opened_inner<H: Hashes, A: AsQuestion>(
         → InTree H.of H.holds (A.question q.now) m.old.head (frames_of m.old) m.old.tally
         (below + 1) given a
         → Steps H.of H.holds (A.question q.now) m.new given
-        (some_items (item (region_of (A.question q.now) m.old.head) below) entries
-        (λ Ps. opened (region_of (A.question q.now) m.old.head) (Inner Ps)
-        (after (region_of (A.question q.now) m.old.head) m.old.head (below + 1) a.nodes))) result }
+        (some_items (item (ways_at (A.question q.now) m.old.head) below) entries
+        (λ Ps. opened (ways_at (A.question q.now) m.old.head) (Inner Ps)
+        (after (ways_at (A.question q.now) m.old.head) m.old.head (below + 1) a.nodes))) result }
 {
     let frame = Frame {
         node: Gathering::<H>::inner(below + 1, entries),
@@ -140,9 +140,9 @@ pub(crate) fn opened_leaf<H: Hashes, A: AsQuestion>(
     ensures steps { (given : List types.Record) (a : Above) → a.records ≡ []
         → InTree H.of H.holds (A.question q.now) m.old.head (frames_of m.old) m.old.tally 0 given a
         → Steps H.of H.holds (A.question q.now) m.new given
-        (some_records (region_of (A.question q.now) m.old.head) entries
-        (λ rs. opened (region_of (A.question q.now) m.old.head) (Leaf rs)
-        (after (region_of (A.question q.now) m.old.head) m.old.head 0 a.nodes))) result }
+        (some_records (ways_at (A.question q.now) m.old.head) entries
+        (λ rs. opened (ways_at (A.question q.now) m.old.head) (Leaf rs)
+        (after (ways_at (A.question q.now) m.old.head) m.old.head 0 a.nodes))) result }
 {
     m.leaf = Frame {
         node: Gathering::<H>::leaf(entries),

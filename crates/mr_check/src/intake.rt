@@ -26,11 +26,12 @@ pub struct Intake<H: Hashes> {
     collector: Collector<H>,
 }
 
-/// The answer to the query, of what a proof for it shows.
-pub fn answer_of(opened: Collected, q: &Query) -> Result<Vec<Record>, AllocError>
-    ensures { IfOk result (λ v. v.items ≡ scan opened.records.items q.now) }
+/// The scan of the records that were collected: the answer to the query, where they were collected
+/// for its question.
+pub fn answer_of(collected: Collected, q: &Query) -> Result<Vec<Record>, AllocError>
+    ensures { IfOk result (λ v. v.items ≡ scan collected.records.items q.now) }
 {
-    let mut kept = opened.records;
+    let mut kept = collected.records;
     arrange(&mut kept, q)?;
     answer(kept, q)
 }
@@ -77,7 +78,7 @@ impl<H: Hashes> Intake<H> {
             → Checks result (verdict H.of root q bytes) }
     {
         let query = self.query;
-        let opened = self.collector.end(&query)?;
-        Ok(answer_of(opened, &query)?)
+        let collected = self.collector.end(&query)?;
+        Ok(answer_of(collected, &query)?)
     }
 }

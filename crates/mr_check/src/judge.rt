@@ -18,8 +18,8 @@ use mr_query::{Query, is_query};
 use mr_tree::Hashes;
 use std::alloc::{AllocError, Global};
 
-/// Judges a proof for one query against one root digest, as its bytes come in pieces of any size:
-/// a verifier of what the query asks.
+/// Judges a proof for one query against one root digest, as its bytes come in pieces of any size: a
+/// `Verifier` for the query's question, which says what is kept and how contracts speak of it.
 #[derive(Drop)]
 pub struct Judge<H: Hashes> {
     query: Query,

@@ -3,10 +3,10 @@
 ghost use Rattle.std.specs.Prelude.{◌≡◌, ◌≤◌, [], List, vec_len};
 ghost use Rattle.mr_record.specs.declared.record.Record as types;
 ghost use Rattle.mr_check.specs.Counting.{Counts};
-ghost use Rattle.mr_check.specs.Standing.{frames_of, Above, InTree, IsLeaf, LeafRead, Steps, StepFits, after_record, asked, region_of, found_by, plus, behind_length};
+ghost use Rattle.mr_check.specs.Standing.{frames_of, Above, InTree, IsLeaf, LeafRead, Steps, StepFits, after_record, is_handed_out, ways_at, found_by, plus, behind_length};
 ghost use Rattle.mr_record.specs.Record.{payload_limit};
 
-use crate::closing::{close, meets};
+use crate::closing::{close, is_to_be_opened};
 use crate::frame::Frame;
 use crate::machine::{Machine, Stepped};
 use crate::radius_counts::{RadiusCounts, count};
@@ -19,7 +19,7 @@ use std::mem;
 
 // Whether the record is handed out; if so, it is counted.
 fn counted<A: AsQuestion>(q: &A, head: &Head, tally: &mut RadiusCounts, one: &Record) -> bool
-    ensures met { result ≡ asked (A.question q.now) head.now one.now }
+    ensures handed_on { result ≡ is_handed_out (A.question q.now) head.now one.now }
     ensures tally { (given : List types.Record) → Counts (A.question q.now).around head.now.radius
         given tally.old
         → Counts (A.question q.now).around head.now.radius (plus result given one.now) tally.new }
@@ -43,34 +43,40 @@ fn taken<H: Hashes>(leaf: &mut Frame<H>) -> Frame<H>
     mem::replace(leaf, blank)
 }
 
-fn found(broken: Option<Rule>, met: bool) -> Stepped
-    ensures { result ≡ found_by broken met }
+fn found(broken: Option<Rule>, handed_on: bool) -> Stepped
+    ensures { result ≡ found_by broken handed_on }
 {
     match broken {
         Some(rule) => Stepped::Broken(rule),
-        None => { if met { Stepped::Found } else { Stepped::On } }
+        None => {
+            if handed_on {
+                Stepped::Found
+            } else {
+                Stepped::On
+            }
+        }
     }
 }
 
 // The last record of the open leaf was read.
-fn last<H: Hashes, A: AsQuestion>(q: &A, m: &mut Machine<H>, met: bool) -> Stepped
+fn last<H: Hashes, A: AsQuestion>(q: &A, m: &mut Machine<H>, handed_on: bool) -> Stepped
     requires { vec_len m.old.frames.list ≤ 7 }
     ensures fits { StepFits m.new.head.kind m.new.stage (vec_len m.new.frames.list) result }
     ensures steps { (given : List types.Record) (a : Above)
-        → met ≡ asked (A.question q.now) m.old.head m.old.latest
+        → handed_on ≡ is_handed_out (A.question q.now) m.old.head m.old.latest
         → LeafRead H.of H.holds (A.question q.now) m.old.head (frames_of m.old) m.old.tally
         m.old.leaf
-        (plus met given m.old.latest) a m.old.latest
+        (plus handed_on given m.old.latest) a m.old.latest
         → Steps H.of H.holds (A.question q.now) m.new given (after_record
-        (region_of (A.question q.now) m.old.head) m.old.head
+        (ways_at (A.question q.now) m.old.head) m.old.head
         0 a.nodes a.records m.old.latest) result }
 {
     let leaf = taken(&mut m.leaf);
     let node = leaf.node.close(0);
-    if !meets(q, &m.head, &node) {
+    if !is_to_be_opened(q, &m.head, &node) {
         return Stepped::Broken(Rule::Needless);
     }
-    found(close(q, m, &node), met)
+    found(close(q, m, &node), handed_on)
 }
 
 // One more record of the open leaf was read.
@@ -80,17 +86,17 @@ pub(crate) fn record<H: Hashes, A: AsQuestion>(q: &A, m: &mut Machine<H>) -> Ste
     ensures steps { (given : List types.Record) (a : Above) → IsLeaf H.holds m.old.leaf a.records
         → InTree H.of H.holds (A.question q.now) m.old.head (frames_of m.old) m.old.tally 0 given a
         → Steps H.of H.holds (A.question q.now) m.new given (after_record
-        (region_of (A.question q.now) m.old.head) m.old.head
+        (ways_at (A.question q.now) m.old.head) m.old.head
         m.old.leaf.left a.nodes a.records m.old.latest) result }
 {
-    let met = counted(q, &m.head, &mut m.tally, &m.latest);
+    let handed_on = counted(q, &m.head, &mut m.tally, &m.latest);
     m.leaf.node.add_record(&m.latest);
     if m.leaf.left == 0 {
-        return last(q, m, met);
+        return last(q, m, handed_on);
     }
     m.leaf.left -= 1;
     m.stage = Stage::Number;
-    found(None, met)
+    found(None, handed_on)
 }
 
 // The length of a payload.
@@ -107,7 +113,7 @@ pub(crate) fn sized<H: Hashes, A: AsQuestion>(
     ensures steps { (given : List types.Record) (a : Above) → IsLeaf H.holds m.old.leaf a.records
         → InTree H.of H.holds (A.question q.now) m.old.head (frames_of m.old) m.old.tally 0 given a
         → Steps H.of H.holds (A.question q.now) m.new given (behind_length (after_record
-        (region_of (A.question q.now) m.old.head) m.old.head m.old.leaf.left a.nodes a.records)
+        (ways_at (A.question q.now) m.old.head) m.old.head m.old.leaf.left a.nodes a.records)
         number
         rect.now length) result }
 {

@@ -23,7 +23,7 @@ pub(crate) struct Machine<H: Hashes> {
 // What one more field comes to.
 pub(crate) enum Stepped {
     On,
-    // the record that was read last is one of the region
+    // the record that was read last is handed out
     Found,
     Broken(Rule),
 }

@@ -35,7 +35,7 @@ pub(crate) struct Reader<H: Hashes> {
 }
 
 // What some bytes come to: the whole piece was taken; or so many of its bytes, which end a field,
-// and maybe a record of the region, which the machine has; or there is a fault.
+// and maybe a record that is handed out, which the machine has; or there is a fault.
 pub(crate) enum Turn {
     More,
     Took(usize),
@@ -118,7 +118,7 @@ fn goes_on<H: Hashes>(r: &mut Reader<H>, taken: usize) -> Turn
     Turn::Took(taken)
 }
 
-// Behind what ended a record of the region.
+// Behind what ended a record that is handed out.
 fn hands_out<H: Hashes>(r: &mut Reader<H>, taken: usize) -> Turn
     requires stage { FitsStage r.old.machine.head.kind r.old.machine.stage
         (vec_len r.old.machine.frames.list) }

@@ -1,7 +1,10 @@
 //! A proof as it is read in pieces, whatever it has to show.
 
 ghost use Rattle.std.specs.Prelude.{◌≡◌, ◌++◌, [], ℕ, List, None, length, IfOk};
+ghost use Rattle.mr_record.specs.declared.version.Version.{Version};
+ghost use Rattle.mr_tree.specs.Digest.{by};
 ghost use Rattle.mr_proof.specs.Tight.{Question, IsLawful};
+ghost use Rattle.mr_proof.specs.Headline.{AcceptedMatchesHonest};
 ghost use Rattle.mr_proof.specs.Feeding.{HandsOpened};
 ghost use Rattle.mr_check.specs.Answers.{TakesFrom, taken_of, Feeds};
 ghost use Rattle.mr_check.specs.Reads.{FitsReader, StandsAt, StandsBy};
@@ -22,13 +25,12 @@ use mr_tree::{Gathering, Hashes};
 use std::alloc::{AllocError, Global};
 
 /// Reads a proof against one root digest, as its bytes come in pieces of any size. What the proof
-/// has to show is given with each call. It keeps a hasher and a rectangle for each open node, of
-/// which there are at most eight, three counts, the record that was read last, and at most the 200
-/// bytes of the field that is under way.
+/// has to show is given with each call, the same each time: of a call with another nothing is said.
+/// It keeps a hasher and a rectangle for each open node, of which there are at most eight, three
+/// counts, the record that was read last, and at most the 200 bytes of the field that is under way.
 ///
 /// It does not keep the bytes. Contracts go by a relation: a verifier stands for the bytes that it
-/// was
-/// fed, and what they say of the bytes so far holds for each string that it stands for.
+/// was fed, and what they say of the bytes so far holds for each string that it stands for.
 #[derive(Drop)]
 pub struct Verifier<H: Hashes> {
     root: [u8; 32],
@@ -86,7 +88,7 @@ fn feed<H: Hashes, A: AsQuestion>(q: &A, r: &mut Reader<H>, piece: &[u8]) -> Fed
 }
 
 impl<H: Hashes> Verifier<H> {
-    ghost use Rattle.mr_check.specs.Judged.{WasFed, Closing};
+    ghost use Rattle.mr_check.specs.Judged.{WasFed, EndsAs};
 
     /// A verifier that was fed nothing. It makes room for all that it will need.
     pub fn new<A: AsQuestion>(
@@ -125,10 +127,14 @@ impl<H: Hashes> Verifier<H> {
     pub fn end<A: AsQuestion>(self, q: &A) -> Result<Outline, Fault>
         ensures closing { (root : List ℕ) (bytes : List ℕ)
             → WasFed H.of H.holds root (A.question q.now) self bytes
-            → Closing H.of root (A.question q.now) bytes result }
+            → EndsAs H.of root (A.question q.now) bytes result }
         ensures handed { (root : List ℕ) (bytes : List ℕ)
             → WasFed H.of H.holds root (A.question q.now) self bytes
             → HandsOpened (A.question q.now) bytes }
+        // What accepted bytes are worth: they are the honest proof, or show a collision.
+        ensures accepted { (v : Version) (root : List ℕ) (bytes : List ℕ)
+            → WasFed H.of H.holds root (A.question q.now) self bytes
+            → AcceptedMatchesHonest (by v H.of) (A.question q.now) bytes }
     {
         verdict_of::<H, A>(&self.root, q, &self.reader)
     }

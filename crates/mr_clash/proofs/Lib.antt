@@ -7,4 +7,5 @@ pub mod Rows
 pub mod Roots
 pub mod Whole
 pub mod Fetches
-pub mod AuditOutcomes
+pub mod QuestionFindings
+pub mod HonestProofs

@@ -23,9 +23,9 @@ use Rattle.mr_proof.specs.Reading.{verdict}
 use Rattle.mr_check.proofs.Gathering.{answered}
 use Rattle.mr_check.proofs.Judging.{accepted, refused}
 use Rattle.mr_clash.specs.Finding.{finding_of, found, root_at, IsSound, FindsFor, FindsHonest, FetchesFew, Collides, opened_said, opened_by, opened_accepted}
-use Rattle.mr_clash.specs.AuditOutcomes.{IsAuditOutcome, AuditOutcomeFor, AuditOutcomeCollides, opened_checked, opened_checked_by, FetchesFor, FindsOf}
-use Rattle.mr_clash.specs.declared.outcome.AuditOutcome.{AuditOutcome}
-use Rattle.mr_clash.specs.declared.outcome.AuditOutcome.TheVariants as outcomes
+use Rattle.mr_clash.specs.QuestionFindings.{IsQuestionFinding, QuestionFindingFor, QuestionFindingCollides, opened_checked, opened_checked_by, FetchesFor, FindsOf}
+use Rattle.mr_clash.specs.declared.question_finding.QuestionFinding.{QuestionFinding}
+use Rattle.mr_clash.specs.declared.question_finding.QuestionFinding.TheVariants as question_findings
 use Rattle.mr_clash.specs.declared.finding.Finding.{Finding}
 use Rattle.mr_clash.specs.declared.finding.Finding.TheVariants as findings
 use Rattle.mr_proof.specs.declared.head.Kind.{Kind}
@@ -64,40 +64,40 @@ module _ (q : Query) (bytes : List ℕ) (is : IsQuery q) (fits : IsBytes bytes) 
       ap (λ (k : Kind). clash_of k s t b bytes)
       (kind_spelled x.head x.part bytes (subst IsQueried (sym p.0) (queried q)) p.1 ∙ p.0)
 
-  found_from : (s : Scheme) (t : Tree) (b : ℕ) (w : AuditOutcome) (v : Finding)
-      → IsAuditOutcome s t b (question q) bytes w
+  found_from : (s : Scheme) (t : Tree) (b : ℕ) (w : QuestionFinding) (v : Finding)
+      → IsQuestionFinding s t b (question q) bytes w
       → FindsOf q w v → v ≡ found s t b q bytes
-  found_from s t b (outcomes.Refused f) v outcome of =
-      of ∙ sym (ap (λ r. finding_of r (clash s t b bytes)) (refused s.of (digests.root s t b) q bytes f outcome))
-  found_from s t b (outcomes.Honest o) v outcome of =
-      let exact = answered s.of (digests.root s t b) q bytes o of.0 is fits (outcome.0, outcome.1, outcome.2) of.2 in
-      let none = same_clash s t b outcome.0 outcome.1 ∙ outcome.3 in
+  found_from s t b (question_findings.Refused f) v is_found of =
+      of ∙ sym (ap (λ r. finding_of r (clash s t b bytes)) (refused s.of (digests.root s t b) q bytes f is_found))
+  found_from s t b (question_findings.Sound o) v is_found of =
+      let exact = answered s.of (digests.root s t b) q bytes o of.0 is fits (is_found.0, is_found.1, is_found.2) of.2 in
+      let none = same_clash s t b is_found.0 is_found.1 ∙ is_found.3 in
       of.1 ∙ sym (λ i. finding_of (exact i) (none i))
-  found_from s t b (outcomes.Collision owned shown) v outcome of =
-      let exact = accepted s.of (digests.root s t b) q bytes outcome.0 outcome.1 in
-      let some = same_clash s t b outcome.0 outcome.1 ∙ outcome.2 in
+  found_from s t b (question_findings.Collision owned shown) v is_found of =
+      let exact = accepted s.of (digests.root s t b) q bytes is_found.0 is_found.1 in
+      let some = same_clash s t b is_found.0 is_found.1 ∙ is_found.2 in
       of ∙ sym (λ i. finding_of (exact i) (some i))
 
-  pub told_from : (s : Scheme) (o : Option Tree) (b : ℕ) (w : AuditOutcome) (v : Finding)
-      → IfSome o (λ t. IsAuditOutcome s t b (question q) bytes w) → FindsOf q w v
+  pub told_from : (s : Scheme) (o : Option Tree) (b : ℕ) (w : QuestionFinding) (v : Finding)
+      → IfSome o (λ t. IsQuestionFinding s t b (question q) bytes w) → FindsOf q w v
       → IfSome o (λ t. v ≡ found s t b q bytes)
-  told_from s None b w v outcome of = tt
-  told_from s (Some t) b w v outcome of = found_from s t b w v outcome of
+  told_from s None b w v is_found of = tt
+  told_from s (Some t) b w v is_found of = found_from s t b w v is_found of
 
-  pub judged_from : (hash : List ℕ → List ℕ) (s : Standing) (w : AuditOutcome) (v : Finding)
-      → AuditOutcomeFor hash s (question q) bytes w → FindsOf q w v → FindsFor hash s q bytes v
-  judged_from hash s (outcomes.Refused f) v (top, at, pair, outcome) of = (
+  pub judged_from : (hash : List ℕ → List ℕ) (s : Standing) (w : QuestionFinding) (v : Finding)
+      → QuestionFindingFor hash s (question q) bytes w → FindsOf q w v → FindsFor hash s q bytes v
+  judged_from hash s (question_findings.Refused f) v (top, at, pair, is_found) of = (
     top,
     at,
     pair,
-    of ∙ sym (ap (λ r. finding_of r pair) (refused hash (hash (root_at top)) q bytes f outcome)),
+    of ∙ sym (ap (λ r. finding_of r pair) (refused hash (hash (root_at top)) q bytes f is_found)),
   )
-  judged_from hash s (outcomes.Honest o) v (top, at, pair, outcome) of =
-      let exact = answered hash (hash (root_at top)) q bytes o of.0 is fits (outcome.0, outcome.1, outcome.2) of.2 in
-      (top, at, pair, of.1 ∙ sym (λ i. finding_of (exact i) (outcome.3 i)))
-  judged_from hash s (outcomes.Collision owned shown) v (top, at, pair, outcome) of =
-      let exact = accepted hash (hash (root_at top)) q bytes outcome.0 outcome.1 in
-      (top, at, pair, of ∙ sym (λ i. finding_of (exact i) (outcome.2 i)))
+  judged_from hash s (question_findings.Sound o) v (top, at, pair, is_found) of =
+      let exact = answered hash (hash (root_at top)) q bytes o of.0 is fits (is_found.0, is_found.1, is_found.2) of.2 in
+      (top, at, pair, of.1 ∙ sym (λ i. finding_of (exact i) (is_found.3 i)))
+  judged_from hash s (question_findings.Collision owned shown) v (top, at, pair, is_found) of =
+      let exact = accepted hash (hash (root_at top)) q bytes is_found.0 is_found.1 in
+      (top, at, pair, of ∙ sym (λ i. finding_of (exact i) (is_found.2 i)))
 
   -- accepted bytes open what they spell
   opened_alike : (hash : List ℕ → List ℕ) (root : List ℕ) (r : Result Said Fault)
@@ -123,15 +123,16 @@ module _ (q : Query) (bytes : List ℕ) (is : IsQuery q) (fits : IsBytes bytes) 
       let same = opened_alike hash root (checked hash root (question q) bytes) refl in
       (few.0, few.1, omega (arith, few.2, same))
 
-pub finding_collides : (hash : List ℕ → List ℕ) (q : Query) (w : AuditOutcome) (v : Finding)
-    → AuditOutcomeCollides hash w
+pub finding_collides : (hash : List ℕ → List ℕ) (q : Query) (w : QuestionFinding) (v : Finding)
+    → QuestionFindingCollides hash w
     → FindsOf q w v → Collides hash v
-finding_collides hash q (outcomes.Refused f) v collides of = subst (Collides hash) (sym of) tt
-finding_collides hash q (outcomes.Honest o) v collides of = subst (Collides hash) (sym of.1) tt
-finding_collides hash q (outcomes.Collision owned shown) v collides of = subst (Collides hash) (sym of) collides
+finding_collides hash q (question_findings.Refused f) v collides of = subst (Collides hash) (sym of) tt
+finding_collides hash q (question_findings.Sound o) v collides of = subst (Collides hash) (sym of.1) tt
+finding_collides hash q (question_findings.Collision owned shown) v collides of = subst (Collides hash) (sym of)
+    collides
 
 module _ (h : Scheme) (q : Query) (t : Tree) (b : ℕ) (bytes : List ℕ) (well : WellFormed t)
-    (low : b < 2 ^ 64) (accepts : AcceptsHonest h q) (outcome : AcceptedIsHonest h q bytes)
+    (low : b < 2 ^ 64) (accepts : AcceptsHonest h q) (matches : AcceptedIsHonest h q bytes)
     (quiet : HonestIsQuiet h q) where
   abbrev Honest : List Record → Type 0
   Honest answer = IsHonest h t b q bytes answer
@@ -143,7 +144,7 @@ module _ (h : Scheme) (q : Query) (t : Tree) (b : ℕ) (bytes : List ℕ) (well 
   sound_own (Ok rs) (Some p) v e d is answer sound = absurd cc
   sound_own (Ok rs) None v e d is answer sound =
       let same : rs ≡ answer = same_answer rs answer (sym is ∙ sound) in
-      subst Honest same (none_and (clash h t b bytes) d (outcome t b rs well low e))
+      subst Honest same (none_and (clash h t b bytes) d (matches t b rs well low e))
     where
       same_answer : (rs answer : List Record) → findings.Sound rs ≡ findings.Sound answer → rs ≡ answer
       same_answer rs answer e = cc
@@ -187,12 +188,12 @@ pub honest_told : (hash : List ℕ → List ℕ) (q : Query) (bytes : List ℕ) 
     → IfSome s.tree (λ t. ∥ WellFormed t ∥₁)
     → IfSome s.tree (λ t. v ≡ found (by s.version hash) t s.batch q bytes)
     → IfSome s.tree (λ t. FindsHonest (by s.version hash) t s.batch q bytes v)
-honest_told hash q bytes s top v is low accepts outcome quiet wells told = by_tree s.tree wells told
+honest_told hash q bytes s top v is low accepts matches quiet wells told = by_tree s.tree wells told
   where
     by_tree : (o : Option Tree) → IfSome o (λ t. ∥ WellFormed t ∥₁)
         → IfSome o (λ t. v ≡ found (by s.version hash) t s.batch q bytes)
         → IfSome o (λ t. FindsHonest (by s.version hash) t s.batch q bytes v)
     by_tree None wells told = tt
     by_tree (Some t) wells told = ∥∥₁_elim wells (finds_prop (by s.version hash) t s.batch q bytes v) (λ well.
-        finds_honest (by s.version hash) q t s.batch bytes well (subst (λ n. n < 2 ^ 64) is.batch low) accepts outcome
+        finds_honest (by s.version hash) q t s.batch bytes well (subst (λ n. n < 2 ^ 64) is.batch low) accepts matches
         quiet v told)

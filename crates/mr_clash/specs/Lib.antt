@@ -1,6 +1,6 @@
 -- what has to be believed
 pub mod Finding
-pub mod AuditOutcomes
+pub mod QuestionFindings
 pub mod Causes
 -- what only private functions and proofs use
 pub mod Steps

@@ -9,12 +9,12 @@ ghost use Rattle.mr_tree.specs.declared.tree.Tree as trees;
 ghost use Rattle.mr_query.specs.Word.{IsAskable};
 ghost use Rattle.mr_clash.specs.Causes.{AuditCauses, IsHandedOn, of_nodes};
 ghost use Rattle.mr_clash.specs.Finding.{found, opened_accepted, root_at, Collides, FindsFor, FindsHonest, FetchesFew};
-ghost use Rattle.mr_clash.specs.AuditOutcomes.{FindsOf};
+ghost use Rattle.mr_clash.specs.QuestionFindings.{FindsOf};
 ghost use Rattle.mr_clash.specs.Steps.{left, pair_of, ComparesMap, ComparesRoots, FetchesMap, FetchesRoot, PassesRoot, WalksRoot};
 
 use crate::finding::{Clash, clash_of, first_of};
 use crate::items::pass_item;
-use crate::outcome::{AuditOutcome, audit_question};
+use crate::question_finding::{QuestionFinding, audit_question};
 use crate::rest::Rest;
 use crate::root::{Said, read_head, root_string};
 use crate::walked::Walked;
@@ -139,16 +139,16 @@ pub(crate) fn compare_map<N: Nodes>(
 }
 
 // The finding of bytes for a query, by what they are worth.
-fn finding_of(outcome: AuditOutcome, q: &Query) -> Result<Finding, AllocError>
-    ensures { IfOk result (FindsOf q.now outcome) }
+fn finding_of(question_finding: QuestionFinding, q: &Query) -> Result<Finding, AllocError>
+    ensures { IfOk result (FindsOf q.now question_finding) }
 {
-    match outcome {
-        AuditOutcome::Refused(fault) => Ok(Finding::Refused(fault)),
-        AuditOutcome::Honest(opened) => {
-            let answer = answer_of(opened, q)?;
+    match question_finding {
+        QuestionFinding::Refused(fault) => Ok(Finding::Refused(fault)),
+        QuestionFinding::Sound(collected) => {
+            let answer = answer_of(collected, q)?;
             Ok(Finding::Sound(Items::of(answer)))
         }
-        AuditOutcome::Collision(owned, shown) => Ok(Finding::Collision(owned, shown)),
+        QuestionFinding::Collision(owned, shown) => Ok(Finding::Collision(owned, shown)),
     }
 }
 
@@ -198,6 +198,6 @@ pub fn audit<N: Nodes>(
     accepted_is_honest::<N::Hash>(q, proof);
     let top = nodes.top();
     are_words(top.batch, top.count);
-    let outcome = audit_question(alloc, nodes, q, proof)?;
-    Ok(finding_of(outcome, q)?)
+    let question_finding = audit_question(alloc, nodes, q, proof)?;
+    Ok(finding_of(question_finding, q)?)
 }

@@ -1,6 +1,6 @@
 -- `apply` behind an opened map: what comes of its changes on a copy of the map's file, and why it may stop.
 use Rattle.std.proofs.Common.{◌≡◌, ℕ, ◌+◌, ◌<◌, ◌≤◌, ◌^◌, List, [], ◌∷◌, length, refl, sym, ap, subst, ◌∙◌, inl, inr, arith}
-use Rattle.std.specs.Prelude.{Option, Some, None, option_map, IfSome, IfOk, MatchResult, Result, Ok, Err}
+use Rattle.std.specs.Prelude.{Option, Some, None, option_map, IfSome, IsNone, IfOk, MatchResult, Result, Ok, Err}
 use Rattle.mr_outside.specs.Files.{Files, with_file}
 use Rattle.mr_outside.specs.State.{Shelved}
 use Rattle.mr_outside.specs.Writing.{IsChanged}
@@ -8,6 +8,7 @@ use Rattle.mr_outside.proofs.Changes.{with_file-twice}
 use Rattle.mr_record.specs.declared.version.Version.TheVariants.{One}
 use Rattle.mr_tree.specs.Digest.{root, root_preimage}
 use Rattle.mr_tree.specs.Nodes.{Standing, root_entry}
+use Rattle.mr_tree.specs.View.{IsChild}
 use Rattle.mr_tree.specs.declared.child.Child.{Child}
 use Rattle.mr_tree.specs.Tree.{records}
 use Rattle.mr_tree.specs.declared.tree.Tree.{Tree}
@@ -102,28 +103,30 @@ copied_on hash name h before new d e copies keeps = elim keeps.left [
 -- ---- the root digest of a map that was sealed
 
 pub root_of_some : (hash : List ℕ → List ℕ) (batch count : ℕ) (root : Option Child) → batch < 2 ^ 64
-    → IsTop count root → IsLow root → (r : Result (List ℕ) EditErr)
+    → IsTop count root → IsLow root → IfSome root IsChild → (r : Result (List ℕ) EditErr)
     → IfOk r (λ (digest : List ℕ). digest ≡ hash (root_preimage One batch count (root_entry root)))
     → IfOk r (IsRootOfSome hash)
-root_of_some hash batch count root low top level (Err e) is = tt
-root_of_some hash batch count None low top level (Ok digest) is = record {
+root_of_some hash batch count root low top level node (Err e) is = tt
+root_of_some hash batch count None low top level node (Ok digest) is = record {
   batch = batch;
   low = low;
   count = count;
   few = omega (arith, top);
   root = None;
-  none = (λ zero. tt, λ none. top);
+  none = (λ zero. refl, λ none. top);
   level = tt;
+  node = tt;
   is = is;
 }
-root_of_some hash batch count (Some c) low top level (Ok digest) is = record {
+root_of_some hash batch count (Some c) low top level node (Ok digest) is = record {
   batch = batch;
   low = low;
   count = count;
   few = top.1;
   root = Some c;
-  none = (λ zero. omega (arith, zero, top.0), λ none. absurd none);
+  none = (λ zero. absurd (omega (arith, zero, top.0)), λ n. let some : IsNone (Some c) = n in cc);
   level = level;
+  node = node;
   is = is;
 }
 
@@ -372,8 +375,9 @@ module _ (hash : List ℕ → List ℕ) (map new batch : List ℕ) (name : List 
 
         -- it was sealed
         sealed_so : (digest : List ℕ) (result : Result Ending Halt) → Seals hash e digest after
-            → IsRootOfSome hash digest → GivesOrStops (prints (digest_line digest)) result → changes after result
-        sealed_so digest (Ok ending) seals some gives = record {
+            → length digest ≡ 32 → IsRootOfSome hash digest → GivesOrStops (prints (digest_line digest)) result
+            → changes after result
+        sealed_so digest (Ok ending) seals long some gives = record {
           counts = counts_on (omega (arith, seals.quiet));
           told = by_some s.tree (λ t. ComesBut (comes (said (map_in s t))) before after (Ok ending)) (λ t told.
               let a = applies t (can t told) in
@@ -389,7 +393,7 @@ module _ (hash : List ℕ → List ℕ) (map new batch : List ℕ) (name : List 
               (seals.bytes, is_changed t seals.bytes a (seals.map _ a.draft), changed_files seals.bytes seals.files));
           untold = λ none. (
             content_of digest seals.bytes,
-            inr (inr (inr (inr (digest, some, (seals.bytes, refl))))),
+            inr (inr (inr (inr (digest, long, some, (seals.bytes, refl))))),
             gives.status,
             gives.printed,
             (seals.bytes, refl, changed_files seals.bytes seals.files),
@@ -401,7 +405,7 @@ module _ (hash : List ℕ → List ℕ) (map new batch : List ℕ) (name : List 
           where
             content_of : (digest bytes : List ℕ) → Outcome
             content_of digest bytes = say_text (digest_line digest) new bytes
-        sealed_so digest (Err halt) seals some none =
+        sealed_so digest (Err halt) seals long some none =
             behind_halted (applying hash map batch new) s said (few_of_copy after) before after
             (counts_on (omega (arith, seals.quiet))) (read after unread) halt (subst (Stops before after) (sym none) tt)
             (λ t told.
@@ -449,5 +453,5 @@ module _ (hash : List ℕ → List ℕ) (map new batch : List ℕ) (name : List 
         pub sealed : (r : Result (List ℕ) EditErr) (result : Result Ending Halt)
             → MatchResult r (λ digest. Seals hash e digest after) (SealFails hash e after)
             → IfOk r (IsRootOfSome hash) → SaysSealed map r result → changes after result
-        sealed (Ok digest) result seals some says = sealed_so digest result seals some says
+        sealed (Ok digest) result seals some says = sealed_so digest result seals says.0 some says.1
         sealed (Err error) result fails some says = unsealed_so error result fails says

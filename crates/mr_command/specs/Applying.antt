@@ -1,5 +1,5 @@
 -- What `apply` comes to behind an opened map. This serves private functions.
-use Rattle.std.specs.Prelude.{◌≡◌, ℕ, ◌+◌, ◌≤◌, List, Option, Some, None, IfSome, Result, Ok, Err}
+use Rattle.std.specs.Prelude.{◌≡◌, ℕ, ◌+◌, ◌≤◌, List, length, Option, Some, None, IfSome, Result, Ok, Err}
 use Rattle.mr_outside.specs.Files.{Files, file}
 use Rattle.mr_outside.specs.State.{Shelved}
 use Rattle.mr_outside.specs.Told.{OfFiles}
@@ -40,7 +40,8 @@ of_copy edits.NoMemory = errors.NoMemory
 
 -- the root digest of a map that was written, or why it was not
 abbrev pub SaysSealed : List ℕ → Result (List ℕ) EditErr → Result Ending Halt → Type 0
-SaysSealed map (Ok digest) result = GivesOrStops (prints (digest_line digest)) result
+SaysSealed map (Ok digest) result = (length digest ≡ 32)
+    × GivesOrStops (prints (digest_line digest)) result
 SaysSealed map (Err e) result = SaysRefusal map (of_edit e) result
 
 -- the directory is that of the records, to which the batch may be applied

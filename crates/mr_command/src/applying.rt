@@ -1,6 +1,6 @@
 //! The command `apply`.
 
-ghost use Rattle.std.specs.Prelude.{◌≡◌, ◌≢◌, ◌<◌, ◌^◌, List, ℕ, IfSome, Ok};
+ghost use Rattle.std.specs.Prelude.{◌≡◌, ◌≢◌, ◌<◌, ◌^◌, List, ℕ, length, IfSome, Ok};
 ghost use Rattle.std.specs.String.{string_bytes};
 ghost use Rattle.mr_batch.specs.Answer.{Answers};
 ghost use Rattle.mr_batch.specs.BatchText.{batch_of_text};
@@ -77,7 +77,8 @@ fn uncopied(alloc: Global, name: &str, error: &EditErr) -> Result<Ending, Halt>
 
 // The ending over a root digest.
 fn say_root(alloc: Global, digest: &[u8; 32]) -> Result<Ending, Halt>
-    ensures { GivesOrStops (prints (line_on digest.now)) result }
+    ensures size { length digest.now ≡ 32 }
+    ensures gives { GivesOrStops (prints (line_on digest.now)) result }
 {
     let line = digest_line(alloc, digest)?;
     Ok(Ending::line(alloc, Status::Done, line))

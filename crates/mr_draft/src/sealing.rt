@@ -1,9 +1,10 @@
 //! A draft's file becomes a map.
 
-ghost use Rattle.std.specs.Prelude.{◌≡◌, ◌<◌, ◌≤◌, ◌^◌, length, option_map, OnOk, IfOk, IfErr, MatchResult};
+ghost use Rattle.std.specs.Prelude.{◌≡◌, ◌<◌, ◌≤◌, ◌^◌, length, option_map, OnOk, IfOk, IfErr, IfSome, MatchResult};
 ghost use Rattle.std.specs.String.{string_bytes};
 ghost use Rattle.mr_record.specs.declared.version.Version.TheVariants.{One};
 ghost use Rattle.mr_tree.specs.Digest.{root_preimage};
+ghost use Rattle.mr_tree.specs.View.{IsChild};
 ghost use Rattle.mr_tree.specs.Nodes.{root_entry};
 ghost use Rattle.mr_outside.specs.Files.{overwritten};
 ghost use Rattle.mr_outside.specs.Writing.{IsChanged, IsChangedPartly};
@@ -18,7 +19,7 @@ use crate::pages::refusal;
 use mr_edit::{Desk, EditErr};
 use mr_outside::Shelf;
 use mr_pages::{FIRST, MapHead, PAGE_SIZE, level_of_root, write_head_page};
-use mr_tree::{Hashes, Top, root_digest};
+use mr_tree::{Child, Hashes, Top, root_digest};
 
 // Waits until the file stands as it was written.
 fn sync<S: Shelf>(shelf: &mut S, name: &str) -> Result<(), EditErr>
@@ -119,6 +120,27 @@ fn seal_file<S: Shelf, H: Hashes>(
     Ok(digest_of::<H>(head))
 }
 
+// What the types tell of their values.
+fn is_id(_id: u32)
+    ensures { _id < 2 ^ 32 }
+{}
+
+fn is_child(one: &Child)
+    ensures { IsChild one.now }
+{
+    is_id(one.id);
+    let _corners = one.rect.corners();
+    let _digest = one.digest;
+}
+
+fn is_root(root: &Option<Child>)
+    ensures { IfSome root.now IsChild }
+{
+    if let Some(child) = root {
+        is_child(child);
+    }
+}
+
 impl<S: Shelf, H: Hashes> Draft<S, H> {
     /// Makes the file a map: syncs it, writes page 0, and syncs it again. Answers the root digest.
     pub fn seal(self) -> (S, Result<[u8; 32], EditErr>)
@@ -129,7 +151,9 @@ impl<S: Shelf, H: Hashes> Draft<S, H> {
             (SealFails H.of (drawn (S.state self.desk.file.shelf)
             (string_bytes self.desk.file.name) self.desk.file.pages self.desk.free self.root
             self.count self.batch) (S.state result.0)) }
-        // Told or not, the digest is that of the draft's batch, count and root.
+        // Told or not, the digest is that of the draft's batch, count and root, which is a node's
+        // entry.
+        ensures node { IfSome self.root IsChild }
         ensures digest { IfOk result.1 (λ digest. digest ≡ H.of
             (root_preimage One self.batch self.count (root_entry self.root))) }
         ensures reads { (S.state result.0).reads ≡ (S.state self.desk.file.shelf).reads }
@@ -141,6 +165,7 @@ impl<S: Shelf, H: Hashes> Draft<S, H> {
             count,
             batch,
         } = self;
+        is_root(&root);
         let Desk { file, free, .. } = desk;
         let (shelf, name, pages) = file.into_parts();
         let head = MapHead {

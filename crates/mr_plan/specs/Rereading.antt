@@ -1,6 +1,6 @@
 -- What a command may come to that reads pages of a map again, over files that are not told: by the
 -- next read a page may be another one. Over files that are told none ever is.
-use Rattle.std.specs.Prelude.{◌≡◌, ◌≢◌, ◌⊎◌, ◌↔◌, ⊤, ℕ, ◌^◌, ◌<◌, ◌≤◌, List, Option, Some, IfSome, IsNone, Ok, Err}
+use Rattle.std.specs.Prelude.{◌≡◌, ◌≢◌, ◌⊎◌, ◌↔◌, ⊤, ℕ, ◌^◌, ◌<◌, ◌≤◌, List, length, Option, Some, IfSome, IsNone, Ok, Err}
 use Rattle.mr_record.specs.Bytes.{AreBytes}
 use Rattle.mr_record.specs.declared.record.Record.{Record}
 use Rattle.mr_record.specs.declared.text_fault.TextFault.{TextFault}
@@ -8,6 +8,7 @@ use Rattle.mr_record.specs.declared.version.Version.TheVariants.{One}
 use Rattle.mr_tree.specs.Digest.{root_preimage}
 use Rattle.mr_tree.specs.Limits.{count_limit, level_limit}
 use Rattle.mr_tree.specs.Nodes.{Standing, root_entry}
+use Rattle.mr_tree.specs.View.{IsChild}
 use Rattle.mr_tree.specs.declared.child.Child.{Child}
 use Rattle.mr_tree.specs.WellFormed.{WellFormed}
 use Rattle.mr_pages.specs.declared.opening.Opened.{Opened}
@@ -90,11 +91,12 @@ pub record IsRootOfSome (hash : List ℕ → List ℕ) (digest : List ℕ) : Typ
   pub root : Option Child
   pub none : (count ≡ 0) ↔ IsNone root
   pub level : IfSome root (λ (c : Child). c.level ≤ level_limit)
+  pub node : IfSome root IsChild
   pub is : digest ≡ hash (root_preimage One batch count (root_entry root))
 
 -- such a digest is printed, and the file has some bytes
 abbrev pub IsSomeRoot : (List ℕ → List ℕ) → (new : List ℕ) → Outcome → Type 0
-IsSomeRoot hash new said = (digest : List ℕ) × IsRootOfSome hash digest
+IsSomeRoot hash new said = (digest : List ℕ) × (length digest ≡ 32) × IsRootOfSome hash digest
     × ((bytes : List ℕ) × (said ≡ say_text (digest_line digest) new bytes))
 
 -- what is said of a map of which not all reads give the same bytes: that it is refused; else some

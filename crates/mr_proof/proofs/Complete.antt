@@ -98,13 +98,13 @@ mutual
 
 -- ---- the honest cut has each value in its range
 
-missed_fits : (s : Scheme) (region : Seen → Way) → IsSized s.of → (v : ℕ) (t : Tree) → IsFull t
-    → IsSlim t → meets region t ≡ false → FitsCut v (honest_cut s region t)
-missed_fits s region h v t full slim f =
+missed_fits : (s : Scheme) (way : Seen → Way) → IsSized s.of → (v : ℕ) (t : Tree) → IsFull t
+    → IsSlim t → meets way t ≡ false → FitsCut v (honest_cut s way t)
+missed_fits s way h v t full slim f =
     let p = there_tree t full in
     let x : Shown = record { rect = p.at; digest = digest s t } in
-    let is : honest_cut s region t ≡ Pruned x =
-    honest_missed s region t f ∙ pruned_shown s t p.at p.is in
+    let is : honest_cut s way t ≡ Pruned x =
+    honest_missed s way t f ∙ pruned_shown s t p.at p.is in
     let fine : FitsShown x = record {
       ordered = p.ordered;
       coordinates = p.fits;
@@ -114,25 +114,25 @@ missed_fits s region h v t full slim f =
     subst (FitsCut v) (sym is) fine
 
 abbrev Fit : Scheme → (Seen → Way) → Tree → Type 0
-Fit s region t = IsFull t → IsSlim t → every-Tree HasOneLevel t → (v : ℕ) → level t ≡ v
-    → FitsCut v (honest_cut s region t)
+Fit s way t = IsFull t → IsSlim t → every-Tree HasOneLevel t → (v : ℕ) → level t ≡ v
+    → FitsCut v (honest_cut s way t)
 
-count_cuts : (s : Scheme) (region : Seen → Way) (ts : List Tree)
-    → count_of (honest_cuts s region ts) ≡ length ts
-count_cuts s region [] = refl
-count_cuts s region (t ∷ ts) = let rest = count_cuts s region ts in omega arith
+count_cuts : (s : Scheme) (way : Seen → Way) (ts : List Tree)
+    → count_of (honest_cuts s way ts) ≡ length ts
+count_cuts s way [] = refl
+count_cuts s way (t ∷ ts) = let rest = count_cuts s way ts in omega arith
 
-all_fit : (s : Scheme) (region : Seen → Way) (ts : List Tree) → AllByRecursion (Fit s region) ts
+all_fit : (s : Scheme) (way : Seen → Way) (ts : List Tree) → AllByRecursion (Fit s way) ts
     → AllByRecursion IsFull ts → AllByRecursion IsSlim ts → Even ts → (v : ℕ) → Levels v ts
-    → FitCuts v (honest_cuts s region ts)
-all_fit s region [] all full slim even v e = tt
-all_fit s region (t ∷ ts) all full slim even v e =
-    (all.0 full.0 slim.0 even.0 v e.0, all_fit s region ts all.1 full.1 slim.1 even.1 v e.1)
+    → FitCuts v (honest_cuts s way ts)
+all_fit s way [] all full slim even v e = tt
+all_fit s way (t ∷ ts) all full slim even v e =
+    (all.0 full.0 slim.0 even.0 v e.0, all_fit s way ts all.1 full.1 slim.1 even.1 v e.1)
 
-leaf_fits : (s : Scheme) (region : Seen → Way) (rs : List Record) → IsFull (tree.Leaf rs)
-    → IsSlim (tree.Leaf rs) → (v : ℕ) → level (tree.Leaf rs) ≡ v → meets region (tree.Leaf rs) ≡ true
-    → FitsCut v (honest_cut s region (tree.Leaf rs))
-leaf_fits s region rs full slim v e m =
+leaf_fits : (s : Scheme) (way : Seen → Way) (rs : List Record) → IsFull (tree.Leaf rs)
+    → IsSlim (tree.Leaf rs) → (v : ℕ) → level (tree.Leaf rs) ≡ v → meets way (tree.Leaf rs) ≡ true
+    → FitsCut v (honest_cut s way (tree.Leaf rs))
+leaf_fits s way rs full slim v e m =
     let own = here-Leaf IsFullNode rs full in
     let fine : FitsLeaf v rs = record {
       at_leaf = sym e ∙ level-Leaf rs;
@@ -140,34 +140,34 @@ leaf_fits s region rs full slim v e m =
       few = here-Leaf IsSlimNode rs slim;
       each = All-from_recursion IsRecord rs own.1;
     } in
-    subst (FitsCut v) (sym (honest_met s region (tree.Leaf rs) (node.Leaf rs) (tree.outs-Leaf rs) m)) fine
+    subst (FitsCut v) (sym (honest_met s way (tree.Leaf rs) (node.Leaf rs) (tree.outs-Leaf rs) m)) fine
 
-inner_fits : (s : Scheme) (region : Seen → Way) (ts : List Tree) → AllByRecursion (Fit s region) ts
+inner_fits : (s : Scheme) (way : Seen → Way) (ts : List Tree) → AllByRecursion (Fit s way) ts
     → IsFull (tree.Inner ts) → IsSlim (tree.Inner ts) → every-Tree HasOneLevel (tree.Inner ts) → (v : ℕ)
-    → level (tree.Inner ts) ≡ v → meets region (tree.Inner ts) ≡ true
-    → FitsCut v (honest_cut s region (tree.Inner ts))
-inner_fits s region ts all full slim even v e m =
+    → level (tree.Inner ts) ≡ v → meets way (tree.Inner ts) ≡ true
+    → FitsCut v (honest_cut s way (tree.Inner ts))
+inner_fits s way ts all full slim even v e m =
     let some = here-Inner IsFullNode ts full in
     let few = (here-Inner IsSlimNode ts slim).0 in
-    let count = count_cuts s region ts in
+    let count = count_cuts s way ts in
     let up = level-Inner ts in
-    let fine : FitsInner v (count_of (honest_cuts s region ts)) =
+    let fine : FitsInner v (count_of (honest_cuts s way ts)) =
     record { above = omega arith; some = omega arith; few = omega arith } in
-    let below = all_fit s region ts all (every_child IsFullNode ts full) (every_child IsSlimNode ts slim)
+    let below = all_fit s way ts all (every_child IsFullNode ts full) (every_child IsSlimNode ts slim)
     (every_child HasOneLevel ts even) (v - 1) (below_levels v ts even e) in
-    subst (FitsCut v) (sym (honest_met s region (tree.Inner ts) (node.Inner ts) (tree.outs-Inner ts) m))
+    subst (FitsCut v) (sym (honest_met s way (tree.Inner ts) (node.Inner ts) (tree.outs-Inner ts) m))
     (fine, below)
 
-honest_fits : (s : Scheme) (region : Seen → Way) → IsSized s.of → (t : Tree) → Fit s region t
-honest_fits s region h = tree_induction (Fit s region)
+honest_fits : (s : Scheme) (way : Seen → Way) → IsSized s.of → (t : Tree) → Fit s way t
+honest_fits s way h = tree_induction (Fit s way)
     (λ full slim even v e. absurd (not_full_empty full))
-    (λ rs full slim even v e. elim (cases_Bool (meets region (tree.Leaf rs))) [
-      | inl m ↦ leaf_fits s region rs full slim v e m
-      | inr f ↦ missed_fits s region h v (tree.Leaf rs) full slim f
+    (λ rs full slim even v e. elim (cases_Bool (meets way (tree.Leaf rs))) [
+      | inl m ↦ leaf_fits s way rs full slim v e m
+      | inr f ↦ missed_fits s way h v (tree.Leaf rs) full slim f
     ])
-    (λ ts all full slim even v e. elim (cases_Bool (meets region (tree.Inner ts))) [
-      | inl m ↦ inner_fits s region ts all full slim even v e m
-      | inr f ↦ missed_fits s region h v (tree.Inner ts) full slim f
+    (λ ts all full slim even v e. elim (cases_Bool (meets way (tree.Inner ts))) [
+      | inl m ↦ inner_fits s way ts all full slim even v e m
+      | inr f ↦ missed_fits s way h v (tree.Inner ts) full slim f
     ])
 
 -- ---- the head
@@ -235,14 +235,14 @@ record OwnCut (s : Scheme) (t : Tree) (b : ℕ) (a : Question) (P : Option Cut) 
 filled_own : (s : Scheme) → IsSized s.of → (t : Tree) (b : ℕ) (a : Question) → IsLawful a → WellFormed t
     → IsFull t → b < 2 ^ 64 → OwnCut s t b a (Some (honest_cut s (ways_of a t) t))
 filled_own s h t b a law well full low =
-    let region = ways_of a t in
+    let way = ways_of a t in
     let head = honest_head a t b in
-    let P = honest_cut s region t in
-    let good = honest_good s region t full in
+    let P = honest_cut s way t in
+    let good = honest_good s way t full in
     let some = some_record t full in
     let same = some_part s a t some in
     let few = well.few in
-    let fits = honest_fits s region h t full (slim_tree t well) well.one_level (level t) refl in
+    let fits = honest_fits s way h t full (slim_tree t well) well.one_level (level t) refl in
     let whole = ap (λ (o : Option Cut). head_bytes head ++ part_bytes o) same in
     let front = head_short a t b in
     let behind = cut_short s (level t) P t full fits good.cut in
@@ -255,7 +255,7 @@ filled_own s h t b a law well full low =
       level = well.shallow;
       empty = λ z. absurd (omega arith);
     } in
-    let all = sym (kept s region (narrow_misses region (law.narrow (radius_by a.around (records t)))) P t full good.cut
+    let all = sym (kept s way (narrow_misses way (law.narrow (radius_by a.around (records t)))) P t full good.cut
     good.tight) in
     record {
       same = same;

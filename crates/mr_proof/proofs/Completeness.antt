@@ -30,7 +30,7 @@ use Rattle.mr_proof.specs.Fields.{size_of, field_of, magic, kind_byte, pruned_ta
 use Rattle.mr_proof.specs.Cut.{Cut, Cuts, Pruned, Leaf, Inner, no_more, first, count_of}
 use Rattle.mr_proof.specs.Spelling.{shown_bytes, cut_bytes, cuts_bytes, FitsShown, FitsLeaf, FitsInner, FitsCut, FitCuts, radius_bytes, level_bytes, head_bytes, FitsRadius, FitsHead, Said, said, opened_records, part_bytes, FitsPart, IsSpelled}
 use Rattle.mr_proof.specs.declared.way.Way.{Way}
-use Rattle.mr_proof.specs.Tight.{Seen, seen, met_by, opens_at, keeps_at, Question, question, IsLawful, IsTightCut, AreTightCuts}
+use Rattle.mr_proof.specs.Tight.{Seen, seen, opens_seen, opens_at, keeps_at, Question, question, IsLawful, IsTightCut, AreTightCuts}
 use Rattle.mr_proof.specs.Accepted.{root_found, Shows, Proves}
 use Rattle.mr_proof.specs.Grammar.{must, opens, Grammar, done, reads, notes, number_in, wide_in, tag_in, rect_in, bytes_in, payload, one_record, some_records, opened, leaf, some_items, inner, pruned, item, radius, level, head, part, whole}
 use Rattle.mr_proof.specs.Layout.{Stand, start, behind, field_at}
@@ -146,32 +146,32 @@ record_again heeds e next s r rest fine parts within =
     let d = p.place in
     record { end = p.end; left = p.left; place = omega arith; same = n.same ∙ x.same ∙ l.same ∙ p.same }
 
-records_again : {A B : Type 0} (heeds : Bool) (e : A → Stand → Result B Fault) (region : Seen → Way)
+records_again : {A B : Type 0} (heeds : Bool) (e : A → Stand → Result B Fault) (way : Seen → Way)
     (next : List Record → Grammar A)
     (s : Stand) (rs : List Record) (rest : List ℕ) → AllByRecursion IsRecord rs
     → s.rest ≡ flat_map record_bytes rs ++ rest → s.at + length (flat_map record_bytes rs) ≤ place_limit
-    → Comes heeds e (some_records region (length rs) next) (next rs) s (flat_map record_bytes rs) rest
-records_again heeds e region next s [] rest fine parts within = comes_none heeds e (next []) s rest parts
-records_again heeds e region next s (r ∷ rs) rest fine parts within =
+    → Comes heeds e (some_records way (length rs) next) (next rs) s (flat_map record_bytes rs) rest
+records_again heeds e way next s [] rest fine parts within = comes_none heeds e (next []) s rest parts
+records_again heeds e way next s (r ∷ rs) rest fine parts within =
     let whole : flat_map record_bytes (r ∷ rs) ≡ record_bytes r ++ flat_map record_bytes rs = flat_map-cons record_bytes
     r rs in
     let size : length (flat_map record_bytes (r ∷ rs)) ≡ length (record_bytes r) + length
     (flat_map record_bytes rs) = ap length whole ∙ length-append (record_bytes r) (flat_map record_bytes rs) in
     let regrouped : s.rest ≡ record_bytes r ++ (flat_map record_bytes rs ++ rest) = parts
     ∙ ap (λ (x : List ℕ). x ++ rest) whole ∙ append_assoc (record_bytes r) (flat_map record_bytes rs) rest in
-    let one = record_again heeds e (λ r. notes (opens r (keeps_at region r.rect))
-    (some_records region (length rs) (λ rs. next (r ∷ rs)))) s r
+    let one = record_again heeds e (λ r. notes (opens r (keeps_at way r.rect))
+    (some_records way (length rs) (λ rs. next (r ∷ rs)))) s r
     (flat_map record_bytes rs ++ rest) fine.0 regrouped (omega arith) in
     let a = one.place in
-    let behind_one = records_again heeds e region (λ rs. next (r ∷ rs)) one.end rs rest fine.1 one.left (omega arith) in
-    let others : Comes heeds e (notes (opens r (keeps_at region r.rect))
-    (some_records region (length rs) (λ rs. next (r ∷ rs))))
+    let behind_one = records_again heeds e way (λ rs. next (r ∷ rs)) one.end rs rest fine.1 one.left (omega arith) in
+    let others : Comes heeds e (notes (opens r (keeps_at way r.rect))
+    (some_records way (length rs) (λ rs. next (r ∷ rs))))
     (next (r ∷ rs)) one.end (flat_map record_bytes rs) rest = record
     { end = behind_one.end; left = behind_one.left; place = behind_one.place; same = behind_one.same } in
-    comes_as heeds e (some_records region (length (r ∷ rs)) next) (next (r ∷ rs)) s
+    comes_as heeds e (some_records way (length (r ∷ rs)) next) (next (r ∷ rs)) s
     (record_bytes r ++ flat_map record_bytes rs) (flat_map record_bytes (r ∷ rs)) rest (sym whole)
-    (comes_both heeds e (some_records region (length (r ∷ rs)) next)
-    (notes (opens r (keeps_at region r.rect)) (some_records region (length rs) (λ rs. next (r ∷ rs)))) (next (r ∷ rs))
+    (comes_both heeds e (some_records way (length (r ∷ rs)) next)
+    (notes (opens r (keeps_at way r.rect)) (some_records way (length rs) (λ rs. next (r ∷ rs)))) (next (r ∷ rs))
     s (record_bytes r)
     (flat_map record_bytes rs) rest one others)
 
@@ -186,24 +186,24 @@ note_again false e broken b g s rest passed left = record { end = s; left = left
 
 -- where notes are heeded, the cut is tight
 abbrev Passes : Bool → (Seen → Way) → Cut → Type 0
-Passes heeds region P = heeds ≡ true → IsTightCut region P
+Passes heeds way P = heeds ≡ true → IsTightCut way P
 
-leaf_again : {A B : Type 0} (heeds : Bool) (e : A → Stand → Result B Fault) (region : Seen → Way)
+leaf_again : {A B : Type 0} (heeds : Bool) (e : A → Stand → Result B Fault) (way : Seen → Way)
     (next : Cut → Grammar A) (s : Stand) (rs : List Record) (rest : List ℕ) → FitsLeaf 0 rs
-    → Passes heeds region (Leaf rs)
+    → Passes heeds way (Leaf rs)
     → s.rest ≡ tail (Leaf rs) ++ rest → s.at + length (tail (Leaf rs)) ≤ place_limit
-    → Comes heeds e (leaf region next) (next (Leaf rs)) s (tail (Leaf rs)) rest
-leaf_again heeds e region next s rs rest fine tight parts within =
+    → Comes heeds e (leaf way next) (next (Leaf rs)) s (tail (Leaf rs)) rest
+leaf_again heeds e way next s rs rest fine tight parts within =
     let text = flat_map record_bytes rs in
     let n = reads_again heeds e want.LeafCount number_in
-    (λ n. some_records region n (λ rs. opened region (Leaf rs) next)) s
+    (λ n. some_records way n (λ rs. opened way (Leaf rs) next)) s
     (length rs ∷ []) (text ++ rest) (field.Num (length rs)) refl
     (leaf_count_value (length rs) fine.some fine.few) parts (omega arith) in
     let a = n.place in
-    let all = records_again heeds e region (λ rs. opened region (Leaf rs) next) n.end rs rest
+    let all = records_again heeds e way (λ rs. opened way (Leaf rs) next) n.end rs rest
     (recursion_from_All IsRecord rs fine.each) n.left (omega arith) in
     let b = all.place in
-    let met = note_again heeds e rule.Needless (met_by region (seen (Leaf rs)))
+    let met = note_again heeds e rule.Needless (opens_seen way (seen (Leaf rs)))
     (next (Leaf rs)) all.end rest tight all.left in
     let c = met.place in
     record { end = met.end; left = met.left; place = omega arith; same = n.same ∙ all.same ∙ met.same }
@@ -211,11 +211,11 @@ leaf_again heeds e region next s rs rest fine tight parts within =
 is_not : (b : Bool) → b ≡ false → not b ≡ true
 is_not b e = rw e refl
 
-pruned_again : {A B : Type 0} (heeds : Bool) (e : A → Stand → Result B Fault) (region : Seen → Way)
-    (next : Cut → Grammar A) (s : Stand) (x : Shown) (rest : List ℕ) → FitsShown x → Passes heeds region (Pruned x)
+pruned_again : {A B : Type 0} (heeds : Bool) (e : A → Stand → Result B Fault) (way : Seen → Way)
+    (next : Cut → Grammar A) (s : Stand) (x : Shown) (rest : List ℕ) → FitsShown x → Passes heeds way (Pruned x)
     → s.rest ≡ shown_bytes x ++ rest → s.at + length (shown_bytes x) ≤ place_limit
-    → Comes heeds e (pruned region next) (next (Pruned x)) s (shown_bytes x) rest
-pruned_again heeds e region next s x rest fine missed parts within =
+    → Comes heeds e (pruned way next) (next (Pruned x)) s (shown_bytes x) rest
+pruned_again heeds e way next s x rest fine missed parts within =
     let square = rectangle_long x.rect in
     let size : length (shown_bytes x) ≡ 16 + length x.digest = omega
     (arith, length-append (rectangle_bytes x.rect) x.digest) in
@@ -224,12 +224,12 @@ pruned_again heeds e region next s x rest fine missed parts within =
     let behind_rect = λ (r : Rectangle). reads want.Digest
     (λ d. next (Pruned (record { rect = r; digest = bytes_in d }))) in
     let r = reads_again heeds e want.Rect rect_in
-    (λ r. notes (must rule.Hidden (not (opens_at region r))) (behind_rect r)) s (rectangle_bytes x.rect)
+    (λ r. notes (must rule.Hidden (not (opens_at way r))) (behind_rect r)) s (rectangle_bytes x.rect)
     (x.digest ++ rest) (field.Rect x.rect) square (rect_value x.rect fine.ordered fine.coordinates) regrouped
     (omega arith) in
     let a = r.place in
-    let n = note_again heeds e rule.Hidden (not (opens_at region x.rect)) (behind_rect x.rect) r.end (x.digest ++ rest)
-    (λ h. is_not (opens_at region x.rect) (missed h)) r.left in
+    let n = note_again heeds e rule.Hidden (not (opens_at way x.rect)) (behind_rect x.rect) r.end (x.digest ++ rest)
+    (λ h. is_not (opens_at way x.rect) (missed h)) r.left in
     let b = n.place in
     let d = reads_again heeds e want.Digest bytes_in (λ d. next (Pruned (record { rect = x.rect; digest = d }))) n.end
     x.digest rest (field.Digest x.digest) fine.digest (digest_value x.digest) n.left (omega arith) in
@@ -239,47 +239,47 @@ pruned_again heeds e region next s x rest fine missed parts within =
 -- an item that is spelled, and tight where notes are heeded, is read again
 abbrev ItemsAgain : {A B : Type 0} → Bool → (A → Stand → Result B Fault) → (Seen → Way) → ℕ
     → ((Cut → Grammar A) → Grammar A) → Type 0
-ItemsAgain {A} {B} heeds e region v one =
-    (next : Cut → Grammar A) (s : Stand) (P : Cut) (rest : List ℕ) → FitsCut v P → Passes heeds region P
+ItemsAgain {A} {B} heeds e way v one =
+    (next : Cut → Grammar A) (s : Stand) (P : Cut) (rest : List ℕ) → FitsCut v P → Passes heeds way P
     → s.rest ≡ cut_bytes P ++ rest → s.at + length (cut_bytes P) ≤ place_limit
     → Comes heeds e (one next) (next P) s (cut_bytes P) rest
 
-items_again : {A B : Type 0} (heeds : Bool) (e : A → Stand → Result B Fault) (region : Seen → Way) (v : ℕ)
-    (one : (Cut → Grammar A) → Grammar A) → ItemsAgain heeds e region v one
+items_again : {A B : Type 0} (heeds : Bool) (e : A → Stand → Result B Fault) (way : Seen → Way) (v : ℕ)
+    (one : (Cut → Grammar A) → Grammar A) → ItemsAgain heeds e way v one
     → (next : Cuts → Grammar A) (s : Stand) (Ps : Cuts) (n : ℕ) (rest : List ℕ) → count_of Ps ≡ n → FitCuts v Ps
-    → (heeds ≡ true → AreTightCuts region Ps) → s.rest ≡ cuts_bytes Ps ++ rest
+    → (heeds ≡ true → AreTightCuts way Ps) → s.rest ≡ cuts_bytes Ps ++ rest
     → s.at + length (cuts_bytes Ps) ≤ place_limit
     → Comes heeds e (some_items one n next) (next Ps) s (cuts_bytes Ps) rest
-items_again heeds e region v one again next s no_more zero rest count fit tight parts within =
+items_again heeds e way v one again next s no_more zero rest count fit tight parts within =
     comes_none heeds e (next no_more) s rest parts
-items_again heeds e region v one again next s no_more (suc n) rest count fit tight parts within = absurd (omega arith)
-items_again heeds e region v one again next s (first P Ps) zero rest count fit tight parts within = absurd (omega arith)
-items_again heeds e region v one again next s (first P Ps) (suc n) rest count fit tight parts within =
+items_again heeds e way v one again next s no_more (suc n) rest count fit tight parts within = absurd (omega arith)
+items_again heeds e way v one again next s (first P Ps) zero rest count fit tight parts within = absurd (omega arith)
+items_again heeds e way v one again next s (first P Ps) (suc n) rest count fit tight parts within =
     let size : length (cut_bytes P ++ cuts_bytes Ps) ≡ length (cut_bytes P) + length (cuts_bytes Ps) = length-append
     (cut_bytes P) (cuts_bytes Ps) in
     let a = again (λ P. some_items one n (λ Ps. next (first P Ps))) s P (cuts_bytes Ps ++ rest) fit.0 (λ h. (tight h).0)
     (parts ∙ append_assoc (cut_bytes P) (cuts_bytes Ps) rest) (omega arith) in
     let p = a.place in
-    let b = items_again heeds e region v one again (λ Ps. next (first P Ps)) a.end Ps n rest (omega arith) fit.1
+    let b = items_again heeds e way v one again (λ Ps. next (first P Ps)) a.end Ps n rest (omega arith) fit.1
     (λ h. (tight h).1) a.left (omega arith) in
     comes_both heeds e (some_items one (suc n) next) (some_items one n (λ Ps. next (first P Ps))) (next (first P Ps)) s
     (cut_bytes P) (cuts_bytes Ps) rest a b
 
-inner_again : {A B : Type 0} (heeds : Bool) (e : A → Stand → Result B Fault) (region : Seen → Way) (v : ℕ)
-    (one : (Cut → Grammar A) → Grammar A) → ItemsAgain heeds e region v one
+inner_again : {A B : Type 0} (heeds : Bool) (e : A → Stand → Result B Fault) (way : Seen → Way) (v : ℕ)
+    (one : (Cut → Grammar A) → Grammar A) → ItemsAgain heeds e way v one
     → (next : Cut → Grammar A) (s : Stand) (Ps : Cuts) (rest : List ℕ) → FitsInner (suc v) (count_of Ps) → FitCuts v Ps
-    → Passes heeds region (Inner Ps)
+    → Passes heeds way (Inner Ps)
     → s.rest ≡ tail (Inner Ps) ++ rest → s.at + length (tail (Inner Ps)) ≤ place_limit
-    → Comes heeds e (inner region one next) (next (Inner Ps)) s (tail (Inner Ps)) rest
-inner_again heeds e region v one again next s Ps rest fine fit tight parts within =
-    let n = reads_again heeds e want.InnerCount number_in (λ n. some_items one n (λ Ps. opened region (Inner Ps) next))
+    → Comes heeds e (inner way one next) (next (Inner Ps)) s (tail (Inner Ps)) rest
+inner_again heeds e way v one again next s Ps rest fine fit tight parts within =
+    let n = reads_again heeds e want.InnerCount number_in (λ n. some_items one n (λ Ps. opened way (Inner Ps) next))
     s (count_of Ps ∷ []) (cuts_bytes Ps ++ rest) (field.Num (count_of Ps)) refl
     (inner_count_value (count_of Ps) fine.some fine.few) parts (omega arith) in
     let a = n.place in
-    let all = items_again heeds e region v one again (λ Ps. opened region (Inner Ps) next) n.end Ps
+    let all = items_again heeds e way v one again (λ Ps. opened way (Inner Ps) next) n.end Ps
     (count_of Ps) rest refl fit (λ h. (tight h).1) n.left (omega arith) in
     let b = all.place in
-    let met = note_again heeds e rule.Needless (met_by region (seen (Inner Ps))) (next (Inner Ps)) all.end rest
+    let met = note_again heeds e rule.Needless (opens_seen way (seen (Inner Ps))) (next (Inner Ps)) all.end rest
     (λ h. (tight h).0) all.left in
     let c = met.place in
     record { end = met.end; left = met.left; place = omega arith; same = n.same ∙ all.same ∙ met.same }
@@ -287,46 +287,46 @@ inner_again heeds e region v one again next s Ps rest fine fit tight parts withi
 inner_tag_is : (v : ℕ) → inner_tag ≡ opened_tag (suc v)
 inner_tag_is v = rw (eqb-suc-zero v) refl
 
-item_again : {A B : Type 0} (heeds : Bool) (e : A → Stand → Result B Fault) (region : Seen → Way) (v : ℕ)
-    → ItemsAgain heeds e region v (item region v)
-item_again heeds e region zero next s (Pruned x) rest fit tight parts within =
+item_again : {A B : Type 0} (heeds : Bool) (e : A → Stand → Result B Fault) (way : Seen → Way) (v : ℕ)
+    → ItemsAgain heeds e way v (item way v)
+item_again heeds e way zero next s (Pruned x) rest fit tight parts within =
     let t = reads_again heeds e (want.Tag 0) tag_in
-    (λ b. if b == pruned_tag then pruned region next else leaf region next) s (pruned_tag ∷ [])
+    (λ b. if b == pruned_tag then pruned way next else leaf way next) s (pruned_tag ∷ [])
     (tail (Pruned x) ++ rest) (field.Tag pruned_tag) refl (tag_value 0 pruned_tag (inl refl)) parts (omega arith) in
     let a = t.place in
-    comes_both heeds e (item region 0 next) (pruned region next) (next (Pruned x)) s (pruned_tag ∷ [])
-    (tail (Pruned x)) rest t (pruned_again heeds e region next t.end x rest fit tight t.left (omega arith))
-item_again heeds e region zero next s (Leaf rs) rest fit tight parts within =
+    comes_both heeds e (item way 0 next) (pruned way next) (next (Pruned x)) s (pruned_tag ∷ [])
+    (tail (Pruned x)) rest t (pruned_again heeds e way next t.end x rest fit tight t.left (omega arith))
+item_again heeds e way zero next s (Leaf rs) rest fit tight parts within =
     let t = reads_again heeds e (want.Tag 0) tag_in
-    (λ b. if b == pruned_tag then pruned region next else leaf region next) s (leaf_tag ∷ [])
+    (λ b. if b == pruned_tag then pruned way next else leaf way next) s (leaf_tag ∷ [])
     (tail (Leaf rs) ++ rest) (field.Tag leaf_tag) refl (tag_value 0 leaf_tag (inr refl)) parts (omega arith) in
     let a = t.place in
-    comes_both heeds e (item region 0 next) (leaf region next) (next (Leaf rs)) s (leaf_tag ∷ [])
-    (tail (Leaf rs)) rest t (leaf_again heeds e region next t.end rs rest fit tight t.left (omega arith))
-item_again heeds e region zero next s (Inner Ps) rest fit tight parts within =
+    comes_both heeds e (item way 0 next) (leaf way next) (next (Leaf rs)) s (leaf_tag ∷ [])
+    (tail (Leaf rs)) rest t (leaf_again heeds e way next t.end rs rest fit tight t.left (omega arith))
+item_again heeds e way zero next s (Inner Ps) rest fit tight parts within =
     let above = fit.0.above in absurd (omega arith)
-item_again heeds e region (suc v) next s (Pruned x) rest fit tight parts within =
+item_again heeds e way (suc v) next s (Pruned x) rest fit tight parts within =
     let t = reads_again heeds e (want.Tag (suc v))
-    tag_in (λ b. if b == pruned_tag then pruned region next else inner region (item region v) next) s
+    tag_in (λ b. if b == pruned_tag then pruned way next else inner way (item way v) next) s
     (pruned_tag ∷ []) (tail (Pruned x) ++ rest) (field.Tag pruned_tag) refl
     (tag_value (suc v) pruned_tag (inl refl)) parts (omega arith) in
     let a = t.place in
-    comes_both heeds e (item region (suc v) next) (pruned region next) (next (Pruned x)) s (pruned_tag ∷ [])
-    (tail (Pruned x)) rest t (pruned_again heeds e region next t.end x rest fit tight t.left (omega arith))
-item_again heeds e region (suc v) next s (Leaf rs) rest fit tight parts within =
+    comes_both heeds e (item way (suc v) next) (pruned way next) (next (Pruned x)) s (pruned_tag ∷ [])
+    (tail (Pruned x)) rest t (pruned_again heeds e way next t.end x rest fit tight t.left (omega arith))
+item_again heeds e way (suc v) next s (Leaf rs) rest fit tight parts within =
     let level = fit.at_leaf in absurd (omega arith)
-item_again heeds e region (suc v) next s (Inner Ps) rest fit tight parts within =
+item_again heeds e way (suc v) next s (Inner Ps) rest fit tight parts within =
     let t = reads_again heeds e (want.Tag (suc v))
-    tag_in (λ b. if b == pruned_tag then pruned region next else inner region (item region v) next) s
+    tag_in (λ b. if b == pruned_tag then pruned way next else inner way (item way v) next) s
     (inner_tag ∷ []) (tail (Inner Ps) ++ rest) (field.Tag inner_tag) refl
     (tag_value (suc v) inner_tag (inr (inner_tag_is v))) parts (omega arith) in
     let a = t.place in
     let below : suc v - 1 ≡ v = omega arith in
     let inside = subst (λ (k : ℕ). FitCuts k Ps) below fit.1 in
-    comes_both heeds e (item region (suc v) next) (inner region (item region v) next) (next (Inner Ps)) s
+    comes_both heeds e (item way (suc v) next) (inner way (item way v) next) (next (Inner Ps)) s
     (inner_tag ∷ []) (tail (Inner Ps)) rest t
-    (inner_again heeds e region v (item region v)
-    (item_again heeds e region v) next t.end Ps rest fit.0 inside tight t.left (omega arith))
+    (inner_again heeds e way v (item way v)
+    (item_again heeds e way v) next t.end Ps rest fit.0 inside tight t.left (omega arith))
 
 -- ---- the head
 
@@ -499,39 +499,39 @@ head_again heeds e next s h rest fine parts within =
 
 -- ---- the whole
 
-part_again : {B : Type 0} (heeds : Bool) (e : Said → Stand → Result B Fault) (region : Option ℕ → Seen → Way)
-    (h : Head) (P : Option Cut) (s : Stand) → FitsPart h P → (heeds ≡ true → IfSome P (IsTightCut (region h.radius)))
+part_again : {B : Type 0} (heeds : Bool) (e : Said → Stand → Result B Fault) (way : Option ℕ → Seen → Way)
+    (h : Head) (P : Option Cut) (s : Stand) → FitsPart h P → (heeds ≡ true → IfSome P (IsTightCut (way h.radius)))
     → s.rest ≡ part_bytes P → s.at + length (part_bytes P) ≤ place_limit
-    → Comes heeds e (part region h) (done (said h P)) s (part_bytes P) []
-part_again heeds e region h None s fit tight parts within =
+    → Comes heeds e (part way h) (done (said h P)) s (part_bytes P) []
+part_again heeds e way h None s fit tight parts within =
     let none : eqb h.count 0 ≡ true = eq-eqb h.count 0 fit in
-    subst (λ (c : Bool). Comes heeds e (if c then done (said h None) else item (region h.radius) h.level
+    subst (λ (c : Bool). Comes heeds e (if c then done (said h None) else item (way h.radius) h.level
     (λ P. done (said h (Some P)))) (done (said h None)) s [] []) (sym none)
     (comes_none heeds e (done (said h None)) s [] parts)
-part_again heeds e region h (Some P) s fit tight parts within =
+part_again heeds e way h (Some P) s fit tight parts within =
     let filled = fit.0 in
     let some : eqb h.count 0 ≡ false = ne_eqb h.count 0 (λ z. omega arith) in
-    subst (λ (c : Bool). Comes heeds e (if c then done (said h None) else item (region h.radius) h.level
+    subst (λ (c : Bool). Comes heeds e (if c then done (said h None) else item (way h.radius) h.level
     (λ P. done (said h (Some P)))) (done (said h (Some P))) s (cut_bytes P) []) (sym some)
-    (item_again heeds e (region h.radius) h.level (λ P. done (said h (Some P))) s P [] fit.1 tight
+    (item_again heeds e (way h.radius) h.level (λ P. done (said h (Some P))) s P [] fit.1 tight
     (parts ∙ sym (append-nil (cut_bytes P))) within)
 
 -- what is spelled, and tight where notes are heeded, is read again, by any ending
-pub whole_again : {B : Type 0} (heeds : Bool) (e : Said → Stand → Result B Fault) (region : Option ℕ → Seen → Way)
+pub whole_again : {B : Type 0} (heeds : Bool) (e : Said → Stand → Result B Fault) (way : Option ℕ → Seen → Way)
     (bytes : List ℕ) (h : Head) (P : Option Cut) → IsSpelled h P bytes
-    → (heeds ≡ true → IfSome P (IsTightCut (region h.radius)))
-    → Comes heeds e (whole h.kind region) (done (said h P)) (start bytes) (head_bytes h ++ part_bytes P) []
-whole_again heeds e region bytes h P spelled tight =
+    → (heeds ≡ true → IfSome P (IsTightCut (way h.radius)))
+    → Comes heeds e (whole h.kind way) (done (said h P)) (start bytes) (head_bytes h ++ part_bytes P) []
+whole_again heeds e way bytes h P spelled tight =
     let size : length bytes ≡ length (head_bytes h) + length (part_bytes P) = ap length spelled.whole
     ∙ length-append (head_bytes h) (part_bytes P) in
     let short = spelled.short in
     let none = append-nil (part_bytes P) in
     let parts : bytes ≡ head_bytes h ++ (part_bytes P ++ []) = spelled.whole
     ∙ ap (λ (x : List ℕ). head_bytes h ++ x) (sym none) in
-    let a = head_again heeds e (part region) (start bytes) h (part_bytes P ++ []) spelled.head parts (omega arith) in
+    let a = head_again heeds e (part way) (start bytes) h (part_bytes P ++ []) spelled.head parts (omega arith) in
     let p = a.place in
-    let b = part_again heeds e region h P a.end spelled.part tight (a.left ∙ none) (omega arith) in
-    comes_both heeds e (whole h.kind region) (part region h) (done (said h P)) (start bytes) (head_bytes h)
+    let b = part_again heeds e way h P a.end spelled.part tight (a.left ∙ none) (omega arith) in
+    comes_both heeds e (whole h.kind way) (part way h) (done (said h P)) (start bytes) (head_bytes h)
     (part_bytes P) [] a b
 
 ending_again : (hash : List ℕ → List ℕ) (root : List ℕ) (a : Question) (x : Said) (s : Stand) → s.rest ≡ []

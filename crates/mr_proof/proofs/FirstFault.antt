@@ -267,28 +267,28 @@ sized_record m next h = (
   ),
 )
 
-sized_records : {A : Type 0} (region : Seen → Way) (n : ℕ) (next : List Record → Grammar A) →
+sized_records : {A : Type 0} (way : Seen → Way) (n : ℕ) (next : List Record → Grammar A) →
     ((rs : List Record) → Sized 0 (next rs))
-    → Sized 0 (some_records region n next)
-sized_records region zero next h = h []
-sized_records region (suc n) next h =
-    sized_record 0 (λ r. notes (opens r (keeps_at region r.rect)) (some_records region n (λ rs. next (r ∷ rs))))
-    (λ r. sized_records region n (λ rs. next (r ∷ rs)) (λ rs. h (r ∷ rs)))
+    → Sized 0 (some_records way n next)
+sized_records way zero next h = h []
+sized_records way (suc n) next h =
+    sized_record 0 (λ r. notes (opens r (keeps_at way r.rect)) (some_records way n (λ rs. next (r ∷ rs))))
+    (λ r. sized_records way n (λ rs. next (r ∷ rs)) (λ rs. h (r ∷ rs)))
 
 -- behind an item the notes are those of opened nodes
 abbrev Follows : {A : Type 0} {X : Type 0} → (X → Grammar A) → Type 0
 Follows {A} {X} next = (x : X) → Sized 14 (next x)
 
-sized_leaf : {A : Type 0} (region : Seen → Way) (next : Cut → Grammar A) → Follows next → Sized 0 (leaf region next)
-sized_leaf region next h = (
+sized_leaf : {A : Type 0} (way : Seen → Way) (next : Cut → Grammar A) → Follows next → Sized 0 (leaf way next)
+sized_leaf way next h = (
   omega arith,
-  λ n. sized_records region (number_in n) (λ rs. opened region (Leaf rs) next)
+  λ n. sized_records way (number_in n) (λ rs. opened way (Leaf rs) next)
       (λ rs. (inr refl, omega arith, h (Leaf rs))),
 )
 
-sized_pruned : {A : Type 0} (region : Seen → Way) (next : Cut → Grammar A) → Follows next
-    → Sized 0 (pruned region next)
-sized_pruned region next h = (
+sized_pruned : {A : Type 0} (way : Seen → Way) (next : Cut → Grammar A) → Follows next
+    → Sized 0 (pruned way next)
+sized_pruned way next h = (
   omega arith,
   λ r. (
     inl refl,
@@ -313,20 +313,20 @@ sized_choice : {A : Type 0} (n : ℕ) (b : Bool) (g k : Grammar A) → Sized n g
 sized_choice n true g k p q = p
 sized_choice n false g k p q = q
 
-sized_item : {A : Type 0} (region : Seen → Way) (v n : ℕ) (next : Cut → Grammar A) → Follows next
-    → Sized n (item region v next)
-sized_item region zero n next h = (
+sized_item : {A : Type 0} (way : Seen → Way) (v n : ℕ) (next : Cut → Grammar A) → Follows next
+    → Sized n (item way v next)
+sized_item way zero n next h = (
   omega arith,
-  λ t. sized_choice 0 (tag_in t == pruned_tag) (pruned region next) (leaf region next)
-      (sized_pruned region next h) (sized_leaf region next h),
+  λ t. sized_choice 0 (tag_in t == pruned_tag) (pruned way next) (leaf way next)
+      (sized_pruned way next h) (sized_leaf way next h),
 )
-sized_item region (suc v) n next h = (
+sized_item way (suc v) n next h = (
   omega arith,
-  λ t. sized_choice 0 (tag_in t == pruned_tag) (pruned region next) (inner region (item region v) next)
-      (sized_pruned region next h) (
+  λ t. sized_choice 0 (tag_in t == pruned_tag) (pruned way next) (inner way (item way v) next)
+      (sized_pruned way next h) (
         omega arith,
-        λ n. sized_any 14 (some_items (item region v) (number_in n) (λ Ps. opened region (Inner Ps) next))
-            (sized_items (item region v) (sized_item region v 14) (number_in n) (λ Ps. opened region (Inner Ps) next)
+        λ n. sized_any 14 (some_items (item way v) (number_in n) (λ Ps. opened way (Inner Ps) next))
+            (sized_items (item way v) (sized_item way v 14) (number_in n) (λ Ps. opened way (Inner Ps) next)
             (λ Ps. (inr refl, omega arith, h (Inner Ps)))),
       ),
 )
@@ -371,11 +371,11 @@ sized_head k next h = (
   ),
 )
 
-pub sized_whole : (k : Kind) (region : Option ℕ → Seen → Way) → Sized 0 (whole k region)
-sized_whole k region =
-    sized_head k (part region) (λ h.
-    sized_choice 0 (h.count == 0) (done (said h None)) (item (region h.radius) h.level (λ P. done (said h (Some P)))) tt
-    (sized_item (region h.radius) h.level 0 (λ P. done (said h (Some P))) (λ P. tt)))
+pub sized_whole : (k : Kind) (way : Option ℕ → Seen → Way) → Sized 0 (whole k way)
+sized_whole k way =
+    sized_head k (part way) (λ h.
+    sized_choice 0 (h.count == 0) (done (said h None)) (item (way h.radius) h.level (λ P. done (said h (Some P)))) tt
+    (sized_item (way h.radius) h.level 0 (λ P. done (said h (Some P))) (λ P. tt)))
 
 -- ---- the whole
 

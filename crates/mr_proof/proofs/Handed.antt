@@ -157,7 +157,7 @@ kept_ends Q before (notes (opens r met) next) s y ends e =
 
 -- the records that are not left out
 abbrev out : (Seen → Way) → List Record → List Record
-out region rs = filter (λ (r : Record). keeps_at region r.rect) rs
+out way rs = filter (λ (r : Record). keeps_at way r.rect) rs
 
 module _ {A : Type 0} (Q : A → List Record → Type 0) where
   none_more : (before : List Record) (g : Grammar A) → Ends Q (before ++ []) g → Ends Q before g
@@ -176,46 +176,46 @@ module _ {A : Type 0} (Q : A → List Record → Type 0) where
       ends_payload before (number_in l) (λ p. next (record { number = number_in n; rect = rect_in r; payload = p }))
       (λ p. h (record { number = number_in n; rect = rect_in r; payload = p }))
 
-  ends_records : (before : List Record) (region : Seen → Way) (n : ℕ) (next : List Record → Grammar A)
-      → ((rs : List Record) → Ends Q (before ++ out region rs) (next rs)) → Ends Q before (some_records region n next)
-  ends_records before region zero next h = none_more before (next []) (h [])
-  ends_records before region (suc n) next h =
-      ends_record before (λ r. notes (opens r (keeps_at region r.rect)) (some_records region n (λ rs. next (r ∷ rs))))
-      (λ r. ends_records (before ++ if_handed (keeps_at region r.rect) r []) region n (λ rs. next (r ∷ rs)) (λ rs.
+  ends_records : (before : List Record) (way : Seen → Way) (n : ℕ) (next : List Record → Grammar A)
+      → ((rs : List Record) → Ends Q (before ++ out way rs) (next rs)) → Ends Q before (some_records way n next)
+  ends_records before way zero next h = none_more before (next []) (h [])
+  ends_records before way (suc n) next h =
+      ends_record before (λ r. notes (opens r (keeps_at way r.rect)) (some_records way n (λ rs. next (r ∷ rs))))
+      (λ r. ends_records (before ++ if_handed (keeps_at way r.rect) r []) way n (λ rs. next (r ∷ rs)) (λ rs.
       subst (λ (z : List Record). Ends Q z (next (r ∷ rs)))
-      (sym (one_more (keeps_at region r.rect) before r (out region rs))) (h (r ∷ rs))))
+      (sym (one_more (keeps_at way r.rect) before r (out way rs))) (h (r ∷ rs))))
 
   -- what follows a cut, with its records
   abbrev Behind : (Seen → Way) → List Record → (Cut → Grammar A) → Type 0
-  Behind region before next = (P : Cut) → Ends Q (before ++ out region (records P)) (next P)
+  Behind way before next = (P : Cut) → Ends Q (before ++ out way (records P)) (next P)
 
-  ends_leaf : (before : List Record) (region : Seen → Way) (next : Cut → Grammar A) → Behind region before next
-      → Ends Q before (leaf region next)
-  ends_leaf before region next h = λ n.
-      ends_records before region (number_in n) (λ rs. opened region (Leaf rs) next) (λ rs. h (Leaf rs))
+  ends_leaf : (before : List Record) (way : Seen → Way) (next : Cut → Grammar A) → Behind way before next
+      → Ends Q before (leaf way next)
+  ends_leaf before way next h = λ n.
+      ends_records before way (number_in n) (λ rs. opened way (Leaf rs) next) (λ rs. h (Leaf rs))
 
-  ends_pruned : (before : List Record) (region : Seen → Way) (next : Cut → Grammar A) → Behind region before next
-      → Ends Q before (pruned region next)
-  ends_pruned before region next h = λ r d.
+  ends_pruned : (before : List Record) (way : Seen → Way) (next : Cut → Grammar A) → Behind way before next
+      → Ends Q before (pruned way next)
+  ends_pruned before way next h = λ r d.
       none_more before (next (Pruned (record { rect = rect_in r; digest = bytes_in d })))
       (h (Pruned (record { rect = rect_in r; digest = bytes_in d })))
 
-  two_parts : (before : List Record) (region : Seen → Way) (xs ys : List Record)
-      → before ++ out region (xs ++ ys) ≡ (before ++ out region xs) ++ out region ys
-  two_parts before region xs ys =
-      ap (λ (z : List Record). before ++ z) (filter-append (λ (r : Record). keeps_at region r.rect) xs ys)
-      ∙ sym (append_assoc before (out region xs) (out region ys))
+  two_parts : (before : List Record) (way : Seen → Way) (xs ys : List Record)
+      → before ++ out way (xs ++ ys) ≡ (before ++ out way xs) ++ out way ys
+  two_parts before way xs ys =
+      ap (λ (z : List Record). before ++ z) (filter-append (λ (r : Record). keeps_at way r.rect) xs ys)
+      ∙ sym (append_assoc before (out way xs) (out way ys))
 
-  ends_items : (region : Seen → Way) (one : (Cut → Grammar A) → Grammar A)
-      → ((before : List Record) (next : Cut → Grammar A) → Behind region before next → Ends Q before (one next))
+  ends_items : (way : Seen → Way) (one : (Cut → Grammar A) → Grammar A)
+      → ((before : List Record) (next : Cut → Grammar A) → Behind way before next → Ends Q before (one next))
       → (before : List Record) (n : ℕ) (next : Cuts → Grammar A)
-      → ((Ps : Cuts) → Ends Q (before ++ out region (all_records Ps)) (next Ps))
+      → ((Ps : Cuts) → Ends Q (before ++ out way (all_records Ps)) (next Ps))
       → Ends Q before (some_items one n next)
-  ends_items region one each before zero next h = none_more before (next no_more) (h no_more)
-  ends_items region one each before (suc n) next h =
+  ends_items way one each before zero next h = none_more before (next no_more) (h no_more)
+  ends_items way one each before (suc n) next h =
       each before (λ P. some_items one n (λ Ps. next (first P Ps)))
-      (λ P. ends_items region one each (before ++ out region (records P)) n (λ Ps. next (first P Ps)) (λ Ps.
-      subst (λ (z : List Record). Ends Q z (next (first P Ps))) (two_parts before region (records P) (all_records Ps))
+      (λ P. ends_items way one each (before ++ out way (records P)) n (λ Ps. next (first P Ps)) (λ Ps.
+      subst (λ (z : List Record). Ends Q z (next (first P Ps))) (two_parts before way (records P) (all_records Ps))
       (h (first P Ps))))
 
   ends_choice : (before : List Record) (b : Bool) (g k : Grammar A) → Ends Q before g → Ends Q before k
@@ -223,16 +223,16 @@ module _ {A : Type 0} (Q : A → List Record → Type 0) where
   ends_choice before true g k p q = p
   ends_choice before false g k p q = q
 
-  ends_item : (region : Seen → Way) (v : ℕ) (before : List Record) (next : Cut → Grammar A)
-      → Behind region before next → Ends Q before (item region v next)
-  ends_item region zero before next h = λ t.
-      ends_choice before (tag_in t == pruned_tag) (pruned region next) (leaf region next)
-      (ends_pruned before region next h) (ends_leaf before region next h)
-  ends_item region (suc v) before next h = λ t.
-      ends_choice before (tag_in t == pruned_tag) (pruned region next) (inner region (item region v) next)
-      (ends_pruned before region next h) (λ n.
-      ends_items region (item region v) (ends_item region v) before (number_in n)
-      (λ Ps. opened region (Inner Ps) next) (λ Ps. h (Inner Ps)))
+  ends_item : (way : Seen → Way) (v : ℕ) (before : List Record) (next : Cut → Grammar A)
+      → Behind way before next → Ends Q before (item way v next)
+  ends_item way zero before next h = λ t.
+      ends_choice before (tag_in t == pruned_tag) (pruned way next) (leaf way next)
+      (ends_pruned before way next h) (ends_leaf before way next h)
+  ends_item way (suc v) before next h = λ t.
+      ends_choice before (tag_in t == pruned_tag) (pruned way next) (inner way (item way v) next)
+      (ends_pruned before way next h) (λ n.
+      ends_items way (item way v) (ends_item way v) before (number_in n)
+      (λ Ps. opened way (Inner Ps) next) (λ Ps. h (Inner Ps)))
 
   ends_level : (before : List Record) (count : ℕ) (next : ℕ → Grammar A) → ((n : ℕ) → Ends Q before (next n))
       → Ends Q before (level count next)
@@ -261,14 +261,14 @@ module _ {A : Type 0} (Q : A → List Record → Type 0) where
 
 -- these are the records of the cut that are not left out
 abbrev AreKept : (Option ℕ → Seen → Way) → Said → List Record → Type 0
-AreKept region x rs = rs ≡ out (region x.head.radius) (opened_records x.part)
+AreKept way x rs = rs ≡ out (way x.head.radius) (opened_records x.part)
 
-ends_whole : (k : Kind) (region : Option ℕ → Seen → Way) → Ends (AreKept region) [] (whole k region)
-ends_whole k region =
-    ends_head (AreKept region) [] k (part region) (λ h.
-    ends_choice (AreKept region) [] (h.count == 0) (done (said h None))
-    (item (region h.radius) h.level (λ P. done (said h (Some P)))) refl
-    (ends_item (AreKept region) (region h.radius) h.level [] (λ P. done (said h (Some P))) (λ P. refl)))
+ends_whole : (k : Kind) (way : Option ℕ → Seen → Way) → Ends (AreKept way) [] (whole k way)
+ends_whole k way =
+    ends_head (AreKept way) [] k (part way) (λ h.
+    ends_choice (AreKept way) [] (h.count == 0) (done (said h None))
+    (item (way h.radius) h.level (λ P. done (said h (Some P)))) refl
+    (ends_item (AreKept way) (way h.radius) h.level [] (λ P. done (said h (Some P))) (λ P. refl)))
 
 -- what bytes spell is read
 read_spelled : (heeds : Bool) (a : Question) (bytes : List ℕ) (h : Head) (P : Option Cut) → h.kind ≡ a.kind

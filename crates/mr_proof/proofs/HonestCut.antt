@@ -20,13 +20,13 @@ use Rattle.mr_tree.proofs.Equations.{rect-Inner}
 use Rattle.mr_geom.specs.Rectangle.{union_of}
 use Rattle.mr_proof.specs.Cut.{Cut, Cuts, Pruned, Leaf, Inner, no_more, first, shown_with, pruned_if, pruned_cut, cuts_of, rect, rects, CutOf, CutsOf}
 use Rattle.mr_proof.specs.declared.way.Way.{Way}
-use Rattle.mr_proof.specs.Tight.{Seen, seen_at, met_by, Question, IsTightCut, AreTightCuts}
+use Rattle.mr_proof.specs.Tight.{Seen, seen_at, opens_seen, Question, IsTightCut, AreTightCuts}
 use Rattle.mr_proof.specs.Honest.{Part, entry_over, opened_cut, opened_if_met, part_step, part, ways_of, honest_cut, honest_part}
 use Rattle.mr_proof.proofs.Full.{IsFull, IsFullNode, there_tree, not_full_empty}
 
 -- whether the tree is to be opened
 abbrev pub meets : (Seen → Way) → Tree → Bool
-meets region t = met_by region (option_map seen_at (trees.rect t))
+meets way t = opens_seen way (option_map seen_at (trees.rect t))
 
 -- ---- a cut of a tree has the tree's rectangle
 
@@ -45,21 +45,21 @@ mutual
 
 -- ---- the honest cut, opened or pruned
 
-part_out : (s : Scheme) (region : Seen → Way) (t : Tree)
-    → part s region t ≡ part_step s region (map-Tree Tree Part (part s region) (out-Tree t))
-part_out s region t = fold_out-Tree Part (part_step s region) t
+part_out : (s : Scheme) (way : Seen → Way) (t : Tree)
+    → part s way t ≡ part_step s way (map-Tree Tree Part (part s way) (out-Tree t))
+part_out s way t = fold_out-Tree Part (part_step s way) t
 
-entries_same : (s : Scheme) (region : Seen → Way) (ts : List Tree)
-    → AllByRecursion (λ t. (part s region t).entry ≡ entry s t) ts
-    → map (λ (p : Part). p.entry) (map (part s region) ts) ≡ map (entry s) ts
-entries_same s region [] all = refl
-entries_same s region (t ∷ ts) all = λ i. all.0 i ∷ entries_same s region ts all.1 i
+entries_same : (s : Scheme) (way : Seen → Way) (ts : List Tree)
+    → AllByRecursion (λ t. (part s way t).entry ≡ entry s t) ts
+    → map (λ (p : Part). p.entry) (map (part s way) ts) ≡ map (entry s) ts
+entries_same s way [] all = refl
+entries_same s way (t ∷ ts) all = λ i. all.0 i ∷ entries_same s way ts all.1 i
 
-entry_out : (s : Scheme) (region : Seen → Way) (t : Tree) (x : Tree-F Tree) → out-Tree t ≡ x
-    → (part s region t).entry ≡ entry_over s (map-Tree Tree Part (part s region) x)
-entry_out s region t x e =
-    ap (λ (p : Part). p.entry) (part_out s region t)
-    ∙ ap (λ (y : Tree-F Tree). entry_over s (map-Tree Tree Part (part s region) y)) e
+entry_out : (s : Scheme) (way : Seen → Way) (t : Tree) (x : Tree-F Tree) → out-Tree t ≡ x
+    → (part s way t).entry ≡ entry_over s (map-Tree Tree Part (part s way) x)
+entry_out s way t x e =
+    ap (λ (p : Part). p.entry) (part_out s way t)
+    ∙ ap (λ (y : Tree-F Tree). entry_over s (map-Tree Tree Part (part s way) y)) e
 
 pub known_out : (s : Scheme) (t : Tree) (x : Tree-F Tree) → out-Tree t ≡ x
     → entry s t ≡ entry_step s (map-Tree Tree Entry (entry s) x)
@@ -67,39 +67,39 @@ known_out s t x e =
     fold_out-Tree Entry (entry_step s) t
     ∙ ap (λ (y : Tree-F Tree). entry_step s (map-Tree Tree Entry (entry s) y)) e
 
-pub entry_same : (s : Scheme) (region : Seen → Way) (t : Tree)
-    → (part s region t).entry ≡ entry s t
-entry_same s region = tree_induction (λ t. (part s region t).entry ≡ entry s t)
-    (entry_out s region tree.Empty node.Empty tree.outs-Empty
+pub entry_same : (s : Scheme) (way : Seen → Way) (t : Tree)
+    → (part s way t).entry ≡ entry s t
+entry_same s way = tree_induction (λ t. (part s way t).entry ≡ entry s t)
+    (entry_out s way tree.Empty node.Empty tree.outs-Empty
     ∙ sym (known_out s tree.Empty node.Empty tree.outs-Empty))
-    (λ rs. entry_out s region (tree.Leaf rs) (node.Leaf rs) (tree.outs-Leaf rs)
+    (λ rs. entry_out s way (tree.Leaf rs) (node.Leaf rs) (tree.outs-Leaf rs)
     ∙ sym (known_out s (tree.Leaf rs) (node.Leaf rs) (tree.outs-Leaf rs)))
-    (λ ts all. entry_out s region (tree.Inner ts) (node.Inner ts) (tree.outs-Inner ts)
-    ∙ ap (λ (es : List Entry). entry_step s (node.Inner es)) (entries_same s region ts all)
+    (λ ts all. entry_out s way (tree.Inner ts) (node.Inner ts) (tree.outs-Inner ts)
+    ∙ ap (λ (es : List Entry). entry_step s (node.Inner es)) (entries_same s way ts all)
     ∙ sym (known_out s (tree.Inner ts) (node.Inner ts) (tree.outs-Inner ts)))
 
 -- the tree opened, over the honest cuts of its children
 abbrev pub open_at : Scheme → (Seen → Way) → Tree-F Tree → Cut
-open_at s region x = opened_cut (map-Tree Tree Part (part s region) x)
+open_at s way x = opened_cut (map-Tree Tree Part (part s way) x)
 
 -- the honest cuts of some trees
 abbrev pub honest_cuts : Scheme → (Seen → Way) → List Tree → Cuts
-honest_cuts s region ts = cuts_of (map (λ (p : Part). p.cut) (map (part s region) ts))
+honest_cuts s way ts = cuts_of (map (λ (p : Part). p.cut) (map (part s way) ts))
 
-honest_is : (s : Scheme) (region : Seen → Way) (t : Tree) (x : Tree-F Tree) → out-Tree t ≡ x
-    → honest_cut s region t
-    ≡ (if meets region t then open_at s region x else pruned_cut (entry s t))
-honest_is s region t x e =
-    let known : entry_over s (map-Tree Tree Part (part s region) (out-Tree t)) ≡ entry s t =
-    sym (entry_out s region t (out-Tree t) refl) ∙ entry_same s region t in
-    ap (λ (p : Part). p.cut) (part_out s region t)
-    ∙ ap (opened_if_met region (open_at s region (out-Tree t))) known
-    ∙ (λ i. if met_by region (option_map seen_at (entry_rect s t i)) then open_at s region (e i)
+honest_is : (s : Scheme) (way : Seen → Way) (t : Tree) (x : Tree-F Tree) → out-Tree t ≡ x
+    → honest_cut s way t
+    ≡ (if meets way t then open_at s way x else pruned_cut (entry s t))
+honest_is s way t x e =
+    let known : entry_over s (map-Tree Tree Part (part s way) (out-Tree t)) ≡ entry s t =
+    sym (entry_out s way t (out-Tree t) refl) ∙ entry_same s way t in
+    ap (λ (p : Part). p.cut) (part_out s way t)
+    ∙ ap (opened_if_met way (open_at s way (out-Tree t))) known
+    ∙ (λ i. if opens_seen way (option_map seen_at (entry_rect s t i)) then open_at s way (e i)
     else pruned_cut (entry s t))
 
-pub honest_missed : (s : Scheme) (region : Seen → Way) (t : Tree) → meets region t ≡ false
-    → honest_cut s region t ≡ pruned_cut (entry s t)
-honest_missed s region t f = honest_is s region t (out-Tree t) refl ∙ rw f refl
+pub honest_missed : (s : Scheme) (way : Seen → Way) (t : Tree) → meets way t ≡ false
+    → honest_cut s way t ≡ pruned_cut (entry s t)
+honest_missed s way t f = honest_is s way t (out-Tree t) refl ∙ rw f refl
 
 -- a tree with this rectangle, pruned
 pub pruned_shown : (s : Scheme) (t : Tree) (r : Rectangle) → trees.rect t ≡ Some r
@@ -107,77 +107,77 @@ pub pruned_shown : (s : Scheme) (t : Tree) (r : Rectangle) → trees.rect t ≡ 
 pruned_shown s t r e =
     ap (λ (o : Option Rectangle). pruned_if (option_map (shown_with (entry s t)) o)) (entry_rect s t ∙ e)
 
-pub honest_met : (s : Scheme) (region : Seen → Way) (t : Tree) (x : Tree-F Tree) → out-Tree t ≡ x
-    → meets region t ≡ true → honest_cut s region t ≡ open_at s region x
-honest_met s region t x e m = honest_is s region t x e ∙ rw m refl
+pub honest_met : (s : Scheme) (way : Seen → Way) (t : Tree) (x : Tree-F Tree) → out-Tree t ≡ x
+    → meets way t ≡ true → honest_cut s way t ≡ open_at s way x
+honest_met s way t x e m = honest_is s way t x e ∙ rw m refl
 
 -- ---- it is a tight cut
 
-pub record IsGoodCut (s : Scheme) (region : Seen → Way) (t : Tree) (P : Cut) : Type 0 where
+pub record IsGoodCut (s : Scheme) (way : Seen → Way) (t : Tree) (P : Cut) : Type 0 where
   pub cut : CutOf s P t
-  pub tight : IsTightCut region P
+  pub tight : IsTightCut way P
 
-record AreGoodCuts (s : Scheme) (region : Seen → Way) (ts : List Tree) (Ps : Cuts) : Type 0 where
+record AreGoodCuts (s : Scheme) (way : Seen → Way) (ts : List Tree) (Ps : Cuts) : Type 0 where
   cuts : CutsOf s Ps ts
-  tight : AreTightCuts region Ps
+  tight : AreTightCuts way Ps
 
-missed_good : (s : Scheme) (region : Seen → Way) (t : Tree) → IsFull t → meets region t ≡ false
-    → IsGoodCut s region t (honest_cut s region t)
-missed_good s region t full f =
+missed_good : (s : Scheme) (way : Seen → Way) (t : Tree) → IsFull t → meets way t ≡ false
+    → IsGoodCut s way t (honest_cut s way t)
+missed_good s way t full f =
     let p = there_tree t full in
-    let is : honest_cut s region t ≡ Pruned (record { rect = p.at; digest = digest s t }) =
-    honest_missed s region t f ∙ pruned_shown s t p.at p.is in
-    subst (IsGoodCut s region t) (sym is) (record {
+    let is : honest_cut s way t ≡ Pruned (record { rect = p.at; digest = digest s t }) =
+    honest_missed s way t f ∙ pruned_shown s t p.at p.is in
+    subst (IsGoodCut s way t) (sym is) (record {
       cut = (sym p.is, refl);
-      tight = sym (ap (λ (o : Option Rectangle). met_by region (option_map seen_at o)) p.is) ∙ f;
+      tight = sym (ap (λ (o : Option Rectangle). opens_seen way (option_map seen_at o)) p.is) ∙ f;
     })
 
-leaf_good : (s : Scheme) (region : Seen → Way) (rs : List Record) → meets region (tree.Leaf rs) ≡ true
-    → IsGoodCut s region (tree.Leaf rs) (honest_cut s region (tree.Leaf rs))
-leaf_good s region rs m =
-    subst (IsGoodCut s region (tree.Leaf rs))
-    (sym (honest_met s region (tree.Leaf rs) (node.Leaf rs) (tree.outs-Leaf rs) m))
+leaf_good : (s : Scheme) (way : Seen → Way) (rs : List Record) → meets way (tree.Leaf rs) ≡ true
+    → IsGoodCut s way (tree.Leaf rs) (honest_cut s way (tree.Leaf rs))
+leaf_good s way rs m =
+    subst (IsGoodCut s way (tree.Leaf rs))
+    (sym (honest_met s way (tree.Leaf rs) (node.Leaf rs) (tree.outs-Leaf rs) m))
     (record {
       cut = refl;
-      tight = ap (λ (o : Option Rectangle). met_by region (option_map seen_at o)) (sym (rect-Leaf rs)) ∙ m;
+      tight = ap (λ (o : Option Rectangle). opens_seen way (option_map seen_at o)) (sym (rect-Leaf rs)) ∙ m;
     })
 
 abbrev IsGood : Scheme → (Seen → Way) → Tree → Type 0
-IsGood s region t = IsFull t → IsGoodCut s region t (honest_cut s region t)
+IsGood s way t = IsFull t → IsGoodCut s way t (honest_cut s way t)
 
-goods : (s : Scheme) (region : Seen → Way) (ts : List Tree) → AllByRecursion (IsGood s region) ts
-    → AllByRecursion IsFull ts → AreGoodCuts s region ts (honest_cuts s region ts)
-goods s region [] all full = record { cuts = refl; tight = tt }
-goods s region (t ∷ ts) all full =
+goods : (s : Scheme) (way : Seen → Way) (ts : List Tree) → AllByRecursion (IsGood s way) ts
+    → AllByRecursion IsFull ts → AreGoodCuts s way ts (honest_cuts s way ts)
+goods s way [] all full = record { cuts = refl; tight = tt }
+goods s way (t ∷ ts) all full =
     let one = all.0 full.0 in
-    let rest = goods s region ts all.1 full.1 in
+    let rest = goods s way ts all.1 full.1 in
     record { cuts = (t, ts, refl, one.cut, rest.cuts); tight = (one.tight, rest.tight) }
 
-inner_good : (s : Scheme) (region : Seen → Way) (ts : List Tree)
-    → meets region (tree.Inner ts) ≡ true → AreGoodCuts s region ts (honest_cuts s region ts)
-    → IsGoodCut s region (tree.Inner ts) (honest_cut s region (tree.Inner ts))
-inner_good s region ts m all =
-    let Ps = honest_cuts s region ts in
+inner_good : (s : Scheme) (way : Seen → Way) (ts : List Tree)
+    → meets way (tree.Inner ts) ≡ true → AreGoodCuts s way ts (honest_cuts s way ts)
+    → IsGoodCut s way (tree.Inner ts) (honest_cut s way (tree.Inner ts))
+inner_good s way ts m all =
+    let Ps = honest_cuts s way ts in
     let c : CutOf s (Inner Ps) (tree.Inner ts) = (ts, refl, all.cuts) in
     let whole = rect_of_cut s (Inner Ps) (tree.Inner ts) c in
-    subst (IsGoodCut s region (tree.Inner ts))
-    (sym (honest_met s region (tree.Inner ts) (node.Inner ts) (tree.outs-Inner ts) m))
+    subst (IsGoodCut s way (tree.Inner ts))
+    (sym (honest_met s way (tree.Inner ts) (node.Inner ts) (tree.outs-Inner ts) m))
     (record {
       cut = c;
-      tight = (ap (λ (o : Option Rectangle). met_by region (option_map seen_at o)) whole ∙ m, all.tight);
+      tight = (ap (λ (o : Option Rectangle). opens_seen way (option_map seen_at o)) whole ∙ m, all.tight);
     })
 
-pub honest_good : (s : Scheme) (region : Seen → Way) (t : Tree) → IsFull t
-    → IsGoodCut s region t (honest_cut s region t)
-honest_good s region = tree_induction (IsGood s region)
+pub honest_good : (s : Scheme) (way : Seen → Way) (t : Tree) → IsFull t
+    → IsGoodCut s way t (honest_cut s way t)
+honest_good s way = tree_induction (IsGood s way)
     (λ full. absurd (not_full_empty full))
-    (λ rs full. elim (cases_Bool (meets region (tree.Leaf rs))) [
-      | inl m ↦ leaf_good s region rs m
-      | inr f ↦ missed_good s region (tree.Leaf rs) full f
+    (λ rs full. elim (cases_Bool (meets way (tree.Leaf rs))) [
+      | inl m ↦ leaf_good s way rs m
+      | inr f ↦ missed_good s way (tree.Leaf rs) full f
     ])
-    (λ ts all full. elim (cases_Bool (meets region (tree.Inner ts))) [
-      | inl m ↦ inner_good s region ts m (goods s region ts all (every_child IsFullNode ts full))
-      | inr f ↦ missed_good s region (tree.Inner ts) full f
+    (λ ts all full. elim (cases_Bool (meets way (tree.Inner ts))) [
+      | inl m ↦ inner_good s way ts m (goods s way ts all (every_child IsFullNode ts full))
+      | inr f ↦ missed_good s way (tree.Inner ts) full f
     ])
 
 -- ---- the cut of the honest proof, where there is one

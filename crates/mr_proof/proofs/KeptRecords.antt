@@ -22,71 +22,71 @@ use Rattle.mr_proof.specs.Tight.{Seen, seen_at, is_open, opens_at, IsNarrow, IsT
 use Rattle.mr_proof.proofs.Full.{IsFull, IsFullNode, full_records, flat}
 
 -- what does not open a union opens neither part
-pub record MissesParts (region : Seen → Way) : Type 0 where
+pub record MissesParts (way : Seen → Way) : Type 0 where
   pub parts : (a b : Rectangle) → IsOrdered a → IsOrdered b → FitsMap a → FitsMap b
-      → opens_at region (union a b) ≡ false → (opens_at region a ≡ false) × (opens_at region b ≡ false)
+      → opens_at way (union a b) ≡ false → (opens_at way a ≡ false) × (opens_at way b ≡ false)
 
 not_open : (w : Way) → is_open w ≡ false → w ≢ ways.Open
 not_open w f e = absurd (false≢true (sym f ∙ ap is_open e))
 
 -- as all lawful ways are
-pub narrow_misses : (region : Seen → Way) → IsNarrow region → MissesParts region
-narrow_misses region law = record {
+pub narrow_misses : (way : Seen → Way) → IsNarrow way → MissesParts way
+narrow_misses way law = record {
   parts = λ a b o q f g m.
       let both = IsOrdered-union a b o q in
       let fits = FitsMap-union a b f g in
-      let closed = not_open (region (seen_at (union a b))) m in (
+      let closed = not_open (way (seen_at (union a b))) m in (
         ap is_open (law a (union a b) o both f fits (Inside-union_first a b) closed) ∙ m,
         ap is_open (law b (union a b) q both g fits (Inside-union_second a b) closed) ∙ m,
       );
 }
 
 abbrev met : (Seen → Way) → Record → Bool
-met region r = opens_at region r.rect
+met way r = opens_at way r.rect
 
-missed_behind : (region : Seen → Way) → MissesParts region → (a : Rectangle) (rs : List Record) (whole : Rectangle)
+missed_behind : (way : Seen → Way) → MissesParts way → (a : Rectangle) (rs : List Record) (whole : Rectangle)
     → IsOrdered a → FitsMap a → AllByRecursion IsRecord rs → fold join (Some a) (rects_of rs) ≡ Some whole
-    → opens_at region whole ≡ false → (opens_at region a ≡ false) × (filter (met region) rs ≡ [])
-missed_behind region law a [] whole o g all e f =
-    let same : a ≡ whole = cc in (ap (opens_at region) same ∙ f, refl)
-missed_behind region law a (r ∷ rs) whole o g all e f =
-    let rest = missed_behind region law (union a r.rect) rs whole (IsOrdered-union a r.rect o all.0.ordered)
+    → opens_at way whole ≡ false → (opens_at way a ≡ false) × (filter (met way) rs ≡ [])
+missed_behind way law a [] whole o g all e f =
+    let same : a ≡ whole = cc in (ap (opens_at way) same ∙ f, refl)
+missed_behind way law a (r ∷ rs) whole o g all e f =
+    let rest = missed_behind way law (union a r.rect) rs whole (IsOrdered-union a r.rect o all.0.ordered)
     (FitsMap-union a r.rect g all.0.coordinates) all.1 e f in
     let both = law.parts a r.rect o all.0.ordered g all.0.coordinates rest.0 in
     (both.0, rw both.1 rest.1)
 
-missed_records : (region : Seen → Way) → MissesParts region → (rs : List Record) (whole : Rectangle)
-    → AllByRecursion IsRecord rs → union_of (rects_of rs) ≡ Some whole → opens_at region whole ≡ false
-    → filter (met region) rs ≡ []
-missed_records region law [] whole all e f = refl
-missed_records region law (r ∷ rs) whole all e f =
-    let both = missed_behind region law r.rect rs whole all.0.ordered all.0.coordinates all.1 e f in rw both.0 both.1
+missed_records : (way : Seen → Way) → MissesParts way → (rs : List Record) (whole : Rectangle)
+    → AllByRecursion IsRecord rs → union_of (rects_of rs) ≡ Some whole → opens_at way whole ≡ false
+    → filter (met way) rs ≡ []
+missed_records way law [] whole all e f = refl
+missed_records way law (r ∷ rs) whole all e f =
+    let both = missed_behind way law r.rect rs whole all.0.ordered all.0.coordinates all.1 e f in rw both.0 both.1
 
-missed_tree : (region : Seen → Way) → MissesParts region → (t : Tree) → IsFull t → (r : Rectangle)
-    → Some r ≡ trees.rect t → opens_at region r ≡ false → filter (met region) (trees.records t) ≡ []
-missed_tree region law t full r e f =
-    missed_records region law (trees.records t) r (full_records t full) (sym (rect_round t) ∙ sym e) f
+missed_tree : (way : Seen → Way) → MissesParts way → (t : Tree) → IsFull t → (r : Rectangle)
+    → Some r ≡ trees.rect t → opens_at way r ≡ false → filter (met way) (trees.records t) ≡ []
+missed_tree way law t full r e f =
+    missed_records way law (trees.records t) r (full_records t full) (sym (rect_round t) ∙ sym e) f
 
 -- ---- all nodes
 
 mutual
-  pub kept : (s : Scheme) (region : Seen → Way) → MissesParts region → (P : Cut) (t : Tree) → IsFull t
-      → CutOf s P t → IsTightCut region P
-      → filter (met region) (records P) ≡ filter (met region) (trees.records t)
-  kept s region law (Pruned x) t full c tight = sym (missed_tree region law t full x.rect c.0 tight)
-  kept s region law (Leaf rs) t full c tight =
-      ap (filter (met region)) (sym (ap trees.records c ∙ records-Leaf rs))
-  kept s region law (Inner cuts) t full c tight =
-      all_kept s region law cuts c.0 (every_child IsFullNode c.0 (subst IsFull c.1 full)) c.2 tight.1
-      ∙ ap (filter (met region)) (sym (ap trees.records c.1 ∙ records-Inner c.0))
+  pub kept : (s : Scheme) (way : Seen → Way) → MissesParts way → (P : Cut) (t : Tree) → IsFull t
+      → CutOf s P t → IsTightCut way P
+      → filter (met way) (records P) ≡ filter (met way) (trees.records t)
+  kept s way law (Pruned x) t full c tight = sym (missed_tree way law t full x.rect c.0 tight)
+  kept s way law (Leaf rs) t full c tight =
+      ap (filter (met way)) (sym (ap trees.records c ∙ records-Leaf rs))
+  kept s way law (Inner cuts) t full c tight =
+      all_kept s way law cuts c.0 (every_child IsFullNode c.0 (subst IsFull c.1 full)) c.2 tight.1
+      ∙ ap (filter (met way)) (sym (ap trees.records c.1 ∙ records-Inner c.0))
 
-  all_kept : (s : Scheme) (region : Seen → Way) → MissesParts region → (Ps : Cuts) (ts : List Tree)
-      → AllByRecursion IsFull ts → CutsOf s Ps ts → AreTightCuts region Ps
-      → filter (met region) (all_records Ps) ≡ filter (met region) (flat ts)
-  all_kept s region law no_more ts full c tight = sym (ap (λ (us : List Tree). filter (met region) (flat us)) c)
-  all_kept s region law (first P Ps) ts full c tight =
+  all_kept : (s : Scheme) (way : Seen → Way) → MissesParts way → (Ps : Cuts) (ts : List Tree)
+      → AllByRecursion IsFull ts → CutsOf s Ps ts → AreTightCuts way Ps
+      → filter (met way) (all_records Ps) ≡ filter (met way) (flat ts)
+  all_kept s way law no_more ts full c tight = sym (ap (λ (us : List Tree). filter (met way) (flat us)) c)
+  all_kept s way law (first P Ps) ts full c tight =
       let fulls = subst (AllByRecursion IsFull) c.2 full in
-      filter-append (met region) (records P) (all_records Ps)
-      ∙ (λ i. kept s region law P c.0 fulls.0 c.3 tight.0 i ++ all_kept s region law Ps c.1 fulls.1 c.4 tight.1 i)
-      ∙ sym (filter-append (met region) (trees.records c.0) (flat c.1))
-      ∙ sym (ap (λ (us : List Tree). filter (met region) (flat us)) c.2)
+      filter-append (met way) (records P) (all_records Ps)
+      ∙ (λ i. kept s way law P c.0 fulls.0 c.3 tight.0 i ++ all_kept s way law Ps c.1 fulls.1 c.4 tight.1 i)
+      ∙ sym (filter-append (met way) (trees.records c.0) (flat c.1))
+      ∙ sym (ap (λ (us : List Tree). filter (met way) (flat us)) c.2)

@@ -87,12 +87,14 @@ circle_narrow p (Some n) a b o inside met =
 pub is_lawful : (q : Query) → IsQuery q → IsLawful (question q)
 unfolding reaches
 is_lawful (Window w) is = record {
+  letter = tt;
   around = refl;
   circle = tt;
   narrow = λ radius a b o n f g inside closed.
       narrow_if (touches w a) (touches w b) (window_narrow w a b o inside) closed;
 }
 is_lawful (Nearest p k) is = record {
+  letter = tt;
   around = (is.0, is.1.0);
   circle = λ radius s. refl;
   narrow = λ radius a b o n f g inside closed.

@@ -28,7 +28,7 @@ use Rattle.mr_proof.specs.Fields.{magic, kind_byte, pruned_tag, leaf_tag, inner_
 use Rattle.mr_proof.specs.Cut.{Cut, Cuts, Pruned, Leaf, Inner, no_more, first, count_of}
 use Rattle.mr_proof.specs.Spelling.{cut_bytes, cuts_bytes, FitsShown, FitsLeaf, FitsInner, FitsCut, FitCuts, radius_bytes, level_bytes, head_bytes, FitsRadius, FitsHead, Said, said, opened_records, part_bytes, FitsPart, IsSpelled}
 use Rattle.mr_proof.specs.declared.way.Way.{Way}
-use Rattle.mr_proof.specs.Tight.{Seen, seen, met_by, opens_at, keeps_at, Question, question, IsLawful, IsTightCut, AreTightCuts}
+use Rattle.mr_proof.specs.Tight.{Seen, seen, opens_seen, opens_at, keeps_at, Question, question, IsLawful, IsTightCut, AreTightCuts}
 use Rattle.mr_proof.specs.Accepted.{root_found, Shows, Proves}
 use Rattle.mr_proof.specs.Grammar.{must, opens, Grammar, done, reads, notes, number_in, wide_in, tag_in, rect_in, bytes_in, payload, one_record, some_records, opened, leaf, some_items, inner, pruned, item, radius, level, head, part, whole}
 use Rattle.mr_proof.specs.Layout.{fault, Stand, start}
@@ -87,16 +87,16 @@ take_record heeds e next s a fits is =
       rest = p.rest;
     }
 
-take_records : {A B : Type 0} (heeds : Bool) (e : A → Stand → Result B Fault) (region : Seen → Way) (n : ℕ)
+take_records : {A B : Type 0} (heeds : Bool) (e : A → Stand → Result B Fault) (way : Seen → Way) (n : ℕ)
     (next : List Record → Grammar A)
-    (s : Stand) (a : B) → IsBytes s.rest → s.at ≤ place_limit → walk heeds e (some_records region n next) s ≡ Ok a
+    (s : Stand) (a : B) → IsBytes s.rest → s.at ≤ place_limit → walk heeds e (some_records way n next) s ≡ Ok a
     → Taken heeds e (flat_map record_bytes) (λ rs. (length rs ≡ n) × AllByRecursion IsRecord rs) next s a
-take_records heeds e region zero next s a fits within is = record
+take_records heeds e way zero next s a fits within is = record
     { value = []; end = s; good = (refl, tt); took = took_none s fits within; rest = is }
-take_records heeds e region (suc n) next s a fits within is =
-    let r = take_record heeds e (λ r. notes (opens r (keeps_at region r.rect))
-    (some_records region n (λ rs. next (r ∷ rs)))) s a fits is in
-    let rs = take_records heeds e region n (λ rs. next (r.value ∷ rs)) r.end a r.took.fits r.took.within r.rest in
+take_records heeds e way (suc n) next s a fits within is =
+    let r = take_record heeds e (λ r. notes (opens r (keeps_at way r.rect))
+    (some_records way n (λ rs. next (r ∷ rs)))) s a fits is in
+    let rs = take_records heeds e way n (λ rs. next (r.value ∷ rs)) r.end a r.took.fits r.took.within r.rest in
     record {
       value = r.value ∷ rs.value;
       end = rs.end;
@@ -111,10 +111,10 @@ take_records heeds e region (suc n) next s a fits within is =
 
 -- a cut of this level that is spelled, and, where notes are heeded, is tight for the region
 abbrev pub IsGood : Bool → (Seen → Way) → ℕ → Cut → Type 0
-IsGood heeds region v P = FitsCut v P × (heeds ≡ true → IsTightCut region P)
+IsGood heeds way v P = FitsCut v P × (heeds ≡ true → IsTightCut way P)
 
 abbrev pub AreGood : Bool → (Seen → Way) → ℕ → ℕ → Cuts → Type 0
-AreGood heeds region v n Ps = (count_of Ps ≡ n) × FitCuts v Ps × (heeds ≡ true → AreTightCuts region Ps)
+AreGood heeds way v n Ps = (count_of Ps ≡ n) × FitCuts v Ps × (heeds ≡ true → AreTightCuts way Ps)
 
 -- a note was passed
 note_passed : {B : Type 0} (heeds : Bool) (broken : Rule) (b : Bool) (at : ℕ) (r : Result B Fault) (a : B)
@@ -128,18 +128,18 @@ not_true : (b : Bool) → not b ≡ true → b ≡ false
 not_true true e = absurd (false≢true e)
 not_true false e = refl
 
-take_leaf : {A B : Type 0} (heeds : Bool) (e : A → Stand → Result B Fault) (region : Seen → Way)
+take_leaf : {A B : Type 0} (heeds : Bool) (e : A → Stand → Result B Fault) (way : Seen → Way)
     (next : Cut → Grammar A) (s : Stand) (a : B) → IsBytes s.rest → s.at ≤ place_limit
-    → walk heeds e (leaf region next) s ≡ Ok a
-    → (P : Cut) × (t : Stand) × IsGood heeds region 0 P × (cut_bytes P ≡ leaf_tag ∷ tail P) × Took (tail P) s t
+    → walk heeds e (leaf way next) s ≡ Ok a
+    → (P : Cut) × (t : Stand) × IsGood heeds way 0 P × (cut_bytes P ≡ leaf_tag ∷ tail P) × Took (tail P) s t
     × (walk heeds e (next P) t ≡ Ok a)
-take_leaf heeds e region next s a fits within is =
+take_leaf heeds e way next s a fits within is =
     let n = take_reads heeds e want.LeafCount number_in (λ n. n ∷ []) (λ n. (1 ≤ n) × (n ≤ leaf_limit)) leaf_count_meant
-    (λ n. some_records region n (λ rs. opened region (Leaf rs) next)) s a fits is in
-    let rs = take_records heeds e region n.value (λ rs. opened region (Leaf rs) next) n.end a n.took.fits n.took.within
+    (λ n. some_records way n (λ rs. opened way (Leaf rs) next)) s a fits is in
+    let rs = take_records heeds e way n.value (λ rs. opened way (Leaf rs) next) n.end a n.took.fits n.took.within
     n.rest
     in
-    let met = note_passed heeds rule.Needless (met_by region (seen (Leaf rs.value))) rs.end.last
+    let met = note_passed heeds rule.Needless (opens_seen way (seen (Leaf rs.value))) rs.end.last
     (walk heeds e (next (Leaf rs.value)) rs.end) a rs.rest in
     let long = rs.good.0 in
     let low = n.good.0 in
@@ -161,16 +161,16 @@ take_leaf heeds e region next s a fits within is =
       met.1,
     )
 
-take_pruned : {A B : Type 0} (heeds : Bool) (e : A → Stand → Result B Fault) (region : Seen → Way) (v : ℕ)
-    (next : Cut → Grammar A) (s : Stand) (a : B) → IsBytes s.rest → walk heeds e (pruned region next) s ≡ Ok a
-    → (P : Cut) × (t : Stand) × IsGood heeds region v P × (cut_bytes P ≡ pruned_tag ∷ tail P) × Took (tail P) s t
+take_pruned : {A B : Type 0} (heeds : Bool) (e : A → Stand → Result B Fault) (way : Seen → Way) (v : ℕ)
+    (next : Cut → Grammar A) (s : Stand) (a : B) → IsBytes s.rest → walk heeds e (pruned way next) s ≡ Ok a
+    → (P : Cut) × (t : Stand) × IsGood heeds way v P × (cut_bytes P ≡ pruned_tag ∷ tail P) × Took (tail P) s t
     × (walk heeds e (next P) t ≡ Ok a)
-take_pruned heeds e region v next s a fits is =
+take_pruned heeds e way v next s a fits is =
     let behind_rect = λ (r : Rectangle). reads want.Digest
     (λ d. next (Pruned (record { rect = r; digest = bytes_in d }))) in
     let r = take_reads heeds e want.Rect rect_in rectangle_bytes (λ r. IsOrdered r × FitsMap r) rect_meant
-    (λ r. notes (must rule.Hidden (not (opens_at region r))) (behind_rect r)) s a fits is in
-    let missed = note_passed heeds rule.Hidden (not (opens_at region r.value)) r.end.last
+    (λ r. notes (must rule.Hidden (not (opens_at way r))) (behind_rect r)) s a fits is in
+    let missed = note_passed heeds rule.Hidden (not (opens_at way r.value)) r.end.last
     (walk heeds e (behind_rect r.value) r.end) a r.rest in
     let d = take_reads heeds e want.Digest bytes_in (λ d. d) (λ d. (length d ≡ 32) × AreBytes d) digest_meant
     (λ d. next (Pruned (record { rect = r.value; digest = d }))) r.end a r.took.fits missed.1 in
@@ -178,7 +178,7 @@ take_pruned heeds e region v next s a fits is =
     { ordered = r.good.0; coordinates = r.good.1; digest = d.good.0; bytes = d.good.1 } in (
       Pruned (record { rect = r.value; digest = d.value }),
       d.end,
-      (fine, λ h. not_true (opens_at region r.value) (missed.0 h)),
+      (fine, λ h. not_true (opens_at way r.value) (missed.0 h)),
       refl,
       took_both (rectangle_bytes r.value) d.value s r.end d.end r.took d.took,
       d.rest,
@@ -187,19 +187,19 @@ take_pruned heeds e region v next s a fits is =
 -- an item by its tag
 abbrev Items : {A B : Type 0} → Bool → (A → Stand → Result B Fault) → (Seen → Way) → ℕ
     → ((Cut → Grammar A) → Grammar A) → Type 0
-Items {A} {B} heeds e region v one =
+Items {A} {B} heeds e way v one =
     (next : Cut → Grammar A) (s : Stand) (a : B) → IsBytes s.rest → walk heeds e (one next) s ≡ Ok a
-    → Taken heeds e cut_bytes (IsGood heeds region v) next s a
+    → Taken heeds e cut_bytes (IsGood heeds way v) next s a
 
-take_items : {A B : Type 0} (heeds : Bool) (e : A → Stand → Result B Fault) (region : Seen → Way) (v : ℕ)
-    (one : (Cut → Grammar A) → Grammar A) → Items heeds e region v one
+take_items : {A B : Type 0} (heeds : Bool) (e : A → Stand → Result B Fault) (way : Seen → Way) (v : ℕ)
+    (one : (Cut → Grammar A) → Grammar A) → Items heeds e way v one
     → (n : ℕ) (next : Cuts → Grammar A) (s : Stand) (a : B) → IsBytes s.rest → s.at ≤ place_limit
-    → walk heeds e (some_items one n next) s ≡ Ok a → Taken heeds e cuts_bytes (AreGood heeds region v n) next s a
-take_items heeds e region v one take_one zero next s a fits within is = record
+    → walk heeds e (some_items one n next) s ≡ Ok a → Taken heeds e cuts_bytes (AreGood heeds way v n) next s a
+take_items heeds e way v one take_one zero next s a fits within is = record
     { value = no_more; end = s; good = (refl, tt, λ h. tt); took = took_none s fits within; rest = is }
-take_items heeds e region v one take_one (suc n) next s a fits within is =
+take_items heeds e way v one take_one (suc n) next s a fits within is =
     let P = take_one (λ P. some_items one n (λ Ps. next (first P Ps))) s a fits is in
-    let Ps = take_items heeds e region v one take_one n
+    let Ps = take_items heeds e way v one take_one n
     (λ Ps. next (first P.value Ps)) P.end a P.took.fits P.took.within P.rest in
     record {
       value = first P.value Ps.value;
@@ -209,18 +209,18 @@ take_items heeds e region v one take_one (suc n) next s a fits within is =
       rest = Ps.rest;
     }
 
-take_inner : {A B : Type 0} (heeds : Bool) (e : A → Stand → Result B Fault) (region : Seen → Way) (v : ℕ)
-    (one : (Cut → Grammar A) → Grammar A) → Items heeds e region v one
-    → (next : Cut → Grammar A) (s : Stand) (a : B) → IsBytes s.rest → walk heeds e (inner region one next) s ≡ Ok a
-    → (P : Cut) × (t : Stand) × IsGood heeds region (suc v) P × (cut_bytes P ≡ inner_tag ∷ tail P) × Took (tail P) s t
+take_inner : {A B : Type 0} (heeds : Bool) (e : A → Stand → Result B Fault) (way : Seen → Way) (v : ℕ)
+    (one : (Cut → Grammar A) → Grammar A) → Items heeds e way v one
+    → (next : Cut → Grammar A) (s : Stand) (a : B) → IsBytes s.rest → walk heeds e (inner way one next) s ≡ Ok a
+    → (P : Cut) × (t : Stand) × IsGood heeds way (suc v) P × (cut_bytes P ≡ inner_tag ∷ tail P) × Took (tail P) s t
     × (walk heeds e (next P) t ≡ Ok a)
-take_inner heeds e region v one take_one next s a fits is =
+take_inner heeds e way v one take_one next s a fits is =
     let n = take_reads heeds e want.InnerCount number_in (λ n. n ∷ [])
     (λ n. (1 ≤ n) × (n ≤ inner_limit)) inner_count_meant
-    (λ n. some_items one n (λ Ps. opened region (Inner Ps) next)) s a fits is in
-    let Ps = take_items heeds e region v one take_one n.value
-    (λ Ps. opened region (Inner Ps) next) n.end a n.took.fits n.took.within n.rest in
-    let met = note_passed heeds rule.Needless (met_by region (seen (Inner Ps.value))) Ps.end.last
+    (λ n. some_items one n (λ Ps. opened way (Inner Ps) next)) s a fits is in
+    let Ps = take_items heeds e way v one take_one n.value
+    (λ Ps. opened way (Inner Ps) next) n.end a n.took.fits n.took.within n.rest in
+    let met = note_passed heeds rule.Needless (opens_seen way (seen (Inner Ps.value))) Ps.end.last
     (walk heeds e (next (Inner Ps.value)) Ps.end) a Ps.rest in
     let long = Ps.good.0 in
     let low = n.good.0 in
@@ -252,14 +252,14 @@ other_tag b c d (inr p) f = p
 inner_tag_is : (v : ℕ) → opened_tag (suc v) ≡ inner_tag
 inner_tag_is v = rw (eqb-suc-zero v) refl
 
-take_item : {A B : Type 0} (heeds : Bool) (e : A → Stand → Result B Fault) (region : Seen → Way) (v : ℕ)
-    → Items heeds e region v (item region v)
-take_item heeds e region zero next s a fits is =
+take_item : {A B : Type 0} (heeds : Bool) (e : A → Stand → Result B Fault) (way : Seen → Way) (v : ℕ)
+    → Items heeds e way v (item way v)
+take_item heeds e way zero next s a fits is =
     let t = take_reads heeds e (want.Tag 0) tag_in (λ b. b ∷ []) (λ b. (b ≡ pruned_tag) ⊎ (b ≡ opened_tag 0))
-    (tag_meant 0) (λ b. if b == pruned_tag then pruned region next else leaf region next) s a fits is in
+    (tag_meant 0) (λ b. if b == pruned_tag then pruned way next else leaf way next) s a fits is in
     elim (cases_Bool (eqb t.value pruned_tag)) [
       | inl p ↦
-          let x = take_pruned heeds e region 0 next t.end a t.took.fits (rw p at t.rest) in
+          let x = take_pruned heeds e way 0 next t.end a t.took.fits (rw p at t.rest) in
           record {
             value = x.0;
             end = x.1;
@@ -269,7 +269,7 @@ take_item heeds e region zero next s a fits is =
             rest = x.5;
           }
       | inr o ↦
-          let x = take_leaf heeds e region next t.end a t.took.fits t.took.within (rw o at t.rest) in
+          let x = take_leaf heeds e way next t.end a t.took.fits t.took.within (rw o at t.rest) in
           record {
             value = x.0;
             end = x.1;
@@ -279,13 +279,13 @@ take_item heeds e region zero next s a fits is =
             rest = x.5;
           }
     ]
-take_item heeds e region (suc v) next s a fits is =
+take_item heeds e way (suc v) next s a fits is =
     let t = take_reads heeds e (want.Tag (suc v)) tag_in (λ b. b ∷ [])
     (λ b. (b ≡ pruned_tag) ⊎ (b ≡ opened_tag (suc v))) (tag_meant (suc v))
-    (λ b. if b == pruned_tag then pruned region next else inner region (item region v) next) s a fits is in
+    (λ b. if b == pruned_tag then pruned way next else inner way (item way v) next) s a fits is in
     elim (cases_Bool (eqb t.value pruned_tag)) [
       | inl p ↦
-          let x = take_pruned heeds e region (suc v) next t.end a t.took.fits (rw p at t.rest) in
+          let x = take_pruned heeds e way (suc v) next t.end a t.took.fits (rw p at t.rest) in
           record {
             value = x.0;
             end = x.1;
@@ -295,7 +295,7 @@ take_item heeds e region (suc v) next s a fits is =
             rest = x.5;
           }
       | inr o ↦
-          let x = take_inner heeds e region v (item region v) (take_item heeds e region v) next t.end a t.took.fits
+          let x = take_inner heeds e way v (item way v) (take_item heeds e way v) next t.end a t.took.fits
           (rw o at t.rest) in
           record {
             value = x.0;
@@ -424,21 +424,21 @@ take_head heeds e k next s a fits is =
 
 -- what a walk through a whole proof took: a head of the kind and a cut, and what the ending gives behind them
 pub record TakenWhole {B : Type 0} (heeds : Bool) (e : Said → Stand → Result B Fault) (k : Kind)
-    (region : Option ℕ → Seen → Way) (bytes : List ℕ) (a : B) : Type 0 where
+    (way : Option ℕ → Seen → Way) (bytes : List ℕ) (a : B) : Type 0 where
   pub value : Said
   pub end : Stand
   pub kind : value.head.kind ≡ k
   pub fits : FitsHead value.head
   pub part : FitsPart value.head value.part
-  pub tight : heeds ≡ true → IfSome value.part (IsTightCut (region value.head.radius))
+  pub tight : heeds ≡ true → IfSome value.part (IsTightCut (way value.head.radius))
   pub took : Took (head_bytes value.head ++ part_bytes value.part) (start bytes) end
   pub rest : e value end ≡ Ok a
 
 pub take_whole : {B : Type 0} (heeds : Bool) (e : Said → Stand → Result B Fault) (k : Kind)
-    (region : Option ℕ → Seen → Way) (bytes : List ℕ) (a : B) → IsBytes bytes
-    → walk heeds e (whole k region) (start bytes) ≡ Ok a → TakenWhole heeds e k region bytes a
-take_whole heeds e k region bytes a fits is =
-    let h = take_head heeds e k (part region) (start bytes) a fits is in
+    (way : Option ℕ → Seen → Way) (bytes : List ℕ) (a : B) → IsBytes bytes
+    → walk heeds e (whole k way) (start bytes) ≡ Ok a → TakenWhole heeds e k way bytes a
+take_whole heeds e k way bytes a fits is =
+    let h = take_head heeds e k (part way) (start bytes) a fits is in
     elim (cases_Bool (eqb h.value.count 0)) [
       | inl t ↦ record {
         value = said h.value None;
@@ -452,7 +452,7 @@ take_whole heeds e k region bytes a fits is =
         rest = rw t at h.rest;
       }
       | inr f ↦
-          let P = take_item heeds e (region h.value.radius) h.value.level
+          let P = take_item heeds e (way h.value.radius) h.value.level
           (λ P. done (said h.value (Some P))) h.end a h.took.fits (rw f at h.rest) in
           let some : (h.value.count ≡ 0 → ⊥) = eqb-false h.value.count 0 f in
           record {
@@ -469,10 +469,10 @@ take_whole heeds e k region bytes a fits is =
 
 -- where nothing is left, the whole of the bytes was taken
 pub spelled_whole : {B : Type 0} (heeds : Bool) (e : Said → Stand → Result B Fault) (k : Kind)
-    (region : Option ℕ → Seen → Way) (bytes : List ℕ) (a : B) (x : TakenWhole heeds e k region bytes a)
+    (way : Option ℕ → Seen → Way) (bytes : List ℕ) (a : B) (x : TakenWhole heeds e k way bytes a)
     → x.end.rest ≡ []
     → IsSpelled x.value.head x.value.part bytes
-spelled_whole heeds e k region bytes a x none =
+spelled_whole heeds e k way bytes a x none =
     let text = head_bytes x.value.head ++ part_bytes x.value.part in
     let all : bytes ≡ text = x.took.parts ∙ ap (λ (r : List ℕ). text ++ r) none ∙ append-nil text in
     let long : length bytes ≡ length text = ap length all in

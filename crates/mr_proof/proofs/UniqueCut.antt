@@ -12,44 +12,44 @@ use Rattle.mr_tree.specs.declared.tree.Tree.TheViews.{out-Tree}
 use Rattle.mr_proof.specs.declared.shown.Shown.{Shown}
 use Rattle.mr_proof.specs.Cut.{Cut, Cuts, Pruned, Leaf, Inner, no_more, first, CutOf, CutsOf}
 use Rattle.mr_proof.specs.declared.way.Way.{Way}
-use Rattle.mr_proof.specs.Tight.{Seen, seen_at, met_by, opens_at, IsTightCut, AreTightCuts}
+use Rattle.mr_proof.specs.Tight.{Seen, seen_at, opens_seen, opens_at, IsTightCut, AreTightCuts}
 use Rattle.mr_proof.specs.Honest.{honest_cut}
 use Rattle.mr_proof.proofs.HonestCut.{meets, rect_of_cut, honest_cuts, honest_missed, pruned_shown, honest_met}
 
 -- whether the region meets what is seen by this rectangle
 abbrev met_at : (Seen → Way) → Option Rectangle → Bool
-met_at region o = met_by region (option_map seen_at o)
+met_at way o = opens_seen way (option_map seen_at o)
 
-pruned_is : (s : Scheme) (region : Seen → Way) (x : Shown) (t : Tree) → Some x.rect ≡ trees.rect t
-    → x.digest ≡ digest s t → opens_at region x.rect ≡ false → Pruned x ≡ honest_cut s region t
-pruned_is s region x t e f missed =
-    let miss : meets region t ≡ false = sym (ap (met_at region) e) ∙ missed in
+pruned_is : (s : Scheme) (way : Seen → Way) (x : Shown) (t : Tree) → Some x.rect ≡ trees.rect t
+    → x.digest ≡ digest s t → opens_at way x.rect ≡ false → Pruned x ≡ honest_cut s way t
+pruned_is s way x t e f missed =
+    let miss : meets way t ≡ false = sym (ap (met_at way) e) ∙ missed in
     (λ i. Pruned (record { rect = x.rect; digest = f i })) ∙ sym (pruned_shown s t x.rect (sym e))
-    ∙ sym (honest_missed s region t miss)
+    ∙ sym (honest_missed s way t miss)
 
-leaf_is : (s : Scheme) (region : Seen → Way) (rs : List Record) (t : Tree) → t ≡ tree.Leaf rs
-    → meets region t ≡ true → Leaf rs ≡ honest_cut s region t
-leaf_is s region rs t e met = sym (honest_met s region t (node.Leaf rs) (ap out-Tree e ∙ tree.outs-Leaf rs) met)
+leaf_is : (s : Scheme) (way : Seen → Way) (rs : List Record) (t : Tree) → t ≡ tree.Leaf rs
+    → meets way t ≡ true → Leaf rs ≡ honest_cut s way t
+leaf_is s way rs t e met = sym (honest_met s way t (node.Leaf rs) (ap out-Tree e ∙ tree.outs-Leaf rs) met)
 
-inner_is : (s : Scheme) (region : Seen → Way) (cuts : Cuts) (ts : List Tree) (t : Tree)
-    → t ≡ tree.Inner ts → meets region t ≡ true → cuts ≡ honest_cuts s region ts
-    → Inner cuts ≡ honest_cut s region t
-inner_is s region cuts ts t e met same =
-    ap Inner same ∙ sym (honest_met s region t (node.Inner ts) (ap out-Tree e ∙ tree.outs-Inner ts) met)
+inner_is : (s : Scheme) (way : Seen → Way) (cuts : Cuts) (ts : List Tree) (t : Tree)
+    → t ≡ tree.Inner ts → meets way t ≡ true → cuts ≡ honest_cuts s way ts
+    → Inner cuts ≡ honest_cut s way t
+inner_is s way cuts ts t e met same =
+    ap Inner same ∙ sym (honest_met s way t (node.Inner ts) (ap out-Tree e ∙ tree.outs-Inner ts) met)
 
 mutual
-  pub is_honest : (s : Scheme) (region : Seen → Way) (P : Cut) (t : Tree) → CutOf s P t
-      → IsTightCut region P → P ≡ honest_cut s region t
-  is_honest s region (Pruned x) t c tight = pruned_is s region x t c.0 c.1 tight
-  is_honest s region (Leaf rs) t c tight =
-      leaf_is s region rs t c (sym (ap (met_at region) (rect_of_cut s (Leaf rs) t c)) ∙ tight)
-  is_honest s region (Inner cuts) t c tight =
-      inner_is s region cuts c.0 t c.1 (sym (ap (met_at region) (rect_of_cut s (Inner cuts) t c)) ∙ tight.0)
-      (are_honest s region cuts c.0 c.2 tight.1)
+  pub is_honest : (s : Scheme) (way : Seen → Way) (P : Cut) (t : Tree) → CutOf s P t
+      → IsTightCut way P → P ≡ honest_cut s way t
+  is_honest s way (Pruned x) t c tight = pruned_is s way x t c.0 c.1 tight
+  is_honest s way (Leaf rs) t c tight =
+      leaf_is s way rs t c (sym (ap (met_at way) (rect_of_cut s (Leaf rs) t c)) ∙ tight)
+  is_honest s way (Inner cuts) t c tight =
+      inner_is s way cuts c.0 t c.1 (sym (ap (met_at way) (rect_of_cut s (Inner cuts) t c)) ∙ tight.0)
+      (are_honest s way cuts c.0 c.2 tight.1)
 
-  are_honest : (s : Scheme) (region : Seen → Way) (Ps : Cuts) (ts : List Tree) → CutsOf s Ps ts
-      → AreTightCuts region Ps → Ps ≡ honest_cuts s region ts
-  are_honest s region no_more ts c tight = sym (ap (honest_cuts s region) c)
-  are_honest s region (first P Ps) ts c tight =
-      (λ i. first (is_honest s region P c.0 c.3 tight.0 i) (are_honest s region Ps c.1 c.4 tight.1 i))
-      ∙ sym (ap (honest_cuts s region) c.2)
+  are_honest : (s : Scheme) (way : Seen → Way) (Ps : Cuts) (ts : List Tree) → CutsOf s Ps ts
+      → AreTightCuts way Ps → Ps ≡ honest_cuts s way ts
+  are_honest s way no_more ts c tight = sym (ap (honest_cuts s way) c)
+  are_honest s way (first P Ps) ts c tight =
+      (λ i. first (is_honest s way P c.0 c.3 tight.0 i) (are_honest s way Ps c.1 c.4 tight.1 i))
+      ∙ sym (ap (honest_cuts s way) c.2)

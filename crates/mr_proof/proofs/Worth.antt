@@ -81,12 +81,12 @@ filled_own : (s : Scheme) (a : Question) → IsLawful a → (t : Tree) (b : ℕ)
 filled_own s a law t b h P bytes held full p batch count flat c =
     let close = subst (λ (o : Option ℕ). IsTightCut (a.way o) P) p.tight.radius p.tight.parts in
     let radius = radius_by a.around (cut.records P) in
-    let region = a.way radius in
-    let all = kept s region (narrow_misses region (law.narrow radius)) P t full c close in
+    let way = a.way radius in
+    let all = kept s way (narrow_misses way (law.narrow radius)) P t full c close in
     let same = same_radius a law (cut.records P) (records t) all in
     let head = same_head a h t b p.kind batch count (p.tight.radius ∙ same) flat in
     let own : P ≡ honest_cut s (ways_of a t) t =
-    is_honest s region P t c close ∙ ap (λ (o : Option ℕ). honest_cut s (a.way o) t) same in
+    is_honest s way P t c close ∙ ap (λ (o : Option ℕ). honest_cut s (a.way o) t) same in
     own_by s a t b h (Some P) bytes p.spelled head
     (ap (λ (C : Cut). Some C) own ∙ sym (some_part s a t (some_record t full)))
 

@@ -14,7 +14,7 @@ pub use Rattle.mr_proof.specs.Fields.{number_in, wide_in, tag_in, rect_in, bytes
 use Rattle.mr_proof.specs.Cut.{Cut, Cuts, Pruned, Leaf, Inner, no_more, first}
 use Rattle.mr_proof.specs.Spelling.{Said, said}
 use Rattle.mr_proof.specs.declared.way.Way.{Way}
-use Rattle.mr_proof.specs.Tight.{Seen, seen, met_by, opens_at, keeps_at}
+use Rattle.mr_proof.specs.Tight.{Seen, seen, opens_seen, opens_at, keeps_at}
 
 -- What the fields so far say: that the rule is broken, unless this test passes; or that the record
 -- was opened, and whether it is not left out. A note stands at the last field before it.
@@ -50,7 +50,7 @@ some_records way (suc n) next =
 
 -- a node that was opened, and was to be
 abbrev pub opened : {A : Type 0} → (Seen → Way) → Cut → (Cut → Grammar A) → Grammar A
-opened way P next = notes (must rule.Needless (met_by way (seen P))) (next P)
+opened way P next = notes (must rule.Needless (opens_seen way (seen P))) (next P)
 
 -- a leaf, behind its tag
 abbrev pub leaf : {A : Type 0} → (Seen → Way) → (Cut → Grammar A) → Grammar A

@@ -12,7 +12,7 @@ use Rattle.mr_proof.specs.declared.head.Head.{Head}
 use Rattle.mr_proof.specs.Cut.{Cut, Leaf, Inner, pruned_cut, cuts_of, opened_nodes}
 use Rattle.mr_proof.specs.Spelling.{Said, said, head_bytes, part_bytes}
 use Rattle.mr_proof.specs.declared.way.Way.{Way}
-use Rattle.mr_proof.specs.Tight.{Seen, seen_at, met_by, Question, question, radius_by}
+use Rattle.mr_proof.specs.Tight.{Seen, seen_at, opens_seen, Question, question, radius_by}
 
 -- ---- the honest cut of a tree
 
@@ -34,7 +34,7 @@ opened_cut (node.Inner parts) = Inner (cuts_of (map (λ (p : Part). p.cut) parts
 -- the node opened where its way is so, and else pruned
 abbrev pub opened_if_met : (Seen → Way) → Cut → Entry → Cut
 opened_if_met way P e =
-    if met_by way (option_map seen_at e.rect) then P else pruned_cut e
+    if opens_seen way (option_map seen_at e.rect) then P else pruned_cut e
 
 abbrev pub part_step : Scheme → (Seen → Way) → Tree-F Part → Part
 part_step s way x = record {

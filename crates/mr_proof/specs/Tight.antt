@@ -1,5 +1,5 @@
 -- What a proof has to show, and cuts that open what they need and nothing else.
-use Rattle.std.specs.Prelude.{◌≡◌, ◌≢◌, ℕ, ◌≤◌, ⊤, Bool, true, false, if◌then◌else◌, List, Option, Some, None, option_map, IfSome}
+use Rattle.std.specs.Prelude.{◌≡◌, ◌≢◌, ℕ, ◌^◌, ◌<◌, ◌≤◌, ⊤, Bool, true, false, if◌then◌else◌, List, Option, Some, None, option_map, IfSome}
 use Rattle.mr_geom.specs.Rectangle.{Rectangle, IsOrdered, FitsMap}
 use Rattle.mr_geom.specs.Plane.{Inside}
 use Rattle.mr_record.specs.declared.record.Record.{Record}
@@ -53,9 +53,9 @@ abbrev pub keeps_at : (Seen → Way) → Rectangle → Bool
 keeps_at way r = is_kept (way (seen_at r))
 
 -- whether a node of which something is seen is opened
-abbrev pub met_by : (Seen → Way) → Option Seen → Bool
-met_by way None = false
-met_by way (Some s) = is_open (way s)
+abbrev pub opens_seen : (Seen → Way) → Option Seen → Bool
+opens_seen way None = false
+opens_seen way (Some s) = is_open (way s)
 
 -- ---- what a proof has to show
 
@@ -71,19 +71,24 @@ abbrev pub radius_by : Option Around → List Record → Option ℕ
 radius_by None records = None
 radius_by (Some x) records = kth_least x.k (distances x.center records)
 
--- only heads of kind K have a radius
+-- only heads of kind K have a radius: that of a point of the map and at least one record
 abbrev pub FitsAround : Kind → Option Around → Type 0
 FitsAround kind.W x = x ≡ None
 FitsAround kind.K None = ⊥
 FitsAround kind.K (Some x) = FitsPoint x.center × (1 ≤ x.k)
 FitsAround (kind.Choice c) x = x ≡ None
 
+-- the letter of a choice is a byte
+abbrev pub FitsLetter : Kind → Type 0
+FitsLetter (kind.Choice c) = c < 2 ^ 8
+FitsLetter _ = ⊤
+
 -- what lies in a part that is pruned has the same way
 abbrev pub IsNarrow : (Seen → Way) → Type 0
 IsNarrow way = (a b : Rectangle) → IsOrdered a → IsOrdered b → FitsMap a → FitsMap b → Inside a b
     → way (seen_at b) ≢ ways.Open → way (seen_at a) ≡ way (seen_at b)
 
--- what a radius is of is opened just where it lies within that radius
+-- where heads have a radius, a part is opened just where it lies within it, and else left out
 abbrev pub IsCircle : Option Around → (Option ℕ → Seen → Way) → Type 0
 IsCircle None way = ⊤
 IsCircle (Some x) way = (radius : Option ℕ) (s : Seen)
@@ -91,6 +96,7 @@ IsCircle (Some x) way = (radius : Option ℕ) (s : Seen)
 
 -- what the proof system rests on
 pub record IsLawful (a : Question) : Type 0 where
+  pub letter : FitsLetter a.kind
   pub around : FitsAround a.kind a.around
   pub circle : IsCircle a.around a.way
   pub narrow : (radius : Option ℕ) → IsNarrow (a.way radius)
@@ -118,9 +124,9 @@ question q = record {
 abbrev mutual
   -- each pruned part is to be pruned, and each opened node opened
   pub IsTightCut : (Seen → Way) → Cut → Type 0
-  IsTightCut way (Pruned part) = met_by way (seen (Pruned part)) ≡ false
-  IsTightCut way (Leaf records) = met_by way (seen (Leaf records)) ≡ true
-  IsTightCut way (Inner cuts) = (met_by way (seen (Inner cuts)) ≡ true) × AreTightCuts way cuts
+  IsTightCut way (Pruned part) = opens_seen way (seen (Pruned part)) ≡ false
+  IsTightCut way (Leaf records) = opens_seen way (seen (Leaf records)) ≡ true
+  IsTightCut way (Inner cuts) = (opens_seen way (seen (Inner cuts)) ≡ true) × AreTightCuts way cuts
 
   pub AreTightCuts : (Seen → Way) → Cuts → Type 0
   AreTightCuts way no_more = ⊤

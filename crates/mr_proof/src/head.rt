@@ -8,7 +8,7 @@ use crate::field::VERSION;
 use mr_query::Query;
 use mr_record::Version;
 
-/// The kind of query that a proof is for.
+/// The kind of a proof.
 #[derive(Clone, Copy, Debug, PartialEq, Eq)]
 pub enum Kind {
     /// A window.

@@ -8,14 +8,19 @@ use crate::{Kind, Way};
 use mr_geom::{Point, Rect};
 use mr_query::{Area, Query};
 
-/// The point and the number of the records round whose farthest the head's squared radius is.
+/// What a head's squared radius is: the squared distance of the kth nearest record to a point, in
+/// squared map units.
 #[derive(Clone, Copy, Debug, PartialEq, Eq)]
 pub struct Around {
+    /// The point, in map units.
     pub center: Point,
+    /// Which of the records: 1 is the nearest.
     pub k: u16,
 }
 
-/// What a proof is for: what it has to show of a map.
+/// Whatever a proof can be for: it has a question, that is, what a proof has to show of a map.
+/// There
+/// is no law: calls that say what a proof is worth require that the question is lawful.
 pub trait AsQuestion {
     // what a proof has to show
     ghost question: { Self → Question };

@@ -14,7 +14,7 @@ pub enum Rule {
     BadMagic,
     /// The version is not 1.
     BadVersion,
-    /// The proof is for another kind of query.
+    /// The proof is of another kind.
     WrongKind,
     /// The count of records is above 2^20.
     BadCount,
@@ -32,9 +32,9 @@ pub enum Rule {
     BadRect,
     /// A payload is longer than 200 bytes.
     BadLength,
-    /// The rectangle of a pruned part meets the region.
+    /// A part that is to be opened is pruned: for a query, its rectangle meets the region.
     Hidden,
-    /// The rectangle of an opened node does not meet the region.
+    /// A node that is not to be opened is opened: for a query, its rectangle misses the region.
     Needless,
     /// Bytes stand behind the last field.
     Trailing,

@@ -12,7 +12,7 @@ pub enum Want {
     Magic,
     /// The version of the format.
     Version,
-    /// The letter of the kind of query.
+    /// The letter of the kind.
     Kind(Kind),
     /// The batch of the map.
     Batch,

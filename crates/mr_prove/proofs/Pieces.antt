@@ -22,7 +22,7 @@ use Rattle.mr_proof.specs.Fields.{inner_tag}
 use Rattle.mr_proof.specs.Cut.{Leaf, Inner, pruned_cut, count_of, opened_nodes, all_opened}
 use Rattle.mr_proof.specs.Spelling.{cut_bytes, cuts_bytes}
 use Rattle.mr_proof.specs.declared.way.Way.{Way}
-use Rattle.mr_proof.specs.Tight.{Seen, seen_at, met_by, opens_at}
+use Rattle.mr_proof.specs.Tight.{Seen, seen_at, opens_seen, opens_at}
 use Rattle.mr_proof.specs.Honest.{honest_cut}
 use Rattle.mr_proof.proofs.HonestCut.{meets, honest_cuts, honest_missed, honest_met}
 use Rattle.mr_prove.specs.Parts.{node_bytes, part_at, opened_at, parts_of, opened_in}
@@ -48,62 +48,62 @@ pub sum_by_along : {X Y Z : Type 0} (f : Z → ℕ) (g : X → Z) (h : Y → Z) 
     → map g xs ≡ map h ys → sum_by (λ x. f (g x)) xs ≡ sum_by (λ y. f (h y)) ys
 sum_by_along f g h xs ys e = sym (sum_by_map f g xs) ∙ ap (sum_by f) e ∙ sum_by_map f h ys
 
-module _ (scheme : Scheme) (region : Seen → Way) where
+module _ (scheme : Scheme) (way : Seen → Way) where
   -- ---- the honest cuts of some trees
 
-  count_cuts : (ts : List Tree) → count_of (honest_cuts scheme region ts) ≡ length ts
+  count_cuts : (ts : List Tree) → count_of (honest_cuts scheme way ts) ≡ length ts
   count_cuts [] = refl
   count_cuts (t ∷ ts) = let rest = count_cuts ts in omega arith
 
   bytes_of_cuts : (ts : List Tree)
-      → cuts_bytes (honest_cuts scheme region ts) ≡ flat_map (λ t. cut_bytes (honest_cut scheme region t)) ts
+      → cuts_bytes (honest_cuts scheme way ts) ≡ flat_map (λ t. cut_bytes (honest_cut scheme way t)) ts
   bytes_of_cuts [] = refl
-  bytes_of_cuts (t ∷ ts) = ap (λ xs. cut_bytes (honest_cut scheme region t) ++ xs) (bytes_of_cuts ts)
+  bytes_of_cuts (t ∷ ts) = ap (λ xs. cut_bytes (honest_cut scheme way t) ++ xs) (bytes_of_cuts ts)
 
   opened_of_cuts : (ts : List Tree)
-      → all_opened (honest_cuts scheme region ts) ≡ sum_by (λ t. opened_nodes (honest_cut scheme region t)) ts
+      → all_opened (honest_cuts scheme way ts) ≡ sum_by (λ t. opened_nodes (honest_cut scheme way t)) ts
   opened_of_cuts [] = refl
   opened_of_cuts (t ∷ ts) =
-      ap (λ n. opened_nodes (honest_cut scheme region t) + n) (opened_of_cuts ts)
-      ∙ sym (sum_by-cons (λ t. opened_nodes (honest_cut scheme region t)) t ts)
+      ap (λ n. opened_nodes (honest_cut scheme way t) + n) (opened_of_cuts ts)
+      ∙ sym (sum_by-cons (λ t. opened_nodes (honest_cut scheme way t)) t ts)
 
   -- ---- a tree of which the child is the entry
 
   rect_is : (t : Tree) (c : Child) → entry_of c ≡ entry scheme t → rect t ≡ Some c.rect
   rect_is t c e = sym (entry_rect scheme t) ∙ ap (λ (x : Entry). x.rect) (sym e)
 
-  meets_is : (t : Tree) (c : Child) (b : Bool) → entry_of c ≡ entry scheme t → opens_at region c.rect ≡ b
-      → meets region t ≡ b
-  meets_is t c b e f = ap (λ (o : Option Rectangle). met_by region (option_map seen_at o)) (rect_is t c e) ∙ f
+  meets_is : (t : Tree) (c : Child) (b : Bool) → entry_of c ≡ entry scheme t → opens_at way c.rect ≡ b
+      → meets way t ≡ b
+  meets_is t c b e f = ap (λ (o : Option Rectangle). opens_seen way (option_map seen_at o)) (rect_is t c e) ∙ f
 
-  cut_missed : (t : Tree) (c : Child) → entry_of c ≡ entry scheme t → opens_at region c.rect ≡ false
-      → honest_cut scheme region t ≡ pruned_cut (entry_of c)
+  cut_missed : (t : Tree) (c : Child) → entry_of c ≡ entry scheme t → opens_at way c.rect ≡ false
+      → honest_cut scheme way t ≡ pruned_cut (entry_of c)
   cut_missed t c e f =
-      honest_missed scheme region t (meets_is t c false e f) ∙ ap pruned_cut (sym e)
+      honest_missed scheme way t (meets_is t c false e f) ∙ ap pruned_cut (sym e)
 
   pub missed_at : (o : Option Tree) (c : Child) → IsSomeAnd o (λ t. entry_of c ≡ entry scheme t)
-      → opens_at region c.rect ≡ false
-      → part_at scheme region o ≡ cut_bytes (pruned_cut (entry_of c))
+      → opens_at way c.rect ≡ false
+      → part_at scheme way o ≡ cut_bytes (pruned_cut (entry_of c))
   unfolding part_at
   missed_at None c e f = absurd e
   missed_at (Some t) c e f = ap cut_bytes (cut_missed t c e f)
 
-  pub cut_leaf : (t : Tree) (rs : List Record) → t ≡ tree.Leaf rs → meets region t ≡ true
-      → honest_cut scheme region t ≡ Leaf rs
-  cut_leaf t rs e m = honest_met scheme region t (node.Leaf rs) (ap out-Tree e ∙ tree.outs-Leaf rs) m
+  pub cut_leaf : (t : Tree) (rs : List Record) → t ≡ tree.Leaf rs → meets way t ≡ true
+      → honest_cut scheme way t ≡ Leaf rs
+  cut_leaf t rs e m = honest_met scheme way t (node.Leaf rs) (ap out-Tree e ∙ tree.outs-Leaf rs) m
 
-  pub cut_inner : (t : Tree) (ts : List Tree) → t ≡ tree.Inner ts → meets region t ≡ true
-      → honest_cut scheme region t ≡ Inner (honest_cuts scheme region ts)
-  cut_inner t ts e m = honest_met scheme region t (node.Inner ts) (ap out-Tree e ∙ tree.outs-Inner ts) m
+  pub cut_inner : (t : Tree) (ts : List Tree) → t ≡ tree.Inner ts → meets way t ≡ true
+      → honest_cut scheme way t ≡ Inner (honest_cuts scheme way ts)
+  cut_inner t ts e m = honest_met scheme way t (node.Inner ts) (ap out-Tree e ∙ tree.outs-Inner ts) m
 
   same_length : (s : Standing) (cs : List Child) (ts : List Tree)
       → map (λ (d : Child). s.node d.id) cs ≡ map Some ts → length ts ≡ length cs
   same_length s cs ts e =
       sym (length-map ts Some) ∙ sym (ap length e) ∙ length-map cs (λ (d : Child). s.node d.id)
 
-  bytes_met : (s : Standing) (t : Tree) (n : Node) → IsNodeOf s t n → meets region t ≡ true
-      → cut_bytes (honest_cut scheme region t)
-      ≡ node_bytes n ++ parts_of scheme region s (children_in n)
+  bytes_met : (s : Standing) (t : Tree) (n : Node) → IsNodeOf s t n → meets way t ≡ true
+      → cut_bytes (honest_cut scheme way t)
+      ≡ node_bytes n ++ parts_of scheme way s (children_in n)
   unfolding part_at
   bytes_met s t node.Empty is m = absurd is
   bytes_met s t (node.Leaf rs) is m =
@@ -111,51 +111,51 @@ module _ (scheme : Scheme) (region : Seen → Way) where
   bytes_met s t (node.Inner cs) is m =
       ap cut_bytes (cut_inner t is.0 is.1 m)
       ∙ (λ i. inner_tag ∷ (count_cuts is.0 ∙ same_length s cs is.0 is.2) i ∷ (bytes_of_cuts is.0
-      ∙ sym (flat_map_along (part_at scheme region) (λ (d : Child). s.node d.id) Some cs is.0 is.2)) i)
+      ∙ sym (flat_map_along (part_at scheme way) (λ (d : Child). s.node d.id) Some cs is.0 is.2)) i)
 
   pub met_at : (s : Standing) (o : Option Tree) (c : Child) (n : Node)
       → IsSomeAnd o (λ t. entry_of c ≡ entry scheme t) → IfSome o (λ t. IsNodeOf s t n)
-      → opens_at region c.rect ≡ true
-      → part_at scheme region o
-      ≡ node_bytes n ++ parts_of scheme region s (children_in n)
+      → opens_at way c.rect ≡ true
+      → part_at scheme way o
+      ≡ node_bytes n ++ parts_of scheme way s (children_in n)
   unfolding part_at
   met_at s None c n e is m = absurd e
   met_at s (Some t) c n e is m = bytes_met s t n is (meets_is t c true e m)
 
   -- ---- the number of opened nodes
 
-  opened_met : (s : Standing) (t : Tree) (n : Node) → IsNodeOf s t n → meets region t ≡ true
-      → opened_nodes (honest_cut scheme region t)
-      ≡ 1 + opened_in scheme region s (children_in n)
+  opened_met : (s : Standing) (t : Tree) (n : Node) → IsNodeOf s t n → meets way t ≡ true
+      → opened_nodes (honest_cut scheme way t)
+      ≡ 1 + opened_in scheme way s (children_in n)
   unfolding opened_at
   opened_met s t node.Empty is m = absurd is
   opened_met s t (node.Leaf rs) is m = ap opened_nodes (cut_leaf t rs is m)
   opened_met s t (node.Inner cs) is m =
       let all = ap opened_nodes (cut_inner t is.0 is.1 m) in
       let same = opened_of_cuts is.0
-      ∙ sym (sum_by_along (opened_at scheme region) (λ (d : Child). s.node d.id) Some cs is.0 is.2) in
+      ∙ sym (sum_by_along (opened_at scheme way) (λ (d : Child). s.node d.id) Some cs is.0 is.2) in
       omega (arith, all, same)
 
   pub opened_met_at : (s : Standing) (o : Option Tree) (c : Child) (n : Node)
       → IsSomeAnd o (λ t. entry_of c ≡ entry scheme t) → IfSome o (λ t. IsNodeOf s t n)
-      → opens_at region c.rect ≡ true
-      → opened_at scheme region o
-      ≡ 1 + opened_in scheme region s (children_in n)
+      → opens_at way c.rect ≡ true
+      → opened_at scheme way o
+      ≡ 1 + opened_in scheme way s (children_in n)
   unfolding opened_at
   opened_met_at s None c n e is m = absurd e
   opened_met_at s (Some t) c n e is m = opened_met s t n is (meets_is t c true e m)
 
   -- a tree that the region meets has a node
-  opened_some : (t : Tree) → (r : Rectangle) → rect t ≡ Some r → meets region t ≡ true
-      → 1 ≤ opened_nodes (honest_cut scheme region t)
-  opened_some = tree_induction (λ t. (r : Rectangle) → rect t ≡ Some r → meets region t ≡ true
-      → 1 ≤ opened_nodes (honest_cut scheme region t))
+  opened_some : (t : Tree) → (r : Rectangle) → rect t ≡ Some r → meets way t ≡ true
+      → 1 ≤ opened_nodes (honest_cut scheme way t)
+  opened_some = tree_induction (λ t. (r : Rectangle) → rect t ≡ Some r → meets way t ≡ true
+      → 1 ≤ opened_nodes (honest_cut scheme way t))
       (λ r e m. let none : ◌≡◌ {A = Option Rectangle} None (Some r) = sym rect-Empty ∙ e in absurd cc)
       (λ rs r e m. let one = ap opened_nodes (cut_leaf (tree.Leaf rs) rs refl m) in omega (arith, one))
       (λ ts below r e m. let more = ap opened_nodes (cut_inner (tree.Inner ts) ts refl m) in omega (arith, more))
 
   pub opened_one_at : (o : Option Tree) (c : Child) → IsSomeAnd o (λ t. entry_of c ≡ entry scheme t)
-      → opens_at region c.rect ≡ true → 1 ≤ opened_at scheme region o
+      → opens_at way c.rect ≡ true → 1 ≤ opened_at scheme way o
   unfolding opened_at
   opened_one_at None c e m = absurd e
   opened_one_at (Some t) c e m = opened_some t c.rect (rect_is t c e) (meets_is t c true e m)

@@ -33,7 +33,7 @@ use Rattle.mr_proof.proofs.Laws.{open_if}
 use Rattle.mr_proof.specs.Honest.{honest_cut}
 use Rattle.mr_prove.specs.declared.waiting.Waiting.{Waiting}
 use Rattle.mr_prove.specs.Parts.{opened_at}
-use Rattle.mr_prove.specs.Search.{near_region, near_opened, waiting, distances_at, unseen, Waits, Searching, Bounded, IsStart, IsReached}
+use Rattle.mr_prove.specs.Search.{near_way, near_opened, waiting, distances_at, unseen, Waits, Searching, Bounded, IsStart, IsReached}
 use Rattle.mr_prove.proofs.Pieces.{sum_by_map, sum_by_along, opened_met_at, opened_one_at}
 use Rattle.mr_prove.proofs.Nearer.{none_below}
 use Rattle.mr_prove.proofs.Queue.{NoNearer}
@@ -159,7 +159,7 @@ module _ (hash : List ℕ → List ℕ) (k : ℕ) (p : Point) (s : Standing) whe
         let few = old.few t e in
         let radius = kth_least k (distances p (records t)) in
         let same = sum_by-IsPermutation
-        (λ (w : Waiting). opened_at (by s.version hash) (near_region p radius) (s.node w.child.id)) pending moved perm
+        (λ (w : Waiting). opened_at (by s.version hash) (near_way p radius) (s.node w.child.id)) pending moved perm
         in
         omega arith;
   }
@@ -242,10 +242,10 @@ module _ (hash : List ℕ → List ℕ) (k : ℕ) (p : Point) (s : Standing) whe
     bounded_visited not_yet some n pending before now after shows moved one bounded = record {
       few = λ t e.
           let r = kth_least k (distances p (records t)) in
-          let F : Waiting → ℕ = λ w. opened_at (by s.version hash) (near_region p r) (s.node w.child.id) in
+          let F : Waiting → ℕ = λ w. opened_at (by s.version hash) (near_way p r) (s.node w.child.id) in
           let few = bounded.few t e in
           let may = (All-head (Waits hash p s) next rest known.waits).may in
-          let here = opened_met_at (by s.version hash) (near_region p r) s (s.node next.child.id) next.child n
+          let here = opened_met_at (by s.version hash) (near_way p r) s (s.node next.child.id) next.child n
           (may.known (ap is_some e)) shows.node (open_if (is_within p r next.child.rect) ∙ within_kth not_yet some t e)
           in
           let more = next_count-≤ now in
@@ -263,10 +263,10 @@ module _ (hash : List ℕ → List ℕ) (k : ℕ) (p : Point) (s : Standing) whe
     bounded_spent not_yet some before now after one bounded = record {
       few = λ t e.
           let r = kth_least k (distances p (records t)) in
-          let F : Waiting → ℕ = λ w. opened_at (by s.version hash) (near_region p r) (s.node w.child.id) in
+          let F : Waiting → ℕ = λ w. opened_at (by s.version hash) (near_way p r) (s.node w.child.id) in
           let few = bounded.few t e in
           let may = (All-head (Waits hash p s) next rest known.waits).may in
-          let here = opened_one_at (by s.version hash) (near_region p r) (s.node next.child.id) next.child
+          let here = opened_one_at (by s.version hash) (near_way p r) (s.node next.child.id) next.child
           (may.known (ap is_some e)) (open_if (is_within p r next.child.rect) ∙ within_kth not_yet some t e) in
           let more = next_count-≤ now in
           let cons = sum_by-cons F next rest in
@@ -332,7 +332,7 @@ module _ (hash : List ℕ → List ℕ) (k : ℕ) (p : Point) (s : Standing) whe
           no_records (records t) (omega arith)
 
       nothing : (rs : List Record) (r : Option ℕ) (t : Tree) → length rs ≡ 0
-          → cond (length rs == 0) 0 (opened_nodes (honest_cut (by s.version hash) (near_region p r) t)) ≡ 0
+          → cond (length rs == 0) 0 (opened_nodes (honest_cut (by s.version hash) (near_way p r) t)) ≡ 0
       nothing [] r t e = refl
       nothing (x ∷ rs) r t e = absurd (omega arith)
 
@@ -352,12 +352,12 @@ module _ (hash : List ℕ → List ℕ) (k : ℕ) (p : Point) (s : Standing) whe
         omega arith;
     few = λ t e.
         let r = kth_least k (distances p (records t)) in
-        let F : Waiting → ℕ = λ w. opened_at (by s.version hash) (near_region p r) (s.node w.child.id) in
+        let F : Waiting → ℕ = λ w. opened_at (by s.version hash) (near_way p r) (s.node w.child.id) in
         let perm = sum_by-IsPermutation F (waiting p c ∷ []) queue moved in
         let cons = sum_by-cons F (waiting p c) [] in
-        let here : opened_at (by s.version hash) (near_region p r) (s.node c.id) ≡ opened_nodes (honest_cut (by
-        s.version hash) (near_region p r) t) =
-        ap (opened_at (by s.version hash) (near_region p r)) (at t e) in
+        let here : opened_at (by s.version hash) (near_way p r) (s.node c.id) ≡ opened_nodes (honest_cut (by
+        s.version hash) (near_way p r) t) =
+        ap (opened_at (by s.version hash) (near_way p r)) (at t e) in
         let all = something (records t) r t (some t e) in
         omega arith;
   }
@@ -376,9 +376,9 @@ module _ (hash : List ℕ → List ℕ) (k : ℕ) (p : Point) (s : Standing) whe
           cc
 
       something : (rs : List Record) (r : Option ℕ) (t : Tree) → (length rs ≡ 0 → ⊥)
-          → cond (length rs == 0) 0 (opened_nodes (honest_cut (by s.version hash) (near_region p r) t))
-          ≡ opened_nodes (honest_cut (by s.version hash) (near_region p r) t)
+          → cond (length rs == 0) 0 (opened_nodes (honest_cut (by s.version hash) (near_way p r) t))
+          ≡ opened_nodes (honest_cut (by s.version hash) (near_way p r) t)
       something [] r t full = absurd (full refl)
       something (x ∷ rs) r t full =
-          ap (λ b. cond b 0 (opened_nodes (honest_cut (by s.version hash) (near_region p r) t))) (eqb-suc-zero (length
+          ap (λ b. cond b 0 (opened_nodes (honest_cut (by s.version hash) (near_way p r) t))) (eqb-suc-zero (length
           rs))

@@ -87,68 +87,68 @@ next_count-≤ n = omega arith
 
 -- ---- one node
 
-module _ (hash : List ℕ → List ℕ) (region : Seen → Way) (s : Standing) (c : Child) (may : MayFetch hash s c)
+module _ (hash : List ℕ → List ℕ) (way : Seen → Way) (s : Standing) (c : Child) (may : MayFetch hash s c)
     (told : IsSome s.tree) where
   abbrev here : List ℕ
-  here = part_at (by s.version hash) region (s.node c.id)
+  here = part_at (by s.version hash) way (s.node c.id)
 
-  pub pruned_whole : (old new : Sunk) → opens_at region c.rect ≡ false
+  pub pruned_whole : (old new : Sunk) → opens_at way c.rect ≡ false
       → Takes old new (cut_bytes (pruned_cut (entry_of c))) → Takes old new here
   pruned_whole old new f taken =
-      subst (Takes old new) (sym (missed_at (by s.version hash) region (s.node c.id) c (may.known told) f)) taken
+      subst (Takes old new) (sym (missed_at (by s.version hash) way (s.node c.id) c (may.known told) f)) taken
 
-  pub pruned_front : (old new : Sunk) → opens_at region c.rect ≡ false
+  pub pruned_front : (old new : Sunk) → opens_at way c.rect ≡ false
       → TakesFront old new (cut_bytes (pruned_cut (entry_of c))) → TakesFront old new here
   pruned_front old new f taken =
-      subst (TakesFront old new) (sym (missed_at (by s.version hash) region (s.node c.id) c (may.known told) f)) taken
+      subst (TakesFront old new) (sym (missed_at (by s.version hash) way (s.node c.id) c (may.known told) f)) taken
 
-  whole_is : (n : Node) → Shows hash s c n → opens_at region c.rect ≡ true
-      → here ≡ node_bytes n ++ parts_of (by s.version hash) region s (children_in n)
-  whole_is n shows m = met_at (by s.version hash) region s (s.node c.id) c n (may.known told) shows.node m
+  whole_is : (n : Node) → Shows hash s c n → opens_at way c.rect ≡ true
+      → here ≡ node_bytes n ++ parts_of (by s.version hash) way s (children_in n)
+  whole_is n shows m = met_at (by s.version hash) way s (s.node c.id) c n (may.known told) shows.node m
 
-  pub node_front : (n : Node) (old new : Sunk) → Shows hash s c n → opens_at region c.rect ≡ true
+  pub node_front : (n : Node) (old new : Sunk) → Shows hash s c n → opens_at way c.rect ≡ true
       → TakesFront old new (node_bytes n) → TakesFront old new here
   node_front n old new shows m taken =
       subst (TakesFront old new) (sym (whole_is n shows m))
-      (front_first old new (node_bytes n) (parts_of (by s.version hash) region s (children_in n)) taken)
+      (front_first old new (node_bytes n) (parts_of (by s.version hash) way s (children_in n)) taken)
 
   pub met_whole : (n : Node) (cs : List Child) (i : ℕ) (old mid new : Sunk) → cs ≡ children_in n → Shows hash s c n
-      → opens_at region c.rect ≡ true → i ≡ length cs → Takes old mid (node_bytes n)
-      → Takes mid new (parts_of (by s.version hash) region s (take i cs)) → Takes old new here
+      → opens_at way c.rect ≡ true → i ≡ length cs → Takes old mid (node_bytes n)
+      → Takes mid new (parts_of (by s.version hash) way s (take i cs)) → Takes old new here
   met_whole n cs i old mid new are shows m end first rest =
       let all : take i cs ≡ children_in n = ap (λ k. take k cs) end ∙ take-length cs ∙ are in
-      subst (Takes old new) (ap (λ ds. node_bytes n ++ parts_of (by s.version hash) region s ds) all ∙ sym (whole_is n
+      subst (Takes old new) (ap (λ ds. node_bytes n ++ parts_of (by s.version hash) way s ds) all ∙ sym (whole_is n
       shows m))
-      (Takes-append old mid new (node_bytes n) (parts_of (by s.version hash) region s (take i cs)) first rest)
+      (Takes-append old mid new (node_bytes n) (parts_of (by s.version hash) way s (take i cs)) first rest)
 
   pub met_front : (n : Node) (cs : List Child) (i : ℕ) (d : Child) (old mid between new : Sunk) → cs ≡ children_in n
-      → Shows hash s c n → opens_at region c.rect ≡ true → d ≡ get_or cs i d → i < length cs
-      → Takes old mid (node_bytes n) → Takes mid between (parts_of (by s.version hash) region s (take i cs))
-      → TakesFront between new (part_at (by s.version hash) region (s.node d.id)) → TakesFront old new here
+      → Shows hash s c n → opens_at way c.rect ≡ true → d ≡ get_or cs i d → i < length cs
+      → Takes old mid (node_bytes n) → Takes mid between (parts_of (by s.version hash) way s (take i cs))
+      → TakesFront between new (part_at (by s.version hash) way (s.node d.id)) → TakesFront old new here
   met_front n cs i d old mid between new are shows m is within first so_far next =
-      subst (TakesFront old new) (ap (λ ds. node_bytes n ++ parts_of (by s.version hash) region s ds) are ∙ sym
+      subst (TakesFront old new) (ap (λ ds. node_bytes n ++ parts_of (by s.version hash) way s ds) are ∙ sym
       (whole_is n shows m))
-      (front_second old mid new (node_bytes n) (parts_of (by s.version hash) region s cs) first
-      (front_more (λ (d : Child). part_at (by s.version hash) region (s.node d.id)) cs i d mid between new is within
+      (front_second old mid new (node_bytes n) (parts_of (by s.version hash) way s cs) first
+      (front_more (λ (d : Child). part_at (by s.version hash) way (s.node d.id)) cs i d mid between new is within
       so_far next))
 
   -- the node itself is fetched
-  pub one_fetch : (before now : ℕ) → opens_at region c.rect ≡ true → now ≡ next_count before
-      → now ≤ before + opened_at (by s.version hash) region (s.node c.id)
+  pub one_fetch : (before now : ℕ) → opens_at way c.rect ≡ true → now ≡ next_count before
+      → now ≤ before + opened_at (by s.version hash) way (s.node c.id)
   one_fetch before now m e =
-      let one = opened_one_at (by s.version hash) region (s.node c.id) c (may.known told) m in
+      let one = opened_one_at (by s.version hash) way (s.node c.id) c (may.known told) m in
       let more = next_count-≤ before in
       omega arith
 
   -- and some of its children
   pub some_fetches : (n : Node) (cs : List Child) (i before mid now : ℕ) → cs ≡ children_in n → Shows hash s c n
-      → opens_at region c.rect ≡ true → mid ≡ next_count before
-      → now ≤ mid + opened_in (by s.version hash) region s (take i cs)
-      → now ≤ before + opened_at (by s.version hash) region (s.node c.id)
+      → opens_at way c.rect ≡ true → mid ≡ next_count before
+      → now ≤ mid + opened_in (by s.version hash) way s (take i cs)
+      → now ≤ before + opened_at (by s.version hash) way (s.node c.id)
   some_fetches n cs i before mid now are shows m e few =
-      let all = opened_met_at (by s.version hash) region s (s.node c.id) c n (may.known told) shows.node m in
-      let same : opened_in (by s.version hash) region s cs ≡ opened_in (by s.version hash) region s (children_in n) =
-      ap (opened_in (by s.version hash) region s) are in
+      let all = opened_met_at (by s.version hash) way s (s.node c.id) c n (may.known told) shows.node m in
+      let same : opened_in (by s.version hash) way s cs ≡ opened_in (by s.version hash) way s (children_in n) =
+      ap (opened_in (by s.version hash) way s) are in
       let more = next_count-≤ before in
-      let part = sum_by-take-le (λ (d : Child). opened_at (by s.version hash) region (s.node d.id)) cs i in
+      let part = sum_by-take-le (λ (d : Child). opened_at (by s.version hash) way (s.node d.id)) cs i in
       omega arith

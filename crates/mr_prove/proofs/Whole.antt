@@ -20,6 +20,9 @@ use Rattle.mr_proof.specs.declared.head.Head.{Head}
 use Rattle.mr_proof.specs.Cut.{Cut}
 use Rattle.mr_proof.specs.Spelling.{head_bytes, part_bytes}
 use Rattle.mr_proof.specs.Tight.{Question, radius_by}
+use Rattle.mr_proof.specs.declared.head.Kind.{Kind}
+use Rattle.mr_proof.specs.declared.head.Kind.TheVariants as kind
+use Rattle.mr_proof.specs.Spelling.{FitsRadius}
 use Rattle.mr_proof.specs.Honest.{honest_cut, honest_head, honest_part, proof_for, proof, opened_of, opened_for}
 use Rattle.mr_proof.proofs.HonestCut.{some_part as some_there, no_part as none_there}
 use Rattle.mr_prove.specs.declared.error.ProveErr.{ProveErr}
@@ -267,3 +270,9 @@ ok_through (Err e) P Q f h = tt
 pub err_through : {A E : Type 0} (r : Result A E) (P Q : Type 0) → (P → Q) → OnErr r P → OnErr r Q
 err_through (Ok x) P Q f h = tt
 err_through (Err e) P Q f h = f h
+
+-- heads of every kind may be without a radius
+pub no_radius_fits : (k : Kind) → FitsRadius k None
+no_radius_fits kind.W = refl
+no_radius_fits kind.K = tt
+no_radius_fits (kind.Choice letter) = refl

@@ -26,29 +26,29 @@ node_bytes (node.Inner children) = inner_tag ∷ length children ∷ []
 
 -- the bytes of the honest cut of a tree that is told
 unfoldable pub part_at : Scheme → (Seen → Way) → Option Tree → List ℕ
-part_at scheme region None = []
-part_at scheme region (Some t) = cut_bytes (honest_cut scheme region t)
+part_at scheme way None = []
+part_at scheme way (Some t) = cut_bytes (honest_cut scheme way t)
 
 -- the number of nodes that it opens
 unfoldable pub opened_at : Scheme → (Seen → Way) → Option Tree → ℕ
-opened_at scheme region None = 0
-opened_at scheme region (Some t) = opened_nodes (honest_cut scheme region t)
+opened_at scheme way None = 0
+opened_at scheme way (Some t) = opened_nodes (honest_cut scheme way t)
 
 -- those of the tree under the child's node
 abbrev pub part_under : (List ℕ → List ℕ) → (Seen → Way) → Standing → Child → List ℕ
-part_under hash region s c = part_at (by s.version hash) region (s.node c.id)
+part_under hash way s c = part_at (by s.version hash) way (s.node c.id)
 
 abbrev pub opened_under : (List ℕ → List ℕ) → (Seen → Way) → Standing → Child → ℕ
-opened_under hash region s c = opened_at (by s.version hash) region (s.node c.id)
+opened_under hash way s c = opened_at (by s.version hash) way (s.node c.id)
 
 -- the parts of some children, and how many nodes they open
 abbrev pub parts_of : Scheme → (Seen → Way) → Standing → List Child → List ℕ
-parts_of scheme region s children =
-    flat_map (λ (d : Child). part_at scheme region (s.node d.id)) children
+parts_of scheme way s children =
+    flat_map (λ (d : Child). part_at scheme way (s.node d.id)) children
 
 abbrev pub opened_in : Scheme → (Seen → Way) → Standing → List Child → ℕ
-opened_in scheme region s children =
-    sum_by (λ (d : Child). opened_at scheme region (s.node d.id)) children
+opened_in scheme way s children =
+    sum_by (λ (d : Child). opened_at scheme way (s.node d.id)) children
 
 -- ---- the whole proof
 

@@ -29,14 +29,14 @@ use Rattle.mr_tree.specs.Limits.{inner_limit}
 -- ---- what a search promises
 
 -- the nodes that lie within the radius are opened
-abbrev pub near_region : Point → Option ℕ → Seen → Way
-near_region p radius s = way_if (is_within p radius s.rect)
+abbrev pub near_way : Point → Option ℕ → Seen → Way
+near_way p radius s = way_if (is_within p radius s.rect)
 
 -- how many nodes the honest cut opens for the kth least distance of the tree's records
 abbrev pub near_opened : Scheme → Point → ℕ → Tree → ℕ
 near_opened scheme p k t =
     if length (records t) == 0 then 0
-    else opened_nodes (honest_cut scheme (near_region p (kth_least k (distances p (records t)))) t)
+    else opened_nodes (honest_cut scheme (near_way p (kth_least k (distances p (records t)))) t)
 
 -- the greatest squared distance of two points of a map
 abbrev pub farthest : ℕ
@@ -94,7 +94,7 @@ unseen p s x pending =
 -- how many nodes within the radius the search may still fetch
 abbrev pub unopened : Scheme → Point → Option ℕ → Standing → List Waiting → ℕ
 unopened scheme p radius s pending =
-    sum_by (λ (w : Waiting). opened_at scheme (near_region p radius) (s.node w.child.id)) pending
+    sum_by (λ (w : Waiting). opened_at scheme (near_way p radius) (s.node w.child.id)) pending
 
 -- below each number lie, counted up to k, as many distances as were kept or wait
 pub record Searching (hash : List ℕ → List ℕ) (k : ℕ) (p : Point) (s : Standing)

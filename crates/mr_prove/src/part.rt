@@ -47,9 +47,9 @@ fn open_node<N: Nodes, W: Sink>(
     ensures counted { N.fetches nodes.new ≡ next_count (N.fetches nodes.old) }
     ensures shows { OnOk result (Shows N.Hash.of (N.stands nodes.old) child.now view.new) }
     ensures whole { OnOk result (Takes (W.state out.old) (W.state out.new) (node_bytes view.new)) }
-    ensures front { OnErr result (IsSome (N.stands nodes.old).tree → (region : Seen → Way) →
-        opens_at region child.now.rect ≡ true → TakesFront (W.state out.old) (W.state out.new)
-        (part_under N.Hash.of region (N.stands nodes.old) child.now)) }
+    ensures front { OnErr result (IsSome (N.stands nodes.old).tree → (way : Seen → Way) →
+        opens_at way child.now.rect ≡ true → TakesFront (W.state out.old) (W.state out.new)
+        (part_under N.Hash.of way (N.stands nodes.old) child.now)) }
     ensures causes { ProveCauses (N.stands nodes.old) (N.faults nodes.old) (N.faults nodes.new)
         (W.state out.old) (W.state out.new) result }
     ensures refused { IfErr result (IsHandedOn (N.refusal nodes.new)) }

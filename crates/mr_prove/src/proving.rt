@@ -98,18 +98,17 @@ fn prove_nearest<N: Nodes, W: Sink>(
     write_proof(nodes, &q, radius, out)
 }
 
-/// Writes the proof of what is asked where heads have no squared radius: that of the cut which
-/// opens
-/// just the nodes that are to be opened. The nodes are walked depth first and what is known is
-/// written at once: the walk keeps the nodes on the path, at most eight, inline, and is given no
-/// allocator. So it takes no memory beyond what the nodes and the sink take.
+/// Writes the honest proof for a question whose heads have no squared radius: of the cut that opens
+/// just the parts whose way is `Open`. (One for nearest records is written by `prove`.) The nodes
+/// are walked depth first and what is known is written at once: the walk keeps the nodes on the
+/// path, at most eight, inline, and is given no allocator. So it takes no memory beyond what the
+/// nodes and the sink take.
 pub fn prove_question<N: Nodes, A: AsQuestion, W: Sink>(
     nodes: &mut N,
     q: &A,
     out: &mut W,
 ) -> Result<(), ProveErr>
-    requires flat { (A.question q.now).around ≡ None }
-    requires none { FitsRadius (A.question q.now).kind None }
+    requires { (A.question q.now).around ≡ None }
     ensures kept { N.kept nodes.old nodes.new }
     ensures written { IfSome (N.stands nodes.old).tree (λ t. OnOk result
         (Takes (W.state out.old) (W.state out.new)

@@ -1,6 +1,6 @@
 //! A question that is no query, by all who prove, check and audit.
 
-ghost use Rattle.std.specs.Prelude.{◌≡◌, IfSome};
+ghost use Rattle.std.specs.Prelude.{◌≡◌, ◌<◌, ◌^◌, IfSome};
 ghost use Rattle.mr_tree.specs.WellFormed.{WellFormed};
 ghost use Rattle.mr_proof.specs.Tight.{IsLawful};
 ghost use Rattle.mr_unit_tests.specs.Outside.{outside};
@@ -8,7 +8,7 @@ ghost use Rattle.mr_unit_tests.specs.Outside.{outside};
 use crate::assertions::holds;
 use crate::made::{Corners, records_of, rect, tree_of};
 use mr_check::{CheckErr, Collected, check_question};
-use mr_clash::{AuditOutcome, audit_question};
+use mr_clash::{QuestionFinding, audit_question};
 use mr_geom::Rect;
 use mr_outside::MemSink;
 use mr_proof::{Around, AsQuestion, Fault, Kind, Rule, Way};
@@ -43,10 +43,16 @@ impl AsQuestion for Outside {
     }
 }
 
+// What the type tells of its values.
+fn is_letter(_letter: u8)
+    ensures { _letter < 2 ^ 8 }
+{}
+
 // Does nothing: it is there for proofs.
 fn is_lawful(q: &Outside)
     ensures { IsLawful (outside q.now.letter q.now.window) }
 {
+    is_letter(q.letter);
     let _corners = q.window.corners();
 }
 
@@ -101,7 +107,7 @@ fn audited(
     map: &Snapshot<XorHash>,
     q: &Outside,
     proof: &[u8],
-) -> Option<AuditOutcome> {
+) -> Option<QuestionFinding> {
     is_lawful(q);
     match audit_question(alloc, &mut map.reader(), q, proof) {
         Ok(outcome) => Some(outcome),
@@ -129,15 +135,15 @@ fn is_fault(answer: &Result<Collected, CheckErr>, rule: Rule, at: u64) -> bool {
     }
 }
 
-fn is_honest(outcome: &Option<AuditOutcome>) -> bool {
+fn is_honest(outcome: &Option<QuestionFinding>) -> bool {
     match outcome {
-        Some(AuditOutcome::Honest(shown)) => shown.records.len() == 8,
+        Some(QuestionFinding::Sound(shown)) => shown.records.len() == 8,
         _ => false,
     }
 }
 
-fn collides(outcome: &Option<AuditOutcome>) -> bool {
-    matches!(outcome, Some(AuditOutcome::Collision(_, _)))
+fn collides(outcome: &Option<QuestionFinding>) -> bool {
+    matches!(outcome, Some(QuestionFinding::Collision(_, _)))
 }
 
 // Whether the proof for this letter has 276 bytes, none of them a flag, and is accepted for it.

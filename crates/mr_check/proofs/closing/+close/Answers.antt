@@ -22,8 +22,8 @@ returns-then-frame-gt0-clause-closes g t c = λ given os P r.
     c.args.m.now.head fs
     c.args.m.now.tally c.args.node.now given os P) c.in-Some.ensures.0 r)
 
-pub returns-then-not-meets-clause-closes : goal.returns-then-not-meets-clause-closes
-returns-then-not-meets-clause-closes g t c = λ given os P r.
+pub returns-then-not-is_to_be_opened-clause-closes : goal.returns-then-not-is_to_be_opened-clause-closes
+returns-then-not-is_to_be_opened-clause-closes g t c = λ given os P r.
     missed_parent g.H.Hashes.of g.H.Hashes.holds (g.A.AsQuestion.question c.args.q.now) c.args.m.now.head
     c.args.m.now.tally c.in-Some.frame
     c.add_entry.new.self (reverse c.pop.new.stack.list.items) c.args.node.now c.close-parent.result given os P
@@ -34,13 +34,13 @@ returns-then-not-meets-clause-closes g t c = λ given os P r.
       digest =
           c.close-parent.ensures.digest;
     })
-    (sym c.meets.ensures ∙ c.if-not-meets.true)
+    (sym c.is_to_be_opened.ensures ∙ c.if-not-is_to_be_opened.true)
     (subst (λ (fs : List (Frame _)). IsRead g.H.Hashes.of g.H.Hashes.holds (g.A.AsQuestion.question c.args.q.now)
     c.args.m.now.head fs
     c.args.m.now.tally c.args.node.now given os P) c.in-Some.ensures.0 r)
 
-pub returns-else-not-meets-clause-closes : goal.returns-else-not-meets-clause-closes
-returns-else-not-meets-clause-closes g t c = λ given os P r.
+pub returns-else-not-is_to_be_opened-clause-closes : goal.returns-else-not-is_to_be_opened-clause-closes
+returns-else-not-is_to_be_opened-clause-closes g t c = λ given os P r.
     closed_parent g.H.Hashes.of g.H.Hashes.holds (g.A.AsQuestion.question c.args.q.now) c.args.m.now.head
     c.args.m.now.tally c.close.new.m
     c.in-Some.frame c.add_entry.new.self (reverse c.pop.new.stack.list.items) c.args.node.now c.close-parent.result
@@ -51,7 +51,7 @@ returns-else-not-meets-clause-closes g t c = λ given os P r.
       digest =
           c.close-parent.ensures.digest;
     })
-    (sym c.meets.ensures ∙ c.if-not-meets.false) (c.close.ensures.closes given)
+    (sym c.is_to_be_opened.ensures ∙ c.if-not-is_to_be_opened.false) (c.close.ensures.closes given)
     (subst (λ (fs : List (Frame _)). IsRead g.H.Hashes.of g.H.Hashes.holds (g.A.AsQuestion.question c.args.q.now)
     c.args.m.now.head fs
     c.args.m.now.tally c.args.node.now given os P) c.in-Some.ensures.0 r)

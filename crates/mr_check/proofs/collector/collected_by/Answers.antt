@@ -11,5 +11,5 @@ returns-in_err-taken g c =
 
 pub returns : goal.returns
 returns g c =
-    c.end.ensures c.args.root.now c.args.proof.now
+    c.end.ensures.exact c.args.root.now c.args.proof.now
     (c.in_ok-taken.ensures.taken c.args.root.now [] c.in_ok-collector.ensures).0

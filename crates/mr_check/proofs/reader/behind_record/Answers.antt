@@ -1,7 +1,7 @@
 use Rattle.std.proofs.Common.{length, drop, ap, sym, arith}
 use Rattle.std.proofs.lemmas.List.{length-append}
 use Rattle.mr_record.specs.Record.{record_bytes}
-use Rattle.mr_check.specs.Standing.{after_record, region_of}
+use Rattle.mr_check.specs.Standing.{after_record, ways_at}
 use Rattle.mr_check.proofs.Whole.{record_long}
 use Rattle.mr_check.proofs.Turning.{turn_record, takes_some}
 use Rattle.mr_check.proofs.reader.behind_record.Goals as goal
@@ -28,6 +28,6 @@ returns-clause-turns g c = λ s at.
     c.args.one.now c.behind.result c.requires.whole
     (λ given a p is. rw (sym c.last_field-last.ensures) (c.behind.ensures.behind (g.A.AsQuestion.question c.args.q.now)
     given
-    (after_record (region_of (g.A.AsQuestion.question c.args.q.now) c.args.r.now.machine.head) c.args.r.now.machine.head
+    (after_record (ways_at (g.A.AsQuestion.question c.args.q.now) c.args.r.now.machine.head) c.args.r.now.machine.head
     c.args.r.now.machine.leaf.left a.nodes a.records c.args.one.now)
     (c.record-stepped.ensures.steps given a is.0 is.1))) at

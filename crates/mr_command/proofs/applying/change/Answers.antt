@@ -54,5 +54,6 @@ returns g c = λ name.
     (g.S.Shelf.state paged.shelf) c.args.dir c.requires.may d c.in-Ok.ensures e is.kept is.within c.apply_batch.new.dir
     is.applies is.batch is.quiet (g.S.Shelf.state c.seal-shelf.result.0) c.seal-shelf.ensures.reads
     c.seal-shelf.result.1 c.say_sealed.result c.seal-shelf.ensures.sealed
-    (root_of_some hash later.batch later.count later.root low is.top is.low c.seal-shelf.result.1
+    (root_of_some hash later.batch later.count later.root low is.top (is.low c.in-Ok.ensures.low)
+    c.seal-shelf.ensures.node c.seal-shelf.result.1
     c.seal-shelf.ensures.digest) c.say_sealed.ensures

@@ -16,24 +16,24 @@ use Rattle.mr_prove.proofs.part.+parts.Goals as goal
 pub write_part-returns-then-not-is_open-clause-whole : goal.write_part-returns-then-not-is_open-clause-whole
 write_part-returns-then-not-is_open-clause-whole g t c =
     let s = g.N.Nodes.stands c.args.nodes.now in
-    let region = (g.A.AsQuestion.question c.args.q.now).way c.args.radius in
+    let way = (g.A.AsQuestion.question c.args.q.now).way c.args.radius in
     let from = g.W.Sink.state c.args.out.now in
     let to = g.W.Sink.state c.write_pruned.new.out in
     ok_through c.write_pruned.result (Takes from to (cut_bytes (pruned_cut (entry_of c.args.child.now))))
-    (IsSome s.tree → Takes from to (part_at (by s.version g.N.Hash.Hashes.of) region (s.node c.args.child.now.id)))
-    (λ taken told. pruned_whole g.N.Hash.Hashes.of region s c.args.child.now c.requires told from to
+    (IsSome s.tree → Takes from to (part_at (by s.version g.N.Hash.Hashes.of) way (s.node c.args.child.now.id)))
+    (λ taken told. pruned_whole g.N.Hash.Hashes.of way s c.args.child.now c.requires told from to
     (sym (ap is_open c.way.ensures) ∙ sym c.is_open.ensures ∙ c.if-not-is_open.true) taken)
     c.write_pruned.ensures.whole
 
 pub write_part-returns-then-not-is_open-clause-front : goal.write_part-returns-then-not-is_open-clause-front
 write_part-returns-then-not-is_open-clause-front g t c =
     let s = g.N.Nodes.stands c.args.nodes.now in
-    let region = (g.A.AsQuestion.question c.args.q.now).way c.args.radius in
+    let way = (g.A.AsQuestion.question c.args.q.now).way c.args.radius in
     let from = g.W.Sink.state c.args.out.now in
     let to = g.W.Sink.state c.write_pruned.new.out in
     on_err c.write_pruned.result
-    (IsSome s.tree → TakesFront from to (part_at (by s.version g.N.Hash.Hashes.of) region (s.node c.args.child.now.id)))
-    (λ told. pruned_front g.N.Hash.Hashes.of region s c.args.child.now c.requires told from to
+    (IsSome s.tree → TakesFront from to (part_at (by s.version g.N.Hash.Hashes.of) way (s.node c.args.child.now.id)))
+    (λ told. pruned_front g.N.Hash.Hashes.of way s c.args.child.now c.requires told from to
     (sym (ap is_open c.way.ensures) ∙ sym c.is_open.ensures ∙ c.if-not-is_open.true) c.write_pruned.ensures.front)
 
 pub write_part-returns-then-not-is_open-clause-causes : goal.write_part-returns-then-not-is_open-clause-causes
@@ -59,14 +59,14 @@ pub write_met-returns-in_err-write_part-clause-front : goal.write_met-returns-in
 write_met-returns-in_err-write_part-clause-front g t c =
     let s = g.N.Nodes.stands c.args.nodes.now in
     let hash = g.N.Hash.Hashes.of in
-    let region = (g.A.AsQuestion.question c.args.q.now).way c.args.radius in
+    let way = (g.A.AsQuestion.question c.args.q.now).way c.args.radius in
     let same = g.met.N.Nodes.kept_stands c.args.nodes.now c.loop-next.nodes c.loop-next.invariant.kept in
     let next = subst (λ (s : Standing). IsSome s.tree → TakesFront (g.W.Sink.state c.loop-next.out)
-    (g.W.Sink.state c.write_part.new.out) (part_at (by s.version hash) region (s.node c.next-item.result.id))) same
+    (g.W.Sink.state c.write_part.new.out) (part_at (by s.version hash) way (s.node c.next-item.result.id))) same
     c.in_err-write_part.ensures.front in
     on_err c.from_residual-in_err-write_part.result (IsSome s.tree → TakesFront (g.W.Sink.state c.args.out.now)
-    (g.W.Sink.state c.write_part.new.out) (part_at (by s.version hash) region (s.node c.args.child.now.id)))
-    (λ told. met_front hash region s c.args.child.now c.requires.may told c.open_node.new.view
+    (g.W.Sink.state c.write_part.new.out) (part_at (by s.version hash) way (s.node c.args.child.now.id)))
+    (λ told. met_front hash way s c.args.child.now c.requires.may told c.open_node.new.view
     c.children-next-items.result.now c.loop-next.next-index c.next-item.result (g.W.Sink.state c.args.out.now)
     (g.W.Sink.state c.open_node.new.out) (g.W.Sink.state c.loop-next.out) (g.W.Sink.state c.write_part.new.out)
     c.children-next-items.ensures.value c.in_ok-open_node.ensures.shows c.requires.met
@@ -77,17 +77,17 @@ pub write_met-returns-in_err-write_part-clause-fetched : goal.write_met-returns-
 write_met-returns-in_err-write_part-clause-fetched g t c =
     let s = g.N.Nodes.stands c.args.nodes.now in
     let hash = g.N.Hash.Hashes.of in
-    let region = (g.A.AsQuestion.question c.args.q.now).way c.args.radius in
+    let way = (g.A.AsQuestion.question c.args.q.now).way c.args.radius in
     let same = g.met.N.Nodes.kept_stands c.args.nodes.now c.loop-next.nodes c.loop-next.invariant.kept in
     let next = subst (λ (s : Standing). IsSome s.tree → g.N.Nodes.fetches c.write_part.new.nodes ≤ g.N.Nodes.fetches
-    c.loop-next.nodes + opened_at (by s.version hash) region (s.node c.next-item.result.id)) same
+    c.loop-next.nodes + opened_at (by s.version hash) way (s.node c.next-item.result.id)) same
     c.write_part.ensures.fetched in
-    λ told. some_fetches hash region s c.args.child.now c.requires.may told c.open_node.new.view
+    λ told. some_fetches hash way s c.args.child.now c.requires.may told c.open_node.new.view
     c.children-next-items.result.now (c.loop-next.next-index + 1) (g.N.Nodes.fetches c.args.nodes.now)
     (g.N.Nodes.fetches c.open_node.new.nodes) (g.N.Nodes.fetches c.write_part.new.nodes)
     c.children-next-items.ensures.value c.in_ok-open_node.ensures.shows c.requires.met
     c.open_node.ensures.counted
-    (fetched_more (λ (d : Child). opened_at (by s.version hash) region (s.node d.id)) c.children-next-items.result.now
+    (fetched_more (λ (d : Child). opened_at (by s.version hash) way (s.node d.id)) c.children-next-items.result.now
     c.loop-next.next-index c.next-item.result (g.N.Nodes.fetches c.open_node.new.nodes)
     (g.N.Nodes.fetches c.loop-next.nodes) (g.N.Nodes.fetches c.write_part.new.nodes) c.next-item.is
     c.loop-next-test.true (c.loop-next.invariant.fetched told) (next told))
@@ -96,22 +96,22 @@ pub write_met-loop-next-preserved : goal.write_met-loop-next-preserved
 write_met-loop-next-preserved g t c =
     let s = g.N.Nodes.stands c.args.nodes.now in
     let hash = g.N.Hash.Hashes.of in
-    let region = (g.A.AsQuestion.question c.args.q.now).way c.args.radius in
+    let way = (g.A.AsQuestion.question c.args.q.now).way c.args.radius in
     let same = g.met.N.Nodes.kept_stands c.args.nodes.now c.loop-next.nodes c.loop-next.invariant.kept in
     let written = subst (λ (s : Standing). IsSome s.tree → Takes (g.W.Sink.state c.loop-next.out)
-    (g.W.Sink.state c.write_part.new.out) (part_at (by s.version hash) region (s.node c.next-item.result.id))) same
+    (g.W.Sink.state c.write_part.new.out) (part_at (by s.version hash) way (s.node c.next-item.result.id))) same
     c.in_ok-write_part.ensures.whole in
     let few = subst (λ (s : Standing). IsSome s.tree → g.N.Nodes.fetches c.write_part.new.nodes ≤ g.N.Nodes.fetches
-    c.loop-next.nodes + opened_at (by s.version hash) region (s.node c.next-item.result.id)) same
+    c.loop-next.nodes + opened_at (by s.version hash) way (s.node c.next-item.result.id)) same
     c.write_part.ensures.fetched in
     record {
       kept = g.met.N.Nodes.kept_on c.args.nodes.now c.loop-next.nodes c.write_part.new.nodes
           c.loop-next.invariant.kept c.write_part.ensures.kept;
-      whole = λ told. written_more (λ (d : Child). part_at (by s.version hash) region (s.node d.id))
+      whole = λ told. written_more (λ (d : Child). part_at (by s.version hash) way (s.node d.id))
           c.children-next-items.result.now c.loop-next.next-index c.next-item.result
           (g.W.Sink.state c.open_node.new.out) (g.W.Sink.state c.loop-next.out) (g.W.Sink.state c.write_part.new.out)
           c.next-item.is c.loop-next-test.true (c.loop-next.invariant.whole told) (written told);
-      fetched = λ told. fetched_more (λ (d : Child). opened_at (by s.version hash) region (s.node d.id))
+      fetched = λ told. fetched_more (λ (d : Child). opened_at (by s.version hash) way (s.node d.id))
           c.children-next-items.result.now c.loop-next.next-index c.next-item.result
           (g.N.Nodes.fetches c.open_node.new.nodes) (g.N.Nodes.fetches c.loop-next.nodes)
           (g.N.Nodes.fetches c.write_part.new.nodes) c.next-item.is c.loop-next-test.true

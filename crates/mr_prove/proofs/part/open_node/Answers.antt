@@ -10,11 +10,11 @@ use Rattle.mr_prove.proofs.part.open_node.Goals as goal
 pub returns-in_err-write_node-clause-front : goal.returns-in_err-write_node-clause-front
 returns-in_err-write_node-clause-front g c =
     on_err c.from_residual-in_err-write_node.result
-    (IsSome (g.N.Nodes.stands c.args.nodes.now).tree → (region : Seen → Way)
-    → opens_at region c.args.child.now.rect ≡ true
+    (IsSome (g.N.Nodes.stands c.args.nodes.now).tree → (way : Seen → Way)
+    → opens_at way c.args.child.now.rect ≡ true
     → TakesFront (g.W.Sink.state c.args.out.now) (g.W.Sink.state c.write_node.new.out)
-    (part_at (by (g.N.Nodes.stands c.args.nodes.now).version g.N.Hash.Hashes.of) region ((g.N.Nodes.stands
+    (part_at (by (g.N.Nodes.stands c.args.nodes.now).version g.N.Hash.Hashes.of) way ((g.N.Nodes.stands
     c.args.nodes.now).node c.args.child.now.id)))
-    (λ told region m. node_front g.N.Hash.Hashes.of region (g.N.Nodes.stands c.args.nodes.now) c.args.child.now
+    (λ told way m. node_front g.N.Hash.Hashes.of way (g.N.Nodes.stands c.args.nodes.now) c.args.child.now
     c.requires told c.fetched.new.into (g.W.Sink.state c.args.out.now) (g.W.Sink.state c.write_node.new.out)
     c.in_ok-fetched.ensures.shows m c.write_node.ensures.front)

@@ -1,5 +1,5 @@
 use Rattle.mr_tree.specs.Digest.{by}
-use Rattle.mr_prove.proofs.Whole.{whole_told, front_told, fetched_told, right_none}
+use Rattle.mr_prove.proofs.Whole.{whole_told, front_told, fetched_told, right_none, no_radius_fits}
 use Rattle.mr_prove.proofs.proving.prove_question.Goals as goal
 
 pub returns-clause-written : goal.returns-clause-written
@@ -24,4 +24,7 @@ returns-clause-fetched g c =
 
 pub write_proof-requires-clause-right : goal.write_proof-requires-clause-right
 write_proof-requires-clause-right g c =
-    right_none (g.A.AsQuestion.question c.args.q.now) (g.N.Nodes.stands c.args.nodes.now) c.requires.flat
+    right_none (g.A.AsQuestion.question c.args.q.now) (g.N.Nodes.stands c.args.nodes.now) c.requires
+
+pub write_proof-requires-clause-fits : goal.write_proof-requires-clause-fits
+write_proof-requires-clause-fits g c = no_radius_fits (g.A.AsQuestion.question c.args.q.now).kind

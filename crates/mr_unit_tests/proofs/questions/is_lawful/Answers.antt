@@ -20,6 +20,7 @@ returns c =
     let law = is_lawful (Window window) (c.corners.ensures.ordered, c.corners.ensures.fits) in
     let way = (question (Window window)).way None in
     record {
+      letter = omega (arith, c.is_letter.ensures);
       around = refl;
       circle = tt;
       narrow = λ radius a b o n f g inside closed.

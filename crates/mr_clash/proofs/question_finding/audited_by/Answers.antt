@@ -4,10 +4,10 @@ use Rattle.mr_record.proofs.Encodings.{IsBytes}
 use Rattle.mr_tree.specs.Digest.{by}
 use Rattle.mr_proof.proofs.Soundness.{shows_from}
 use Rattle.mr_clash.specs.Steps.{pair_of}
-use Rattle.mr_clash.specs.AuditOutcomes.{opened_checked_by}
+use Rattle.mr_clash.specs.QuestionFindings.{opened_checked_by}
 use Rattle.mr_clash.proofs.Fetches.{none_fetched}
-use Rattle.mr_clash.proofs.AuditOutcomes.{outcome_collides, declined_told, declined_for, accepted_told, accepted_for, few_opened, few_for, none_for, declined_causes, declined_collides}
-use Rattle.mr_clash.proofs.outcome.audit_question.Goals as goal
+use Rattle.mr_clash.proofs.QuestionFindings.{question_finding_collides, declined_told, declined_for, accepted_told, accepted_for, few_opened, few_for, none_for, declined_causes, declined_collides}
+use Rattle.mr_clash.proofs.question_finding.audited_by.Goals as goal
 
 pub returns-in-Err-clause-told : goal.returns-in-Err-clause-told
 returns-in-Err-clause-told g c =
@@ -50,16 +50,17 @@ returns-in_ok-pair-in-Ok-clause-told g c =
     let pair = c.in_ok-pair-in-Ok.ensures.compared x.0.head x.0.part (shows.kind ∙ sym c.kind.ensures) shows.spelled
     (shows.held ∙ c.root_of.ensures) in
     accepted_told hash s c.top-top.result a c.args.proof.now c.root_of.result c.top-top.ensures c.root_of.ensures
-    c.in-Ok.opened (option_map pair_of c.in_ok-pair-in-Ok.pair) c.outcome_of.result x
+    c.in-Ok.collected (option_map pair_of c.in_ok-pair-in-Ok.pair) c.question_finding_of.result x
     (rw (sym c.kind.ensures) pair.told)
-    c.outcome_of.ensures
+    c.question_finding_of.ensures
 
 pub returns-in_ok-pair-in-Ok-clause-judged : goal.returns-in_ok-pair-in-Ok-clause-judged
 returns-in_ok-pair-in-Ok-clause-judged g c =
     accepted_for g.N.Hash.Hashes.of (g.N.Nodes.stands c.args.nodes.now) c.top-top.result
     (g.A.AsQuestion.question c.args.q.now)
-    c.args.proof.now c.root_of.result c.top-top.ensures c.root_of.ensures c.in-Ok.opened
-    (option_map pair_of c.in_ok-pair-in-Ok.pair) c.outcome_of.result c.in-Ok.ensures.exact c.outcome_of.ensures
+    c.args.proof.now c.root_of.result c.top-top.ensures c.root_of.ensures c.in-Ok.collected
+    (option_map pair_of c.in_ok-pair-in-Ok.pair) c.question_finding_of.result c.in-Ok.ensures.exact
+    c.question_finding_of.ensures
 
 pub returns-in_ok-pair-in-Ok-clause-collides : goal.returns-in_ok-pair-in-Ok-clause-collides
 returns-in_ok-pair-in-Ok-clause-collides g c =
@@ -70,8 +71,9 @@ returns-in_ok-pair-in-Ok-clause-collides g c =
     let shows = shows_from hash c.root_of.result a c.args.proof.now x.0 c.requires fits x.1 in
     let pair = c.in_ok-pair-in-Ok.ensures.compared x.0.head x.0.part (shows.kind ∙ sym c.kind.ensures) shows.spelled
     (shows.held ∙ c.root_of.ensures) in
-    outcome_collides hash c.in-Ok.opened (option_map pair_of c.in_ok-pair-in-Ok.pair) c.outcome_of.result pair.collides
-    c.outcome_of.ensures
+    question_finding_collides hash c.in-Ok.collected (option_map pair_of c.in_ok-pair-in-Ok.pair)
+    c.question_finding_of.result pair.collides
+    c.question_finding_of.ensures
 
 pub returns-in_err-pair-in-Ok-clause-fetched : goal.returns-in_err-pair-in-Ok-clause-fetched
 returns-in_err-pair-in-Ok-clause-fetched g c =

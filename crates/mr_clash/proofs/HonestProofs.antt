@@ -1,0 +1,100 @@
+-- Just the honest proof is found to be sound, whatever it has to show.
+use Rattle.std.proofs.Common.{◌≡◌, ℕ, ◌<◌, ◌^◌, List, refl, sym, ap, subst, ◌∙◌}
+use Rattle.std.specs.Prelude.{Option, Some, None, IfSome, Result, Ok, Err, IfOk}
+use Rattle.std.proofs.Math.Logic.{∥∥₁_elim}
+use Rattle.std.proofs.Props.{props}
+use Rattle.mr_tree.specs.Digest.{Scheme, by}
+use Rattle.mr_tree.specs.Digest as digests
+use Rattle.mr_tree.specs.Nodes.{Standing, IsTop}
+use Rattle.mr_tree.specs.WellFormed.{WellFormed}
+use Rattle.mr_tree.specs.declared.nodes.Top.{Top}
+use Rattle.mr_tree.specs.declared.tree.Tree.{Tree}
+use Rattle.mr_proof.specs.declared.rule.Fault.{Fault}
+use Rattle.mr_proof.specs.Tight.{Question}
+use Rattle.mr_proof.specs.Honest.{honest_said, proof_for}
+use Rattle.mr_proof.specs.Spelling.{Said}
+use Rattle.mr_proof.specs.Reading.{checked}
+use Rattle.mr_proof.specs.Clash.{Pair, clash_of, NoneAnd}
+use Rattle.mr_proof.specs.Halves.{AcceptsHonestProof}
+use Rattle.mr_proof.specs.Headline.{AcceptedMatchesHonest, HonestProofIsQuiet}
+use Rattle.mr_clash.specs.declared.error.AuditErr.{AuditErr}
+use Rattle.mr_clash.specs.declared.question_finding.QuestionFinding.{QuestionFinding}
+use Rattle.mr_clash.specs.declared.question_finding.QuestionFinding.TheVariants as question_findings
+use Rattle.mr_clash.specs.QuestionFindings.{IsQuestionFinding, IsSoundProof, FindsHonestProof}
+
+none_and : {K : Type 0} (hash : List ℕ → List ℕ) (o : Option Pair) → o ≡ None → NoneAnd hash o K → K
+none_and hash None e k = k
+none_and hash (Some p) e k = absurd cc
+
+abbrev passed : Said → Result Said Fault
+passed x = Ok x
+
+abbrev failed : Fault → Result Said Fault
+failed f = Err f
+
+not_both : (x : Said) (f : Fault) → passed x ≡ failed f → ⊥
+not_both x f e = cc
+
+abbrev shown : Pair → Option Pair
+shown p = Some p
+
+not_shown : (p : Pair) → shown p ≡ None → ⊥
+not_shown p e = cc
+
+module _ (h : Scheme) (a : Question) (t : Tree) (b : ℕ) (bytes : List ℕ) (well : WellFormed t) (low : b < 2 ^ 64)
+    (accepts : AcceptsHonestProof h a) (matches : AcceptedMatchesHonest h a bytes) (quiet : HonestProofIsQuiet h a)
+  where
+    sound_is_own : (v : QuestionFinding) → IsQuestionFinding h t b a bytes v → IsSoundProof v → bytes ≡ proof_for h a t b
+    sound_is_own (question_findings.Refused f) is sound = absurd sound
+    sound_is_own (question_findings.Sound o) is sound =
+        (none_and h.of (clash_of a.kind h t b bytes) is.3 (matches t b is.0 well low is.1)).own
+    sound_is_own (question_findings.Collision owned shown) is sound = absurd sound
+
+    own_checked : bytes ≡ proof_for h a t b
+        → checked h.of (digests.root h t b) a bytes ≡ passed (honest_said h a t b)
+    own_checked own = ap (checked h.of (digests.root h t b) a) own ∙ accepts t b well low
+
+    own_is_sound : (v : QuestionFinding) → IsQuestionFinding h t b a bytes v → bytes ≡ proof_for h a t b → IsSoundProof v
+    own_is_sound (question_findings.Refused f) is own =
+        absurd (not_both (honest_said h a t b) f (sym (own_checked own) ∙ is))
+    own_is_sound (question_findings.Sound o) is own = tt
+    own_is_sound (question_findings.Collision owned shown) is own =
+        absurd (not_shown (record { owned = owned; shown = shown })
+        (sym is.2 ∙ ap (clash_of a.kind h t b) own ∙ quiet t b well low))
+
+    pub finds_honest_proof : (v : QuestionFinding) → IsQuestionFinding h t b a bytes v → FindsHonestProof h t b a bytes v
+    finds_honest_proof v is = (sound_is_own v is, own_is_sound v is)
+
+finds_prop : (h : Scheme) (t : Tree) (b : ℕ) (a : Question) (bytes : List ℕ) (v : QuestionFinding)
+    → IsProp (FindsHonestProof h t b a bytes v)
+finds_prop h t b a bytes (question_findings.Refused f) = hlevel props
+finds_prop h t b a bytes (question_findings.Sound o) = hlevel props
+finds_prop h t b a bytes (question_findings.Collision owned shown) = hlevel props
+
+answered_prop : (h : Scheme) (t : Tree) (b : ℕ) (a : Question) (bytes : List ℕ) (r : Result QuestionFinding AuditErr)
+    → IsProp (IfOk r (FindsHonestProof h t b a bytes))
+answered_prop h t b a bytes (Ok v) = finds_prop h t b a bytes v
+answered_prop h t b a bytes (Err e) = hlevel props
+
+-- so of what is found by a told tree, which is well formed
+pub honest_proof_told : (hash : List ℕ → List ℕ) (a : Question) (bytes : List ℕ) (s : Standing) (top : Top)
+    (r : Result QuestionFinding AuditErr) → IsTop hash s top → top.batch < 2 ^ 64
+    → AcceptsHonestProof (by s.version hash) a → AcceptedMatchesHonest (by s.version hash) a bytes
+    → HonestProofIsQuiet (by s.version hash) a → IfSome s.tree (λ t. ∥ WellFormed t ∥₁)
+    → IfSome s.tree (λ t. IfOk r (IsQuestionFinding (by s.version hash) t s.batch a bytes))
+    → IfSome s.tree (λ t. IfOk r (FindsHonestProof (by s.version hash) t s.batch a bytes))
+honest_proof_told hash a bytes s top r is low accepts matches quiet wells told = by_tree s.tree wells told
+  where
+    found_so : (t : Tree) → WellFormed t → (r : Result QuestionFinding AuditErr)
+        → IfOk r (IsQuestionFinding (by s.version hash) t s.batch a bytes)
+        → IfOk r (FindsHonestProof (by s.version hash) t s.batch a bytes)
+    found_so t well (Err e) told = tt
+    found_so t well (Ok v) told = finds_honest_proof (by s.version hash) a t s.batch bytes well
+        (subst (λ n. n < 2 ^ 64) is.batch low) accepts matches quiet v told
+
+    by_tree : (o : Option Tree) → IfSome o (λ t. ∥ WellFormed t ∥₁)
+        → IfSome o (λ t. IfOk r (IsQuestionFinding (by s.version hash) t s.batch a bytes))
+        → IfSome o (λ t. IfOk r (FindsHonestProof (by s.version hash) t s.batch a bytes))
+    by_tree None wells told = tt
+    by_tree (Some t) wells told =
+        ∥∥₁_elim wells (answered_prop (by s.version hash) t s.batch a bytes r) (λ well. found_so t well r told)
