@@ -25,14 +25,14 @@ const ROWS = [
 ];
 const GEOJSON = `{"type":"FeatureCollection","features":[
 ${[
-    [101, "Brandenburger Tor", [13.3777, 52.5163]],
-    [102, "Reichstag", [13.3761, 52.5186]],
+    [101, "Brandenburger Tor", "13.3777,52.5163"],
+    [102, "Reichstag", "13.3761,52.5186"],
 ]
-    .map(([id, name, coordinates]) => ({
-        ...{ type: "Feature", id, properties: { name } },
-        geometry: { type: "Point", coordinates },
-    }))
-    .map((feature) => JSON.stringify(feature))
+    .map(
+        ([id, name, place]) =>
+            `{"type":"Feature","id":${id},"properties":{"name": "${name}"},` +
+            `"geometry":{"type":"Point","coordinates":[${place}]}}`
+    )
     .join(",\n")}
 ]}
 `;
