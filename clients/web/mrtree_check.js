@@ -124,13 +124,13 @@ function readQuery(word) {
 function readScript(bytes) {
     const queries = [];
     for (let at = 0; at < bytes.length; ) {
-        const end = bytes.indexOf(10, at);
-        const line = bytes.subarray(at, end);
-        const isShort = line.length <= LONGEST_QUERY;
-        const query = isShort ? readQuery(String.fromCharCode(...line)) : null;
+        const found = bytes.indexOf(10, at);
+        const end = found < 0 ? bytes.length : found;
+        const line = bytes.subarray(at, Math.min(end, at + LONGEST_QUERY + 1));
+        const query = readQuery(String.fromCharCode(...line));
         const rules = [
             queries.length === MOST_LINES && "TooMany",
-            end < 0 && "NoEnd",
+            found < 0 && "NoEnd",
             query === null && "Query",
         ].filter(Boolean);
         if (rules.length > 0) {

@@ -55,6 +55,34 @@ async function othersHold(bench) {
     }
 }
 
+/** Words as on a command line: what is a query may be a file's name too. */
+async function wordsHold(bench) {
+    const rows = [
+        [["check", PLACES, WINDOW, WINDOW], 0],
+        [[PLACES, WINDOW, "p"], 0],
+        [["check", PLACES, WINDOW, ""], 1],
+        [["check-all", PLACES, "s", "s"], 1],
+        [["check-all", PLACES, "", "s"], 1],
+        [["check-all", PLACES, "s", "p"], 3],
+        [["prove", PLACES, WINDOW, "p"], 1],
+        [["check", PLACES, WINDOW], 1],
+        [["check", PLACES, WINDOW, "p", "p"], 1],
+        [[], 1],
+    ];
+    for (const [words, status] of rows) {
+        bench.equal((await client.run(words, () => [PROOF]))[0], status, `the words ${words}`);
+    }
+}
+
+/** Files that are not there, or are none. */
+async function filesHold(bench) {
+    for (const name of ["none", path.join("none", "p"), __dirname, "/dev/null", `${FILE}/`]) {
+        const [status, lines] = await client.run(["check", PLACES, WINDOW, name]);
+        const meant = name.startsWith("none") ? `missing ${name}` : "shelf fault";
+        bench.equal(`${status} ${lines}`, `7 ${meant}`, `the file ${name}`);
+    }
+}
+
 /** Nothing behind the piece with a fault is asked for; items are seen, children first. */
 async function judgesHold(bench) {
     let asked = 0;
@@ -96,6 +124,8 @@ async function main() {
     const bench = new Bench("calls");
     await waysHold(bench);
     await othersHold(bench);
+    await wordsHold(bench);
+    await filesHold(bench);
     await judgesHold(bench);
     await bytesHold(bench);
     bench.end();

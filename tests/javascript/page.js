@@ -25,14 +25,14 @@ const ROWS = [
 ];
 const GEOJSON = `{"type":"FeatureCollection","features":[
 ${[
-    [101, "Brandenburger Tor", [13.3777, 52.5163]],
-    [102, "Reichstag", [13.3761, 52.5186]],
+    [101, "Brandenburger Tor", "13.3777,52.5163"],
+    [102, "Reichstag", "13.3761,52.5186"],
 ]
-    .map(([id, name, coordinates]) => ({
-        ...{ type: "Feature", id, properties: { name } },
-        geometry: { type: "Point", coordinates },
-    }))
-    .map((feature) => JSON.stringify(feature))
+    .map(
+        ([id, name, place]) =>
+            `{"type":"Feature","id":${id},"properties":{"name": "${name}"},` +
+            `"geometry":{"type":"Point","coordinates":[${place}]}}`
+    )
     .join(",\n")}
 ]}
 `;
@@ -163,6 +163,16 @@ async function geojsonHolds(bench, browser, room) {
     bench.equal(told, "-50 1.5 -0.0025 0 none none", "coordinates in a unit");
 }
 
+/** A query comes with the address, and a root digest does not. */
+async function addressHolds(bench, browser, page) {
+    await browser.go(`${page}?again#root=${PLACES}&query=${NEAREST}`);
+    const fields = "['root', 'query'].map((id) => document.getElementById(id).value).join(' ')";
+    bench.equal(await browser.value(fields), ` ${NEAREST}`, "what comes with the address");
+    await browser.type("#root", PLACES);
+    await browser.drop(path.join(EXAMPLES, "places-nearest.proof"));
+    bench.equal((await seen(browser)).state, "accepted", "the query of the address");
+}
+
 /** The page may ask no other place, and says so where a browser gives it no SHA-256. */
 async function limitsHold(bench, browser, page) {
     const refused = await browser.value(`new Promise((done) => {
@@ -203,6 +213,7 @@ async function main([picture]) {
         bench.holds(isSeen, "what is asked for is seen");
         bench.equal(String(browser.told), "", "failures in the page");
         await (picture && shoot(browser, picture));
+        await addressHolds(bench, browser, page);
         await limitsHold(bench, browser, page);
     } finally {
         await browser.close();
