@@ -52,7 +52,7 @@ with_front (P ∷ front) Ps = first P (with_front front Ps)
 abbrev pub ways_at : Question → Head → Seen → Way
 ways_at q h = q.way h.radius
 
-abbrev pub asked : Question → Head → Record → Bool
+abbrev pub is_handed_out : Question → Head → Record → Bool
 is_handed_out q h r = keeps_at (q.way h.radius) r.rect
 
 -- what follows a node of this level below these open nodes, its parent first
