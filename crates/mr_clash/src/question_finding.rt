@@ -23,7 +23,7 @@ pub enum QuestionFinding {
     /// The proof is refused.
     Refused(Fault),
     /// It is the proof that an honest server gives, and this is what it shows.
-    Honest(Collected),
+    Sound(Collected),
     /// Two byte strings that differ and have one hash: the owner's, and the one that the proof
     /// shows in its place.
     Collision(Items<u8>, Items<u8>),
