@@ -320,7 +320,7 @@ def batch_command(given: argparse.Namespace) -> None:
     lines = batch(number, old.packed, new.packed)
     write(given.BATCH, [given.OLD, given.NEW], lines)
     gone = sum(line[0] == "-" for line in lines)
-    outputs.tell(SCRIPT, "%d records go and %d come, and then there are:" % (gone, len(lines) - 1 - gone))
+    outputs.tell(SCRIPT, "records that go: %d, that come: %d, and then:" % (gone, len(lines) - 1 - gone))
     tell_state(new)
 
 
