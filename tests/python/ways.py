@@ -14,8 +14,10 @@ import sys
 import tempfile
 import time
 from typing import Dict, List, Tuple
+from xml.etree import ElementTree
 
 from bench import CLIENTS, EXAMPLES, Bench, Ended, read, write
+import draw
 import mrtree_check
 import records
 
@@ -32,12 +34,15 @@ def ways_hold(bench: Bench) -> None:
     answers_hold(bench)
     bundles_hold(bench)
     shapes_hold(bench)
+    pictures_hold(bench)
     outputs_hold(bench)
     stops_hold(bench)
     terminals_hold(bench)
     modules_hold(bench)
     installs(bench)
     gdal_holds(bench)
+    if bench.is_long:
+        large_holds(bench)
 
 
 def says(bench: Bench, words: List[str], status: int, said: str) -> None:
@@ -164,6 +169,40 @@ def shapes_hold(bench: Bench) -> None:
     write("s.geojsonl", lines.encode())
     bench.holds(bench.call(records, [*call[:-1], "s.geojsonl"])[0] == 0, "shapes that are written another way")
     bench.holds(features("o") == meant, "the shapes of another file are others")
+
+
+# ---- pictures
+
+
+def pictures_hold(bench: Bench) -> None:
+    """A picture is drawn of any accepted proof, is well-formed, and has no more shapes than it says."""
+    big = "".join("%d %d %d %d %d -\n" % (at, at % 100, at // 100, at % 100 + at % 3, at // 100) for at in range(6000))
+    for text, query, least in (
+        ("", "window:0,0,9,9", 0),
+        ("", "nearest:0,0,3", 0),
+        ("1 5 5 5 5 3c26\n", "window:-2147483648,-2147483648,2147483647,2147483647", 1),
+        ("1 5 5 5 5 3c26\n", "window:90,90,99,99", 0),
+        ("1 5 5 5 5 ff\n2 6 6 9 9 -\n", "nearest:2147483647,2147483647,1", 1),
+        ("1 5 5 5 5 -\n", "nearest:5,5,1", 1),
+        ("1 5 5 5 5 -\n", "nearest:5,5,9", 1),
+        (big, "window:0,0,100,100", 3000),
+        (big, "nearest:50,30,1024", 1024),
+    ):
+        write("r", text.encode())
+        root = bench.program(["build", "m", "r"])[1].decode().strip()
+        bench.program(["prove", "m", query, "p"])
+        ended = bench.call(draw, [root, query, "p", "d.svg"])
+        shapes = ElementTree.fromstring(read("d.svg")).iter()
+        answers = sum(one.get("class") == "answer" for one in shapes) - 1
+        is_so = ended[0] == 0 and least <= answers <= draw.MOST_SHAPES and len(read("d.svg")) < 10**6
+        bench.holds(is_so, "the picture of %s: %s, %d records" % (query, ended, answers))
+        is_told = (b"not drawn: " in read("d.svg")) == (b"shapes are not drawn" in ended[1])
+        bench.holds(is_told and (b"not drawn" in ended[1]) == (query == "window:0,0,100,100"), "what is not drawn")
+    said = bench.call(draw, ["--most", "9", root, query, "p", "e.svg"])
+    bench.holds(said == (7, b"draw.py: longer than 9 bytes\n") and not os.path.exists("e.svg"), "--most: %s" % (said,))
+    said = bench.call(draw, [root, query, "p", "p"])
+    bench.holds(said[0] == 1 and b"it is read too" in said[1], "a picture in place of its proof: %s" % (said,))
+    bench.holds(bench.call(draw, ["00", query, "p", "e.svg"])[0] == 1, "a picture by another root digest")
 
 
 # ---- outputs
@@ -372,3 +411,42 @@ def ogr(bench: Bench, words: List[str]) -> None:
     """Runs ogr2ogr."""
     ran = subprocess.run(["ogr2ogr", *words], stdout=subprocess.PIPE, stderr=subprocess.STDOUT)
     bench.holds(ran.returncode == 0, "ogr2ogr %s: %s" % (words, ran.stdout[-300:]))
+
+
+# ---- a million points
+
+
+POINTS, MOST_MEMORY, MOST_TIMES = 10**6, 300 * 10**6, 3
+FEATURE = '{"type":"Feature","id":%d,"properties":{"name":"p %d"},"geometry":{"type":"Point","coordinates":[%s,%s]}}'
+
+
+def large_holds(bench: Bench) -> None:
+    """A million points take at most 300 MB, and from GeoJSON three times the processor time of ogr2ogr."""
+    chance = random.Random(9)
+    with open("l.geojsonl", "w") as lines, open("l.csv", "w") as rows, open("l.geojson", "w") as whole:
+        rows.write("number,x,y,name\n")
+        whole.write('{"type":"FeatureCollection","features":[\n')
+        for number in range(POINTS):
+            x, y = ("%.7f" % chance.uniform(-90, 90) for _ in range(2))
+            rows.write("%d,%s,%s,p %d\n" % (number, x, y, number))
+            lines.write(FEATURE % (number, number, x, y) + "\n")
+            whole.write(",\n" * (number > 0) + FEATURE % (number, number, x, y))
+        whole.write("\n]}\n")
+    script, seconds = [sys.executable, os.path.join(CLIENTS, "records.py"), "text"], {}
+    for name in ("l.geojson", "l.geojsonl", "l.csv"):
+        seconds[name], memory = used([*script, name, "r", "--unit", "1e-7", "--payload", "name"])
+        print("tests/clients: %s of %d points: %.1f s, %d MB" % (name, POINTS, seconds[name], memory // 10**6))
+        bench.holds(read("r").count(b"\n") == POINTS and memory <= MOST_MEMORY, "%s takes %d bytes" % (name, memory))
+    if shutil.which("ogr2ogr") is None:
+        bench.skip("the processor time beside GDAL: there is no ogr2ogr")
+        return
+    other, _ = used(["ogr2ogr", "-f", "GeoJSON", "o.geojson", "l.geojson"])
+    print("tests/clients: ogr2ogr of the first: %.1f s" % other)
+    bench.holds(seconds["l.geojson"] <= MOST_TIMES * other, "%.1f s, and ogr2ogr %.1f" % (seconds["l.geojson"], other))
+
+
+def used(words: List[str]) -> Tuple[float, int]:
+    """The seconds of processor time and the most bytes of memory of a run."""
+    ran = subprocess.Popen(words, stderr=subprocess.DEVNULL)
+    _, _, usage = os.wait4(ran.pid, 0)
+    return usage.ru_utime + usage.ru_stime, usage.ru_maxrss * 1024
