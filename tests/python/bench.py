@@ -83,7 +83,8 @@ class Bench:
 
     def script_to(self, name: str, words: List[str], out: IO[bytes]) -> int:
         """The status of a script that prints to this file."""
-        return subprocess.run([sys.executable, os.path.join(CLIENTS, name), *words], stdout=out).returncode
+        call = [sys.executable, os.path.join(CLIENTS, name), *words]
+        return subprocess.run(call, stdout=out, stderr=subprocess.DEVNULL).returncode
 
     def knows_bundles(self) -> bool:
         """Whether the program has the commands `serve` and `check-all`."""

@@ -232,8 +232,20 @@ def outputs_hold(bench: Bench) -> None:
     says(bench, ["text", "a.txt", "f"], 7, "f: it is a folder")
     says(bench, ["text", "a.txt", "no/o"], 7, os.path.realpath("no/o") + ".part-%d: No such file or directory" % os.getpid())
     bench.holds(not [name for name in os.listdir(".") if ".part-" in name], "a part of an output is left")
-    ended = bench.script("records.py", ["text", "-", "-"], stdin=open("a.txt", "rb"))
+    with open("a.txt", "rb") as file:
+        ended = bench.script("records.py", ["text", "-", "-"], stdin=file)
     bench.holds(ended == (0, read(source)), "the standard input and output: %s" % (ended,))
+    write("log", b"first\n")
+    with open("log", "ab") as log:
+        bench.script_to("records.py", ["text", "a.txt", "/dev/stdout"], log)
+    bench.holds(read("log") == b"first\n" + read(source), "an output to /dev/stdout replaces a file")
+    odd = [b"\xff.txt", b"\xfe.txt"]
+    write(odd[0], read(source))
+    ended = bench.told("records.py", ["text", *odd])
+    is_so = ended[0] == 0 and os.listdir(b".").count(odd[1]) == 1
+    bench.holds(is_so, "names that are not UTF-8: %s" % (ended,))
+    ended = bench.told("records.py", ["features", "a.txt", "o", "--unit", "1", "--payload", b"\xff"])
+    bench.holds(ended == (1, b"records.py: what --number and --payload name is not UTF-8\n"), "%s" % (ended,))
     if os.access("/dev/full", os.W_OK):
         with open("/dev/full", "wb") as full:
             call = [sys.executable, os.path.join(CLIENTS, "records.py"), "text", "a.txt", "-"]
