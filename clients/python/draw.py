@@ -11,6 +11,11 @@ those of `records.py`. This script is tested and not proved.
 """
 from __future__ import annotations
 
+import signal
+
+if __name__ == "__main__":
+    signal.signal(signal.SIGINT, signal.SIG_DFL)  # an interrupt while modules are read ends the run without a trace
+
 import html
 import math
 import sys
@@ -272,4 +277,5 @@ def main(words: Optional[List[str]] = None) -> int:
 
 
 if __name__ == "__main__":
+    signal.signal(signal.SIGINT, signal.default_int_handler)
     sys.exit(main())

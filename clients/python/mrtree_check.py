@@ -13,6 +13,11 @@ Coordinates and rectangles are in map units, distances are squared map units, pl
 """
 from __future__ import annotations
 
+import signal
+
+if __name__ == "__main__":
+    signal.signal(signal.SIGINT, signal.SIG_DFL)  # an interrupt while modules are read ends the run without a trace
+
 import hashlib
 import os
 import re
@@ -628,4 +633,5 @@ def main() -> int:
 
 
 if __name__ == "__main__":
+    signal.signal(signal.SIGINT, signal.default_int_handler)
     sys.exit(main())

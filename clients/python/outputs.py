@@ -37,6 +37,8 @@ def refuse_same(out: str, inputs: Sequence[str]) -> None:
 
 def is_special(name: str) -> bool:
     """Whether a pipe, a device or the like has this name, which is written to as it is."""
+    if name.startswith(("/dev/", "/proc/")):
+        return True
     with contextlib.suppress(OSError, ValueError):
         mode = os.stat(name).st_mode
         return not (stat.S_ISREG(mode) or stat.S_ISDIR(mode))
@@ -50,8 +52,9 @@ def written(name: str, inputs: Sequence[str] = ()) -> Iterator[IO[bytes]]:
     `-` is the standard output. Raises Unfit where the name is that of an input, and OSError.
     """
     refuse_same(name, inputs)
-    if name == "-" or is_special(name):
-        with open(1 if name == "-" else name, "wb", closefd=name != "-") as file:
+    is_printed = name in ("-", "/dev/stdout")
+    if is_printed or is_special(name):
+        with open(1 if is_printed else name, "wb", closefd=not is_printed) as file:
             yield file
         return
     whole = os.path.realpath(name)

@@ -20,13 +20,18 @@ tested and not proved.
 """
 from __future__ import annotations
 
+import signal
+
+if __name__ == "__main__":
+    signal.signal(signal.SIGINT, signal.SIG_DFL)  # an interrupt while modules are read ends the run without a trace
+
 import argparse
 import json
 import re
 import sys
 from contextlib import suppress
 from decimal import Decimal
-from typing import IO, Any, Dict, Iterable, Iterator, List, NamedTuple, NoReturn, Optional, Sequence, Tuple
+from typing import Any, Dict, Iterable, Iterator, List, NamedTuple, NoReturn, Optional, Sequence, Tuple
 
 if __package__:
     from . import mrtree_check as client
@@ -315,7 +320,7 @@ def batch_command(given: argparse.Namespace) -> None:
     lines = batch(number, old.packed, new.packed)
     write(given.BATCH, [given.OLD, given.NEW], lines)
     gone = sum(line[0] == "-" for line in lines)
-    outputs.tell(SCRIPT, "%d records go and %d come, and then there are:" % (gone, len(lines) - 1 - gone))
+    outputs.tell(SCRIPT, "records that go: %d, that come: %d, and then:" % (gone, len(lines) - 1 - gone))
     tell_state(new)
 
 
@@ -374,16 +379,7 @@ def write(name: str, inputs: Sequence[str], lines: Iterable[str]) -> None:
     """Writes lines to a file that has this name once all of them are there. Raises Unfit and OSError."""
     outputs.refuse_same(name, inputs)
     with outputs.written(name, inputs) as file:
-        write_lines(file, lines)
-
-
-def write_lines(file: IO[bytes], lines: Iterable[str]) -> None:
-    """Writes lines to an open file. Raises Unfit where one is not UTF-8."""
-    for line in lines:
-        try:
-            file.write(line.encode("utf-8"))
-        except UnicodeEncodeError:
-            raise Unfit("a name that is to be written is not UTF-8") from None
+        file.writelines(line.encode("utf-8") for line in lines)
 
 
 # ---- words
@@ -408,6 +404,10 @@ def naming_of(given: argparse.Namespace) -> Naming:
     """How the records of an answer become features."""
     if given.payload == given.number and given.payload or QUERIES in (given.payload, given.number):
         raise Unfit("--number and --payload name different properties, and neither %s" % QUERIES)
+    try:
+        "".join([given.payload or "", given.number or ""]).encode("utf-8")
+    except UnicodeEncodeError:
+        raise Unfit("what --number and --payload name is not UTF-8") from None
     return Naming(given.unit, given.number, given.payload, given.digest)
 
 
@@ -516,4 +516,5 @@ def main(words: Optional[List[str]] = None) -> int:
 
 
 if __name__ == "__main__":
+    signal.signal(signal.SIGINT, signal.default_int_handler)
     sys.exit(main())

@@ -129,7 +129,7 @@ def clipped(value: Any) -> str:
     """A value as it is told: JSON, in 80 characters at most, all of which can be printed.
 
     >>> clipped(None), clipped(Decimal("1E+2")), clipped("a\\x1b"), clipped([1])
-    ('null', '1E+2', '"a\\\\u001b"', 'a list')
+    ('null', '1E+2', '"a\\\\u001b"', '[..]')
     """
     if isinstance(value, (list, dict)):
         return "[..]" if isinstance(value, list) else "{..}"

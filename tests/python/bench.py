@@ -37,7 +37,7 @@ class Bench:
 
     def __init__(self, program: str, is_long: bool) -> None:
         self.program_path, self.is_long = os.path.abspath(program), is_long
-        self.rows = self.failed = self.honest = self.bent = self.bundles = 0
+        self.rows = self.failed = self.skipped = self.honest = self.bent = self.bundles = 0
 
     def holds(self, is_so: bool, what: str) -> None:
         """Counts one thing that is to be so, and prints it where it is not."""
@@ -46,6 +46,11 @@ class Bench:
             self.failed += 1
             if self.failed <= MOST_SHOWN:
                 print("FAILED: " + what)
+
+    def skip(self, what: str) -> None:
+        """Counts what cannot be tested here, and says so."""
+        self.skipped += 1
+        print("tests/clients: SKIPPED, NOT TESTED: " + what)
 
     def program(self, words: List[str]) -> Ended:
         """What the program says; on standard error it says nothing."""
@@ -78,7 +83,8 @@ class Bench:
 
     def script_to(self, name: str, words: List[str], out: IO[bytes]) -> int:
         """The status of a script that prints to this file."""
-        return subprocess.run([sys.executable, os.path.join(CLIENTS, name), *words], stdout=out).returncode
+        call = [sys.executable, os.path.join(CLIENTS, name), *words]
+        return subprocess.run(call, stdout=out, stderr=subprocess.DEVNULL).returncode
 
     def knows_bundles(self) -> bool:
         """Whether the program has the commands `serve` and `check-all`."""

@@ -18,6 +18,7 @@ import pages
 import tables
 import trips
 import vectors
+import ways
 
 LONGEST = 40  # lines of a function
 MODULES = ["mrtree_check", "outputs", "sources", "records", "draw", "packing"]
@@ -93,7 +94,7 @@ def vectors_hold(bench: Bench, name: str) -> None:
         if vector.words[0] in ("check", "check-all"):
             client_says(bench, vector, where)
     if passed:
-        print("tests/clients: SKIPPED %d lines of %s: this program has no bundles" % (passed, name))
+        bench.skip("%d lines of %s: this program has no bundles" % (passed, name))
 
 
 def client_says(bench: Bench, vector: vectors.Vector, where: str) -> None:
@@ -193,6 +194,7 @@ def main(how: str, program: str) -> int:
         ("proofs at random", chances.random_proofs),
         ("files that are odd or do not fit", inputs.inputs_hold),
         ("from files of publishers and back", trips.trips_hold),
+        ("answers, outputs and stops", ways.ways_hold),
         ("the examples on pages", pages.pages_hold),
     ]
     if bench.is_long:
@@ -205,7 +207,7 @@ def main(how: str, program: str) -> int:
             part(bench)
             os.chdir("/")
         print("tests/clients: %s: %d rows, %.1f s" % (name, bench.rows - rows, time.monotonic() - began))
-    print("tests/clients: %d rows, %d failed" % (bench.rows, bench.failed))
+    print("tests/clients: %d rows, %d failed, %d skipped" % (bench.rows, bench.failed, bench.skipped))
     return 1 if bench.failed else 0
 
 
