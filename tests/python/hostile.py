@@ -265,6 +265,7 @@ def main(how: str, seed: int, program: str) -> int:
         ("map files that break each rule", broken_maps),
         ("runs that are stopped", stops.stopped),
         ("allocations that are refused", memory.refused),
+        ("how much memory is taken", memory.bounded),
         ("calls on files that fail", calls.failing),
     ]
     room: Optional[str] = "/dev/shm" if os.access("/dev/shm", os.W_OK) else None

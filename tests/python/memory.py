@@ -1,12 +1,13 @@
-"""Runs of which one allocation is refused, each in its turn."""
+"""Runs of which one allocation is refused, each in its turn; and how much memory runs take."""
 import os
 import shutil
 import subprocess
 import tempfile
-from typing import List, Optional, Tuple
+from typing import List, NamedTuple, Optional, Tuple
 
-from bench import HERE, Bench, Ended
-from jobs import Job, Tally, begin, few, is_done_again, jobs, left_of
+from bench import HERE, Bench, Ended, write
+from jobs import Job, Tally, begin, clear, few, is_done_again, jobs, left_of
+from proofs import plain
 
 SOURCE = os.path.join(HERE, "..", "refuse.c")
 MOST = 20000  # allocations of a run that are refused in turn
@@ -90,3 +91,76 @@ def refused(bench: Bench, seed: int) -> None:
             counts.append("%s %d" % (one.words[0], count))
         print("tests/hostile: allocations that were refused in turn: " + ", ".join(counts))
         tally.show()
+
+
+# ---- how much memory is taken
+
+ALL = "window:-2147483648,-2147483648,2147483647,2147483647"
+LONG = 16384  # records of 200 bytes of payload, on a map that is proved whole in 3.7 MB
+SERVED = 200  # queries, each of which is answered by all of 2,000 records
+
+
+class Bound(NamedTuple):
+    """A command line, how often it may ask for memory, and how many bytes it may hold at once."""
+
+    words: str
+    calls: int
+    bytes_: int
+
+
+# The numbers that were measured are 4,515 and 24.1 million; 28 and 4.1 million; 2,704 and 13.9 million; 3,100. By
+# threads those of the last two differ by a few calls from run to run. A record takes some 230 bytes.
+BOUNDS = (
+    # the tree of 65,536 records, and copies of half of them
+    Bound("list m", 5000, 26 * 10**6),
+    # the records, and neither the proof nor as many again for a sort; 57 pieces come, none of which asks for memory
+    Bound("check ROOT %s p" % ALL, 40, 45 * 10**5),
+    # the proofs, of 13.3 million bytes, each in no more room than it has bytes, and of the bundle a part
+    Bound("serve s q u", 3000, 155 * 10**5),
+    # each proof is judged once
+    Bound("check-all OTHER q u", 3500, 150 * 10**6),
+)
+
+
+def counted(bench: Bench, words: List[str], path: str) -> Tuple[int, int, int]:
+    """The status of a run, how often it asks for memory, and the most bytes that it holds at once."""
+    seen, tell = os.pipe()
+    environment = {**os.environ, "LD_PRELOAD": path, "COUNT_TELL": str(tell)}
+    call = [bench.program_path, *words]
+    ran = subprocess.run(call, stdout=subprocess.DEVNULL, env=environment, pass_fds=[tell])
+    os.close(tell)
+    with os.fdopen(seen, "rb") as told:
+        calls, most = map(int, told.read().split())
+    return ran.returncode, calls, most
+
+
+def lay_out(bench: Bench) -> Tuple[str, str]:
+    """Makes the maps m, l and s, a proof p and a script q; the root digests of l and s."""
+    clear()
+    lines = [plain.line_of((number, plain.place(number)[1], b"Z" * 200)) + "\n" for number in range(1, LONG + 1)]
+    write("long.txt", "".join(lines).encode())
+    write("q", (ALL + "\n").encode() * SERVED)
+    roots = []
+    long = ("build l long.txt", "prove l %s p" % ALL)
+    for words in ("make 65536 1 r", "build m r", *long, "make 2000 1 r", "build s r", "serve s q u"):
+        status, said = bench.program(words.split(" "))
+        bench.holds(status == 0, "%s: status %d and %s" % (words, status, said[:200]))
+        roots.append(said.decode().strip())
+    return roots[2], roots[5]
+
+
+def bounded(bench: Bench, seed: int) -> None:
+    """No command takes more memory than its bound, on maps that are large beside what it may keep of them."""
+    with tempfile.TemporaryDirectory() as folder:
+        path = library(folder)
+        if path is None:
+            print("tests/hostile: SKIPPED: how much memory runs take, which takes a C compiler and the GNU C library")
+            return
+        root, other = lay_out(bench)
+        for bound in BOUNDS:
+            words = bound.words.replace("ROOT", root).replace("OTHER", other).split(" ")
+            status, calls, most = counted(bench, words, path)
+            is_so = status == 0 and 0 < calls <= bound.calls and 0 < most <= bound.bytes_
+            told = (words[0], status, calls, most, bound.calls, bound.bytes_)
+            bench.holds(is_so, "%s: status %d; memory %d times, %d bytes; meant are %d and %d" % told)
+        clear()

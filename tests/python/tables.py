@@ -136,6 +136,15 @@ def lines(front_: str, numbers: Iterable[int]) -> bytes:
     return "".join(front_ + plain.line_of(plain.place(number)) + "\n" for number in numbers).encode()
 
 
+def layered(numbers: Iterable[int]) -> bytes:
+    """The lines of records of these numbers: the odd ones at one place, the even ones scattered, and large."""
+    text = ""
+    for number in numbers:
+        x, y, side = (10000, 10000, 0) if number % 2 else (*plain.place(number)[1][:2], 15000)
+        text += "%d %d %d %d %d -\n" % (number, x, y, x + side, y + side)
+    return text.encode()
+
+
 def removed(first: int, count: int, step: int, of: int) -> bytes:
     """The changes of a batch that removes records by a rule."""
     return "".join("- %d\n" % (place * step % of + 1) for place in range(first, first + count)).encode()
@@ -170,10 +179,12 @@ def put(bytes_: bytes, part: str) -> bytes:
     ways = {
         "|": lambda: words.replace("..", ZEROS).encode() + b"\n",
         "text": lambda: words.replace("..", ZEROS).encode(),
+        "times": lambda: put(b"", "| " + words.partition(" ")[2]) * int(words.partition(" ")[0]),
         "hex": lambda: bytes.fromhex(words),
         "zeros": lambda: bytes(n[0]),
         "points": lambda: "".join("%d %d 0 %d 0 -\n" % (i, i, i) for i in range(1, n[0] + 1)).encode(),
         "places": lambda: lines("", range(n[0], n[0] + n[1])),
+        "layered": lambda: layered(range(n[0], n[0] + n[1])),
         "added": lambda: lines("+ ", range(n[0], n[0] + n[1])),
         "removed": lambda: removed(*n),
         "renewed": lambda: (b"- %d\n" % n[0] + lines("+ ", [n[0]])) * n[1],

@@ -5,7 +5,9 @@
 //! - `| TEXT` is a line of a text with its line feed, `text TEXT` the same without one, and in both
 //!   `..` stands for 62 zeros; `hex DIGITS` are bytes, `zeros N` so many zeros.
 //! - `points N` are the lines of the records I at (I,0) for I from 1 to N, `places FIRST N` those
-//!   of N records from this number on, scattered over the plane, with a byte of payload each.
+//!   of N records from this number on, scattered over the plane, with a byte of payload each, and
+//!   `layered FIRST N` those of as many, the odd ones all at (10000,10000), and the even ones
+//!   scattered, 15,000 wide and high. `times N TEXT` is N times the line `| TEXT`.
 //! - `added FIRST N` are changes of a batch that add those; `removed FIRST N STEP OF` remove N
 //!   records: of the numbers from 1 to OF in steps, those from the place FIRST on; by `renewed I N`
 //!   record I goes and comes N times; by `mixed FIRST` 250 times a record of 3,000 goes and another
@@ -182,6 +184,29 @@ fn put_places(
     Ok(true)
 }
 
+fn put_layer(bytes: &mut Vec<u8>, alloc: Global, i: u64) -> Result<(), AllocError> {
+    if i % 2 == 1 {
+        put_words(bytes, alloc, &[i, 10_000, 10_000, 10_000, 10_000])?;
+    } else {
+        let x = i.wrapping_mul(7_919) % 20_011;
+        let y = i.wrapping_mul(104_729) % 19_997;
+        put_words(bytes, alloc, &[i, x, y, x + 15_000, y + 15_000])?;
+    }
+    bytes.extend_from_slice(b"-\n")
+}
+
+fn put_layers(
+    bytes: &mut Vec<u8>,
+    alloc: Global,
+    first: u64,
+    count: u64,
+) -> Result<bool, AllocError> {
+    for i in 0..count {
+        put_layer(bytes, alloc, first.wrapping_add(i))?;
+    }
+    Ok(true)
+}
+
 // Of the numbers from 1 to the modulus, taken in steps, the one at this place.
 fn stepped(place: u64, step: u64, modulus: u64) -> u64 {
     match place.wrapping_mul(step).checked_rem(modulus) {
@@ -241,6 +266,7 @@ fn put_made(
     match kind {
         "points" => put_points(bytes, alloc, first),
         "places" => put_places(bytes, alloc, b"", first, count),
+        "layered" => put_layers(bytes, alloc, first, count),
         "added" => put_places(bytes, alloc, b"+ ", first, count),
         "renewed" => put_renewed(bytes, alloc, first, count),
         "mixed" => put_mixed(bytes, alloc, first),
@@ -308,7 +334,7 @@ fn put_on_page(bytes: &mut Vec<u8>, kind: &str, numbers: &[i128]) -> Result<bool
 fn is_made(kind: &str) -> bool {
     matches!(
         kind,
-        "points" | "places" | "added" | "removed" | "renewed" | "mixed"
+        "points" | "places" | "layered" | "added" | "removed" | "renewed" | "mixed"
     )
 }
 
@@ -343,6 +369,18 @@ pub fn put_line(bytes: &mut Vec<u8>, alloc: Global, text: &str) -> Result<bool, 
     Ok(true)
 }
 
+// Puts a line of a text as often as the first word says. Whether that is a number.
+fn put_times(bytes: &mut Vec<u8>, alloc: Global, words: &str) -> Result<bool, AllocError> {
+    let (times, text) = words.split_once(' ').unwrap_or((words, ""));
+    let Some(times) = number(times) else {
+        return Ok(false);
+    };
+    for _ in 0..small(times) {
+        put_line(bytes, alloc, text)?;
+    }
+    Ok(true)
+}
+
 fn put_hex(bytes: &mut Vec<u8>, alloc: Global, digits: &str) -> Result<bool, AllocError> {
     match hex::decode(alloc, digits.as_bytes()) {
         Ok(decoded) => {
@@ -359,6 +397,7 @@ pub fn put_part(bytes: &mut Vec<u8>, alloc: Global, line: &str) -> Result<bool, 
     match kind {
         "|" => put_line(bytes, alloc, words),
         "text" => put_text(bytes, alloc, words),
+        "times" => put_times(bytes, alloc, words),
         "hex" => put_hex(bytes, alloc, words),
         "record" => put_record(bytes, words),
         _ => put_counted(bytes, alloc, kind, words),

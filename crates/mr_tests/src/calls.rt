@@ -26,6 +26,7 @@ const SMALL: &[File<'static>] = &[
     ("r", "points 17"),
     ("b", "| batch 1\n| - 7"),
     ("s", "| window:2,0,3,0\n| nearest:0,0,1\n| window:2,0,3,0"),
+    ("t", "times 100 window:2,0,3,0"),
 ];
 
 // The pages of a map are synced before its first page is written over the zeros that stand for it,
@@ -79,6 +80,17 @@ const CALLS: &[Made<'static>] = &[
         words: "check-all ..0f s u",
         calls: "size s\nread_at s\nsize u\nread_at u\n",
         pieces: 3,
+    },
+    Made {
+        words: "serve m t v",
+        calls: "size m\nread_at m\nread_at m\nread_at m\nread_at m\nsize t\nread_at t\n\
+            create v\nappend v\nsync v\n",
+        pieces: 100,
+    },
+    Made {
+        words: "check-all ..0f t v",
+        calls: "size t\nread_at t\nsize v\nread_at v\n",
+        pieces: 100,
     },
     Made {
         words: "make 33 1 s",

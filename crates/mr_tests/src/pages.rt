@@ -32,7 +32,7 @@ const WHOLE_AUDIT: &str = "audit m window:-1000000,-1000000,1000063,1000063 p";
 const SERVED: &str = "serve m p b";
 
 // Tells nothing, and gives the bytes of a map and of a proof. After so many reads one byte of the
-// map is another, or nothing is left of it, or it is gone.
+// map is another, or nothing is left of it; or it is gone, after as many reads as its turn says.
 #[derive(Drop)]
 struct Turned {
     map: Vec<u8>,
@@ -48,7 +48,7 @@ enum Turn {
     No,
     Byte(usize, u8),
     Cut,
-    Gone,
+    Gone(u64),
 }
 
 impl Turned {
@@ -57,7 +57,7 @@ impl Turned {
         ensures faults { self.new.faults ≡ self.old.faults }
     {
         match self.turn {
-            Turn::No | Turn::Gone => {}
+            Turn::No | Turn::Gone(_) => {}
             Turn::Byte(at, byte) => {
                 if at < self.map.len() {
                     self.map[at] = byte;
@@ -69,7 +69,10 @@ impl Turned {
 
     // Whether there is no file of this name any more.
     fn is_gone(&self, name: &str) -> bool {
-        name == "m" && self.reads >= self.after && matches!(self.turn, Turn::Gone)
+        match self.turn {
+            Turn::Gone(after) => name == "m" && self.reads >= after,
+            _ => false,
+        }
     }
 
     fn bytes(&self, name: &str) -> &[u8] {
@@ -123,8 +126,11 @@ impl Shelf for Turned {
     }
 }
 
-// What comes of a command line where a map of 320 pages turns once it was opened: how it ends, and
-// how what it prints begins.
+// How many reads open the map, which has as many pages.
+const OPENED: u64 = 320;
+
+// What comes of a command line where a map of 320 pages turns, once it was opened or, where it is
+// gone, before its first page is read: how it ends, and how what it prints begins.
 struct Row {
     name: &'static str,
     words: &'static str,
@@ -167,7 +173,7 @@ const ROWS: &[Row] = &[
     Row {
         name: "a proof of a map that is gone",
         words: WHOLE,
-        turn: Turn::Gone,
+        turn: Turn::Gone(OPENED),
         status: Outside,
         text: "missing m\n",
     },
@@ -195,7 +201,7 @@ const ROWS: &[Row] = &[
     Row {
         name: "an audit on a map that is gone",
         words: WHOLE_AUDIT,
-        turn: Turn::Gone,
+        turn: Turn::Gone(OPENED),
         status: Outside,
         text: "missing m\n",
     },
@@ -237,7 +243,7 @@ const ROWS: &[Row] = &[
     Row {
         name: "many proofs of a map that is gone",
         words: SERVED,
-        turn: Turn::Gone,
+        turn: Turn::Gone(OPENED),
         status: Outside,
         text: "missing m\n",
     },
@@ -247,6 +253,41 @@ const ROWS: &[Row] = &[
         turn: Turn::Byte(532_483, 0xff),
         status: BadMap,
         text: "bad map page 4278190211 Outside\n",
+    },
+    Row {
+        name: "a list of a map that is gone before its first page is read",
+        words: "list m",
+        turn: Turn::Gone(0),
+        status: Outside,
+        text: "missing m\n",
+    },
+    Row {
+        name: "a proof of a map that is gone before its first page is read",
+        words: WHOLE,
+        turn: Turn::Gone(0),
+        status: Outside,
+        text: "missing m\n",
+    },
+    Row {
+        name: "an audit on a map that is gone before its first page is read",
+        words: WHOLE_AUDIT,
+        turn: Turn::Gone(0),
+        status: Outside,
+        text: "missing m\n",
+    },
+    Row {
+        name: "many proofs of a map that is gone before its first page is read",
+        words: SERVED,
+        turn: Turn::Gone(0),
+        status: Outside,
+        text: "missing m\n",
+    },
+    Row {
+        name: "a batch on a map that is gone before its first page is read",
+        words: "apply m p n",
+        turn: Turn::Gone(0),
+        status: Outside,
+        text: "missing m\n",
     },
 ];
 
@@ -262,7 +303,7 @@ fn is_so<R: Threads + Sync>(
         proof: file_of(alloc, shelf, "p")?,
         faults: 0,
         reads: 0,
-        after: 320,
+        after: OPENED,
         turn: row.turn,
     };
     let (status, text, _) = ran::<XorHash, _, _, R>(rt, alloc, row.words, turned, &[], &NoGate)?;
