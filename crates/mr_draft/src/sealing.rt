@@ -125,12 +125,16 @@ fn is_id(_id: u32)
     ensures { _id < 2 ^ 32 }
 {}
 
+fn is_digest(_digest: &[u8; 32])
+    ensures { length _digest.now ≡ 32 }
+{}
+
 fn is_child(one: &Child)
     ensures { IsChild one.now }
 {
     is_id(one.id);
     let _corners = one.rect.corners();
-    let _digest = one.digest;
+    is_digest(&one.digest);
 }
 
 fn is_root(root: &Option<Child>)
