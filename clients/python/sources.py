@@ -250,6 +250,9 @@ def in_words(error: json.JSONDecodeError) -> str:
     return "it is no JSON: " + re.sub(r" (starting )?at$", "", error.msg)
 
 
+SIGN = re.compile(r"[^ \t\n\r]")
+
+
 class Text:
     """A JSON text that is read as it comes: what is held of it, the place in that, and the line on which it begins."""
 
@@ -272,7 +275,7 @@ class Text:
     def sign(self) -> str:
         """The next character that is no space, none at the end; reading comes to stand on it."""
         while True:
-            found = re.compile(r"[^ \t\n\r]").search(self.held, self.at)
+            found = SIGN.search(self.held, self.at)
             self.at = found.start() if found else len(self.held)
             if found or self.is_whole:
                 return self.held[self.at : self.at + 1]

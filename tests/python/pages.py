@@ -39,11 +39,12 @@ COMMANDS = set(
 OPTIONAL = ("git", "jq", "node", "ogr2ogr", "ogrinfo", "openssl", "ssh-keygen", "strace", "xxd")
 # A line that gives a value to a name, which the blocks behind it have too.
 GIVES = r"""\w+=(\S*|\$\(.*\)|"[^"]*"|'[^']*')$"""
+CODE = r"`[^`]*`"
 LONGEST_RUN = 600  # seconds
 MOST_WORDS = 35  # of a sentence
 # The pages whose sentences are counted.
-PLAIN = """README.md CHANGELOG.md docs/SERVING.md docs/DEVELOPING.md docs/SPEED.md docs/HEADLINE.md docs/PROVED.md
-    docs/HOSTILE.md docs/GLOSSARY.md docs/DECISIONS.md""".split()
+PLAIN = """README.md CHANGELOG.md docs/SERVING.md docs/READING.md docs/DEVELOPING.md docs/SPEED.md docs/HEADLINE.md
+    docs/PROVED.md docs/HOSTILE.md docs/GLOSSARY.md docs/DECISIONS.md""".split()
 # The words that the script itself answers, before any build.
 WRAPPER = """#!/bin/sh
 case ${1-} in
@@ -150,9 +151,9 @@ def sentences_of(text: str) -> List[str]:
     >>> sentences_of("It is `a. B` so. And (as it goes) on! 3.5 it is")
     ['It is `a. B` so.', 'And (as it goes) on!', '3.5 it is']
     """
-    codes: List[str] = re.findall(r"`[^`]*`", text)
-    cut = re.split(r"""(?<=[.!?])[*")]*\s+(?=[*"(]*[A-Z0-9`])""", re.sub(r"`[^`]*`", "`", text))
-    return [re.sub("`", lambda _: codes.pop(0), sentence) for sentence in cut]
+    codes: List[str] = re.findall(CODE, text)
+    cut = re.split(r"""(?<=[.!?])[*")]*\s+(?=[*"(]*[A-Z0-9\0])""", re.sub(CODE, "\0", text))
+    return [re.sub("\0", lambda _: codes.pop(0), sentence) for sentence in cut]
 
 
 def is_command(line: str) -> bool:
@@ -316,9 +317,10 @@ def links_hold(bench: Bench, page: str, text: str) -> None:
 
 def are_short(bench: Bench, page: str, text: str) -> None:
     """No sentence of a page is long; a cell of a table and an item of a list are sentences of their own."""
-    apart = re.sub(r"(?m)^(\s*(- |\d+\. |> |#))|(?<!\\)\|", "\n\n", text)
+    prose = "\n".join("" if line.startswith("    ") else line for line in text.split("\n"))
+    apart = re.sub(r"(?m)^(\s*(- |\d+\. |> |#))|(?<!\\)\|", "\n\n", re.sub(CODE, "Code", prose))
     for item in items_of(apart):
-        for sentence in sentences_of(re.sub(r"`[^`]*`", "`Code`", item.text)):
+        for sentence in sentences_of(item.text):
             words = [word for word in re.sub(r"\]\([^)]*\)", "]", sentence).split() if re.search(r"\w", word)]
             is_short = len(words) <= MOST_WORDS
             bench.holds(is_short, "%s: %d words: %s .." % (page, len(words), " ".join(words[:8])))
