@@ -479,7 +479,7 @@ def judge_bundle(root: bytes, queries: List[Query], pieces: Pieces) -> Tuple[Lis
 def check_all(root: str, queries: List[str], bundle: Union[Bytes, Pieces]) -> List[Verdict]:
     """The verdict of each of some query words, in order, on their parts of a bundle. Raises as `check` of the words.
 
-    A part that is not there has a verdict with neither an answer nor a fault.
+    A part that is not there has a verdict with neither an answer nor a fault. Bytes behind the last part are not told.
     """
     refuse_other_words(root, *queries)
     pieces = only_bytes(bundle, "a bundle")
