@@ -16,7 +16,7 @@ import chances
 
 ANSWER = os.path.join(TOP, "tests", "javascript", "answer.js")
 SIZES = (0, 1, 7, 100, 65536, 2**30)  # bytes of the pieces in which the client gets a file; 0: as it reads it
-SHORT, LONG = (400, 2100), (2000, 23000)  # honest proofs, and other strings
+SHORT, LONG = (400, 2100), (2200, 25000)  # honest proofs, and other strings
 
 
 class Three(Bench):
@@ -49,16 +49,18 @@ class Three(Bench):
 
 
 def random_proofs(bench: Three) -> None:
-    """Maps of up to 20,000 records; honest proofs, other strings, bundles."""
-    sizes = [0, 1, 5, 17, 300, 2000, 5000, 20000] if bench.is_long else [0, 1, 17, 300, 2000]
+    """Maps of up to 20,000 records; honest proofs, other strings, bundles: of the largest map a tenth as many."""
+    sizes = [0, 1, 5, 17, 100, 300, 700, 2000, 5000, 20000] if bench.is_long else [0, 1, 17, 300, 2000]
     honest, bent = LONG if bench.is_long else SHORT
     chance = random.Random(1639)
     for at, size in enumerate(sizes):
         one = chances.Map(bench, chance, size, is_changed=at % 4 == 3)
-        asked = [one.query() for _ in range(honest // len(sizes))]
+        share = len(sizes) * (10 if size > 5000 else 1)
+        asked = [one.query() for _ in range(honest // share)]
         given = [(query, chances.proved(bench, one, query)) for query in asked]
-        chances.bent_agree(bench, one, given, bent // len(sizes))
-        chances.bundles_agree(bench, one, given, honest // len(sizes) // 8)
+        chances.bent_agree(bench, one, given, bent // share)
+        chances.bundles_agree(bench, one, given, honest // share // 8)
+        print("tests/web: %d records: %d rows, %d failed" % (size, bench.rows, bench.failed), flush=True)
     counts = bench.honest, bench.bent, bench.bundles
     print("tests/web: %d honest proofs, %d other strings, %d bundles" % counts)
     bench.holds(bench.honest + bench.bent >= (20000 if bench.is_long else 2000), "too few strings")
