@@ -398,7 +398,10 @@ def reads_along(tree: Any, changes: List[Any]) -> int:
 
 
 def reads_of(words: List[str], files: said.Files, meant: said.Meant) -> Tuple[int, int]:
-    """The fewest and the most reads of a run; of a map of more than 257 pages what is not kept is read again."""
+    """The fewest and the most reads of a run; of a map of more than 257 pages what is not kept is read again.
+
+    A window opens all nodes here, and nearest records may open kept ones alone.
+    """
     calls = course(words, files, meant.made) if meant.ended[0] in (0, 2) else []
     count = sum(call.kind == "reads" for call in calls)
     place = re.match(rb"refused [A-Za-z]+ at ([0-9]+)", meant.ended[1])
@@ -410,7 +413,8 @@ def reads_of(words: List[str], files: said.Files, meant: said.Meant) -> Tuple[in
     if words[0] == "apply" and meant.made is not None:
         along = reads_along(said.read_map(files[words[1]])[0], said.read_batch(files[words[2]])[1])
         most += 1 + along
-    return count + max(0, again - KEPT), most
+    few = words[0] == "prove" and words[2].startswith("nearest:")
+    return count + (0 if few else max(0, again - KEPT)), most
 
 
 # ---- the tables
