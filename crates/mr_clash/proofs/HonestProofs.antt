@@ -44,7 +44,8 @@ not_shown p e = cc
 module _ (h : Scheme) (a : Question) (t : Tree) (b : ℕ) (bytes : List ℕ) (well : WellFormed t) (low : b < 2 ^ 64)
     (accepts : AcceptsHonestProof h a) (matches : AcceptedMatchesHonest h a bytes) (quiet : HonestProofIsQuiet h a)
   where
-    sound_is_own : (v : QuestionFinding) → IsQuestionFinding h t b a bytes v → IsSoundProof v → bytes ≡ proof_for h a t b
+    sound_is_own : (v : QuestionFinding)
+        → IsQuestionFinding h t b a bytes v → IsSoundProof v → bytes ≡ proof_for h a t b
     sound_is_own (question_findings.Refused f) is sound = absurd sound
     sound_is_own (question_findings.Sound o) is sound =
         (none_and h.of (clash_of a.kind h t b bytes) is.3 (matches t b is.0 well low is.1)).own
@@ -54,7 +55,8 @@ module _ (h : Scheme) (a : Question) (t : Tree) (b : ℕ) (bytes : List ℕ) (we
         → checked h.of (digests.root h t b) a bytes ≡ passed (honest_said h a t b)
     own_checked own = ap (checked h.of (digests.root h t b) a) own ∙ accepts t b well low
 
-    own_is_sound : (v : QuestionFinding) → IsQuestionFinding h t b a bytes v → bytes ≡ proof_for h a t b → IsSoundProof v
+    own_is_sound : (v : QuestionFinding)
+        → IsQuestionFinding h t b a bytes v → bytes ≡ proof_for h a t b → IsSoundProof v
     own_is_sound (question_findings.Refused f) is own =
         absurd (not_both (honest_said h a t b) f (sym (own_checked own) ∙ is))
     own_is_sound (question_findings.Sound o) is own = tt
@@ -62,7 +64,8 @@ module _ (h : Scheme) (a : Question) (t : Tree) (b : ℕ) (bytes : List ℕ) (we
         absurd (not_shown (record { owned = owned; shown = shown })
         (sym is.2 ∙ ap (clash_of a.kind h t b) own ∙ quiet t b well low))
 
-    pub finds_honest_proof : (v : QuestionFinding) → IsQuestionFinding h t b a bytes v → FindsHonestProof h t b a bytes v
+    pub finds_honest_proof : (v : QuestionFinding)
+        → IsQuestionFinding h t b a bytes v → FindsHonestProof h t b a bytes v
     finds_honest_proof v is = (sound_is_own v is, own_is_sound v is)
 
 finds_prop : (h : Scheme) (t : Tree) (b : ℕ) (a : Question) (bytes : List ℕ) (v : QuestionFinding)
