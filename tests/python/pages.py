@@ -309,11 +309,22 @@ def wrong_pages_fail(bench: Bench) -> None:
 # ---- links and sentences
 
 
+def anchors_of(text: str) -> List[str]:
+    """What links to the headings of a page have behind their `#`.
+
+    >>> anchors_of("# A\\n\\n## What `x` is, and why\\n")
+    ['a', 'what-x-is-and-why']
+    """
+    return [re.sub(r"[^\w -]", "", one).lower().replace(" ", "-") for one in re.findall(r"(?m)^#+ (.*)$", text)]
+
+
 def links_hold(bench: Bench, page: str, text: str) -> None:
-    """Each link of a page to a file leads to one."""
-    for link in re.findall(r"(?m)(?:\]\(|^\[\w+\]: )([^)#:\s]+)(?:#\S*)?(?:\)|$)", text):
-        path = os.path.join(TOP, os.path.dirname(page), link)
-        bench.holds(os.path.exists(path), "%s: there is no %s" % (page, link))
+    """Each link of a page to a file leads to one, and to a heading that is there."""
+    for link, anchor in re.findall(r"(?m)(?:\]\(|^\[\w+\]: )([^)#:\s]*)#?([^)\s]*)(?:\)|$)", text):
+        path = os.path.join(os.path.dirname(page), link) if link else page
+        bench.holds(os.path.exists(os.path.join(TOP, path)), "%s: there is no %s" % (page, link))
+        if anchor and path.endswith(".md"):
+            bench.holds(anchor in anchors_of(text_of(path)), "%s: there is no %s#%s" % (page, link, anchor))
 
 
 def are_short(bench: Bench, page: str, text: str) -> None:
