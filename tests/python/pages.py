@@ -73,6 +73,7 @@ FALSE = [
     "It prints\n\n    b\n",
     "So:\n\n    b\n",
     "So:\n\n```\ntrue\n```\n",
+    "- so:\n\n    true\n",
 ]
 
 
@@ -201,10 +202,12 @@ def examples_of(page: str) -> List[Example]:
 
 
 def strays_of(page: str) -> List[int]:
-    """The lines at which a block begins that is neither run nor said to be printed, or that is fenced."""
+    """The lines at which a block begins that is neither run nor said to be printed, or that is fenced; and one that is
+    shown as text, since it stands directly behind a list."""
     items, strays = items_of(page), []
     for at, item in enumerate(items):
-        if item.text.startswith("```"):
+        is_in_list = item.block and at and re.match(r"(-|\d+\.) ", items[at - 1].text)
+        if item.text.startswith("```") or is_in_list:
             strays.append(item.line)
         if item.block and not is_command(item.block[0]):
             is_said = at > 1 and says_print(items[at - 1].text) and items[at - 2].block
@@ -284,7 +287,7 @@ def example_holds(bench: Bench, page: str, example: Example, given: List[str]) -
 def page_holds(bench: Bench, page: str, text: str) -> int:
     """The examples of a page do and print what it says of them; answers how many were run."""
     for line in strays_of(text):
-        bench.holds(False, "%s line %d: a block that is neither run nor said to be printed" % (page, line))
+        bench.holds(False, "%s line %d: a block neither run nor said to be printed, or in a list" % (page, line))
     given: List[str] = []
     examples = [example for example in examples_of(text) if not example.skipped]
     for at, example in enumerate(examples):
