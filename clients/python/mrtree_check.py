@@ -569,7 +569,7 @@ def read_words(words: List[str]) -> Words:
         raise ValueError((__doc__ or "").split("\n\n")[1])
     root = read_root(rest[0])
     query = read_query(rest[1]) if command == "check" else None
-    if rest[1] == rest[2]:
+    if command == "check-all" and rest[1] == rest[2]:
         raise ValueError("the script and the bundle have one name")
     return Words(command, root, query, rest[1], rest[2], most)
 

@@ -105,6 +105,8 @@ def answers_hold(bench: Bench) -> None:
         says(bench, ["answer", root, query, proof, "o", *NAMED], status, said)
         bench.holds(read("o") == wrote, "an answer that is not accepted is written: %s" % said)
     says(bench, ["answer", ROOT, WINDOW, PROOF, "o", "--unit", "1e-7", "--most", "171"], 7, "longer than 171 bytes")
+    write(WINDOW, read(PROOF))
+    bench.holds(bench.client(["check", ROOT, WINDOW, WINDOW])[0] == 0, "a proof file with the query's word for a name")
     for most, meant in (("171", (7, b"longer than 171 bytes\n")), ("172", bench.client(["check", ROOT, WINDOW, PROOF]))):
         with open(PROOF, "rb") as file:
             ended = bench.script("mrtree_check.py", ["--most", most, "check", ROOT, WINDOW, "-"], stdin=file)
