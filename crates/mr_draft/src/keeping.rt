@@ -1,6 +1,7 @@
 //! The nodes of a file under edit: read, kept and written.
 
-ghost use Rattle.std.specs.Prelude.{◌≡◌, ◌+◌, ◌<◌, ◌≤◌, option_map, IfErr, OnOk, IfSome};
+ghost use Rattle.std.specs.Prelude.{◌≡◌, ◌+◌, ◌<◌, ◌≤◌, nat_eq, option_map, IsOk, IfErr, OnOk, IfSome};
+ghost use Rattle.std.specs.Map.{remove_entry};
 ghost use Rattle.mr_tree.specs.View.{size, level_of};
 ghost use Rattle.mr_pages.specs.Walking.{page_node};
 ghost use Rattle.mr_edit.specs.Book.{HasNode, node_sheet, free_sheet, with_sheet};
@@ -23,6 +24,7 @@ use std::alloc::Global;
 
 // Keeps nothing of a page any more.
 pub(crate) fn forget(cache: &mut LruCache<u32, Kept>, page: u32)
+    ensures exact { cache.new.entries ≡ remove_entry (nat_eq page) cache.old.entries }
     ensures forgets { Forgets page cache.old.entries cache.new.entries }
     ensures cap { cache.new.cap ≡ cache.old.cap }
 {
@@ -113,6 +115,7 @@ fn show_inside<H: Hashes, S: Shelf>(
     ensures caches { OnOk result (IsHeld cache.new.entries child.now) }
     ensures held { IsHeld cache.old.entries child.now →
         (S.state shelf.new).reads ≡ (S.state shelf.old).reads }
+    ensures shown { IsHeld cache.old.entries child.now → IsOk result }
     ensures quiet { OnOk result ((S.state shelf.new).faults ≡ (S.state shelf.old).faults) }
     ensures given { IfErr result (RefusesRead H.of pages child.now) }
     ensures cause { IfErr result (HasEditCause (S.state shelf.old).faults
@@ -155,6 +158,8 @@ pub(crate) fn show_node<H: Hashes, S: Shelf>(
     ensures caches { OnOk result (IsHeld cache.new.entries child.now) }
     ensures held { IsHeld cache.old.entries child.now →
         (S.state shelf.new).reads ≡ (S.state shelf.old).reads }
+    ensures shown { IsHeld cache.old.entries child.now → 1 ≤ child.now.id →
+        child.now.id < pages → IsOk result }
     ensures quiet { OnOk result ((S.state shelf.new).faults ≡ (S.state shelf.old).faults) }
     ensures given { IfErr result (RefusesRead H.of pages child.now) }
     ensures cause { IfErr result (HasEditCause (S.state shelf.old).faults

@@ -1,6 +1,6 @@
 //! A file of pages under edit on a shelf, with a cache of node pages.
 
-ghost use Rattle.std.specs.Prelude.{◌≡◌, ◌+◌, ◌≤◌, option_map, IfErr, OnOk, IfSome};
+ghost use Rattle.std.specs.Prelude.{◌≡◌, ◌+◌, ◌<◌, ◌≤◌, option_map, IsOk, IfErr, OnOk, IfSome};
 ghost use Rattle.std.specs.String.{string_bytes};
 ghost use Rattle.std.proofs.Props.{props};
 ghost use Rattle.mr_tree.specs.View.{size, level_of};
@@ -70,10 +70,12 @@ impl<S: Shelf, H: Hashes> PageFile for Sheets<S, H> {
             (book_on (S.state self.old.shelf).files (string_bytes self.old.name) self.old.pages)
             child.now)) }
         ensures given { IfErr result (RefusesRead H.of self.old.pages child.now) }
-        // The node is kept, and one that is kept is not read.
+        // The node is kept. One that is kept is not read, and is shown where it is in the file.
         ensures caches { OnOk result (IsHeld self.new.cache.entries child.now) }
         ensures held { IsHeld self.old.cache.entries child.now →
             (S.state self.new.shelf).reads ≡ (S.state self.old.shelf).reads }
+        ensures shown { IsHeld self.old.cache.entries child.now → 1 ≤ child.now.id →
+            child.now.id < self.old.pages → IsOk result }
     {
         show_node::<H, S>(
             self.alloc,
