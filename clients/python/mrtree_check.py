@@ -13,17 +13,21 @@ Coordinates and rectangles are in map units, distances are squared map units, pl
 """
 from __future__ import annotations
 
+import sys
+
+if __name__ == "__main__":  # an interrupt while modules are read ends the run without a trace
+    sys.excepthook = lambda kind, *rest: kind is KeyboardInterrupt or sys.__excepthook__(kind, *rest)
+
 import signal
 
 if __name__ == "__main__":
-    signal.signal(signal.SIGINT, signal.SIG_DFL)  # an interrupt while modules are read ends the run without a trace
+    signal.signal(signal.SIGINT, signal.SIG_DFL)
 
 import hashlib
 import os
 import re
 import stat
 import struct
-import sys
 from typing import Callable, Iterable, Iterator, List, NamedTuple, Optional, Tuple, Union
 
 __version__ = "1.0.0"
