@@ -485,9 +485,12 @@ def check_all(root: str, queries: List[str], bundle: Union[Bytes, Pieces]) -> Li
 
     A part that is not there has a verdict with neither an answer nor a fault. Bytes behind the last part are not told.
     """
-    refuse_other_words(root, *queries)
+    if isinstance(queries, str) or not hasattr(queries, "__iter__"):
+        raise TypeError("the queries are a list of words, and this is %s" % type(queries).__name__)
+    words = list(queries)
+    refuse_other_words(root, *words)
     pieces = only_bytes(bundle, "a bundle")
-    return judge_bundle(read_root(root), [read_query(query) for query in queries], pieces)[0]
+    return judge_bundle(read_root(root), [read_query(word) for word in words], pieces)[0]
 
 
 # ---- the two commands

@@ -363,6 +363,12 @@ def modules_hold(bench: Bench) -> None:
         except TypeError as error:
             told = str(error)
         bench.holds("and this is " in told, "the module on wrong types says %s" % told)
+    for queries in (WINDOW, None, 7, [7]):
+        try:
+            told = repr(mrtree_check.check_all(ROOT, queries, b""))
+        except TypeError as error:
+            told = str(error)
+        bench.holds("and this is " in told, "the module on wrong queries says %s" % told)
     verdicts = mrtree_check.check_all(ROOT, [WINDOW, WINDOW], len(proof).to_bytes(4, "big") + proof)
     is_so = verdicts[0].answer == answer and verdicts[1] == mrtree_check.MISSING
     bench.holds(is_so, "the module on a bundle answers %s" % (verdicts,))
