@@ -42,6 +42,7 @@ MOST_BYTES = 2**30  # no field of a proof ends behind this place
 MOST_RADIUS = 2 * (2**32 - 1) ** 2  # the greatest squared distance
 MOST_LINES = 65536  # of a script
 PIECE = 65536  # bytes that are read at once
+COMMAND = "mrtree_check.py [--most BYTES]"
 
 
 class Record(NamedTuple):
@@ -573,7 +574,7 @@ def read_words(words: List[str]) -> Words:
         most, words = read_most("".join(words[1:2])), words[2:]
     command, *rest = words if len(words) == 4 else ["check", *words]
     if command not in ("check", "check-all") or len(rest) != 3 or "" in rest:
-        raise ValueError((__doc__ or "").split("\n\n")[1])
+        raise ValueError("usage: %s ROOT QUERY PROOF, or: %s check-all ROOT SCRIPT BUNDLE" % ((COMMAND,) * 2))
     root = read_root(rest[0])
     query = read_query(rest[1]) if command == "check" else None
     if command == "check-all" and rest[1] == rest[2]:

@@ -327,6 +327,9 @@ BAD_WORDS: List[Tuple[List[str], str]] = [
 
 def terminals_hold(bench: Bench) -> None:
     """In a terminal the client tells what is wrong with words; elsewhere it prints what the program prints, alone."""
+    bare = [sys.executable, "-OO", os.path.join(CLIENTS, "mrtree_check.py")]  # without docstrings
+    ran = subprocess.run(bare, stdout=subprocess.PIPE, stderr=subprocess.PIPE)
+    bench.holds((ran.returncode, ran.stdout, ran.stderr) == (1, b"bad words\n", b""), "no words: %s" % (ran,))
     call = [sys.executable, os.path.join(CLIENTS, "mrtree_check.py")]
     for words, says_ in BAD_WORDS:
         ran = subprocess.run([*call, *words], stdout=subprocess.PIPE, stderr=subprocess.PIPE)
