@@ -320,6 +320,8 @@ def text_command(given: argparse.Namespace) -> None:
 def batch_command(given: argparse.Namespace) -> None:
     """Writes the batch from one state of a file to another."""
     number, options = number_of(given.N), options_of(given)
+    if number == 0:
+        raise Unfit("no map takes batch 0: a map that was just built is at batch 0, and takes batch 1")
     old = sources.read_state(given.OLD, given.form, options)
     new = sources.read_state(given.NEW, given.form, options)
     lines = batch(number, old.packed, new.packed)

@@ -234,6 +234,11 @@ def outputs_hold(bench: Bench) -> None:
         says(bench, ["text", "b.txt", name], 1, said)
         says(bench, ["batch", "1", "a.txt", "b.txt", name], 1, said)
         says(bench, ["features", "b.txt", name, "--unit", "1"], 1, said)
+    for number, said in (
+        ("0", "no map takes batch 0: a map that was just built is at batch 0, and takes batch 1"),
+        ("1.5", 'the number "1.5" is no whole number from 0 and below 2^64'),
+    ):
+        says(bench, ["batch", number, "a.txt", "b.txt", "o.batch"], 1, said)
     bench.holds(read("b.txt") == read(source), "an input was written")
     bench.holds(bench.call(records, ["text", "a.txt", "link"])[0] == 0, "an output by a link")
     bench.holds(os.path.islink("link") and read("old") == read(source), "an output by a link is elsewhere")
