@@ -11,14 +11,18 @@ those of `records.py`. This script is tested and not proved.
 """
 from __future__ import annotations
 
+import sys
+
+if __name__ == "__main__":  # an interrupt while modules are read ends the run without a trace
+    sys.excepthook = lambda kind, *rest: kind is KeyboardInterrupt or sys.__excepthook__(kind, *rest)
+
 import signal
 
 if __name__ == "__main__":
-    signal.signal(signal.SIGINT, signal.SIG_DFL)  # an interrupt while modules are read ends the run without a trace
+    signal.signal(signal.SIGINT, signal.SIG_DFL)
 
 import html
 import math
-import sys
 from typing import Callable, Iterator, List, NamedTuple, Optional, Tuple
 
 if __package__:

@@ -13,17 +13,21 @@ Coordinates and rectangles are in map units, distances are squared map units, pl
 """
 from __future__ import annotations
 
+import sys
+
+if __name__ == "__main__":  # an interrupt while modules are read ends the run without a trace
+    sys.excepthook = lambda kind, *rest: kind is KeyboardInterrupt or sys.__excepthook__(kind, *rest)
+
 import signal
 
 if __name__ == "__main__":
-    signal.signal(signal.SIGINT, signal.SIG_DFL)  # an interrupt while modules are read ends the run without a trace
+    signal.signal(signal.SIGINT, signal.SIG_DFL)
 
 import hashlib
 import os
 import re
 import stat
 import struct
-import sys
 from typing import Callable, Iterable, Iterator, List, NamedTuple, Optional, Tuple, Union
 
 __version__ = "1.0.0"
@@ -38,6 +42,7 @@ MOST_BYTES = 2**30  # no field of a proof ends behind this place
 MOST_RADIUS = 2 * (2**32 - 1) ** 2  # the greatest squared distance
 MOST_LINES = 65536  # of a script
 PIECE = 65536  # bytes that are read at once
+COMMAND = "mrtree_check.py [--most BYTES]"
 
 
 class Record(NamedTuple):
@@ -481,9 +486,12 @@ def check_all(root: str, queries: List[str], bundle: Union[Bytes, Pieces]) -> Li
 
     A part that is not there has a verdict with neither an answer nor a fault. Bytes behind the last part are not told.
     """
-    refuse_other_words(root, *queries)
+    if isinstance(queries, str) or not hasattr(queries, "__iter__"):
+        raise TypeError("the queries are a list of words, and this is %s" % type(queries).__name__)
+    words = list(queries)
+    refuse_other_words(root, *words)
     pieces = only_bytes(bundle, "a bundle")
-    return judge_bundle(read_root(root), [read_query(query) for query in queries], pieces)[0]
+    return judge_bundle(read_root(root), [read_query(word) for word in words], pieces)[0]
 
 
 # ---- the two commands
@@ -566,7 +574,7 @@ def read_words(words: List[str]) -> Words:
         most, words = read_most("".join(words[1:2])), words[2:]
     command, *rest = words if len(words) == 4 else ["check", *words]
     if command not in ("check", "check-all") or len(rest) != 3 or "" in rest:
-        raise ValueError((__doc__ or "").split("\n\n")[1])
+        raise ValueError("usage: %s ROOT QUERY PROOF, or: %s check-all ROOT SCRIPT BUNDLE" % ((COMMAND,) * 2))
     root = read_root(rest[0])
     query = read_query(rest[1]) if command == "check" else None
     if command == "check-all" and rest[1] == rest[2]:

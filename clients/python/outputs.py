@@ -67,9 +67,11 @@ def written(name: str, inputs: Sequence[str] = ()) -> Iterator[IO[bytes]]:
             file.flush()
             os.fsync(file.fileno())
         os.replace(part, whole)
-    except BaseException:
+    except BaseException as fault:
         with contextlib.suppress(OSError):
             os.remove(part)
+        if isinstance(fault, OSError):
+            fault.filename = name  # that of the part means nothing to anybody
         raise
 
 

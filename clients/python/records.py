@@ -8,6 +8,7 @@ usage: records.py text FILE RECORDS [options]              the record text of a 
        records.py answer ROOT QUERY PROOF OUT [options]    checks a proof, and writes the answer as GeoJSON
        records.py answers ROOT SCRIPT BUNDLE OUT [options] the same of a bundle, where each part of it is accepted
        records.py features LINES OUT [options]             what `list`, `check`, `check-all` or `audit` printed, as GeoJSON
+       records.py COMMAND --help                           the options of a command
 
 A file is GeoJSON, a GeoJSON text sequence, CSV or a record text: by the end of its name, or as --form says. `-` is the
 standard input or output. Each feature becomes a record: a point, or the box round a line or an area. A point goes to
@@ -20,15 +21,19 @@ tested and not proved.
 """
 from __future__ import annotations
 
+import sys
+
+if __name__ == "__main__":  # an interrupt while modules are read ends the run without a trace
+    sys.excepthook = lambda kind, *rest: kind is KeyboardInterrupt or sys.__excepthook__(kind, *rest)
+
 import signal
 
 if __name__ == "__main__":
-    signal.signal(signal.SIGINT, signal.SIG_DFL)  # an interrupt while modules are read ends the run without a trace
+    signal.signal(signal.SIGINT, signal.SIG_DFL)
 
 import argparse
 import json
 import re
-import sys
 from contextlib import suppress
 from decimal import Decimal
 from typing import Any, Dict, Iterable, Iterator, List, NamedTuple, NoReturn, Optional, Sequence, Tuple
@@ -315,6 +320,8 @@ def text_command(given: argparse.Namespace) -> None:
 def batch_command(given: argparse.Namespace) -> None:
     """Writes the batch from one state of a file to another."""
     number, options = number_of(given.N), options_of(given)
+    if number == 0:
+        raise Unfit("no map takes batch 0: a map that was just built is at batch 0, and takes batch 1")
     old = sources.read_state(given.OLD, given.form, options)
     new = sources.read_state(given.NEW, given.form, options)
     lines = batch(number, old.packed, new.packed)
@@ -396,7 +403,7 @@ def root_and_query(root: str, query: str) -> Tuple[bytes, Query]:
 def options_of(given: argparse.Namespace) -> Options:
     """How the files of a command line are read."""
     grid, place = given.unit or Grid(Decimal(1)), given.place
-    names = given.number, given.payload, place, given.delimiter
+    names = given.number, given.payload, place, given.delimiter or ","
     return Options(grid, *names, given.skip_empty, given.digest or bool(given.shapes))
 
 
@@ -412,12 +419,12 @@ def naming_of(given: argparse.Namespace) -> Naming:
 
 
 def unit_of(word: str) -> Grid:
-    """The map units whose size is a number above 0. Raises ArgumentTypeError."""
+    """The map units of a size that a word spells. Raises ArgumentTypeError."""
     with suppress(Unfit):
         unit = sources.decimal_of(word)
         if Decimal("1e-30") <= unit <= Decimal("1e30"):
             return Grid(unit)
-    raise argparse.ArgumentTypeError("%s is no number above 0" % clipped(word))
+    raise argparse.ArgumentTypeError("%s is no number from 1e-30 to 1e30" % clipped(word))
 
 
 def place_of(word: str) -> List[str]:
@@ -456,13 +463,14 @@ class Parser(argparse.ArgumentParser):
         write("-", [], [self.format_help()])
 
 
+READS = "unit number payload digest place delimiter form skip-empty"  # the options of a command that reads files
 COMMANDS = {
-    "text": (text_command, ["FILE", "RECORDS"]),
-    "batch": (batch_command, ["N", "OLD", "NEW", "BATCH"]),
-    "query": (query_command, ["WORDS"]),
-    "answer": (answer_command, ["ROOT", "QUERY", "PROOF", "OUT"]),
-    "answers": (answers_command, ["ROOT", "SCRIPT", "BUNDLE", "OUT"]),
-    "features": (features_command, ["LINES", "OUT"]),
+    "text": (text_command, "FILE RECORDS", READS),
+    "batch": (batch_command, "N OLD NEW BATCH", READS),
+    "query": (query_command, "WORDS", "unit"),
+    "answer": (answer_command, "ROOT QUERY PROOF OUT", "unit number payload digest shapes form most"),
+    "answers": (answers_command, "ROOT SCRIPT BUNDLE OUT", "unit number payload digest most"),
+    "features": (features_command, "LINES OUT", "unit number payload digest"),
 }
 ENDS = tuple(sources.FORMS)
 TYPES: Dict[str, Any] = {"--unit": unit_of, "--place": place_of, "--delimiter": delimiter_of, "--most": most_of}
@@ -470,20 +478,21 @@ TYPES: Dict[str, Any] = {"--unit": unit_of, "--place": place_of, "--delimiter": 
 
 def parser() -> Parser:
     """The parser of all command lines."""
-    shared = Parser(add_help=False, allow_abbrev=False)
-    for option, told in (line.split(": ", 1) for line in HELP.split("\n")):
-        if option in ("--digest", "--skip-empty"):
-            shared.add_argument(option, action="store_true", help=told)
-        else:
-            shared.add_argument(option, type=TYPES.get(option), help=told)
-    shared.set_defaults(delimiter=",")
     raw = argparse.RawDescriptionHelpFormatter
     whole = Parser(prog=SCRIPT, description=__doc__, usage=argparse.SUPPRESS, formatter_class=raw)
     commands = whole.add_subparsers(dest="command", required=True, help=argparse.SUPPRESS)
-    for command, (_, names) in COMMANDS.items():
-        one = commands.add_parser(command, prog="%s %s" % (SCRIPT, command), parents=[shared], allow_abbrev=False)
-        for name in names:
+    for command, (_, names, options) in COMMANDS.items():
+        one = commands.add_parser(command, prog="%s %s" % (SCRIPT, command), allow_abbrev=False)
+        for name in names.split():
             one.add_argument(name, nargs="+" if name == "WORDS" else None)
+        for option, told in (line.split(": ", 1) for line in HELP.split("\n")):
+            is_sign = option in ("--digest", "--skip-empty")
+            if option[2:] not in options.split():
+                one.set_defaults(**{option[2:].replace("-", "_"): False if is_sign else None})
+            elif is_sign:
+                one.add_argument(option, action="store_true", help=told)
+            else:
+                one.add_argument(option, type=TYPES.get(option), help=told)
     return whole
 
 
@@ -495,8 +504,8 @@ def arguments(words: List[str]) -> argparse.Namespace:
     )
     if given.form not in (None, *sources.FORMS.values(), "text"):
         raise Unfit("--form is geojson, geojsonseq, csv or text, and not %s" % clipped(given.form))
-    if given.digest and given.payload:
-        raise Unfit("the payload is either what --payload names or, with --digest, a digest")
+    if given.payload and (given.digest or given.shapes):
+        raise Unfit("the payload is either what --payload names or, with --digest or --shapes, a digest")
     files = [vars(given)[name] for name in ("FILE", "OLD", "NEW") if name in given]
     is_text = given.form == "text" or not (given.form or any(name.lower().endswith(ENDS) for name in files))
     if given.unit is None and not (files and is_text):

@@ -638,21 +638,21 @@ class WellKnown:
         numbers: List[Decimal] = []
         while self.tokens:
             token = self.next()
-            if token == "(":
+            if token == "(" and not numbers:
                 stack.append([])
+            elif token == "(" or len(stack) == 1:
+                raise Unfit("%s stands where no such may in its well-known text" % clipped(token))
             elif token in ",)":
                 if numbers:
                     stack[-1].append(numbers)
                     numbers = []
-                if token == ")" and len(stack) > 1:
+                if token == ")":
                     stack[-2].append(stack.pop())
                 if len(stack) == 1:
-                    break
+                    return stack[0][0]
             else:
                 numbers.append(decimal_of(token))
-        if len(stack) != 1 or len(stack[0]) != 1:
-            raise Unfit("its well-known text ends too early")
-        return stack[0][0]
+        raise Unfit("its well-known text ends too early")
 
 
 def geometry_of(text: str) -> Optional[Dict[str, Any]]:

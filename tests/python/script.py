@@ -134,6 +134,12 @@ def before_a_program(world: World) -> None:
     told = world.run(["version"])
     world.says(told, 0, None, NOTHING, "version")
     world.bench.holds("proved with: %s\ntoolchain here: %s\nprogram: not built\n" % (KIT, KIT) in told.out, str(told))
+    world.bench.holds(told.out.startswith("commit: not known"), "version without a clone: %s" % told.out)
+    if shutil.which("git"):
+        subprocess.run(["git", "init", "-q", world.folder], check=True)
+        told = world.run(["version"])
+        world.bench.holds(told.out.startswith("commit: not known"), "version in another clone: %s" % told.out)
+        shutil.rmtree(os.path.join(world.folder, ".git"))
     told = world.run(["version"], PATH="/usr/bin:/bin")
     world.bench.holds("toolchain here: none" in told.out, "version without rt: %s" % told.out)
     ran = world.run(["root", "x"], PATH="/usr/bin:/bin")

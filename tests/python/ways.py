@@ -72,6 +72,7 @@ QUERIES: List[Tuple[str, int, str]] = [
     ("window 0 0 1 x", 1, '"x" is no number'),
     ("window 0 0 1 215", 1, "the coordinate 215 is out of range: with --unit 1e-7 from -214.7483648 to 214.7483647"),
     ("circle 0 0 1", 1, "a query is: window X0 Y0 X1 Y1, or: nearest X Y K"),
+    ("nearest 1 2 3 --payload a", 1, "unrecognized arguments: --payload a (records.py --help)"),
 ]
 
 
@@ -107,6 +108,12 @@ def answers_hold(bench: Bench) -> None:
     says(bench, ["answer", ROOT, WINDOW, PROOF, "o", "--unit", "1e-7", "--most", "171"], 7, "longer than 171 bytes")
     write(WINDOW, read(PROOF))
     bench.holds(bench.client(["check", ROOT, WINDOW, WINDOW])[0] == 0, "a proof file with the query's word for a name")
+    for option, word, said in (
+        ("--most", "x", 'argument --most: "x" is no whole number of bytes (records.py --help)'),
+        ("--place", "x,y", "unrecognized arguments: --place x,y (records.py --help)"),
+        ("--shapes", "f", "the payload is either what --payload names or, with --digest or --shapes, a digest"),
+    ):
+        says(bench, ["answer", ROOT, WINDOW, PROOF, "o", *NAMED, option, word], 1, said)
     for most, meant in (("171", (7, b"longer than 171 bytes\n")), ("172", bench.client(["check", ROOT, WINDOW, PROOF]))):
         with open(PROOF, "rb") as file:
             ended = bench.script("mrtree_check.py", ["--most", most, "check", ROOT, WINDOW, "-"], stdin=file)
@@ -227,12 +234,17 @@ def outputs_hold(bench: Bench) -> None:
         says(bench, ["text", "b.txt", name], 1, said)
         says(bench, ["batch", "1", "a.txt", "b.txt", name], 1, said)
         says(bench, ["features", "b.txt", name, "--unit", "1"], 1, said)
+    for number, said in (
+        ("0", "no map takes batch 0: a map that was just built is at batch 0, and takes batch 1"),
+        ("1.5", 'the number "1.5" is no whole number from 0 and below 2^64'),
+    ):
+        says(bench, ["batch", number, "a.txt", "b.txt", "o.batch"], 1, said)
     bench.holds(read("b.txt") == read(source), "an input was written")
     bench.holds(bench.call(records, ["text", "a.txt", "link"])[0] == 0, "an output by a link")
     bench.holds(os.path.islink("link") and read("old") == read(source), "an output by a link is elsewhere")
     bench.holds(stat.S_IMODE(os.stat("old").st_mode) == 0o604, "the rights of an old output changed")
     says(bench, ["text", "a.txt", "f"], 7, "f: it is a folder")
-    says(bench, ["text", "a.txt", "no/o"], 7, os.path.realpath("no/o") + ".part-%d: No such file or directory" % os.getpid())
+    says(bench, ["text", "a.txt", "no/o"], 7, "no/o: No such file or directory")
     bench.holds(not [name for name in os.listdir(".") if ".part-" in name], "a part of an output is left")
     with open("a.txt", "rb") as file:
         ended = bench.script("records.py", ["text", "-", "-"], stdin=file)
@@ -280,6 +292,13 @@ def stops_hold(bench: Bench) -> None:
         ran = subprocess.run([*call[:2], *words], stdout=writes, stderr=subprocess.PIPE)
         os.close(writes)
         bench.holds((ran.returncode, ran.stderr) == (141, b""), "an output that nobody reads: %s" % (ran,))
+    os.mkdir("early")
+    write("early/signal.py", b"raise KeyboardInterrupt\n")  # an interrupt while the first module is read
+    for name in ("records.py", "mrtree_check.py", "draw.py"):
+        early = [sys.executable, "-S", os.path.join(CLIENTS, name)]
+        ran = subprocess.run(early, stderr=subprocess.PIPE, env={**os.environ, "PYTHONPATH": "early"})
+        is_so = (ran.returncode, ran.stderr) == (-signal.SIGINT, b"")
+        bench.holds(is_so, "%s, interrupted at once: %s" % (name, ran))
     with open("zeros", "wb") as file:
         file.truncate(2**28)
     ended = memory_ends([*call[:3], "zeros", "out"], 128)
@@ -313,6 +332,9 @@ BAD_WORDS: List[Tuple[List[str], str]] = [
 
 def terminals_hold(bench: Bench) -> None:
     """In a terminal the client tells what is wrong with words; elsewhere it prints what the program prints, alone."""
+    bare = [sys.executable, "-OO", os.path.join(CLIENTS, "mrtree_check.py")]  # without docstrings
+    ran = subprocess.run(bare, stdout=subprocess.PIPE, stderr=subprocess.PIPE)
+    bench.holds((ran.returncode, ran.stdout, ran.stderr) == (1, b"bad words\n", b""), "no words: %s" % (ran,))
     call = [sys.executable, os.path.join(CLIENTS, "mrtree_check.py")]
     for words, says_ in BAD_WORDS:
         ran = subprocess.run([*call, *words], stdout=subprocess.PIPE, stderr=subprocess.PIPE)
@@ -349,6 +371,12 @@ def modules_hold(bench: Bench) -> None:
         except TypeError as error:
             told = str(error)
         bench.holds("and this is " in told, "the module on wrong types says %s" % told)
+    for queries in (WINDOW, None, 7, [7]):
+        try:
+            told = repr(mrtree_check.check_all(ROOT, queries, b""))
+        except TypeError as error:
+            told = str(error)
+        bench.holds("and this is " in told, "the module on wrong queries says %s" % told)
     verdicts = mrtree_check.check_all(ROOT, [WINDOW, WINDOW], len(proof).to_bytes(4, "big") + proof)
     is_so = verdicts[0].answer == answer and verdicts[1] == mrtree_check.MISSING
     bench.holds(is_so, "the module on a bundle answers %s" % (verdicts,))
