@@ -17,7 +17,7 @@ still x ways.Open same closed = absurd (closed refl)
 pub returns : goal.returns
 returns c =
     let window = c.args.q.now.window in
-    let law = is_lawful (Window window) (c.corners.ensures.ordered, c.corners.ensures.fits) in
+    let law = is_lawful (Window window) (c.corners-corners.ensures.ordered, c.corners-corners.ensures.fits) in
     let way = (question (Window window)).way None in
     record {
       letter = omega (arith, c.is_letter.ensures);
