@@ -2,19 +2,21 @@
 """A plain, slow program for maps after batches and for generated workloads, written from docs/FORMATS.md alone.
 
 usage: tests/plain.py RECORDS [BATCH ..]
+       tests/plain.py 2 RECORDS [BATCH ..]
        tests/plain.py make N SEED
        tests/plain.py demo N SEED
 
 Prints the root digest of the map of the record text in the file RECORDS, and then that after each batch in turn, or
-the line on the first batch that may not be applied. It takes texts to be without a fault. `make` prints the text that
-the program's command of that name writes to a file, `demo` what the program's prints. With no words it prints the
-roots in the stories of crates/mr_rows, by their names, and those of crates/mr_tests/src/plainly.rt. The gate does not
-run it; tests/clients takes its functions.
+the line on the first batch that may not be applied. Behind the word 2 text, batches and map are of version 2. It takes
+texts to be without a fault. `make` prints the text that the program's command of that name writes to a file, `demo`
+what the program's prints. With no words it prints the roots in the stories of crates/mr_rows, by their names, and those
+of crates/mr_tests/src/plainly.rt. The gate does not run it; tests/clients takes its functions.
 """
 import hashlib
 import math
 import struct
 import sys
+from typing import NamedTuple, Tuple
 
 
 def digest(bytes_):
@@ -62,7 +64,16 @@ def split(rects, least):
     return sorted(groups[0]), sorted(groups[1])
 
 
-# ---- trees: records (number, rectangle, payload) in leaves
+# ---- trees: records in leaves; versions are 1 and 2
+
+
+class Record(NamedTuple):
+    """A record of a map; in one of version 1 its layer is 0."""
+
+    number: int
+    rect: Tuple[int, ...]
+    payload: bytes
+    layer: int = 0
 
 
 class Node:
@@ -82,30 +93,45 @@ class Node:
     def level(self):
         return 0 if self.is_leaf else 1 + self.entries[0].level()
 
-    def preimage(self):
+    def mask(self):
+        """The layers of the records below, each as its bit."""
+        return sum(1 << layer for layer in {r.layer for r in self.records()})
+
+    def preimage(self, version=1):
         if self.is_leaf:
-            return b"L" + bytes([len(self.entries)]) + b"".join(record_bytes(r) for r in self.entries)
-        front = b"N" + bytes([self.level(), len(self.entries)])
-        return front + b"".join(struct.pack(">4i", *e.rect) + e.digest() for e in self.entries)
+            return b"L" + bytes([len(self.entries)]) + b"".join(record_bytes(r, version) for r in self.entries)
+        return b"N" + bytes([self.level(), len(self.entries)]) + b"".join(entry(e, version) for e in self.entries)
 
-    def digest(self):
-        return digest(self.preimage())
-
-
-def record_bytes(record):
-    number, rect, payload = record
-    return struct.pack(">Q4i", number, *rect) + bytes([len(payload)]) + payload
+    def digest(self, version=1):
+        return digest(self.preimage(version))
 
 
-def root_preimage(tree, batch):
+def entry(child, version=1):
+    """What a preimage says of a child; a page that says it has the child's page before it."""
+    told = struct.pack(">QQ", child.mask(), len(child.records())) if version == 2 else b""
+    return struct.pack(">4i", *child.rect) + told + child.digest(version)
+
+
+def record_bytes(record, version=1):
+    layer = bytes([record.layer]) if version == 2 else b""
+    return struct.pack(">Q4i", record.number, *record.rect) + layer + bytes([len(record.payload)]) + record.payload
+
+
+def root_entry(tree, version=1):
+    """What the root's preimage, and page 0, say of the root node."""
+    told = struct.pack(">Q", tree.mask()) if version == 2 else b""
+    return struct.pack(">4i", *tree.rect) + told + tree.digest(version)
+
+
+def root_preimage(tree, batch, version=1):
     if tree is None:
-        return b"E\x01" + struct.pack(">Q", batch)
-    front = b"R\x01" + struct.pack(">QQ", batch, len(tree.records())) + bytes([tree.level()])
-    return front + struct.pack(">4i", *tree.rect) + tree.digest()
+        return b"E" + bytes([version]) + struct.pack(">Q", batch)
+    head = struct.pack(">QQ", batch, len(tree.records())) + bytes([tree.level()])
+    return b"R" + bytes([version]) + head + root_entry(tree, version)
 
 
-def root(tree, batch):
-    return digest(root_preimage(tree, batch)).hex()
+def root(tree, batch, version=1):
+    return digest(root_preimage(tree, batch, version)).hex()
 
 
 def grouped(entries, most):
@@ -203,9 +229,9 @@ def fault(tree, held, batch):
     return None
 
 
-def lines_of(records, batches):
+def lines_of(records, batches, version=1):
     tree, held = pack(records), 0
-    yield root(tree, held)
+    yield root(tree, held, version)
     for batch in batches:
         bad = fault(tree, held, batch)
         if bad:
@@ -214,15 +240,16 @@ def lines_of(records, batches):
         for change in batch[1]:
             tree = inserted(tree, change) if isinstance(change, tuple) else deleted(tree, change)
         held = batch[0]
-        yield root(tree, held)
+        yield root(tree, held, version)
 
 
 # ---- texts
 
 
 def record_of(fields):
-    payload = b"" if fields[5] == "-" else bytes.fromhex(fields[5])
-    return int(fields[0]), tuple(int(f) for f in fields[1:5]), payload
+    """The record of six fields, or of the seven of version 2, of which the last but one is the layer."""
+    payload, layer = b"" if fields[-1] == "-" else bytes.fromhex(fields[-1]), fields[5:-1]
+    return Record(int(fields[0]), tuple(int(f) for f in fields[1:5]), payload, int(layer[0]) if layer else 0)
 
 
 def batch_of(text):
@@ -230,9 +257,9 @@ def batch_of(text):
     return int(lines[0][1]), [record_of(f[1:]) if f[0] == "+" else int(f[1]) for f in lines[1:]]
 
 
-def line_of(record):
-    number, rect, payload = record
-    return " ".join(map(str, [number, *rect, payload.hex() or "-"]))
+def line_of(record, version=1):
+    layer = [record.layer] if version == 2 else []
+    return " ".join(map(str, [record.number, *record.rect, *layer, record.payload.hex() or "-"]))
 
 
 # ---- workloads that are made up
@@ -257,7 +284,7 @@ def corner(word):
 def generated(count, seed):
     for number, word in enumerate(words(count, seed), 1):
         (x, y), (a, b) = corner(word), halves(word)
-        yield number, (x, y, x + a % 64, y + b % 64), word.to_bytes(8, "big")
+        yield Record(number, (x, y, x + a % 64, y + b % 64), word.to_bytes(8, "big"))
 
 
 def generated_queries(count, seed):
@@ -323,11 +350,21 @@ def demo_lines(count, seed):
 
 def place(i):
     x, y = i * 7919 % 20011, i * 104729 % 19997
-    return i, (x, y, x + i % 3, y + i % 5), bytes([i % 256])
+    return Record(i, (x, y, x + i % 3, y + i % 5), bytes([i % 256]))
 
 
 def places(first, last):
     return [place(i) for i in range(first, last + 1)]
+
+
+def place2(i):
+    """That place on the layer of its column: what stands near has few layers."""
+    return place(i)._replace(layer=place(i).rect[0] // 320)
+
+
+def on_layers(records):
+    """These records on all layers by turns."""
+    return [record._replace(layer=record.number * 7 % 64) for record in records]
 
 
 def removals(step, count, each):
@@ -341,7 +378,7 @@ def mixed(batch):
 
 
 def point(number, x, y):
-    return number, (x, y, x, y), b""
+    return Record(number, (x, y, x, y), b"")
 
 
 STORIES = {
@@ -379,7 +416,7 @@ def drawn(draws, count, state):
             elif number not in there and "+" in signs:
                 there.add(number)
                 x, y = word() % 20000, word() % 20000
-                changes.append((number, (x, y, x + number % 40, y + number % 7), b""))
+                changes.append(Record(number, (x, y, x + number % 40, y + number % 7), b""))
         yield batch, changes
 
 
@@ -398,7 +435,8 @@ elif sys.argv[1:2] == ["demo"]:
     for line in demo_lines(int(sys.argv[2]), int(sys.argv[3])):
         print(line)
 else:
-    with open(sys.argv[1]) as text:
+    of, names = (2, sys.argv[2:]) if sys.argv[1] == "2" else (1, sys.argv[1:])
+    with open(names[0]) as text:
         given = [record_of(line.split(" ")) for line in text.read().splitlines()]
-    for line in lines_of(given, [batch_of(open(name).read()) for name in sys.argv[2:]]):
+    for line in lines_of(given, [batch_of(open(name).read()) for name in names[1:]], of):
         print(line)

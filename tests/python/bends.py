@@ -2,20 +2,25 @@
 import hashlib
 import random
 import struct
-from typing import Any, Callable, List, Optional, Tuple
+from typing import Any, Callable, List, NamedTuple, Optional, Tuple
 
 from chances import bent_bundle
 from proofs import plain, word_of
+from said import PAGES, version_of
 
-PAGE = 4096
-EDGES = [-(2**63), -(2**31) - 1, -(2**31), -1, 0, 1, 2**31 - 1, 2**31, 2**63, 2**64 - 1, 2**64, 10**40]
+EDGES = [-(2**63), -(2**31) - 1, -(2**31), -1, 0, 1, 63, 64, 2**31 - 1, 2**31, 2**63, 2**64 - 1, 2**64, 10**40]
 TOKENS = [
     *(b"", b" ", b"\t", b"\r", b"\n", b"\0", b"-", b"+", b"- ", b"+ ", b",", b"-0", b"+5", b"05", b"0x1", b"1e3"),
     *(b"\xef\xbb\xbf", b"\xff", b"\xc2\xa0", b"ab", b"AB", b"abc", b"zz", b"0" * 400, b"6" * 401),
     *(b"batch 1", b"window:0,0,1,1", b"nearest:0,0,1025"),
 ]
-# Where the fields of page 0 begin, and their sizes; the last two are zeros and the seal.
-HEAD = [(0, 4), (4, 1), (5, 1), (6, 8), (14, 8), (22, 4), (26, 4), (30, 16), (46, 32), (78, 4), (82, 4010), (4092, 4)]
+# Where the fields of page 0 begin, and their sizes, by the version; the last two are zeros and the seal.
+FRONT = [(0, 4), (4, 1), (5, 1), (6, 8), (14, 8), (22, 4), (26, 4), (30, 16)]
+HEADS = {
+    1: [*FRONT, (46, 32), (78, 4), (82, 4010), (4092, 4)],
+    2: [*FRONT, (46, 8), (54, 32), (86, 4), (90, 8098), (8188, 4)],
+}
+LINKS = {1: 52, 2: 68}  # the bytes that a page has of a child
 
 
 def some_bytes(chance: random.Random, most: int) -> bytes:
@@ -42,19 +47,21 @@ def rect(chance: random.Random) -> Tuple[int, ...]:
     return x, y, min(x + wide, 2**31 - 1), min(y + high, 2**31 - 1)
 
 
-def record(chance: random.Random, number: int) -> Tuple:
+def record(chance: random.Random, number: int, version: int = 1) -> plain.Record:
     """A record of this number."""
     size = chance.choice((0, 0, 0, 0, 1, 8, 200))
-    return number, rect(chance), bytes(chance.randrange(256) for _ in range(size))
+    payload = bytes(chance.randrange(256) for _ in range(size))
+    layer = 0 if version == 1 else chance.choice((0, 0, 5, 5, 63, chance.randrange(64)))
+    return plain.Record(number, rect(chance), payload, layer)
 
 
-def records(chance: random.Random, most: int) -> List[Tuple]:
+def records(chance: random.Random, most: int, version: int = 1) -> List[plain.Record]:
     """Up to so many records in any order."""
     count = chance.choice((0, 1, 2, 15, 16, 17, 40, most))
     numbers = chance.sample(range(4 * count + 4), min(count, most))
     if numbers and chance.random() < 0.2:
         numbers[0] = 2**64 - 1
-    return [record(chance, number) for number in numbers]
+    return [record(chance, number, version) for number in numbers]
 
 
 def query(chance: random.Random) -> Tuple:
@@ -66,9 +73,9 @@ def query(chance: random.Random) -> Tuple:
     return x, y, min(x + wide, 2**31 - 1), min(y + wide, 2**31 - 1)
 
 
-def record_text(chance: random.Random, given: List[Tuple]) -> bytes:
+def record_text(given: List[plain.Record], version: int = 1) -> bytes:
     """The text of records."""
-    return "".join(plain.line_of(one) + "\n" for one in given).encode()
+    return "".join(plain.line_of(one, version) + "\n" for one in given).encode()
 
 
 def batch_text(chance: random.Random, given: List[Tuple], held: int) -> bytes:
@@ -153,37 +160,51 @@ def bent_text(text: bytes, chance: random.Random) -> bytes:
 # ---- maps
 
 
+class Laid(NamedTuple):
+    """A node that was put: its page, what is to be said of it, and how many records are below it."""
+
+    page: int
+    rect: Tuple[int, ...]
+    digest: bytes
+    count: int
+    mask: int
+
+    def entry(self, version: int) -> bytes:
+        """What its parent says of it."""
+        told = struct.pack(">QQ", self.mask, self.count) if version == 2 else b""
+        return struct.pack(">4i", *self.rect) + told + self.digest
+
+
 class Layout:
     """Writes a map file with its nodes on pages in any order and with free pages, as a bender of nodes likes it.
 
     `bend` may change the parts of a node before its digest is taken: all above it then agrees with what it became.
     """
 
-    def __init__(self, chance: random.Random, bend: Optional[Callable] = None) -> None:
-        self.chance, self.bend, self.pages = chance, bend, []
+    def __init__(self, chance: random.Random, version: int = 1, bend: Optional[Callable] = None) -> None:
+        self.chance, self.version, self.bend, self.pages = chance, version, bend, []
 
-    def node(self, node: Any) -> Tuple[int, Tuple[int, ...], bytes, int]:
-        """Puts a node: its page, rectangle and digest, and how many records are below it."""
+    def node(self, node: Any) -> Laid:
+        """Puts a node."""
+        version, mask = self.version, 0
+        parts = list(node.entries) if node.is_leaf else [self.node(child) for child in node.entries]
+        parts = self.bend(node, parts) if self.bend else parts
         if node.is_leaf:
-            parts = list(node.entries)
-            parts = self.bend(node, parts) if self.bend else parts
-            body = b"L" + bytes([len(parts) % 256]) + b"".join(map(plain.record_bytes, parts))
-            around, preimage, count = [part[1] for part in parts], body, len(parts)
+            body = b"L" + bytes([len(parts) % 256]) + b"".join(plain.record_bytes(part, version) for part in parts)
+            preimage, count = body, len(parts)
         else:
-            parts = [self.node(child) for child in node.entries]
-            parts = self.bend(node, parts) if self.bend else parts
             front = b"N" + bytes([node.level(), len(parts) % 256])
-            named = [(page, struct.pack(">4i", *around) + digest) for page, around, digest, _ in parts]
-            body = front + b"".join(struct.pack(">I", page) + entry for page, entry in named)
-            preimage = front + b"".join(entry for _, entry in named)
-            around, count = [part[1] for part in parts], sum(part[3] for part in parts)
-        self.pages.append(body[:PAGE].ljust(PAGE, b"\0"))
-        rect_ = plain.union(around) if around else (0, 0, 0, 0)
-        return len(self.pages), rect_, hashlib.sha256(preimage).digest(), count
+            body = front + b"".join(struct.pack(">I", part.page) + part.entry(version) for part in parts)
+            preimage, count = front + b"".join(part.entry(version) for part in parts), sum(part.count for part in parts)
+        for part in parts:
+            mask |= 1 << part.layer % 64 if node.is_leaf else part.mask
+        self.pages.append(body[: PAGES[version]].ljust(PAGES[version], b"\0"))
+        rect_ = plain.union([part.rect for part in parts]) if parts else (0, 0, 0, 0)
+        return Laid(len(self.pages), rect_, hashlib.sha256(preimage).digest(), count, mask)
 
     def file(self, tree: Any, batch: int, free: int) -> bytes:
         """The map file, with so many free pages."""
-        root = self.node(tree) if tree else (0, (0, 0, 0, 0), bytes(32), 0)
+        root, size = self.node(tree) if tree else Laid(0, (0, 0, 0, 0), bytes(32), 0, 0), PAGES[self.version]
         total = len(self.pages) + free
         order = self.chance.sample(range(1, total + 1), total)  # the page of each place
         places = {place_ + 1: page for place_, page in enumerate(order)}
@@ -193,26 +214,27 @@ class Layout:
             file[places[place_]] = self.moved(page, places)
         chain = order[len(self.pages) :]
         for page, behind in zip(chain, [*chain[1:], 0]):
-            file[page] = (b"F" + struct.pack(">I", behind)).ljust(PAGE, b"\0")
-        level = tree.level() if tree else 0
-        head = b"MRMP\x01" + bytes([level]) + struct.pack(">QQII", batch, root[3], total + 1, places.get(root[0], 0))
-        head += struct.pack(">4i", *root[1]) + root[2] + struct.pack(">I", chain[0] if chain else 0)
-        file[0] = head.ljust(PAGE - 4, b"\0") + b"SEAL"
+            file[page] = (b"F" + struct.pack(">I", behind)).ljust(size, b"\0")
+        head = b"MRMP" + bytes([self.version, tree.level() if tree else 0])
+        head += struct.pack(">QQII", batch, root.count, total + 1, places.get(root.page, 0))
+        mask = struct.pack(">Q", root.mask) if self.version == 2 else b""
+        head += struct.pack(">4i", *root.rect) + mask + root.digest + struct.pack(">I", chain[0] if chain else 0)
+        file[0] = head.ljust(size - 4, b"\0") + b"SEAL"
         return b"".join(file)
 
     def moved(self, page: bytes, places: dict) -> bytes:
         """A page that names its children where they went."""
         if page[:1] != b"N":
             return page
-        bytes_ = bytearray(page)
-        for at in range(3, 3 + 52 * page[2], 52):
+        bytes_, link = bytearray(page), LINKS[self.version]
+        for at in range(3, 3 + link * page[2], link):
             bytes_[at : at + 4] = struct.pack(">I", places.get(int.from_bytes(page[at : at + 4], "big"), 1))
         return bytes(bytes_)
 
 
-def bender(chance: random.Random) -> Callable:
+def bender(chance: random.Random, version: int) -> Callable:
     """What bends the parts of one node of a tree, or of a few."""
-    way, often = chance.randrange(7), chance.choice((0.02, 0.2, 1))
+    way, often = chance.randrange(7 if version == 1 else 10), chance.choice((0.02, 0.2, 1))
 
     def bend(node: Any, parts: List[Any]) -> List[Any]:
         if chance.random() > often or not parts:
@@ -223,17 +245,25 @@ def bender(chance: random.Random) -> Callable:
         if way == 1:  # one twice
             return [*parts, parts[at]]
         if way == 2 and node.is_leaf:  # a number again, a record in the place of another
-            parts[at] = (parts[0][0], *parts[at][1:])
+            parts[at] = parts[at]._replace(number=parts[0].number)
         elif way == 3 and not node.is_leaf:  # a rectangle that is another
-            page, around, *rest = parts[at]
-            parts[at] = (page, (around[0] - 1 if around[0] > -(2**31) else 0, *around[1:]), *rest)
+            around = parts[at].rect
+            parts[at] = parts[at]._replace(rect=(around[0] - 1 if around[0] > -(2**31) else 0, *around[1:]))
         elif way == 4 and not node.is_leaf:  # a digest of another
-            parts[at] = (*parts[at][:2], parts[0][2], parts[at][3])
+            parts[at] = parts[at]._replace(digest=parts[0].digest)
         elif way == 5 and not node.is_leaf:  # a page of another
-            parts[at] = (parts[0][0], *parts[at][1:])
+            parts[at] = parts[at]._replace(page=parts[0].page)
         elif way == 6 and node.is_leaf:  # sides out of order, with all above it in order
-            number, (x0, y0, x1, y1), payload = parts[at]
-            parts[at] = (number, (x1, y0, x0, y1), payload)
+            x0, y0, x1, y1 = parts[at].rect
+            parts[at] = parts[at]._replace(rect=(x1, y0, x0, y1))
+        elif way == 7 and not node.is_leaf:  # a mask that is another
+            mask = parts[at].mask
+            parts[at] = parts[at]._replace(mask=chance.choice((0, 2**64 - 1, mask ^ 1 << chance.randrange(64), 1)))
+        elif way == 8 and not node.is_leaf:  # a count that is another
+            count = parts[at].count
+            parts[at] = parts[at]._replace(count=chance.choice((0, 1, max(0, count - 1), count + 1, 2**20, 2**20 + 1)))
+        elif way == 9 and node.is_leaf:  # a layer that is none
+            parts[at] = parts[at]._replace(layer=chance.choice((64, 255)))
         return parts
 
     return bend
@@ -241,22 +271,24 @@ def bender(chance: random.Random) -> Callable:
 
 def bent_pages(bytes_: bytes, chance: random.Random) -> bytes:
     """A map file, of which the last page may be cut, with a field of page 0, an entry, a page or their order bent."""
-    pages = [bytes_[at : at + PAGE] for at in range(0, len(bytes_), PAGE)]
+    version = version_of(bytes_)
+    page = PAGES[version]
+    pages = [bytes_[at : at + page] for at in range(0, len(bytes_), page)]
     way, at = chance.randrange(9), chance.randrange(len(pages))
     other = bytearray(pages[at])
     if way < 2:
-        start, size = chance.choice(HEAD)
+        start, size = chance.choice(HEADS[version])
         head = bytearray(pages[0])
         value = chance.choice((0, 1, 2, len(pages), len(pages) - 1, 256**size - 1, chance.randrange(256**min(size, 4))))
         head[start : start + size] = (value % 256**size).to_bytes(size, "big")
         pages[0] = bytes(head)
     elif way == 2 and other[:1] == b"N" and len(other) > 2:
-        start = 3 + 52 * chance.randrange(max(1, other[2]))
-        size = chance.choice((4, 20, 52))
+        start = 3 + LINKS[version] * chance.randrange(max(1, other[2]))
+        size = chance.choice((4, 20, 36, LINKS[version]))
         other[start : start + size] = bytes(chance.randrange(3) for _ in range(size))
         pages[at] = bytes(other)
     elif way == 3:
-        where = chance.choice((0, 1, 2, chance.randrange(60), chance.randrange(PAGE), PAGE - 1))
+        where = chance.choice((0, 1, 2, chance.randrange(60), chance.randrange(page), page - 1))
         other[where % len(other)] ^= 1 << chance.randrange(8)
         pages[at] = bytes(other)
     elif way == 4:
@@ -264,7 +296,7 @@ def bent_pages(bytes_: bytes, chance: random.Random) -> bytes:
     elif way == 5:
         chance.shuffle(pages)
     elif way == 6:
-        pages.insert(at, chance.choice((bytes(PAGE), b"F".ljust(PAGE, b"\0"), pages[at])))
+        pages.insert(at, chance.choice((bytes(page), b"F".ljust(page, b"\0"), pages[at])))
         if chance.random() < 0.8:
             pages[0] = pages[0][:22] + struct.pack(">I", len(pages)) + pages[0][26:]
     elif way == 7:
@@ -274,13 +306,13 @@ def bent_pages(bytes_: bytes, chance: random.Random) -> bytes:
     return b"".join(pages)
 
 
-def map_file(chance: random.Random, given: List[Tuple]) -> Tuple[bytes, int]:
+def map_file(chance: random.Random, given: List[plain.Record], version: int = 1) -> Tuple[bytes, int]:
     """A map file of these records, honest or not, in a layout of its own, and the batch that it is at."""
     tree, batch, way = plain.pack(given), chance.choice((0, 0, 1, 2**64 - 1, 2**64 - 2)), chance.random()
-    layout = Layout(chance, bender(chance) if way < 0.3 else None)
+    layout = Layout(chance, version, bender(chance, version) if way < 0.3 else None)
     bytes_ = layout.file(tree, batch, chance.choice((0, 0, 1, 5)))
     for _ in range(chance.choice((1, 1, 2)) if way > 0.6 else 0):
-        bytes_ = bent_pages(bytes_, chance) if bytes_ else some_bytes(chance, 2 * PAGE)
+        bytes_ = bent_pages(bytes_, chance) if bytes_ else some_bytes(chance, 2 * PAGES[version])
     return bytes_, batch
 
 

@@ -22,13 +22,13 @@ class Map:
         if is_changed:
             self.change(bench)
 
-    def record(self, number: int) -> Tuple:
+    def record(self, number: int) -> plain.Record:
         """A record at random: a point or a rectangle, most without a payload."""
         chance, span = self.chance, self.span
         x, y = chance.randint(-span, span), chance.randint(-span, span)
         size = chance.choice((0, 0, 0, 3, 100))
         payload = bytes(chance.randrange(256) for _ in range(chance.choice((0, 0, 0, 1, 8, 200))))
-        return number, (x, y, x + chance.randint(0, size), y + chance.randint(0, size)), payload
+        return plain.Record(number, (x, y, x + chance.randint(0, size), y + chance.randint(0, size)), payload)
 
     def change(self, bench: Bench) -> None:
         """A batch that takes out about a quarter of the records and puts others in."""

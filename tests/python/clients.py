@@ -24,8 +24,8 @@ LONGEST = 40  # lines of a function
 MODULES = ["mrtree_check", "outputs", "sources", "records", "draw", "packing"]
 MOST_IN_SHORT = 2**17  # bytes of a proof that the short run takes from a story
 # The rules by which texts, batches, map files and proofs are refused.
-RULES = """TooMany NoEnd Head Form Number Coordinate Order Payload Repeat Query OutOfOrder Present Full Absent
-    Size Unsealed Header Outside Twice Page Digest Rect Fill Number Count Free Long Short BadMagic BadVersion WrongKind
+RULES = """TooMany NoEnd Head Form Number Coordinate Order Payload Repeat Query Layer OutOfOrder Present Full Absent
+    Size Unsealed Header Outside Twice Page Digest Rect Sum Fill Number Count Free Long Short BadMagic BadVersion WrongKind
     BadCount BadFlag BadRadius BadLevel BadTag BadEntries BadRect BadLength Hidden Needless Trailing WrongRoot
     WrongRadius""".split()
 
@@ -161,7 +161,7 @@ def story_holds(bench: Bench, story: tables.Group) -> int:
                 if words[1] == root:
                     bench.holds(said[1] == story.text(story.items[at + 2]), "the story '%s': %s" % (story.name(), said))
             checks += 2
-        elif words[0] in ("root", "build", "apply", "list", "prove", "make"):
+        elif words[0] in ("root", "root2", "build", "build2", "upgrade", "apply", "list", "prove", "make"):
             status, said = bench.program(words)
             if words[0] in ("build", "apply") and status == 0:
                 root = said.decode().strip()

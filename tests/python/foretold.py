@@ -2,12 +2,13 @@
 
 What comes of a command is that of said.py, by docs/FORMATS.md, under the hash function of the table. Calls that fail
 are foretold from the course of a command's calls, as the rows name them: a text or a proof is asked for its size and
-read by pieces, a map page by page; what a command makes is then made, written and synced, a map's page 0 last. Of what
-is written in a call that fails half is there. Of `apply` the calls between the copy of OLD and the first sync are not
-foretold one by one: whichever they are, a file that they leave is Unsealed, or is of a bad Size just where a page was
-being added, which comes about as often as the file has pages more than OLD. Where each call on real files fails in
-turn, what the whole run says and leaves is foretold, and about how many calls it makes; what may be left where one
-fails is a rule of the program that goes through the rows.
+read by pieces, a map page by page; what a command makes is then made, written and synced, a map's page 0 last. A map
+of version 1 goes to its file at once; one of version 2 child by child of the root, behind zeros for page 0 and the
+root, and the root's page before page 0. Of what is written in a call that fails half is there. Of `apply` the calls
+between the copy of OLD and the first sync are not foretold one by one: whichever they are, a file that they leave is
+Unsealed, or is of a bad Size just where a page was being added, which comes about as often as the file has pages more
+than OLD. Where each call on real files fails in turn, what the whole run says and leaves is foretold, and about how
+many calls it makes; what may be left where one fails is a rule of the program that goes through the rows.
 """
 import hashlib
 import os
@@ -53,7 +54,10 @@ def is_query(word: str) -> bool:
 
 FORMS: Dict[str, List[Callable[[str], bool]]] = {
     "root": [is_name],
+    "root2": [is_name],
     "build": [is_name, is_name],
+    "build2": [is_name, is_name],
+    "upgrade": [is_name, is_name],
     "list": [is_name],
     "apply": [is_name, is_name, is_name],
     "prove": [is_name, is_query, is_name],
@@ -79,13 +83,14 @@ def is_command(words: List[str]) -> bool:
 
 
 class Call(NamedTuple):
-    """A call on a file: `asks` its size, `reads`, `makes`, `adds` bytes at its end, `heads` them, or `syncs`.
+    """A call on a file: `asks` its size, `reads`, `makes`, `adds` bytes at its end, `puts` them somewhere, or `syncs`.
 
     Of `apply` also one that `edits` it, and the one behind all of those, at which it `holds` these bytes.
     """
 
     kind: str
     bytes_: bytes = b""
+    at: int = 0
 
 
 def reads_text(bytes_: Optional[bytes]) -> List[Call]:
@@ -94,15 +99,42 @@ def reads_text(bytes_: Optional[bytes]) -> List[Call]:
 
 
 def reads_map(bytes_: Optional[bytes]) -> List[Call]:
-    """The calls by which a map of at most 257 pages is read."""
-    return [Call("asks")] + [Call("reads")] * (len(bytes_ or b"") // said.PAGE)
+    """The calls by which a map of version 1, of at most 257 pages, is read."""
+    return [Call("asks")] + [Call("reads")] * (len(bytes_ or b"") // said.FIRST)
+
+
+def reads_either(bytes_: Optional[bytes]) -> List[Call]:
+    """The calls by which a map of either version is read.
+
+    Of a file that is shorter than a page of version 1 nothing is read, and page 0 alone where its size is bad.
+    """
+    size, page = len(bytes_ or b""), said.PAGES[said.version_of(bytes_ or b"")]
+    pages = 1 if size % page or size // page > said.MOST_PAGES else size // page
+    return [Call("asks")] + [Call("reads")] * (pages if size >= said.FIRST else 0)
+
+
+# The commands that make a file, and the place of its name among the words.
+MADE = {"build": 1, "build2": 1, "upgrade": 2, "make": 3, "prove": 3, "serve": 3, "apply": 3}
 
 
 def made_of(words: List[str]) -> str:
     """The name of the file that a command makes, or none."""
-    if words[0] not in ("build", "make", "prove", "serve", "apply"):
-        return ""
-    return words[1] if words[0] == "build" else words[3]
+    return words[MADE[words[0]]] if words[0] in MADE else ""
+
+
+def saves(made: bytes) -> List[Call]:
+    """The calls by which the file of a map is made, behind the one that `makes` it."""
+    version = said.version_of(made)
+    page, (tree, _) = said.PAGES[version], said.read_map(made, version)
+    calls, end = [], len(made)
+    if version == 1 or tree is None or tree.is_leaf:
+        calls.append(Call("adds", bytes(page) + made[page:]))
+    else:
+        begins = [child.page * page for child in tree.entries]
+        calls.append(Call("adds", bytes(2 * page)))
+        calls += [Call("adds", made[begin:next_]) for begin, next_ in zip(begins, [*begins[1:], end])]
+        calls.append(Call("puts", made[page : 2 * page], page))
+    return [*calls, Call("syncs"), Call("puts", made[:page]), Call("syncs")]
 
 
 def course(words: List[str], files: said.Files, made: Optional[bytes]) -> List[Call]:
@@ -110,8 +142,11 @@ def course(words: List[str], files: said.Files, made: Optional[bytes]) -> List[C
     of = lambda at: files.get(words[at])
     inputs = {
         "root": lambda: reads_text(of(1)),
+        "root2": lambda: reads_text(of(1)),
         "build": lambda: reads_text(of(2)),
-        "list": lambda: reads_map(of(1)),
+        "build2": lambda: reads_text(of(2)),
+        "upgrade": lambda: reads_either(of(1)),
+        "list": lambda: reads_either(of(1)),
         "apply": lambda: reads_map(of(1)) + reads_text(of(2)),
         "prove": lambda: reads_map(of(1)),
         "check": lambda: reads_text(of(3)),
@@ -124,12 +159,11 @@ def course(words: List[str], files: said.Files, made: Optional[bytes]) -> List[C
         return calls
     calls.append(Call("makes"))
     if words[0] == "apply":
-        calls.append(Call("adds", bytes(said.PAGE)))
-        for at in range(said.PAGE, len(of(1)), said.PAGE):
-            calls += [Call("reads"), Call("adds", of(1)[at : at + said.PAGE])]
-    elif words[0] == "build":
-        calls += [Call("adds", bytes(said.PAGE) + made[said.PAGE :]), Call("syncs")]
-        calls += [Call("heads", made[: said.PAGE]), Call("syncs")]
+        calls.append(Call("adds", bytes(said.FIRST)))
+        for at in range(said.FIRST, len(of(1)), said.FIRST):
+            calls += [Call("reads"), Call("adds", of(1)[at : at + said.FIRST])]
+    elif words[0] in ("build", "build2", "upgrade"):
+        calls += saves(made)
     else:
         calls += [Call("adds", made), Call("syncs")]
     return calls
@@ -137,21 +171,21 @@ def course(words: List[str], files: said.Files, made: Optional[bytes]) -> List[C
 
 def ending(made: bytes, count: int) -> List[Call]:
     """The calls of `apply` behind the copy, of which there are so many: all but the last three are not foretold."""
-    unsealed = bytes(said.PAGE) + made[said.PAGE :]
-    return [Call("edits")] * (count - 3) + [Call("holds", unsealed), Call("heads", made[: said.PAGE]), Call("syncs")]
+    unsealed = bytes(said.FIRST) + made[said.FIRST :]
+    return [Call("edits")] * (count - 3) + [Call("holds", unsealed), Call("puts", made[: said.FIRST]), Call("syncs")]
 
 
 def stopped(calls: List[Call], old: Optional[bytes], at: int) -> Optional[bytes]:
     """The file that these calls leave where the one of this number, from 1 on, fails; None where it is not there."""
     left = old
-    for number, (kind, bytes_) in enumerate(calls[:at], 1):
+    for number, (kind, bytes_, place) in enumerate(calls[:at], 1):
         part = bytes_[: len(bytes_) // 2] if number == at else bytes_
         if kind == "makes" and number < at:
             left = b""
         elif kind == "adds":
             left += part
-        elif kind == "heads":
-            left = part + left[len(part) :]
+        elif kind == "puts":
+            left = left[:place] + part + left[place + len(part) :]
         elif kind == "holds":
             left = bytes_
     return left
@@ -256,7 +290,8 @@ class Course:
     def lay_out(self, words: str) -> None:
         """Writes the map in one file to another."""
         name, _, other = words.partition(" ")
-        self.put(other, said.map_bytes(*said.read_map(self.files[name])))
+        version = said.version_of(self.files[name])
+        self.put(other, said.map_bytes(*said.read_map(self.files[name], version), version))
 
     def left(self, item: tables.Item) -> bool:
         """Whether a file is left as an item has it. The pages of a map after `apply` may be in any order."""
@@ -309,7 +344,8 @@ class Course:
 
     def has_pages(self, name: str, pages: int, free: int) -> bool:
         """Whether the file of a map may have so many pages, and so many free ones."""
-        nodes = len(said.map_bytes(*said.read_map(self.files[name]))) // said.PAGE
+        version = said.version_of(self.files[name])
+        nodes = 1 + nodes_of(said.read_map(self.files[name], version)[0])
         least, most = self.pages.get(name, (nodes, nodes)) if name in self.open else (nodes, nodes)
         return free == pages - nodes and max(nodes, least) <= pages <= most
 
@@ -344,7 +380,7 @@ def nodes_of(tree: Any) -> int:
 
 def pages_of(words: List[str], files: said.Files) -> Tuple[int, int]:
     """The fewest and the most pages of the file that `apply` makes: those of OLD, or by the trees on the way."""
-    old, (tree, _) = len(files[words[1]]) // said.PAGE, said.read_map(files[words[1]])
+    old, (tree, _) = len(files[words[1]]) // said.FIRST, said.read_map(files[words[1]])
     most = nodes_of(tree)
     for change in said.read_batch(files[words[2]])[1]:
         tree = plain.inserted(tree, change) if isinstance(change, tuple) else plain.deleted(tree, change)
@@ -364,7 +400,7 @@ def in_place(words: List[str], files: said.Files) -> Optional[bytes]:
         tree = plain.inserted(tree, change) if isinstance(change, tuple) else plain.deleted(tree, change)
         if nodes_of(tree) > before:
             return None
-    pages = [b""] * (len(old) // said.PAGE)
+    pages = [b""] * (len(old) // said.FIRST)
 
     def put(node: Any) -> bool:
         page, children = getattr(node, "page", 0), [] if node.is_leaf else node.entries
@@ -376,7 +412,7 @@ def in_place(words: List[str], files: said.Files) -> Optional[bytes]:
     behind = 0
     for page in range(1, len(pages)):
         if not pages[page]:
-            pages[page], behind = (b"F" + behind.to_bytes(4, "big")).ljust(said.PAGE, b"\0"), page
+            pages[page], behind = (b"F" + behind.to_bytes(4, "big")).ljust(said.FIRST, b"\0"), page
     pages[0] = said.page_0(tree, batch, len(pages), tree.page, behind)
     return b"".join(pages)
 
@@ -402,12 +438,15 @@ def reads_of(words: List[str], files: said.Files, meant: said.Meant) -> Tuple[in
 
     A window opens all nodes here, and nearest records may open kept ones alone.
     """
-    calls = course(words, files, meant.made) if meant.ended[0] in (0, 2) else []
+    of_page_0 = [b"bad map page 0 %s\n" % rule for rule in (b"Size", b"Unsealed", b"Header")]
+    calls = course(words, files, meant.made) if meant.ended[0] in (0, 2) or meant.ended[1] in of_page_0 else []
     count = sum(call.kind == "reads" for call in calls)
+    if words[0] in ("list", "upgrade") and meant.ended[0] == 4:
+        return (min(1, count),) * 2
     place = re.match(rb"refused [A-Za-z]+ at ([0-9]+)", meant.ended[1])
     if words[0] == "check" and place:
         return (int(place[1]) // PIECE + 1,) * 2
-    pages = len(files.get(words[1], b"")) // said.PAGE if words[0] in ("prove", "serve", "apply") else 0
+    pages = len(files.get(words[1], b"")) // said.FIRST if words[0] in ("prove", "serve", "apply") else 0
     again = pages - 1 if pages > KEPT + 1 else 0
     most = count + again
     if words[0] == "apply" and meant.made is not None:
@@ -467,7 +506,7 @@ class Series:
         self.copied = len(course(self.words, self.files, meant.made))
         self.behind = max(self.places) - 1 - self.copied
         self.least, self.most = pages_of(self.words, self.files)
-        self.nodes = len(meant.made) // said.PAGE - 1
+        self.nodes = len(meant.made) // said.FIRST - 1
         between = [row for row, at in zip(groups, self.places) if self.copied < at <= self.copied + self.behind - 3]
         self.sizes = sum(any(row.text(one) == SIZE for one in row.items if one.key == "prints") for row in between)
 

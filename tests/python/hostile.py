@@ -119,18 +119,19 @@ def maybe(chance: random.Random, files: Dict[str, bytes], name: str) -> Dict[str
 
 
 def texts(chance: random.Random) -> Case:
-    """Record texts, for `root` and for `build`, over an older map or none."""
-    text = bends.record_text(chance, bends.records(chance, 300))
-    way = chance.random()
+    """Record texts of either version, for `root` and for `build`, over an older map or none."""
+    version = chance.choice((1, 1, 2))
+    text = bends.record_text(bends.records(chance, 300, version), version)
+    way, end = chance.random(), "2" if version == (2 if chance.random() < 0.95 else 1) else ""
     text = bends.bent_text(text, chance) if way < 0.8 else bends.some_bytes(chance, 2000) if way < 0.85 else text
     files = maybe(chance, {"r": text}, "r")
     if chance.random() < 0.5:
-        return Case(["root", "r"], files)
+        return Case(["root" + end, "r"], files)
     old = {"m": bends.some_bytes(chance, 9000)} if chance.random() < 0.5 else {}
-    return Case(["build", "m", "r"], {**files, **old}, "m")
+    return Case(["build" + end, "m", "r"], {**files, **old}, "m")
 
 
-def honest_map(chance: random.Random, given: List[Tuple]) -> bytes:
+def honest_map(chance: random.Random, given: List[plain.Record]) -> bytes:
     """A map file without a fault."""
     return bends.Layout(chance).file(plain.pack(given), 0, chance.choice((0, 2)))
 
@@ -147,20 +148,31 @@ def batches(chance: random.Random) -> Case:
 
 
 def maps(chance: random.Random) -> Case:
-    """Map files, honest in any layout and bent, for each command that reads one."""
-    given = bends.records(chance, chance.choice((40, 400, 1500)))
-    bytes_, held = bends.map_file(chance, given)
+    """Map files of either version, honest in any layout and bent, for each command that reads one."""
+    version = chance.choice((1, 1, 2))
+    given = bends.records(chance, chance.choice((40, 400, 1500)), version)
+    bytes_, held = bends.map_file(chance, given, version)
     if chance.random() < 0.05:
-        bytes_ = bends.some_bytes(chance, 3 * bends.PAGE)
+        bytes_ = bends.some_bytes(chance, 3 * said.FIRST)
+    if version == 2 and chance.random() < 0.8:
+        return over_both(bytes_, chance, "")
     return over(bytes_, chance, given, held)
 
 
-def over(bytes_: bytes, chance: random.Random, given: List[Tuple], held: int, rule: str = "") -> Case:
+def over_both(bytes_: bytes, chance: random.Random, rule: str) -> Case:
+    """A command that reads this map file, be it of one version or the other."""
+    if chance.random() < 0.5:
+        return Case(["list", "m"], {"m": bytes_}, "", rule)
+    old = {"n": bends.some_bytes(chance, 9000)} if chance.random() < 0.3 else {}
+    return Case(["upgrade", "m", "n"], {"m": bytes_, **old}, "n", rule)
+
+
+def over(bytes_: bytes, chance: random.Random, given: List[plain.Record], held: int, rule: str = "") -> Case:
     """A command that reads this map file, which was made of these records at this batch."""
     query = proofs.word_of(bends.query(chance))
     way = chance.randrange(6)
     if way < 2:
-        return Case(["list", "m"], {"m": bytes_}, "", rule)
+        return over_both(bytes_, chance, rule)
     if way == 2:
         return Case(["prove", "m", query, "p"], {"m": bytes_}, "p", rule)
     if way == 3:
@@ -170,7 +182,7 @@ def over(bytes_: bytes, chance: random.Random, given: List[Tuple], held: int, ru
     return Case(["serve", "m", "s", "u"], {"m": bytes_, "s": bends.script_text(chance)}, "u", rule)
 
 
-def proof_of(chance: random.Random, given: List[Tuple], batch: int) -> Tuple[str, Tuple, bytes]:
+def proof_of(chance: random.Random, given: List[plain.Record], batch: int) -> Tuple[str, Tuple, bytes]:
     """A root digest, a query, and a string that is offered as its proof, honest or not."""
     tree, query = plain.pack(given), bends.query(chance)
     proof = proofs.honest(tree, batch, query)
@@ -240,20 +252,23 @@ def bent_files(bench: Bench, seed: int) -> None:
 
 def broken_maps(bench: Bench, seed: int) -> None:
     """Map files that break each rule, of each level and with free pages: laid out anew, and as `apply` left them."""
-    left, told = broken.all_left(bench, seed), dict.fromkeys(broken.ALL, 0)
+    left, told = broken.all_left(bench, seed), {}
     for number in range(40 if bench.is_long else 1):
-        for rule, level in broken.ALL:
-            for source in ("laid out", "left by apply"):
-                what = "%d: a map of level %d, %s, that breaks %s" % (number, level, source, rule)
+        for version, source in ((1, "laid out"), (1, "left by apply"), (2, "laid out")):
+            for rule, level in broken.ALL if version == 1 else broken.SECOND:
+                what = "%d: a map of version %d, level %d, %s, that breaks %s" % (number, version, level, source, rule)
                 chance = random.Random("%d %s" % (seed, what))
-                whole = left[level] if source == "left by apply" else broken.laid_out(level, chance)
-                case = over(broken.broken(whole, rule, chance), chance, [], 0, rule)
-                ended = judge(bench, case, "%s, of the seed %d" % (what, seed))
-                told[rule_of(ended), level] = told.get((rule_of(ended), level), 0) + 1
-    for level in broken.LEVELS:
-        counts = ", ".join("%s %d" % (rule, told[rule, other]) for rule, other in broken.ALL if other == level)
-        print("tests/hostile: rules that were told of maps of level %d: %s" % (level, counts))
-    bench.holds(all(told[one] for one in broken.ALL), "some rule did not come")
+                whole = left[level] if source == "left by apply" else broken.laid_out(level, version, chance)
+                bytes_ = broken.broken(whole, rule, chance)
+                case = over_both(bytes_, chance, rule) if version == 2 else over(bytes_, chance, [], 0, rule)
+                ended = version, rule_of(judge(bench, case, "%s, of the seed %d" % (what, seed))), level
+                told[ended] = told.get(ended, 0) + 1
+    for version, all_ in ((1, broken.ALL), (2, broken.SECOND)):
+        for level in broken.LEVELS:
+            rules = [(rule, told.get((version, rule, level), 0)) for rule, other in all_ if other == level]
+            counts = version, level, ", ".join("%s %d" % one for one in rules)
+            print("tests/hostile: rules that were told of maps of version %d and level %d: %s" % counts)
+            bench.holds(all(count for _, count in rules), "some rule did not come")
 
 
 def main(how: str, seed: int, program: str) -> int:

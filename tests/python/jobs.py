@@ -7,6 +7,7 @@ from bench import Bench, read, write
 from proofs import plain, word_of
 
 WINDOW = "window:-1000000,-1000000,200000,200000"
+MAKE_MAPS = ("build", "build2", "upgrade", "apply")
 
 
 class Job(NamedTuple):
@@ -36,9 +37,9 @@ def job(bench: Bench, words: str, inputs: Dict[str, bytes], made: str, meant: in
     return Job(words.split(" "), inputs, made, text, read(made) if made else b"", meant)
 
 
-def text_of(records: Iterable[Tuple]) -> bytes:
+def text_of(records: Iterable[plain.Record], version: int = 1) -> bytes:
     """The text of records."""
-    return "".join(plain.line_of(record) + "\n" for record in records).encode()
+    return "".join(plain.line_of(record, version) + "\n" for record in records).encode()
 
 
 def jobs(bench: Bench, seed: int, count: int, changes: int, queries: int) -> List[Job]:
@@ -48,9 +49,11 @@ def jobs(bench: Bench, seed: int, count: int, changes: int, queries: int) -> Lis
     gone = [b"- %d\n" % number for number in chance.sample(range(1, count + 1), changes)]
     come = [b"+ %d %d 0 %d 0 -\n" % (count + 1 + i, 1000 * i, 1000 * i) for i in range(changes)]
     batch = b"batch 1\n" + b"".join(gone + come)
+    text2 = text_of(plain.on_layers(plain.generated(count, seed)), 2)
     script = "".join(word_of(query) + "\n" for query in plain.generated_queries(queries, seed)).encode()
     build = job(bench, "build m r", {"r": text}, "m")
     map_, root = build.whole, build.text.decode().strip()
+    build2 = job(bench, "build2 m r", {"r": text2}, "m")
     prove = job(bench, "prove m %s p" % WINDOW, {"m": map_}, "p")
     serve = job(bench, "serve m s u", {"m": map_, "s": script}, "u")
     return [
@@ -61,6 +64,10 @@ def jobs(bench: Bench, seed: int, count: int, changes: int, queries: int) -> Lis
         job(bench, "make %d %d r" % (count, seed), {}, "r"),
         job(bench, "root r", {"r": text}, ""),
         job(bench, "list m", {"m": map_}, ""),
+        job(bench, "root2 r", {"r": text2}, ""),
+        build2,
+        job(bench, "upgrade m n", {"m": map_}, "n"),
+        job(bench, "list m", {"m": build2.whole}, ""),
         job(bench, "check %s %s p" % (root, WINDOW), {"p": prove.whole}, ""),
         job(bench, "audit m %s p" % WINDOW, {"m": map_, "p": prove.whole}, ""),
         job(bench, "check-all %s s u" % root, {"s": script, "u": serve.whole}, ""),
@@ -74,7 +81,7 @@ def few(bench: Bench) -> List[Job]:
     Two leaves are built, or one, or a leaf is split; a window of two leaves is proved; two queries are answered on one
     record, and checked, also where the second proof is cut off.
     """
-    row = [(number, (number, 0, number, 0), b"") for number in range(1, 18)]
+    row = [plain.point(number, number, 0) for number in range(1, 18)]
     sixteen = job(bench, "build m r", {"r": text_of(row[:16])}, "m")
     seventeen = job(bench, "build m r", {"r": text_of(row)}, "m")
     one = job(bench, "build m r", {"r": b"7 0 0 0 0 -\n"}, "m")
@@ -91,6 +98,8 @@ def few(bench: Bench) -> List[Job]:
         job(bench, "prove m window:0,0,0,0 p", {"m": one.whole}, "p"),
         job(bench, check, {"s": script, "u": serve.whole}, ""),
         job(bench, check, {"s": script, "u": serve.whole[:-1]}, "", 2),
+        job(bench, "build2 m r", {"r": text_of(plain.on_layers(row), 2)}, "m"),
+        job(bench, "upgrade m n", {"m": seventeen.whole}, "n"),
     ]
 
 
@@ -119,7 +128,7 @@ def left_of(bench: Bench, one: Job, old: Optional[bytes]) -> str:
         return "whole"
     if left == old:
         return "as before"
-    if one.words[0] not in ("build", "apply"):
+    if one.words[0] not in MAKE_MAPS:
         return "a front" if one.whole.startswith(left) else "WRONG: no front of the whole"
     said = bench.program(["list", one.made])
     is_told = said in ((4, b"bad map page 0 Size\n"), (4, b"bad map page 0 Unsealed\n"))

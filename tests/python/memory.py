@@ -6,7 +6,7 @@ import tempfile
 from typing import List, NamedTuple, Optional, Tuple
 
 from bench import HERE, Bench, Ended, write
-from jobs import Job, Tally, begin, clear, few, is_done_again, jobs, left_of
+from jobs import Job, Tally, begin, clear, few, is_done_again, jobs, left_of, text_of
 from proofs import plain
 
 SOURCE = os.path.join(HERE, "..", "refuse.c")
@@ -109,10 +109,19 @@ class Bound(NamedTuple):
 
 
 # The numbers that were measured are 4,515 and 24.1 million; 28 and 4.1 million; 2,704 and 13.9 million; 3,100. By
-# threads those of the last two differ by a few calls from run to run. A record takes some 230 bytes.
+# threads those of the last two differ by a few calls from run to run. A record takes some 230 bytes. In version 2 they
+# are 4,515 and 24.1 million, as in version 1; 8,430 and 8,768, and 31.4 million; 4,837 and 16.5 million.
 BOUNDS = (
     # the tree of 65,536 records, and copies of half of them
     Bound("list m", 5000, 26 * 10**6),
+    Bound("list k", 5000, 26 * 10**6),
+    # the records, and their tree
+    Bound("root2 t", 9000, 335 * 10**5),
+    # and of the pages those below one child of the root
+    Bound("build2 k t", 9500, 335 * 10**5),
+    # the tree, and such pages
+    Bound("upgrade m n", 5300, 175 * 10**5),
+    Bound("upgrade k n", 5300, 175 * 10**5),
     # the records, and neither the proof nor as many again for a sort; 57 pieces come, none of which asks for memory
     Bound("check ROOT %s p" % ALL, 40, 45 * 10**5),
     # the proofs, of 13.3 million bytes, each in no more room than it has bytes, and of the bundle a part
@@ -135,11 +144,14 @@ def counted(bench: Bench, words: List[str], path: str) -> Tuple[int, int, int]:
 
 
 def lay_out(bench: Bench) -> Tuple[str, str]:
-    """Makes the maps m, l and s, a proof p and a script q; the root digests of l and s."""
+    """Makes the maps m, k, l and s, the text t of k, a proof p and a script q; the root digests of l and s."""
     clear()
-    lines = [plain.line_of((number, plain.place(number)[1], b"Z" * 200)) + "\n" for number in range(1, LONG + 1)]
+    lines = [plain.line_of(plain.place(number)._replace(payload=b"Z" * 200)) + "\n" for number in range(1, LONG + 1)]
     write("long.txt", "".join(lines).encode())
     write("q", (ALL + "\n").encode() * SERVED)
+    write("t", text_of(plain.on_layers(plain.generated(65536, 1)), 2))
+    status, said = bench.program(["build2", "k", "t"])
+    bench.holds(status == 0, "build2 k t: status %d and %s" % (status, said[:200]))
     roots = []
     long = ("build l long.txt", "prove l %s p" % ALL)
     for words in ("make 65536 1 r", "build m r", *long, "make 2000 1 r", "build s r", "serve s q u"):

@@ -1,7 +1,8 @@
 """What the program says of its files: status, printed text and the file that it makes, by docs/FORMATS.md alone.
 
 A text or a map that breaks a rule is told by the line that is printed of it. Proofs and bundles are judged by the
-client in clients/python. Slow: for maps of a few thousand records.
+client in clients/python. Maps are of version 1 or 2; for what is said of proofs, and for `apply`, a file is read as a
+map of version 1. Slow: for maps of a few thousand records.
 """
 import re
 import struct
@@ -10,8 +11,11 @@ from typing import Any, Dict, Iterator, List, NamedTuple, Optional, Set, Tuple
 from bench import Ended, mrtree_check
 from proofs import Item, Layout, honest, plain
 
-PAGE = 4096
+PAGES = {1: 4096, 2: 8192}  # the bytes of a page, by the version of its map
+FIRST = PAGES[1]
 MOST_RECORDS = 2**20
+MOST_PAGES = 2**20
+MOST_LAYER = 63
 MOST_QUERIES = 65536
 Files = Dict[str, bytes]
 
@@ -47,20 +51,33 @@ def number_of(field: bytes, least: int, most: int) -> Optional[int]:
     return value if least <= value <= most else None
 
 
-def read_fields(fields: List[bytes]) -> Tuple[Any, List[str]]:
-    """The record of six fields, and the rules that they break, in their order."""
+def read_fields(fields: List[bytes], numbers: Set[int]) -> Tuple[Any, List[str]]:
+    """The record of six fields, or of seven with a layer, and the rules that they break, in their order.
+
+    These numbers stand on earlier lines.
+    """
     number = number_of(fields[0], 0, 2**64 - 1)
     corners = [number_of(field, -(2**31), 2**31 - 1) for field in fields[1:5]]
+    layer = number_of(fields[5], 0, MOST_LAYER) if len(fields) == 7 else 0
+    payload = fields[-1]
     rules = ["Number"] if number is None else []
     if None in corners:
         rules.append("Coordinate")
     elif corners[0] > corners[2] or corners[1] > corners[3]:
         rules.append("Order")
-    if fields[5] != b"-" and not re.fullmatch(rb"([0-9a-f]{2}){1,200}", fields[5]):
+    if payload != b"-" and not re.fullmatch(rb"([0-9a-f]{2}){1,200}", payload):
         rules.append("Payload")
+    rules += ["Repeat"] if number in numbers else []
+    rules += ["Layer"] if layer is None else []
     if rules:
         return None, rules
-    return (number, tuple(corners), b"" if fields[5] == b"-" else bytes.fromhex(fields[5].decode())), []
+    held = b"" if payload == b"-" else bytes.fromhex(payload.decode())
+    return plain.Record(number, tuple(corners), held, layer), []
+
+
+def fields_of(version: int) -> int:
+    """How many fields the line of a record has."""
+    return 5 + version
 
 
 def ends_in_time(text: bytes, place: int, lines: List[bytes], most: int) -> List[str]:
@@ -69,33 +86,31 @@ def ends_in_time(text: bytes, place: int, lines: List[bytes], most: int) -> List
     return rules + (["NoEnd"] if place == len(lines) - 1 and text[-1:] != b"\n" else [])
 
 
-def read_records(text: bytes) -> List[Tuple]:
+def read_records(text: bytes, version: int = 1) -> List[plain.Record]:
     """The records of a record text."""
     records, seen, lines = [], set(), lines_of(text, MOST_RECORDS)
     for place, line in enumerate(lines):
         rules, fields = ends_in_time(text, place, lines, MOST_RECORDS), line.split(b" ")
-        record, broken = (None, ["Form"]) if len(fields) != 6 else read_fields(fields)
-        rules += broken
-        if record and record[0] in seen:
-            rules.append("Repeat")
-        told_of_line(text, place + 1, rules)
-        seen.add(record[0])
+        is_form = len(fields) == fields_of(version)
+        record, broken = read_fields(fields, seen) if is_form else (None, ["Form"])
+        told_of_line(text, place + 1, rules + broken)
+        seen.add(record.number)
         records.append(record)
     return records
 
 
-def read_change(line: bytes) -> Tuple[Any, List[str]]:
+def read_change(line: bytes, version: int) -> Tuple[Any, List[str]]:
     """A record that comes or the number of one that goes, and the rules that the line breaks."""
     fields = line.split(b" ")
-    if fields[0] == b"+" and len(fields) == 7:
-        return read_fields(fields[1:])
+    if fields[0] == b"+" and len(fields) == 1 + fields_of(version):
+        return read_fields(fields[1:], set())
     if fields[0] == b"-" and len(fields) == 2:
         number = number_of(fields[1], 0, 2**64 - 1)
         return number, (["Number"] if number is None else [])
     return None, ["Form"]
 
 
-def read_batch(text: bytes) -> Tuple[int, List[Any]]:
+def read_batch(text: bytes, version: int = 1) -> Tuple[int, List[Any]]:
     """The number of a batch text, and its changes."""
     lines, changes, batch = lines_of(text, MOST_RECORDS + 1), [], 0
     told_of_line(text, 1, [] if lines else ["Head"])
@@ -105,7 +120,7 @@ def read_batch(text: bytes) -> Tuple[int, List[Any]]:
             batch = number_of(line[6:], 0, 2**64 - 1) if line[:6] == b"batch " else None
             rules += ["Head"] if batch is None else []
         else:
-            change, broken = read_change(line)
+            change, broken = read_change(line, version)
             rules += broken
             changes.append(change)
         told_of_line(text, place + 1, rules)
@@ -140,13 +155,20 @@ def read_script(text: bytes) -> List[Tuple]:
 # ---- map files
 
 
+def version_of(bytes_: bytes) -> int:
+    """The version in which a map file is read."""
+    return 2 if bytes_[4:5] == b"\x02" else 1
+
+
 class Named(NamedTuple):
-    """How a node is named by its parent or by page 0."""
+    """How a node is named by its parent or by page 0: by page 0 without a count, in version 1 without a mask too."""
 
     page: int
     level: int
     rect: Tuple[int, ...]
     digest: bytes
+    mask: Optional[int] = None
+    count: Optional[int] = None
 
 
 def told_of_map(page: int, rule: str, what: str = "") -> Told:
@@ -162,33 +184,42 @@ def is_in_order(rect: Tuple[int, ...]) -> bool:
 class Walk:
     """Reads a map file: its tree (None of a map without records) and its batch, or tells its fault."""
 
-    def __init__(self, bytes_: bytes) -> None:
-        self.bytes_, self.pages = bytes_, len(bytes_) // PAGE
+    def __init__(self, bytes_: bytes, version: int) -> None:
+        self.bytes_, self.version, self.size = bytes_, version, PAGES[version]
+        self.pages = len(bytes_) // self.size
         self.reached: Set[int] = {0}
         self.numbers: Set[int] = set()
 
     def page(self, page: int) -> bytes:
         """The bytes of a page."""
-        return self.bytes_[page * PAGE : (page + 1) * PAGE]
+        return self.bytes_[page * self.size : (page + 1) * self.size]
 
     def read(self) -> Tuple[Any, int]:
         """The tree and the batch."""
-        if not self.bytes_ or len(self.bytes_) % PAGE or self.pages > 2**20:
+        if not self.bytes_ or len(self.bytes_) % self.size or self.pages > MOST_PAGES:
             raise told_of_map(0, "Size")
         head = self.page(0)
         if head[-4:] != b"SEAL":
             raise told_of_map(0, "Unsealed")
         level, (batch, count, pages, root) = head[5], struct.unpack(">QQII", head[6:30])
-        rect, digest, free = struct.unpack(">4i", head[30:46]), head[46:78], int.from_bytes(head[78:82], "big")
-        is_empty_right = count > 0 or not (level or root or any(rect) or any(digest))
-        is_right = head[:5] == b"MRMP\x01" and level <= 7 and count <= MOST_RECORDS and pages == self.pages
-        if not (is_right and is_empty_right and (root or not count) and is_in_order(rect)) or any(head[82:-4]):
+        named, free, rest = self.root_named(head, level, root)
+        is_none = not (level or root or any(named.rect) or named.mask or any(named.digest))
+        is_some = root and named.mask != 0 and count <= MOST_RECORDS
+        is_right = head[:5] == b"MRMP" + bytes([self.version]) and level <= 7 and pages == self.pages
+        if not (is_right and (is_some if count else is_none) and is_in_order(named.rect)) or any(rest):
             raise told_of_map(0, "Header")
-        tree = self.node(Named(root, level, rect, digest), True) if count else None
+        tree = self.node(named, True) if count else None
         if count != len(self.numbers):
             raise told_of_map(0, "Count", " held %d found %d" % (count, len(self.numbers)))
         self.chain(free)
         return tree, batch
+
+    def root_named(self, head: bytes, level: int, page: int) -> Tuple[Named, int, bytes]:
+        """How page 0 names the root; the first free page; and the zeros between that and the seal."""
+        at = 46 if self.version == 1 else 54
+        mask = int.from_bytes(head[46:at], "big") if self.version == 2 else None
+        named = Named(page, level, struct.unpack(">4i", head[30:46]), head[at : at + 32], mask)
+        return named, int.from_bytes(head[at + 32 : at + 36], "big"), head[at + 36 : -4]
 
     def node(self, named: Named, is_root: bool) -> Any:
         """The node that is named so."""
@@ -202,17 +233,29 @@ class Walk:
         found = plain.digest(preimage)
         if found != named.digest:
             raise told_of_map(page, "Digest", " held %s found %s" % (named.digest.hex(), found.hex()))
-        if plain.union([part[1] if named.level == 0 else part.rect for part in parts]) != named.rect:
+        if plain.union([part.rect for part in parts]) != named.rect:
             raise told_of_map(page, "Rect")
+        if not self.sums(named, parts, is_root):
+            raise told_of_map(page, "Sum")
         if len(parts) < ((1 if named.level == 0 else 2) if is_root else (6 if named.level == 0 else 24)):
             raise told_of_map(page, "Fill")
         for record in [] if named.level else parts:
-            if record[0] in self.numbers:
+            if record.number in self.numbers:
                 raise told_of_map(page, "Number")
-            self.numbers.add(record[0])
+            self.numbers.add(record.number)
         node = plain.Node(not named.level, [self.node(part, False) for part in parts] if named.level else parts)
         node.page = page
         return node
+
+    def sums(self, named: Named, parts: List[Any], is_root: bool) -> bool:
+        """Whether a node is named with the mask and the count of its parts, if its version says either."""
+        if self.version == 1:
+            return True
+        mask, count = 0, 0
+        for part in parts:
+            mask |= part.mask if named.level else 1 << part.layer
+            count += part.count if named.level else 1
+        return mask == named.mask and (is_root or count == named.count)
 
     def parts(self, named: Named) -> Tuple[List[Any], bytes]:
         """The records or the named children of a node's page, and the preimage."""
@@ -225,11 +268,13 @@ class Walk:
         """The records of a leaf page."""
         bytes_, at, records = self.page(page), 2, []
         for _ in range(self.count(bytes_[:1] == b"L", bytes_[1], 16)):
-            number, *rect, length = struct.unpack_from(">Q4iB", bytes_, at)
-            if not is_in_order(tuple(rect)) or length > 200:
+            number, *rect = struct.unpack_from(">Q4i", bytes_, at)
+            layer, end = (0, at + 25) if self.version == 1 else (bytes_[at + 24], at + 26)
+            length = bytes_[end - 1]
+            if not is_in_order(tuple(rect)) or layer > MOST_LAYER or length > 200:
                 raise ValueError
-            records.append((number, tuple(rect), bytes_[at + 25 : at + 25 + length]))
-            at += 25 + length
+            records.append(plain.Record(number, tuple(rect), bytes_[end : end + length], layer))
+            at = end + length
         return self.ended(bytes_, at, records), bytes_[:at]
 
     def inner(self, page: int, level: int) -> Tuple[List[Any], bytes]:
@@ -237,11 +282,13 @@ class Walk:
         bytes_, at, named, preimage = self.page(page), 3, [], self.page(page)[:3]
         for _ in range(self.count(bytes_[:1] == b"N" and bytes_[1] == level, bytes_[2], 64)):
             child, *rect = struct.unpack_from(">I4i", bytes_, at)
-            if not is_in_order(tuple(rect)):
+            mask, count = struct.unpack_from(">QQ", bytes_, at + 20) if self.version == 2 else (None, None)
+            if not is_in_order(tuple(rect)) or mask == 0 or (count is not None and not 1 <= count <= MOST_RECORDS):
                 raise ValueError
-            named.append(Named(child, level - 1, tuple(rect), bytes_[at + 20 : at + 52]))
-            preimage += bytes_[at + 4 : at + 52]
-            at += 52
+            end = at + (52 if self.version == 1 else 68)
+            named.append(Named(child, level - 1, tuple(rect), bytes_[end - 32 : end], mask, count))
+            preimage += bytes_[at + 4 : end]
+            at = end
         return self.ended(bytes_, at, named), preimage
 
     def count(self, is_kind: bool, count: int, most: int) -> int:
@@ -269,41 +316,41 @@ class Walk:
                 raise told_of_map(page, "Free")
 
 
-def read_map(bytes_: bytes) -> Tuple[Any, int]:
+def read_map(bytes_: bytes, version: int = 1) -> Tuple[Any, int]:
     """The tree and the batch that a file stands for; each node has its page."""
-    return Walk(bytes_).read()
+    return Walk(bytes_, version).read()
 
 
-def page_of(node: Any, children: List[int]) -> bytes:
+def page_of(node: Any, children: List[int], version: int = 1) -> bytes:
     """The page of a node whose children are on these pages."""
     if node.is_leaf:
-        front, parts = b"L" + bytes([len(node.entries)]), b"".join(map(plain.record_bytes, node.entries))
+        page = node.preimage(version)
     else:
-        front, named = b"N" + bytes([node.level(), len(node.entries)]), zip(children, node.entries)
-        parts = b"".join(struct.pack(">I4i", page, *child.rect) + child.digest() for page, child in named)
-    return (front + parts).ljust(PAGE, b"\0")
+        parts = [struct.pack(">I", at) + plain.entry(child, version) for at, child in zip(children, node.entries)]
+        page = b"N" + bytes([node.level(), len(parts)]) + b"".join(parts)
+    return page.ljust(PAGES[version], b"\0")
 
 
-def page_0(tree: Any, batch: int, pages: int, root: int, free: int) -> bytes:
+def page_0(tree: Any, batch: int, pages: int, root: int, free: int, version: int = 1) -> bytes:
     """Page 0 of a file of so many pages, with the root node and the first free page there."""
-    named = struct.pack(">4i", *tree.rect) + tree.digest() if tree else bytes(48)
+    named = plain.root_entry(tree, version) if tree else bytes(48 if version == 1 else 56)
     count, level = (len(tree.records()), tree.level()) if tree else (0, 0)
-    head = b"MRMP\x01" + bytes([level]) + struct.pack(">QQII", batch, count, pages, root) + named
-    return (head + struct.pack(">I", free)).ljust(PAGE - 4, b"\0") + b"SEAL"
+    head = b"MRMP" + bytes([version, level]) + struct.pack(">QQII", batch, count, pages, root) + named
+    return (head + struct.pack(">I", free)).ljust(PAGES[version] - 4, b"\0") + b"SEAL"
 
 
-def map_bytes(tree: Any, batch: int) -> bytes:
+def map_bytes(tree: Any, batch: int, version: int = 1) -> bytes:
     """The map file with the nodes from page 1 on, a node before its children, and no free page."""
     pages: List[bytes] = []
 
     def put(node: Any) -> int:
         at = len(pages)
         pages.append(b"")
-        pages[at] = page_of(node, [] if node.is_leaf else [put(child) for child in node.entries])
+        pages[at] = page_of(node, [] if node.is_leaf else [put(child) for child in node.entries], version)
         return at + 1
 
     root = put(tree) if tree else 0
-    return page_0(tree, batch, len(pages) + 1, root, 0) + b"".join(pages)
+    return page_0(tree, batch, len(pages) + 1, root, 0, version) + b"".join(pages)
 
 
 # ---- commands
@@ -323,9 +370,9 @@ def file_of(files: Files, name: str) -> bytes:
     return files[name]
 
 
-def record_lines(records: List[Tuple]) -> bytes:
+def record_lines(records: List[plain.Record], version: int = 1) -> bytes:
     """The lines of records."""
-    return "".join(plain.line_of(record) + "\n" for record in records).encode()
+    return "".join(plain.line_of(record, version) + "\n" for record in records).encode()
 
 
 def line(text: str) -> bytes:
@@ -334,16 +381,25 @@ def line(text: str) -> bytes:
 
 
 def say_root(words: List[str], files: Files) -> Meant:
-    """`root`, and `build`, which makes a map."""
-    tree = plain.pack(read_records(file_of(files, words[-1])))
-    made = map_bytes(tree, 0) if words[0] == "build" else None
-    return Meant((0, line(plain.root(tree, 0))), made)
+    """`root`, `root2`, and `build` and `build2`, which make a map."""
+    version = 2 if words[0][-1] == "2" else 1
+    tree = plain.pack(read_records(file_of(files, words[-1]), version))
+    made = map_bytes(tree, 0, version) if words[0].startswith("build") else None
+    return Meant((0, line(plain.root(tree, 0, version))), made)
 
 
 def say_list(words: List[str], files: Files) -> Meant:
     """`list`."""
-    tree, _ = read_map(file_of(files, words[1]))
-    return Meant((0, record_lines(sorted(tree.records()) if tree else [])))
+    bytes_ = file_of(files, words[1])
+    tree, _ = read_map(bytes_, version_of(bytes_))
+    return Meant((0, record_lines(sorted(tree.records()) if tree else [], version_of(bytes_))))
+
+
+def say_upgrade(words: List[str], files: Files) -> Meant:
+    """`upgrade`."""
+    bytes_ = file_of(files, words[1])
+    tree, batch = read_map(bytes_, version_of(bytes_))
+    return Meant((0, line(plain.root(tree, batch, 2))), map_bytes(tree, batch, 2))
 
 
 def say_apply(words: List[str], files: Files) -> Meant:
@@ -454,7 +510,10 @@ def say_client(words: List[str], files: Files) -> Meant:
 
 COMMANDS = {
     "root": say_root,
+    "root2": say_root,
     "build": say_root,
+    "build2": say_root,
+    "upgrade": say_upgrade,
     "list": say_list,
     "apply": say_apply,
     "prove": say_prove,

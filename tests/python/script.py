@@ -13,7 +13,7 @@ from bench import EXAMPLES, TOP, Bench
 
 NOBODY = 65534
 KIT = "rattle-kit-0 logic 0123456789abcdef"
-COMMANDS = "root build list apply prove check audit serve check-all make demo".split()
+COMMANDS = "root build root2 build2 list upgrade apply prove check audit serve check-all make demo".split()
 CRATES = {"low": [], "middle": ["low"], "beside": ["low"], "mrtree": ["low", "middle", "beside"]}
 PLACES = "b136e9ea66645cc4c87feaf0addfecbc0d52bd619bc06f05e004ff35cbfaff04"
 WINDOW = "window:133700000,525100000,133800000,525200000"
@@ -230,6 +230,15 @@ TOLD = [  # words, status, what the line has in it
     (["check", PLACES, WINDOW, "cut.proof"], 2, "'cut.proof' was cut off"),
     (["check", PLACES, WINDOW, "places.txt"], 2, "'places.txt' is no proof"),
     (["check-all", "0" * 64, "places.script", "places.bundle"], 2, "what the server gave was not taken"),
+    (["root2", "windows.txt"], 3, r"line 1 of 'windows.txt' is: 7 0 0 0 0 -\$"),
+    (["build2", "new.map", "layers.txt"], 3, r"line 2 of 'layers.txt' is: 8 0 0 0 0 64 -\$"),
+    (["upgrade", "places.txt", "new.map"], 4, "'places.txt' is not a whole map"),
+    (["upgrade", "none.map", "new.map"], 7, "there is no file 'none.map'"),
+    (["upgrade", "places.map", "folder"], 7, "'folder' is a folder"),
+    (["build2", "none/new.map", "layer.txt"], 7, "there is no folder 'none'"),
+    (["list", "places.proof"], 4, "'places.proof' is not a whole map"),
+    (["prove", "second.map", WINDOW, "new.proof"], 4, "'second.map' is of version 2, and 'prove' takes"),
+    (["apply", "second.map", "places.batch", "new.map"], 4, "'second.map' is of version 2, and 'apply' takes"),
     (["root", "windows.txt"], 3, r"line 2 of 'windows.txt' is: 8 0 0 0 0 -\\r\$"),
     (["build", "new.map", "tabs.txt"], 3, r"line 1 of 'tabs.txt' is: 7\\t0"),
     (["build", "new.map", "back\\nslash"], 7, r"there is no file 'back\\nslash'"),
@@ -260,13 +269,15 @@ def in_a_terminal(world: World) -> None:
     shutil.copy("places.txt", "own.txt")
     os.link("own.txt", "link.txt")
     files = {"windows.txt": b"7 0 0 0 0 -\n8 0 0 0 0 -\r\n", "tabs.txt": b"7\t0 0 0 0 -\n", "late.batch": b"batch 2\n"}
-    files["other.txt"] = b"7 0 0 0 0 -\n"
+    files["other.txt"], files["layer.txt"] = b"7 0 0 0 0 -\n", b"7 0 0 0 0 5 -\n"
+    files["layers.txt"], files["places.proof"] = b"7 0 0 0 0 5 -\n8 0 0 0 0 64 -\n", b"MRVO\2"
     with open("places-window.proof", "rb") as file:
         files["cut.proof"] = file.read()[:100]
     for name, bytes_ in files.items():
         with open(name, "wb") as file:
             file.write(bytes_)
-    for words in (["build", "places.map", "places.txt"], ["build", "other.map", "other.txt"]):
+    maps = (["build", "places.map", "places.txt"], ["build", "other.map", "other.txt"])
+    for words in (*maps, ["upgrade", "places.map", "second.map"]):
         world.bench.holds(world.bench.program(words)[0] == 0, "a map for the rows")
     world.bench.program(["serve", "places.map", "places.script", "places.bundle"])
     for words, status, line in TOLD:

@@ -64,11 +64,11 @@ class Steps:
         self.demand(self.meets(around))
         return struct.pack(">4i", *around) + hashlib.sha256(preimage).digest()
 
-    def record(self) -> Tuple:
+    def record(self) -> plain.Record:
         """One record of step 8."""
         number, rect, length = self.number(8), self.rect(), self.number(1)
         self.demand(length <= 200)
-        return number, rect, self.take(length)
+        return plain.Record(number, rect, self.take(length))
 
     def check(self, root: str) -> List[Tuple]:
         """Steps 1 to 14: the answer."""

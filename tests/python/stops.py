@@ -31,14 +31,15 @@ def stop(bench: Bench, one: Job, after: float) -> Optional[int]:
 
 
 def stopped(bench: Bench, seed: int) -> None:
-    """`build`, `apply`, `prove` and `serve`, each stopped as often: together two hundred times in the long run.
+    """Each command that makes a file but `make`, as often: together three hundred stops in the long run.
 
     A run that ended before it was to be stopped does not count, and another one is begun.
     """
     chance, tally = random.Random(seed), Tally()
     size, often = (30000, 50) if bench.is_long else (4000, 4)
     ended = 0
-    for one in jobs(bench, seed % 2**64, size, 100, 50)[:4]:
+    made = [one for one in jobs(bench, seed % 2**64, size, 100, 50) if one.made and one.words[0] != "make"]
+    for one in made:
         seconds, stops, runs = seconds_of(bench, one), 0, 0
         other = one.whole[: len(one.whole) // 4096 // 2 * 4096] + b"x"
         while stops < often and runs < MOST * often:
@@ -55,5 +56,6 @@ def stopped(bench: Bench, seed: int) -> None:
             bench.holds(is_done_again(bench, one), "%s does not do all after a stop" % one.words[0])
         ended += runs - stops
         bench.holds(stops == often, "%s: of %d runs %d were stopped" % (one.words[0], runs, stops))
-    print("tests/hostile: %d runs were stopped, and %d ended before; what the stopped ones left:" % (4 * often, ended))
+    counts = often * len(made), ended
+    print("tests/hostile: %d runs were stopped, and %d ended before; what the stopped ones left:" % counts)
     tally.show()

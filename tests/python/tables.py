@@ -136,7 +136,12 @@ def lines(front_: str, numbers: Iterable[int]) -> bytes:
     return "".join(front_ + plain.line_of(plain.place(number)) + "\n" for number in numbers).encode()
 
 
-def layered(numbers: Iterable[int]) -> bytes:
+def lines2(numbers: Iterable[int]) -> bytes:
+    """The lines of version 2 of the places of these numbers, each on the layer of its column."""
+    return "".join(plain.line_of(plain.place2(number), 2) + "\n" for number in numbers).encode()
+
+
+def overlapping(numbers: Iterable[int]) -> bytes:
     """The lines of records of these numbers: the odd ones at one place, the even ones scattered, and large."""
     text = ""
     for number in numbers:
@@ -167,9 +172,9 @@ def fields(front_: bytes, form: str, numbers: Tuple[int, ...]) -> bytes:
     return bytes_
 
 
-def record(line: str) -> bytes:
+def record(line: str, version: int = 1) -> bytes:
     """A record in a leaf."""
-    return plain.record_bytes(plain.record_of(line.split(" ")))
+    return plain.record_bytes(plain.record_of(line.split(" ")), version)
 
 
 def put(bytes_: bytes, part: str) -> bytes:
@@ -184,7 +189,8 @@ def put(bytes_: bytes, part: str) -> bytes:
         "zeros": lambda: bytes(n[0]),
         "points": lambda: "".join("%d %d 0 %d 0 -\n" % (i, i, i) for i in range(1, n[0] + 1)).encode(),
         "places": lambda: lines("", range(n[0], n[0] + n[1])),
-        "layered": lambda: layered(range(n[0], n[0] + n[1])),
+        "places2": lambda: lines2(range(n[0], n[0] + n[1])),
+        "overlapping": lambda: overlapping(range(n[0], n[0] + n[1])),
         "added": lambda: lines("+ ", range(n[0], n[0] + n[1])),
         "removed": lambda: removed(*n),
         "renewed": lambda: (b"- %d\n" % n[0] + lines("+ ", [n[0]])) * n[1],
@@ -193,13 +199,18 @@ def put(bytes_: bytes, part: str) -> bytes:
         "nearest": lambda: fields(b"MRVO\x01K", "QQBRB" if n[2] else "QQBB", n),
         "leaf": lambda: fields(b"L", "B", n),
         "record": lambda: record(words),
+        "record2": lambda: record(words, 2),
         "node": lambda: fields(b"N", "B", n),
         "pruned": lambda: fields(b"P", "iiiiD", n),
         "map": lambda: fields(b"MRMP\x01", "BQQIIiiiiD", n),
+        "map2": lambda: fields(b"MRMP\x02", "BQQIIiiiiQD", n),
         "inner": lambda: fields(b"N", "BB", n),
         "child": lambda: fields(b"", "IiiiiD", n),
+        "child2": lambda: fields(b"", "IiiiiQQD", n),
         "seal": lambda: bytes(4092 - len(bytes_)) + b"SEAL",
+        "seal2": lambda: bytes(8188 - len(bytes_)) + b"SEAL",
         "fill": lambda: bytes(-len(bytes_) % 4096),
+        "fill2": lambda: bytes(-len(bytes_) % 8192),
     }
     if kind not in ways:
         raise Unread(part)

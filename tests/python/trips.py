@@ -109,7 +109,7 @@ def encoded(features: List[Dict[str, Any]]) -> bytes:
     return text.replace('"#', "").replace('#"', "").encode()
 
 
-def expected(feature: Dict[str, Any]) -> Tuple[int, Tuple[int, ...], bytes]:
+def expected(feature: Dict[str, Any]) -> plain.Record:
     """The record of a feature, computed anew."""
     xs, ys = zip(*flat(feature["geometry"]))
     sides = [min(xs) / UNIT, min(ys) / UNIT, max(xs) / UNIT, max(ys) / UNIT]
@@ -118,7 +118,7 @@ def expected(feature: Dict[str, Any]) -> Tuple[int, Tuple[int, ...], bytes]:
     else:
         ways = (ROUND_FLOOR, ROUND_FLOOR, ROUND_CEILING, ROUND_CEILING)
         rect = tuple(int(side.to_integral_value(way)) for side, way in zip(sides, ways))
-    return int(feature["id"]), rect, (feature["properties"] or {}).get("name", "").encode()
+    return plain.Record(int(feature["id"]), rect, (feature["properties"] or {}).get("name", "").encode())
 
 
 def numbers_of(chance: random.Random, size: int) -> List[int]:
@@ -146,24 +146,25 @@ def trip_holds(bench: Bench, chance: random.Random, size: int) -> None:
         bench.holds([decoded(one) for one in back] == (sorted(scan) if len(query) == 4 else scan), "back by " + word)
 
 
-def decoded(feature: Dict[str, Any]) -> Tuple[int, Tuple[int, ...], bytes]:
+def decoded(feature: Dict[str, Any]) -> plain.Record:
     """The record of a feature that came back, whose kind is that of its rectangle."""
-    number, rect, payload = expected(feature)
-    extents = (rect[2] > rect[0]) + (rect[3] > rect[1])
+    record = expected(feature)
+    extents = (record.rect[2] > record.rect[0]) + (record.rect[3] > record.rect[1])
     assert feature["geometry"]["type"] == ("Point", "LineString", "Polygon")[extents]
-    return number, rect, payload
+    return record
 
 
 # ---- from one state to another
 
 
-def table_of(records: List[Tuple]) -> bytes:
+def table_of(records: List[plain.Record]) -> bytes:
     """A CSV file of records, with columns of other names and in another order."""
     out = io.StringIO(newline="")
     rows = csv.writer(out, delimiter=";")
     rows.writerow(["top", "label", "right", "key", "left", "more", "low"])
-    for number, (x0, y0, x1, y1), payload in records:
-        rows.writerow([y1, payload.decode(), x1, number, x0, "x", y0])
+    for record in records:
+        x0, y0, x1, y1 = record.rect
+        rows.writerow([y1, record.payload.decode(), x1, record.number, x0, "x", y0])
     return b"\xef\xbb\xbf" + out.getvalue().encode()
 
 

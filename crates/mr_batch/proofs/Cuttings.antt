@@ -7,7 +7,7 @@ use Rattle.mr_record.specs.declared.text_fault.TextErr.{TextErr}
 use Rattle.mr_record.specs.declared.text_fault.TextErr.TheVariants as errors
 use Rattle.mr_record.specs.Decimal.{u64_of}
 use Rattle.mr_record.specs.Lines.{Line, lines_of, fields_of, Lacks, IsCutAt}
-use Rattle.mr_record.specs.RecordText.{record_of_fields}
+use Rattle.mr_record.specs.declared.version.Version.{Version}
 use Rattle.mr_record.proofs.Fields.{fields_one, fields_cut, fields_filled}
 use Rattle.mr_batch.specs.declared.change.Change.{Change}
 use Rattle.mr_batch.specs.Changes.{Changes}
@@ -53,17 +53,18 @@ same_either_way true b x = refl
 same_either_way false true x = refl
 same_either_way false false x = refl
 
-one_part : (line : List ℕ) → change_of_fields (line ∷ []) ≡ Err Form
-unfolding change_of_fields removal_of_fields record_of_fields
-one_part line = same_either_way (bytes_eq line (codes "+")) (bytes_eq line (codes "-")) (Err Form)
+one_part : (v : Version) (line : List ℕ) → change_of_fields v (line ∷ []) ≡ Err Form
+unfolding change_of_fields removal_of_fields
+one_part v line = same_either_way (bytes_eq line (codes "+")) (bytes_eq line (codes "-")) (Err Form)
 
-pub change_one : (line : List ℕ) → Lacks 32 line → change_of_line line ≡ Err Form
-change_one line lacks = ap change_of_fields (fields_one line lacks) ∙ one_part line
+pub change_one : (v : Version) (line : List ℕ) → Lacks 32 line → change_of_line v line ≡ Err Form
+change_one v line lacks = ap (change_of_fields v) (fields_one line lacks) ∙ one_part v line
 
-pub no_head : (text : List ℕ) → length text ≡ 0 → batch_of_text text ≡ Err (record { line = 1; rule = Head })
+pub no_head : (v : Version) (text : List ℕ) → length text ≡ 0 →
+    batch_of_text v text ≡ Err (record { line = 1; rule = Head })
 unfolding lines_of batch_of_lines
-no_head [] none = refl
-no_head (b ∷ text) none = absurd (omega arith)
+no_head v [] none = refl
+no_head v (b ∷ text) none = absurd (omega arith)
 
 -- ---- the changes behind the head
 
@@ -72,16 +73,16 @@ two_or_more text front back cut =
     let more : 0 < length (fields_of back) = fields_filled back in
     rw (fields_cut text front back cut) (omega arith)
 
-pub behind_refused : (n : ℕ) (lines : List Line) (e : TextErr) (meant : Result Changes TextFault) →
-    meant ≡ batch_behind n lines → Refuses e (values_after change_lines [] lines) → Refuses e meant
+pub behind_refused : (v : Version) (n : ℕ) (lines : List Line) (e : TextErr) (meant : Result Changes TextFault) →
+    meant ≡ batch_behind v n lines → Refuses e (values_after (change_lines v) [] lines) → Refuses e meant
 unfolding batch_behind
-behind_refused n lines (errors.Text fault) meant is broken = is ∙ rw broken refl
-behind_refused n lines errors.NoMemory meant is broken = tt
+behind_refused v n lines (errors.Text fault) meant is broken = is ∙ rw broken refl
+behind_refused v n lines errors.NoMemory meant is broken = tt
 
-pub behind_read : (n : ℕ) (lines : List Line) (changes : List Change) (meant : Result Changes TextFault) →
-    meant ≡ batch_behind n lines → values_after change_lines [] lines ≡ Ok changes →
+pub behind_read : (v : Version) (n : ℕ) (lines : List Line) (changes : List Change) (meant : Result Changes TextFault) →
+    meant ≡ batch_behind v n lines → values_after (change_lines v) [] lines ≡ Ok changes →
     meant ≡ Ok (record { number = n; list = changes })
 unfolding batch_behind
-behind_read n lines changes meant is read = is ∙ rw read refl
+behind_read v n lines changes meant is read = is ∙ rw read refl
 
 pub ruleset behind_head = (behind_refused, behind_read)

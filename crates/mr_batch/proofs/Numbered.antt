@@ -94,7 +94,7 @@ as_many entries rs rising have =
 -- ---- there are such records
 
 abbrev record_at : (ℕ × Rectangle) → Record
-record_at e = record { number = e.0; rect = e.1; payload = [] }
+record_at e = record { number = e.0; rect = e.1; layer = 0; payload = [] }
 
 member_entry : (n : ℕ) (entries : Entries) → is_member eqb (keys_of entries) n ≡ has_number n (map record_at entries)
 member_entry n [] = refl

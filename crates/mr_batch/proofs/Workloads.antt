@@ -5,7 +5,9 @@ use Rattle.std.proofs.lemmas.List.FromFn.{length-enumerate_from, get_or-enumerat
 use Rattle.std.specs.List.{enumerate_from}
 use Rattle.rand_core.specs.Steps.{first_words}
 use Rattle.mr_record.specs.declared.record.Record.{Record}
-use Rattle.mr_record.specs.Record.{IsRecord}
+use Rattle.std.proofs.lemmas.List.Elements.{All-nil, All-cons}
+use Rattle.mr_record.specs.declared.version.Version.TheVariants.{One}
+use Rattle.mr_record.specs.Record.{IsRecord, HasLayer}
 use Rattle.mr_record.specs.RecordText.{IsRecordList}
 use Rattle.mr_query.specs.declared.query.Query.{Query}
 use Rattle.mr_batch.specs.Workload.{words, of_each, record_of_word, generated, query_of_word, generated_queries}
@@ -94,11 +96,18 @@ apart_each first ws i j d before below same =
     let q = number_at first ws j d below in
     absurd (omega arith)
 
+layers_each : (first : ℕ) (ws : List ℕ) → All (HasLayer One) (of_each record_of_word first ws)
+unfolding of_each record_of_word
+layers_each first [] = All-nil (HasLayer One)
+layers_each first (w ∷ ws) = All-cons (HasLayer One) (record_of_word first w) _ (omega arith)
+    (layers_each (first + 1) ws)
+
 pub generated_list : (rs : List Record) (n start : ℕ) → rs ≡ generated n start → All IsRecord rs
-    → length rs ≡ n → n ≤ 2 ^ 20 → IsRecordList rs
+    → length rs ≡ n → n ≤ 2 ^ 20 → IsRecordList One rs
 unfolding generated
 generated_list rs n start exact each count few = record {
   each = each;
+  layers = subst (All (HasLayer One)) (sym exact) (layers_each 1 (words n start));
   apart = subst (λ (l : List Record). AllPairs (λ a b. a.number ≢ b.number) l) (sym exact)
       (apart_each 1 (words n start));
   count = omega arith;

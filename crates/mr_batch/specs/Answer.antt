@@ -7,6 +7,7 @@ use Rattle.mr_record.specs.declared.text_fault.TextErr.TheVariants.{Text, NoMemo
 use Rattle.mr_record.specs.Lines.{Line, lines_of}
 use Rattle.mr_record.specs.LineTexts.{IsFirstFaultBy}
 use Rattle.mr_record.specs.Answer.{Refuses}
+use Rattle.mr_record.specs.declared.version.Version.{Version}
 use Rattle.mr_batch.specs.Changes.{Changes}
 use Rattle.mr_batch.specs.BatchText.{head_line, number_of_line, AreChanges, change_lines}
 
@@ -23,18 +24,18 @@ pub record IsHeadFault (text : List ℕ) (fault : TextFault) : Type 0 where
       → number_of_line line ≡ Err fault.rule
 
 -- the first line is that of a batch, and the fault is the first of the lines behind it
-pub record IsChangeFault (text : List ℕ) (fault : TextFault) : Type 0 where
+pub record IsChangeFault (v : Version) (text : List ℕ) (fault : TextFault) : Type 0 where
   pub number : ℕ
   pub fits : number < 2 ^ 64
   pub behind : List Line
   pub lines : lines_of text ≡ lines_of (head_line number ++ 10 ∷ []) ++ behind
-  pub broken : IsFirstFaultBy change_lines AreChanges behind fault
+  pub broken : IsFirstFaultBy (change_lines v) (AreChanges v) behind fault
 
 -- the fault is that of the first line, or that of the first line behind it that breaks a rule
-abbrev pub IsFirstFault : List ℕ → TextFault → Type 0
-IsFirstFault text fault = IsHeadFault text fault ⊎ IsChangeFault text fault
+abbrev pub IsFirstFault : Version → List ℕ → TextFault → Type 0
+IsFirstFault v text fault = IsHeadFault text fault ⊎ IsChangeFault v text fault
 
 -- the refusal is the first fault of the text, or memory ran out
-abbrev pub IsRefusal : List ℕ → TextErr → Type 0
-IsRefusal text (Text fault) = IsFirstFault text fault
-IsRefusal text NoMemory = ⊤
+abbrev pub IsRefusal : Version → List ℕ → TextErr → Type 0
+IsRefusal v text (Text fault) = IsFirstFault v text fault
+IsRefusal v text NoMemory = ⊤

@@ -51,6 +51,7 @@ unfoldable pub record_of_word : (number word : ℕ) → Record
 record_of_word number word = record {
   number = number;
   rect = rectangle_of_word word;
+  layer = 0;
   payload = to_be_bytes w64 word;
 }
 

@@ -17,5 +17,5 @@ pub use batch::Batch;
 pub use change::Change;
 pub use directory::Directory;
 pub use replay::{ApplyErr, apply_plain};
-pub use text::read_batch;
+pub use text::{read_batch, read_batch_of, read_batch2};
 pub use workload::{generate, generate_queries};

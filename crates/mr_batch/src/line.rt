@@ -5,7 +5,7 @@ ghost use Rattle.mr_record.specs.Lines.{fields_of};
 ghost use Rattle.mr_batch.specs.BatchText.{head_of_fields, head_of_line, addition_of_fields, removal_of_fields, change_of_fields, change_of_line};
 
 use crate::Change;
-use mr_record::{TextRule, cut, read_line, read_u64};
+use mr_record::{TextRule, Version, cut, read_line_of, read_u64};
 
 // Whether no space stands in the text.
 #[tactic(auto, using(crate::proofs::Cuttings::two_or_more, mr_record::proofs::Fields::fields_one))]
@@ -45,10 +45,10 @@ pub(crate) fn read_head(line: &[u8]) -> Option<u64>
 }
 
 // An addition, from the line behind `+ `.
-fn read_addition(rest: &[u8]) -> Result<Change, TextRule>
-    ensures { result ≡ addition_of_fields (fields_of rest.now) }
+fn read_addition(version: Version, rest: &[u8]) -> Result<Change, TextRule>
+    ensures { result ≡ addition_of_fields version (fields_of rest.now) }
 {
-    let one = read_line(rest)?;
+    let one = read_line_of(version, rest)?;
     Ok(Change::Add(one))
 }
 
@@ -73,11 +73,11 @@ fn read_removal(rest: &[u8]) -> Result<Change, TextRule>
 
 // A change, from the parts of its line.
 #[tactic(auto, unfolding(crate::specs::BatchText::change_of_fields))]
-fn read_signed(sign: &[u8], rest: &[u8]) -> Result<Change, TextRule>
-    ensures { result ≡ change_of_fields (sign.now ∷ fields_of rest.now) }
+fn read_signed(version: Version, sign: &[u8], rest: &[u8]) -> Result<Change, TextRule>
+    ensures { result ≡ change_of_fields version (sign.now ∷ fields_of rest.now) }
 {
     if sign == b"+".as_slice() {
-        return read_addition(rest);
+        return read_addition(version, rest);
     }
     if sign == b"-".as_slice() {
         return read_removal(rest);
@@ -87,11 +87,11 @@ fn read_signed(sign: &[u8], rest: &[u8]) -> Result<Change, TextRule>
 
 // Reads one line without its line feed: `+ ` and a record line, or `- ` and a number.
 #[tactic(auto, using(crate::proofs::Cuttings::change_one, mr_record::proofs::Fields::fields_cut))]
-pub(crate) fn read_change(line: &[u8]) -> Result<Change, TextRule>
-    ensures { result ≡ change_of_line line.now }
+pub(crate) fn read_change(version: Version, line: &[u8]) -> Result<Change, TextRule>
+    ensures { result ≡ change_of_line version line.now }
 {
     match cut(line, b' ') {
-        Some((sign, rest)) => read_signed(sign, rest),
+        Some((sign, rest)) => read_signed(version, sign, rest),
         None => Err(TextRule::Form),
     }
 }

@@ -1,9 +1,10 @@
 //! Trees after batches.
 
-ghost use Rattle.std.specs.Prelude.{◌≡◌, [], ◌∷◌, true, IfOk, IfErr, OnOk};
+ghost use Rattle.std.specs.Prelude.{◌≡◌, [], ◌∷◌, true, IfOk, IfErr, OnOk, All};
 ghost use Rattle.std.specs.List.Sorted.{IsPermutation};
 ghost use Rattle.mr_tree.specs.Tree.{records as records_in};
 ghost use Rattle.mr_tree.specs.WellFormed.{WellFormed};
+ghost use Rattle.mr_batch.specs.Changes.{IsLayered};
 ghost use Rattle.mr_batch.specs.Applied.{may_make, made, IsAdmissible};
 ghost use Rattle.mr_batch.specs.Admissible.{batch_fault};
 ghost use Rattle.mr_batch.specs.Replay.{changed as tree_after, replayed as tree_after_all, replay, IsLeft};
@@ -53,6 +54,7 @@ fn fault_of(
 // The tree after a change that may be made.
 fn changed(alloc: Global, tree: Tree, change: &Change) -> Result<Tree, AllocError>
     requires well_formed { WellFormed tree }
+    requires layer { IsLayered change.now }
     requires may { may_make (records_in tree) change.now ≡ true }
     ensures exact { IfOk result (λ t. t ≡ tree_after tree change.now) }
     ensures well_formed { IfOk result WellFormed }
@@ -68,6 +70,7 @@ fn changed(alloc: Global, tree: Tree, change: &Change) -> Result<Tree, AllocErro
 // The tree after the changes of a batch, each of which may be made in its turn.
 fn replayed(alloc: Global, mut tree: Tree, held: u64, batch: &Batch) -> Result<Tree, AllocError>
     requires well_formed { WellFormed tree }
+    requires layers { All IsLayered batch.now.list }
     requires admissible { IsAdmissible (records_in tree) held batch.now }
     ensures exact { IfOk result (λ t. t ≡ tree_after_all tree batch.now.list) }
     ensures well_formed { IfOk result WellFormed }
@@ -84,7 +87,8 @@ fn replayed(alloc: Global, mut tree: Tree, held: u64, batch: &Batch) -> Result<T
 /// removal as `delete` does it. A batch that may not be applied is refused with the first cause,
 /// and the tree comes back. Whether numbers are there is asked of a directory, which is made once.
 pub fn apply_plain(alloc: Global, tree: Tree, held: u64, batch: &Batch) -> Result<Tree, ApplyErr>
-    requires { WellFormed tree }
+    requires well_formed { WellFormed tree }
+    requires layers { All IsLayered batch.now.list }
     ensures exact { IfOk result (λ t. t ≡ replay tree (batch.now ∷ [])) }
     ensures well_formed { IfOk result WellFormed }
     ensures records { IfOk result

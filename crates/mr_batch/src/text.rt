@@ -2,6 +2,7 @@
 
 ghost use Rattle.std.specs.Prelude.{◌≡◌, IfOk, IfErr, Ok};
 ghost use Rattle.mr_record.specs.Lines.{lines_of};
+ghost use Rattle.mr_record.specs.declared.version.Version.TheVariants.{One, Two};
 ghost use Rattle.mr_batch.specs.Changes.{Changes};
 ghost use Rattle.mr_batch.specs.BatchText.{IsBatch, batch_text, number_of_line, batch_behind, batch_of_lines, batch_of_text};
 ghost use Rattle.mr_record.specs.Answer.{Refuses};
@@ -10,7 +11,7 @@ ghost use Rattle.mr_batch.specs.Answer.{Answers, IsRefusal};
 use crate::line::{read_change, read_head};
 use crate::links::links;
 use crate::{Batch, Change};
-use mr_record::{LineReader, TextErr, TextFault, TextRule, first_line, read_values};
+use mr_record::{LineReader, TextErr, TextFault, TextRule, Version, first_line, read_values};
 use std::alloc::{AllocError, Global};
 
 // The most changes of a batch.
@@ -29,10 +30,10 @@ fn read_number(line: &[u8], ended: bool) -> Result<u64, TextRule>
 
 // The number of a batch, and the text behind the first line.
 #[tactic(auto, unfolding(crate::specs::BatchText::batch_of_lines))]
-fn take_head(text: &[u8]) -> Result<(u64, &[u8]), TextErr>
-    ensures goes_on { IfOk result (λ head. batch_of_text text.now
-        ≡ batch_behind head.0 (lines_of head.1.now)) }
-    ensures refused { IfErr result (λ e. Refuses e (batch_of_text text.now)) }
+fn take_head(_version: Version, text: &[u8]) -> Result<(u64, &[u8]), TextErr>
+    ensures goes_on { IfOk result (λ head. batch_of_text _version text.now
+        ≡ batch_behind _version head.0 (lines_of head.1.now)) }
+    ensures refused { IfErr result (λ e. Refuses e (batch_of_text _version text.now)) }
 {
     if text.is_empty() {
         return Err(TextErr::Text(TextFault {
@@ -49,7 +50,9 @@ fn take_head(text: &[u8]) -> Result<(u64, &[u8]), TextErr>
 
 // Reads changes. It has nothing to keep of the earlier ones.
 #[derive(Drop)]
-struct ReadsChanges;
+struct ReadsChanges {
+    version: Version,
+}
 
 impl LineReader for ReadsChanges {
     type Value = Change;
@@ -57,15 +60,15 @@ impl LineReader for ReadsChanges {
     ghost use Rattle.std.specs.Prelude.{⊤};
     ghost use Rattle.mr_batch.specs.BatchText.{change_lines};
 
-    ghost reader = { change_lines };
+    ghost reader = { λ r. change_lines r.version };
 
     ghost keeps = { λ r earlier. ⊤ };
 
-    fn limit() -> usize {
+    fn limit(&self) -> usize {
         CHANGE_LIMIT
     }
 
-    fn first() -> u8 {
+    fn first(&self) -> u8 {
         2
     }
 
@@ -74,7 +77,7 @@ impl LineReader for ReadsChanges {
     }
 
     fn read(&self, _earlier: &[Change], line: &[u8]) -> Result<Change, TextRule> {
-        read_change(line)
+        read_change(self.version, line)
     }
 
     fn keep(&mut self, _earlier: &[Change], _one: &Change) -> Result<(), AllocError> {
@@ -83,22 +86,46 @@ impl LineReader for ReadsChanges {
 }
 
 #[tactic(auto, using(crate::proofs::Cuttings::behind_head))]
-fn read_all(alloc: Global, text: &[u8]) -> Result<Batch, TextErr>
-    ensures { Answers result (batch_of_text text.now) }
+fn read_all(alloc: Global, version: Version, text: &[u8]) -> Result<Batch, TextErr>
+    ensures { Answers result (batch_of_text version text.now) }
 {
-    let (number, rest) = take_head(text)?;
-    let changes = read_values(alloc, ReadsChanges, rest)?;
+    let (number, rest) = take_head(version, text)?;
+    let changes = read_values(alloc, ReadsChanges { version }, rest)?;
     let links = links(alloc, &changes)?;
     Ok(Batch::new(number, changes, links))
 }
 
-/// Reads a batch text: the line `batch N`, then at most 2^20 lines, each `+ ` and a record line or
-/// `- ` and a record number, each line with a line feed.
-pub fn read_batch(alloc: Global, text: &[u8]) -> Result<Batch, TextErr>
-    ensures exact { Answers result (batch_of_text text.now) }
-    ensures written { IfOk result (λ b. IsBatch b × (text.now ≡ batch_text b)) }
-    ensures read { (b : Changes) → IsBatch b → text.now ≡ batch_text b → Answers result (Ok b) }
-    ensures refused { IfErr result (λ e. IsRefusal text.now e) }
+/// Reads a batch text of a version: the line `batch N`, then at most 2^20 lines, each `+ ` and a
+/// record line or `- ` and a record number, each line with a line feed.
+pub fn read_batch_of(alloc: Global, version: Version, text: &[u8]) -> Result<Batch, TextErr>
+    ensures exact { Answers result (batch_of_text version text.now) }
+    ensures written { IfOk result
+        (λ b. IsBatch version b × (text.now ≡ batch_text version b)) }
+    ensures read { (b : Changes) → IsBatch version b → text.now ≡ batch_text version b
+        → Answers result (Ok b) }
+    ensures refused { IfErr result (λ e. IsRefusal version text.now e) }
 {
-    read_all(alloc, text)
+    read_all(alloc, version, text)
+}
+
+/// The same of version 1.
+pub fn read_batch(alloc: Global, text: &[u8]) -> Result<Batch, TextErr>
+    ensures exact { Answers result (batch_of_text One text.now) }
+    ensures written { IfOk result (λ b. IsBatch One b × (text.now ≡ batch_text One b)) }
+    ensures read { (b : Changes) → IsBatch One b → text.now ≡ batch_text One b
+        → Answers result (Ok b) }
+    ensures refused { IfErr result (λ e. IsRefusal One text.now e) }
+{
+    read_batch_of(alloc, Version::One, text)
+}
+
+/// The same of version 2.
+pub fn read_batch2(alloc: Global, text: &[u8]) -> Result<Batch, TextErr>
+    ensures exact { Answers result (batch_of_text Two text.now) }
+    ensures written { IfOk result (λ b. IsBatch Two b × (text.now ≡ batch_text Two b)) }
+    ensures read { (b : Changes) → IsBatch Two b → text.now ≡ batch_text Two b
+        → Answers result (Ok b) }
+    ensures refused { IfErr result (λ e. IsRefusal Two text.now e) }
+{
+    read_batch_of(alloc, Version::Two, text)
 }

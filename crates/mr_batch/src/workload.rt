@@ -4,6 +4,7 @@
 ghost use Rattle.std.specs.Prelude.{◌≡◌, ℕ, ◌+◌, ◌^◌, ◌≤◌, pos, negsuc, ◌≤ℤ◌, ◌∷◌, All, IfOk, length};
 ghost use Rattle.mr_record.specs.Record.{IsRecord};
 ghost use Rattle.mr_record.specs.RecordText.{IsRecordList};
+ghost use Rattle.mr_record.specs.declared.version.Version.TheVariants.{One};
 ghost use Rattle.mr_query.specs.Word.{IsAskable};
 ghost use Rattle.mr_batch.specs.Workload.{words, upper, lower, coordinate, rectangle_from, extent, rectangle_of_word, record_of_word, generated, query_of_word, generated_queries};
 
@@ -93,6 +94,7 @@ fn record_of(number: u64, word: u64) -> Record
             let one = Record {
                 number,
                 rect,
+                layer: 0,
                 payload,
             };
             is_record(&one);
@@ -110,7 +112,7 @@ fn record_of(number: u64, word: u64) -> Record
 pub fn generate(alloc: Global, n: u32, start: u64) -> Result<Vec<Record>, AllocError>
     requires { n ≤ 2 ^ 20 }
     ensures exact { IfOk result (λ v. v.items ≡ generated n start) }
-    ensures records { IfOk result (λ v. IsRecordList v.items) }
+    ensures records { IfOk result (λ v. IsRecordList One v.items) }
     ensures count { IfOk result (λ v. length v.items ≡ n) }
 {
     let mut records = Vec::with_capacity(alloc, n as usize)?;

@@ -8,7 +8,7 @@ use mr_check::{CheckErr, Intake};
 use mr_outside::{MemShelf, MemSink};
 use mr_proof::{Fault, Rule};
 use mr_query::{Query, read_query};
-use mr_record::{Record, write_lines};
+use mr_record::{Record, write_line};
 use mr_tool::Status::{self, Done, Refused};
 use mr_tree::Hash32;
 use std::alloc::{AllocError, Global};
@@ -32,7 +32,11 @@ fn judged<H: Hash32>(
 
 fn answer(alloc: Global, records: &[Record]) -> Result<Vec<u8>, AllocError> {
     let mut out = MemSink::new(alloc, Vec::new(alloc));
-    let _ = write_lines(&mut out, records);
+    for record in records {
+        if record.layer == 0 {
+            let _ = write_line(&mut out, record);
+        }
+    }
     out.bytes().to_vec(alloc)
 }
 

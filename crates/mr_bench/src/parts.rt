@@ -6,8 +6,9 @@
 //!   `..` stands for 62 zeros; `hex DIGITS` are bytes, `zeros N` so many zeros.
 //! - `points N` are the lines of the records I at (I,0) for I from 1 to N, `places FIRST N` those
 //!   of N records from this number on, scattered over the plane, with a byte of payload each, and
-//!   `layered FIRST N` those of as many, the odd ones all at (10000,10000), and the even ones
-//!   scattered, 15,000 wide and high. `times N TEXT` is N times the line `| TEXT`.
+//!   `overlapping FIRST N` those of as many, the odd ones all at (10000,10000), and the even ones
+//!   scattered, 15,000 wide and high. `places2` are the lines of version 2 of `places`, each on a
+//!   layer by its column. `times N TEXT` is N times the line `| TEXT`.
 //! - `added FIRST N` are changes of a batch that add those; `removed FIRST N STEP OF` remove N
 //!   records: of the numbers from 1 to OF in steps, those from the place FIRST on; by `renewed I N`
 //!   record I goes and comes N times; by `mixed FIRST` 250 times a record of 3,000 goes and another
@@ -19,17 +20,22 @@
 //! - `map` is the head of a map file (level, batch, count, pages, root page, rectangle, digest),
 //!   `inner` begins an inner node's page (level, count), `child` is a child on it (page, rectangle,
 //!   digest); `seal` fills the first page with zeros up to its seal, `fill` any page to its end.
+//! - `map2` is that head in version 2 (with a mask in front of the digest), `child2` such a child
+//!   (with a mask and a count there), and `record2`, `seal2` and `fill2` are those of version 2.
 //!
 //! Numbers are decimal, or hexadecimal behind `0x`; words between them are for the reader. A digest
 //! is given by its value as a number: zeros come before it.
 
-use mr_record::read_line;
+use mr_record::Version::{self, One, Two};
+use mr_record::read_line_of;
 use std::alloc::{AllocError, Global};
 
 /// A file by its name, and its parts line by line.
 pub type File<'a> = (&'a str, &'a str);
 
 const PAGE: usize = 4096;
+
+const SECOND_PAGE: usize = 8192;
 
 fn put_zeros(bytes: &mut Vec<u8>, count: usize) -> Result<(), AllocError> {
     for _ in 0..count {
@@ -115,8 +121,8 @@ fn put_fields(
 }
 
 // The record that a line of a text spells. Whether it spells one.
-fn put_record(bytes: &mut Vec<u8>, line: &str) -> Result<bool, AllocError> {
-    let Ok(record) = read_line(line.as_bytes()) else {
+fn put_record(bytes: &mut Vec<u8>, version: Version, line: &str) -> Result<bool, AllocError> {
+    let Ok(record) = read_line_of(version, line.as_bytes()) else {
         return Ok(false);
     };
     let (x0, y0, x1, y1) = record.rect.corners();
@@ -125,23 +131,26 @@ fn put_record(bytes: &mut Vec<u8>, line: &str) -> Result<bool, AllocError> {
     for side in [x0, y0, x1, y1] {
         bytes.extend_from_slice(&side.to_be_bytes())?;
     }
+    if version == Two {
+        bytes.push(record.layer)?;
+    }
     bytes.push((payload.len() % 256) as u8)?;
     bytes.extend_from_slice(payload)?;
     Ok(true)
 }
 
-fn put_seal(bytes: &mut Vec<u8>) -> Result<bool, AllocError> {
-    let room = (PAGE - 4).saturating_sub(bytes.len());
+fn put_seal(bytes: &mut Vec<u8>, page: usize) -> Result<bool, AllocError> {
+    let room = page.saturating_sub(4).saturating_sub(bytes.len());
     put_zeros(bytes, room)?;
     bytes.extend_from_slice(b"SEAL")?;
     Ok(true)
 }
 
-fn put_fill(bytes: &mut Vec<u8>) -> Result<bool, AllocError> {
-    let last = bytes.len() % PAGE;
-    if last > 0 {
-        put_zeros(bytes, PAGE - last)?;
-    }
+// Puts zeros up to the end of a page, of which there are few.
+fn put_fill(bytes: &mut Vec<u8>, page: usize) -> Result<bool, AllocError> {
+    let count = bytes.len().div_ceil(page.max(1));
+    let room = count.saturating_mul(page).saturating_sub(bytes.len());
+    put_zeros(bytes, room)?;
     Ok(true)
 }
 
@@ -184,7 +193,24 @@ fn put_places(
     Ok(true)
 }
 
-fn put_layer(bytes: &mut Vec<u8>, alloc: Global, i: u64) -> Result<(), AllocError> {
+fn put_places2(
+    bytes: &mut Vec<u8>,
+    alloc: Global,
+    first: u64,
+    count: u64,
+) -> Result<bool, AllocError> {
+    for k in 0..count {
+        let i = first.wrapping_add(k);
+        let x = i.wrapping_mul(7_919) % 20_011;
+        let y = i.wrapping_mul(104_729) % 19_997;
+        put_words(bytes, alloc, &[i, x, y, x + i % 3, y + i % 5, x / 320])?;
+        let byte = i % 256;
+        bytes.extend_from_slice(format!(in alloc; "{byte:02x}\n")?.as_bytes())?;
+    }
+    Ok(true)
+}
+
+fn put_wide(bytes: &mut Vec<u8>, alloc: Global, i: u64) -> Result<(), AllocError> {
     if i % 2 == 1 {
         put_words(bytes, alloc, &[i, 10_000, 10_000, 10_000, 10_000])?;
     } else {
@@ -195,14 +221,14 @@ fn put_layer(bytes: &mut Vec<u8>, alloc: Global, i: u64) -> Result<(), AllocErro
     bytes.extend_from_slice(b"-\n")
 }
 
-fn put_layers(
+fn put_overlapping(
     bytes: &mut Vec<u8>,
     alloc: Global,
     first: u64,
     count: u64,
 ) -> Result<bool, AllocError> {
     for i in 0..count {
-        put_layer(bytes, alloc, first.wrapping_add(i))?;
+        put_wide(bytes, alloc, first.wrapping_add(i))?;
     }
     Ok(true)
 }
@@ -266,7 +292,8 @@ fn put_made(
     match kind {
         "points" => put_points(bytes, alloc, first),
         "places" => put_places(bytes, alloc, b"", first, count),
-        "layered" => put_layers(bytes, alloc, first, count),
+        "places2" => put_places2(bytes, alloc, first, count),
+        "overlapping" => put_overlapping(bytes, alloc, first, count),
         "added" => put_places(bytes, alloc, b"+ ", first, count),
         "renewed" => put_renewed(bytes, alloc, first, count),
         "mixed" => put_mixed(bytes, alloc, first),
@@ -323,10 +350,17 @@ fn put_on_page(bytes: &mut Vec<u8>, kind: &str, numbers: &[i128]) -> Result<bool
             let widths: &[usize] = &[1, 8, 8, 4, 4, 4, 4, 4, 4, 32];
             put_fields(bytes, b"MRMP\x01", widths, numbers)
         }
+        "map2" => {
+            let widths: &[usize] = &[1, 8, 8, 4, 4, 4, 4, 4, 4, 8, 32];
+            put_fields(bytes, b"MRMP\x02", widths, numbers)
+        }
         "inner" => put_fields(bytes, b"N", &[1, 1], numbers),
         "child" => put_fields(bytes, b"", &[4, 4, 4, 4, 4, 32], numbers),
-        "seal" => put_seal(bytes),
-        "fill" => put_fill(bytes),
+        "child2" => put_fields(bytes, b"", &[4, 4, 4, 4, 4, 8, 8, 32], numbers),
+        "seal" => put_seal(bytes, PAGE),
+        "seal2" => put_seal(bytes, SECOND_PAGE),
+        "fill" => put_fill(bytes, PAGE),
+        "fill2" => put_fill(bytes, SECOND_PAGE),
         _ => Ok(false),
     }
 }
@@ -334,7 +368,7 @@ fn put_on_page(bytes: &mut Vec<u8>, kind: &str, numbers: &[i128]) -> Result<bool
 fn is_made(kind: &str) -> bool {
     matches!(
         kind,
-        "points" | "places" | "layered" | "added" | "removed" | "renewed" | "mixed"
+        "points" | "places" | "places2" | "overlapping" | "added" | "removed" | "renewed" | "mixed"
     )
 }
 
@@ -399,7 +433,8 @@ pub fn put_part(bytes: &mut Vec<u8>, alloc: Global, line: &str) -> Result<bool, 
         "text" => put_text(bytes, alloc, words),
         "times" => put_times(bytes, alloc, words),
         "hex" => put_hex(bytes, alloc, words),
-        "record" => put_record(bytes, words),
+        "record" => put_record(bytes, One, words),
+        "record2" => put_record(bytes, Two, words),
         _ => put_counted(bytes, alloc, kind, words),
     }
 }

@@ -1,7 +1,6 @@
 -- The proofs for many queries on one map.
 use Rattle.std.specs.Prelude.{◌≡◌, ⊤, ℕ, List, map, Option, Some}
 use Rattle.mr_tree.specs.Digest.{Scheme, by}
-use Rattle.mr_tree.specs.Nodes.{top_version}
 use Rattle.mr_tree.specs.Snapshot.{tree_of}
 use Rattle.mr_tree.specs.declared.nodes.NodesErr.{NodesErr}
 use Rattle.mr_tree.specs.declared.nodes.NodesErr.TheVariants as errors
@@ -22,7 +21,7 @@ bundle s t batch queries = bundle_of (proofs s t batch queries)
 
 -- the honest proof on the map whose nodes and head these are
 abbrev pub proof_in : (List ℕ → List ℕ) → List Stored → Top → Query → List ℕ
-proof_in hash nodes top q = proof (by (top_version top) hash) (tree_of nodes top) top.batch q
+proof_in hash nodes top q = proof (by top.version hash) (tree_of nodes top) top.batch q
 
 -- a refusal is answered as it was given
 abbrev pub as_given : NodesErr → NodesErr

@@ -28,7 +28,7 @@ use Rattle.mr_proof.proofs.Values.{same_bytes, bytes_same}
 use Rattle.mr_check.specs.declared.frame.Frame.{Frame}
 use Rattle.mr_check.specs.declared.frame.Stack.{Stack}
 use Rattle.mr_tree.specs.declared.entry.Entry.{Entry}
-use Rattle.mr_tree.specs.declared.gathering.Gathering.{Gathering}
+use Rattle.mr_check.specs.declared.open_node.OpenNode.{OpenNode}
 use Rattle.mr_check.specs.declared.stage.HeadField.TheVariants as field
 use Rattle.mr_check.specs.declared.stage.Stage.{Stage}
 use Rattle.mr_check.specs.declared.stage.Stage.TheVariants as stage
@@ -154,7 +154,7 @@ fault_final hash holds root q r s piece z f is b =
 
 -- ---- nothing fed
 
-abbrev fresh : {H : Type 0} → Question → Stack (Frame H) → Gathering H → Record → Reader H
+abbrev fresh : {H : Type 0} → Question → Stack (Frame H) → OpenNode H → Record → Reader H
 fresh q s x one = record {
   machine = record {
     head = record { kind = q.kind; batch = 0; count = 0; radius = None; level = 0 };
@@ -175,7 +175,7 @@ none_out q = refl
 
 pub fresh_stands : {H : Type 0} (hash : List ℕ → List ℕ) (holds : H → List ℕ → Type 0) (q : Question)
     (s : Stack (Frame H))
-    (x : Gathering H) (one : Record) → s.list.items ≡ [] → StandsAt hash holds q (fresh q s x one) []
+    (x : OpenNode H) (one : Record) → s.list.items ≡ [] → StandsAt hash holds q (fresh q s x one) []
 unfolding stop_of
 fresh_stands hash holds q s x one none = record {
   next = whole q.kind q.way;

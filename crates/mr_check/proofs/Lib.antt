@@ -1,6 +1,7 @@
 pub mod Checks
 pub mod Stopping
 pub mod Noting
+pub mod Silent
 pub mod Opening
 pub mod Nodes
 pub mod Stepping

@@ -5,14 +5,13 @@ use Rattle.mr_geom.specs.Rectangle.{Rectangle}
 use Rattle.mr_record.specs.declared.record.Record.{Record}
 use Rattle.mr_tree.specs.Digest.{root_preimage}
 use Rattle.mr_tree.specs.declared.entry.Entry.{Entry}
-use Rattle.mr_tree.specs.declared.gathering.Gathering.{Gathering}
+use Rattle.mr_check.specs.declared.open_node.OpenNode.{OpenNode}
 use Rattle.mr_proof.specs.declared.head.Head.{Head}
 use Rattle.mr_proof.specs.declared.rule.Rule.{Rule}
 use Rattle.mr_proof.specs.declared.rule.Rule.TheVariants as rule
 use Rattle.mr_proof.specs.declared.want.Want.TheVariants as want
 use Rattle.mr_proof.specs.Cut.{Cut, rect, digest}
 use Rattle.mr_proof.specs.Spelling.{Said, said, version_of}
-use Rattle.mr_proof.specs.declared.way.Way.{Way}
 use Rattle.mr_proof.specs.Tight.{seen_at, seen, opens_seen, Question}
 use Rattle.mr_proof.specs.Grammar.{Grammar, done, reads, tag_in}
 use Rattle.mr_proof.proofs.Preimages.{entry-rect}
@@ -46,7 +45,7 @@ closed_root hash holds q m s node given [] P r =
         waits = refl;
         is_open = record {
           root = λ i. root_preimage (version_of m.head) m.head.batch m.head.count (record
-              { level = at i; rect = place i; digest = same i });
+              { level = at i; rect = place i; mask = node.mask; count = node.count; digest = same i });
           rect = place;
           kept = r.kept;
           tally = r.tally;
@@ -57,7 +56,7 @@ closed_root hash holds q m s node given (o ∷ os) P r = absurd r.frames
 
 -- a child with others behind it
 pub closed_child : {H : Type 0} (hash : List ℕ → List ℕ) (holds : H → List ℕ → Type 0) (q : Question) (m : Machine H)
-    (s : Stack (Frame H)) (f : Frame H) (n : Gathering H) (fs : List (Frame H)) (node : Entry) (given : List Record)
+    (s : Stack (Frame H)) (f : Frame H) (n : OpenNode H) (fs : List (Frame H)) (node : Entry) (given : List Record)
     (os : List Open) (P : Cut) → Adds holds f.node n node → 0 < f.left
     → reverse s.list.items ≡ record { node = n; left = f.left - 1 } ∷ fs
     → IsRead hash holds q m.head (f ∷ fs) m.tally node given os P
@@ -67,7 +66,7 @@ closed_child hash holds q m s f n fs node given [] P adds some there r = absurd 
 closed_child hash holds q m s f n fs node given (o ∷ os) P adds some there r =
     let way = ways_at q m.head in
     let v = node.level in
-    let more = grown (scheme hash m.head) holds f n o P node r.frames.0 r.says adds in
+    let more = grown (scheme hash m.head) holds f n o P node refl r.frames.0 r.says adds in
     let on : 0 < o.left = omega (arith, r.frames.0.left) in
     let next = after way m.head v (one_on o P ∷ os) in
     let reads_on : after way m.head v (o ∷ os) P ≡ reads (want.Tag v) (λ t. node_next way v next (tag_in t)) =
@@ -95,7 +94,7 @@ closed_child hash holds q m s f n fs node given (o ∷ os) P adds some there r =
 
 -- the last child of a node that the region misses
 pub missed_parent : {H : Type 0} (hash : List ℕ → List ℕ) (holds : H → List ℕ → Type 0) (q : Question) (h : Head)
-    (t : RadiusCounts) (f : Frame H) (n : Gathering H) (fs : List (Frame H)) (node x : Entry) (given : List Record)
+    (t : RadiusCounts) (f : Frame H) (n : OpenNode H) (fs : List (Frame H)) (node x : Entry) (given : List Record)
     (os : List Open) (P : Cut) → Adds holds f.node n node → f.left ≡ 0
     → IsClosing (scheme hash h) holds n (node.level + 1) x
     → opens_seen (ways_at q h) (option_map seen_at x.rect) ≡ false
@@ -105,7 +104,7 @@ missed_parent hash holds q h t f n fs node x given [] P adds none c missed r = a
 missed_parent hash holds q h t f n fs node x given (o ∷ os) P adds none c missed r =
     let way = ways_at q h in
     let v = node.level in
-    let more = grown (scheme hash h) holds f n o P node r.frames.0 r.says adds in
+    let more = grown (scheme hash h) holds f n o P node refl r.frames.0 r.says adds in
     let whole : o.left ≡ 0 = sym r.frames.0.left ∙ none in
     let here : opens_seen way (seen (closed o P)) ≡ false = ap
     (λ (z : Option Rectangle). opens_seen way (option_map seen_at z)) (sym
@@ -121,7 +120,7 @@ closes_as hash holds q m given g k (Some d) e w = e ∙ w
 
 -- the last child of a node that the region meets, which is then whole itself
 pub closed_parent : {H : Type 0} (hash : List ℕ → List ℕ) (holds : H → List ℕ → Type 0) (q : Question) (h : Head)
-    (t : RadiusCounts) (m : Machine H) (f : Frame H) (n : Gathering H) (fs : List (Frame H)) (node x : Entry)
+    (t : RadiusCounts) (m : Machine H) (f : Frame H) (n : OpenNode H) (fs : List (Frame H)) (node x : Entry)
     (given : List Record) (result : Option Rule) (os : List Open) (P : Cut) → Adds holds f.node n node → f.left ≡ 0
     → IsClosing (scheme hash h) holds n (node.level + 1) x
     → opens_seen (ways_at q h) (option_map seen_at x.rect) ≡ true
@@ -133,7 +132,7 @@ closed_parent hash holds q h t m f n fs node x given result [] P adds none c met
 closed_parent hash holds q h t m f n fs node x given result (o ∷ os) P adds none c met behind_it r =
     let way = ways_at q h in
     let v = node.level in
-    let more = grown (scheme hash h) holds f n o P node r.frames.0 r.says adds in
+    let more = grown (scheme hash h) holds f n o P node refl r.frames.0 r.says adds in
     let whole : o.left ≡ 0 = sym r.frames.0.left ∙ none in
     let here : opens_seen way (seen (closed o P)) ≡ true = ap
     (λ (z : Option Rectangle). opens_seen way (option_map seen_at z)) (sym

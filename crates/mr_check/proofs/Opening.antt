@@ -1,5 +1,5 @@
 -- Open nodes: what is known of them once one more child, or record, was read.
-use Rattle.std.proofs.Common.{◌≡◌, ℕ, zero, suc, ◌-◌, ◌+◌, ◌<◌, Bool, true, false, List, [], ◌∷◌, ◌++◌, length, map, Err, refl, sym, ap, subst, ◌∙◌, append_assoc, arith}
+use Rattle.std.proofs.Common.{◌≡◌, ℕ, zero, suc, ◌-◌, ◌+◌, ◌<◌, true, false, List, [], ◌∷◌, ◌++◌, length, map, Err, refl, sym, ap, subst, ◌∙◌, append_assoc, arith}
 use Rattle.std.specs.List.{flat_map}
 use Rattle.std.proofs.lemmas.List.{append-nil, map-append, length-append}
 use Rattle.std.proofs.lemmas.Simd.{map-map}
@@ -10,7 +10,9 @@ use Rattle.mr_tree.specs.Tree.{first_level}
 use Rattle.mr_tree.specs.Digest.{Scheme, entry_step, level_over, inner_tag}
 use Rattle.mr_tree.specs.Gathers.{Gathers, Piece, of_entry}
 use Rattle.mr_tree.specs.declared.entry.Entry.{Entry}
-use Rattle.mr_tree.specs.declared.gathering.Gathering.{Gathering}
+use Rattle.mr_proof.specs.Fields.{version}
+use Rattle.mr_check.specs.declared.open_node.OpenNode.{OpenNode}
+use Rattle.mr_check.specs.OpenNodes.{Gathered}
 use Rattle.mr_tree.specs.declared.tree.Tree.TheOpen as node
 use Rattle.mr_tree.proofs.Gathered.{inner_gathered}
 use Rattle.mr_proof.specs.declared.head.Head.{Head}
@@ -19,7 +21,7 @@ use Rattle.mr_proof.specs.declared.want.Want.TheVariants as want
 use Rattle.mr_proof.specs.Cut.{Cut, Cuts, Inner, no_more, first, cuts_of, rect, entry, entries, records, all_records}
 use Rattle.mr_proof.specs.Spelling.{Said}
 use Rattle.mr_proof.specs.declared.way.Way.{Way}
-use Rattle.mr_proof.specs.Tight.{Seen, seen, opens_seen, Question}
+use Rattle.mr_proof.specs.Tight.{Seen, seen, opens_seen}
 use Rattle.mr_proof.specs.Grammar.{Grammar, reads, opened, some_items, item, tag_in}
 use Rattle.mr_proof.proofs.Preimages.{entries-rects}
 use Rattle.mr_check.specs.declared.frame.Frame.{Frame}
@@ -58,31 +60,32 @@ length-said s w (P ∷ front) = ap suc (length-said s w front)
 -- ---- one more child
 
 -- what is gathered of an open node, once a cut of the child under way was read
-pub record Grown {H : Type 0} (s : Scheme) (holds : H → List ℕ → Type 0) (n : Gathering H) (o : Open) (P : Cut)
+pub record Grown {H : Type 0} (s : Scheme) (holds : H → List ℕ → Type 0) (n : OpenNode H) (o : Open) (P : Cut)
     (w : ℕ) : Type 0 where
-  pub gathers : Gathers (holds n.hasher) n.rect (inner_tag ∷ (w + 1) ∷ (length o.front + (o.left + 1)) ∷ [])
+  pub gathers : Gathered holds n (inner_tag ∷ (w + 1) ∷ (length o.front + (o.left + 1)) ∷ [])
       (parts_of s w (o.front ++ P ∷ []))
   pub level : first_level (levels_of (said_of s w (o.front ++ P ∷ []))) ≡ w
 
 -- one more entry was added
-abbrev pub Adds : {H : Type 0} → (H → List ℕ → Type 0) → Gathering H → Gathering H → Entry → Type 0
+abbrev pub Adds : {H : Type 0} → (H → List ℕ → Type 0) → OpenNode H → OpenNode H → Entry → Type 0
 Adds holds m n x =
-    (head : List ℕ) (pieces : List Piece) → Gathers (holds m.hasher) m.rect head pieces
-    → Gathers (holds n.hasher) n.rect head (pieces ++ of_entry x ∷ [])
+    (head : List ℕ) (pieces : List Piece) → Gathered holds m head pieces
+    → Gathered holds n head (pieces ++ of_entry version x ∷ [])
 
-pub grown : {H : Type 0} (s : Scheme) (holds : H → List ℕ → Type 0) (f : Frame H) (n : Gathering H) (o : Open)
-    (P : Cut) (x : Entry) → IsFrame s holds x.level f o → entry s x.level P ≡ x → Adds holds f.node n x
+pub grown : {H : Type 0} (s : Scheme) (holds : H → List ℕ → Type 0) (f : Frame H) (n : OpenNode H) (o : Open)
+    (P : Cut) (x : Entry) → s.version ≡ version → IsFrame s holds x.level f o → entry s x.level P ≡ x
+    → Adds holds f.node n x
     → Grown s holds n o P x.level
-grown s holds f n o P x is says adds =
+grown s holds f n o P x one is says adds =
     let w = x.level in
     let es = said_of s w o.front in
     let new : said_of s w (o.front ++ P ∷ []) ≡ es ++ x ∷ [] = map-append (entry s w) o.front (P ∷ [])
     ∙ ap (λ (e : Entry). es ++ e ∷ []) says in
-    let parts : parts_of s w o.front ++ of_entry x ∷ [] ≡ parts_of s w (o.front ++ P ∷ []) =
-    ap (λ (e : Entry). parts_of s w o.front ++ of_entry e ∷ []) (sym says)
-    ∙ sym (map-append (λ (P : Cut). of_entry (entry s w P)) o.front (P ∷ [])) in
+    let parts : parts_of s w o.front ++ of_entry version x ∷ [] ≡ parts_of s w (o.front ++ P ∷ []) =
+    (λ i. parts_of s w o.front ++ of_entry (sym one i) (sym says i) ∷ [])
+    ∙ sym (map-append (λ (P : Cut). of_entry s.version (entry s w P)) o.front (P ∷ [])) in
     record {
-      gathers = subst (Gathers (holds n.hasher) n.rect (inner_tag ∷ (w + 1) ∷ (length o.front + (o.left + 1)) ∷ []))
+      gathers = subst (Gathered holds n (inner_tag ∷ (w + 1) ∷ (length o.front + (o.left + 1)) ∷ []))
           parts (adds _ _ is.gathers);
       level = ap (λ (es : List Entry). first_level (levels_of es)) new
           ∙ first_stays w es x (λ lt. is.level (omega (arith, length-said s w o.front))) refl;
@@ -92,7 +95,7 @@ grown s holds f n o P x is says adds =
 abbrev pub one_on : Open → Cut → Open
 one_on o P = record { front = o.front ++ P ∷ []; left = o.left - 1 }
 
-pub stays_open : {H : Type 0} (s : Scheme) (holds : H → List ℕ → Type 0) (f : Frame H) (n : Gathering H) (o : Open)
+pub stays_open : {H : Type 0} (s : Scheme) (holds : H → List ℕ → Type 0) (f : Frame H) (n : OpenNode H) (o : Open)
     (P : Cut) (w : ℕ) → Grown s holds n o P w → f.left ≡ o.left → 0 < f.left
     → IsFrame s holds w (record { node = n; left = f.left - 1 }) (one_on o P)
 stays_open s holds f n o P w is left some =
@@ -100,7 +103,7 @@ stays_open s holds f n o P w is left some =
     (arith, left, length-append o.front (P ∷ [])) in
     record {
       left = ap (λ (n : ℕ). n - 1) left;
-      gathers = subst (λ (k : ℕ). Gathers (holds n.hasher) n.rect (inner_tag ∷ (w + 1) ∷ k ∷ [])
+      gathers = subst (λ (k : ℕ). Gathered holds n (inner_tag ∷ (w + 1) ∷ k ∷ [])
           (parts_of s w (o.front ++ P ∷ []))) count is.gathers;
       level = λ _. is.level;
     }
@@ -108,7 +111,7 @@ stays_open s holds f n o P w is left some =
 rect_of_all : (s : Scheme) (w : ℕ) (front : List Cut)
     → union_of (map (λ (p : Piece). p.rect) (parts_of s w front)) ≡ rect (Inner (cuts_of front))
 rect_of_all s w front =
-    ap union_of (map-map (λ (p : Piece). p.rect) (λ (P : Cut). of_entry (entry s w P)) front
+    ap union_of (map-map (λ (p : Piece). p.rect) (λ (P : Cut). of_entry s.version (entry s w P)) front
     ∙ sym (map-map (λ (e : Entry). e.rect) (entry s w) front))
     ∙ ap (λ (es : List Entry). union_of (map (λ (e : Entry). e.rect) es)) (sym (entries-cuts_of s w front))
     ∙ ap union_of (entries-rects s w (cuts_of front))
@@ -118,13 +121,15 @@ abbrev pub closed : Open → Cut → Cut
 closed o P = Inner (cuts_of (o.front ++ P ∷ []))
 
 -- what is said of it
-pub record IsClosing {H : Type 0} (s : Scheme) (holds : H → List ℕ → Type 0) (n : Gathering H) (w : ℕ)
+pub record IsClosing {H : Type 0} (s : Scheme) (holds : H → List ℕ → Type 0) (n : OpenNode H) (w : ℕ)
     (x : Entry) : Type 0 where
   pub level : x.level ≡ w
   pub rect : x.rect ≡ n.rect
+  pub mask : x.mask ≡ 0
+  pub count : x.count ≡ 0
   pub digest : (fed : List ℕ) → holds n.hasher fed → x.digest ≡ s.of fed
 
-pub said_closed : {H : Type 0} (s : Scheme) (holds : H → List ℕ → Type 0) (n : Gathering H) (o : Open)
+pub said_closed : {H : Type 0} (s : Scheme) (holds : H → List ℕ → Type 0) (n : OpenNode H) (o : Open)
     (P : Cut) (w : ℕ) (x : Entry) → Grown s holds n o P w → o.left ≡ 0 → IsClosing s holds n (w + 1) x
     → entry s x.level (closed o P) ≡ x
 said_closed s holds n o P w x is none c =
@@ -134,15 +139,18 @@ said_closed s holds n o P w x is none c =
     let children : entries s (x.level - 1) (cuts_of all) ≡ said_of s w all =
     ap (λ (k : ℕ). entries s k (cuts_of all)) below ∙ entries-cuts_of s w all in
     let level_is : w + 1 ≡ level_over (said_of s w all) = ap (λ (n : ℕ). n + 1) (sym is.level) in
-    let gathers : Gathers (holds n.hasher) x.rect (inner_tag ∷ (w + 1) ∷ length all ∷ []) (parts_of s w all) = record {
+    let gathers : Gathers (holds n.hasher) x.rect x.mask x.count (inner_tag ∷ (w + 1) ∷ length all ∷ [])
+    (parts_of s w all) = record {
       fed = subst (λ (k : ℕ). holds n.hasher ((inner_tag ∷ (w + 1) ∷ k ∷ [])
           ++ flat_map (λ (p : Piece). p.bytes) (parts_of s w all))) long is.gathers.fed;
       round = c.rect ∙ is.gathers.round;
+      layers = c.mask ∙ is.gathers.layers;
+      tally = c.count ∙ is.gathers.tally;
     } in
     ap (λ (es : List Entry). entry_step s (node.Inner es)) children
     ∙ sym (inner_gathered s (holds n.hasher) (entry s w) all (w + 1) x level_is c.level gathers c.digest)
 
-pub rect_closed : {H : Type 0} (s : Scheme) (holds : H → List ℕ → Type 0) (n : Gathering H) (o : Open)
+pub rect_closed : {H : Type 0} (s : Scheme) (holds : H → List ℕ → Type 0) (n : OpenNode H) (o : Open)
     (P : Cut) (w : ℕ) (x : Entry) → Grown s holds n o P w → IsClosing s holds n (w + 1) x → x.rect ≡ rect (closed o P)
 rect_closed s holds n o P w x is c = c.rect ∙ is.gathers.round ∙ rect_of_all s w (o.front ++ P ∷ [])
 

@@ -7,16 +7,17 @@ use Rattle.std.proofs.lemmas.List.Elements.{filter-append}
 use Rattle.mr_geom.specs.Rectangle.{Rectangle}
 use Rattle.mr_record.specs.declared.record.Record.{Record}
 use Rattle.mr_tree.specs.Digest.{leaf_tag, inner_tag, no_entry}
-use Rattle.mr_tree.specs.Gathers.{Gathers, Piece, of_record}
+use Rattle.mr_tree.specs.Gathers.{Piece, of_record}
 use Rattle.mr_tree.specs.declared.entry.Entry.{Entry}
-use Rattle.mr_tree.specs.declared.gathering.Gathering.{Gathering}
+use Rattle.mr_check.specs.declared.open_node.OpenNode.{OpenNode}
+use Rattle.mr_check.specs.OpenNodes.{Gathered}
 use Rattle.mr_tree.proofs.Gathered.{leaf_gathered}
 use Rattle.mr_proof.specs.declared.head.Head.{Head}
 use Rattle.mr_proof.specs.declared.rule.Rule.{Rule}
 use Rattle.mr_proof.specs.declared.rule.Rule.TheVariants as rule
 use Rattle.mr_proof.specs.declared.want.Want.TheVariants as want
 use Rattle.mr_proof.specs.declared.field.Field.{Field}
-use Rattle.mr_proof.specs.Fields.{pruned_tag}
+use Rattle.mr_proof.specs.Fields.{version, pruned_tag}
 use Rattle.mr_proof.specs.Cut.{Cut, Cuts, Pruned, Leaf, Inner, entry_shown, rect}
 use Rattle.mr_proof.specs.declared.shown.Shown.{Shown}
 use Rattle.mr_proof.specs.Spelling.{Said, said}
@@ -214,8 +215,8 @@ closed_at hash holds q m h given way v w os P broken e c =
     subst (λ (k : ℕ). Closes hash holds q m given (after way h k os P) broken) e c
 
 pub inner_opened : {H : Type 0} (hash : List ℕ → List ℕ) (holds : H → List ℕ → Type 0) (q : Question) (m : Machine H)
-    (s : Stack (Frame H)) (x : Gathering H) (w n : ℕ) (given : List Record) (a : Above) → 1 ≤ n
-    → Gathers (holds x.hasher) x.rect (inner_tag ∷ (w + 1) ∷ n ∷ []) []
+    (s : Stack (Frame H)) (x : OpenNode H) (w n : ℕ) (given : List Record) (a : Above) → 1 ≤ n
+    → Gathered holds x (inner_tag ∷ (w + 1) ∷ n ∷ []) []
     → reverse s.list.items ≡ record { node = x; left = n - 1 } ∷ frames_of m
     → a.records ≡ [] → InTree hash holds q m.head (frames_of m) m.tally (w + 1) given a
     → Steps hash holds q (record m { frames = s; stage = stage.Tag w }) given
@@ -244,7 +245,7 @@ inner_opened hash holds q m s x w n given a some gathers there none is =
               (sym there) (
                 record {
                   left = refl;
-                  gathers = subst (λ (k : ℕ). Gathers (holds x.hasher) x.rect (inner_tag ∷ (w + 1) ∷ k ∷ []) []) total
+                  gathers = subst (λ (k : ℕ). Gathered holds x (inner_tag ∷ (w + 1) ∷ k ∷ []) []) total
                       gathers;
                   level = λ lt. absurd (omega arith);
                 },
@@ -274,8 +275,8 @@ first_waits : (way : Seen → Way) (h : Head) (n : ℕ) (os : List Open)
 first_waits way h n os = refl
 
 pub leaf_opened : {H : Type 0} (hash : List ℕ → List ℕ) (holds : H → List ℕ → Type 0) (q : Question) (m : Machine H)
-    (x : Gathering H) (n : ℕ) (given : List Record) (a : Above) → 1 ≤ n
-    → Gathers (holds x.hasher) x.rect (leaf_tag ∷ n ∷ []) []
+    (x : OpenNode H) (n : ℕ) (given : List Record) (a : Above) → 1 ≤ n
+    → Gathered holds x (leaf_tag ∷ n ∷ []) []
     → a.records ≡ [] → InTree hash holds q m.head (frames_of m) m.tally 0 given a
     → Steps hash holds q (record m { leaf = record { node = x; left = n - 1 }; stage = stage.Number })
     given (some_records (ways_at q m.head) n (λ rs. opened (ways_at q m.head) (Leaf rs)
@@ -294,7 +295,7 @@ leaf_opened hash holds q m x n given a some gathers none is =
       whole = None;
       waits = refl;
       is_open = (
-        subst (λ (k : ℕ). Gathers (holds x.hasher) x.rect (leaf_tag ∷ k ∷ []) []) total gathers,
+        subst (λ (k : ℕ). Gathered holds x (leaf_tag ∷ k ∷ []) []) total gathers,
         record {
           depth = is.depth;
           frames = is.frames;
@@ -336,21 +337,22 @@ found_steps hash holds q m given false r g is quiet w =
     (quiet, record { next = w.next; past = w.past; waits = w.waits })
 
 -- a record more was added
-abbrev pub AddsRecord : {H : Type 0} → (H → List ℕ → Type 0) → Gathering H → Gathering H → Record → Type 0
+abbrev pub AddsRecord : {H : Type 0} → (H → List ℕ → Type 0) → OpenNode H → OpenNode H → Record → Type 0
 AddsRecord holds m n r =
-    (head : List ℕ) (pieces : List Piece) → Gathers (holds m.hasher) m.rect head pieces
-    → Gathers (holds n.hasher) n.rect head (pieces ++ of_record r ∷ [])
+    (head : List ℕ) (pieces : List Piece) → Gathered holds m head pieces
+    → Gathered holds n head (pieces ++ of_record version r ∷ [])
 
 -- what is gathered of a leaf with one record more
-added : {H : Type 0} (holds : H → List ℕ → Type 0) (m n : Gathering H) (r : Record) (rs : List Record) (k j : ℕ)
-    → k ≡ j → AddsRecord holds m n r → Gathers (holds m.hasher) m.rect (leaf_tag ∷ k ∷ []) (map of_record rs)
-    → Gathers (holds n.hasher) n.rect (leaf_tag ∷ j ∷ []) (map of_record (rs ++ r ∷ []))
+added : {H : Type 0} (holds : H → List ℕ → Type 0) (m n : OpenNode H) (r : Record) (rs : List Record) (k j : ℕ)
+    → k ≡ j → AddsRecord holds m n r → Gathered holds m (leaf_tag ∷ k ∷ []) (map (of_record version) rs)
+    → Gathered holds n (leaf_tag ∷ j ∷ []) (map (of_record version) (rs ++ r ∷ []))
 added holds m n r rs k j e adds is =
-    subst (λ (x : ℕ × List Piece). Gathers (holds n.hasher) n.rect (leaf_tag ∷ x.0 ∷ []) x.1)
-    (λ i. (e i, sym (map-append of_record rs (r ∷ [])) i)) (adds (leaf_tag ∷ k ∷ []) (map of_record rs) is)
+    subst (λ (x : ℕ × List Piece). Gathered holds n (leaf_tag ∷ x.0 ∷ []) x.1)
+    (λ i. (e i, sym (map-append (of_record version) rs (r ∷ [])) i))
+    (adds (leaf_tag ∷ k ∷ []) (map (of_record version) rs) is)
 
 pub record_on : {H : Type 0} (hash : List ℕ → List ℕ) (holds : H → List ℕ → Type 0) (q : Question) (m : Machine H)
-    (n : Gathering H) (t : RadiusCounts) (handed_on : Bool) (given : List Record) (a : Above)
+    (n : OpenNode H) (t : RadiusCounts) (handed_on : Bool) (given : List Record) (a : Above)
     → AddsRecord holds m.leaf.node n m.latest → 0 < m.leaf.left → handed_on ≡ is_handed_out q m.head m.latest
     → Counts q.around m.head.radius (plus handed_on given m.latest) t
     → IsLeaf holds m.leaf a.records → InTree hash holds q m.head (frames_of m) m.tally 0 given a
@@ -399,7 +401,7 @@ record_on hash holds q m n t handed_on given a adds some is_met counts leaf is =
 
 -- the last record of a leaf
 pub leaf_read : {H : Type 0} (hash : List ℕ → List ℕ) (holds : H → List ℕ → Type 0) (q : Question) (h : Head)
-    (fs : List (Frame H)) (old new : RadiusCounts) (f : Frame H) (n : Gathering H) (handed_on : Bool) (r : Record)
+    (fs : List (Frame H)) (old new : RadiusCounts) (f : Frame H) (n : OpenNode H) (handed_on : Bool) (r : Record)
     (given : List Record) (a : Above) → AddsRecord holds f.node n r → f.left ≡ 0 → handed_on ≡ is_handed_out q h r
     → Counts q.around h.radius (plus handed_on given r) new
     → IsLeaf holds f a.records → InTree hash holds q h fs old 0 given a
@@ -425,8 +427,12 @@ pub leaf_said : {H : Type 0} (hash : List ℕ → List ℕ) (holds : H → List 
 leaf_said hash holds q h fs t f x given a r c is =
     let all = a.records ++ r ∷ [] in
     record {
-      says = sym (leaf_gathered (scheme hash h) (holds f.node.hasher) all x c.level
-          (record { fed = is.gathers.fed; round = c.rect ∙ is.gathers.round }) c.digest);
+      says = sym (leaf_gathered (scheme hash h) (holds f.node.hasher) all x c.level (record {
+        fed = is.gathers.fed;
+        round = c.rect ∙ is.gathers.round;
+        layers = c.mask ∙ is.gathers.layers;
+        tally = c.count ∙ is.gathers.tally;
+      }) c.digest);
       depth = omega (arith, is.depth, c.level);
       frames = subst (λ (k : ℕ). AreFrames (scheme hash h) holds k fs a.nodes) (sym c.level) is.frames;
       kept = is.kept;
@@ -519,7 +525,7 @@ pub payload_on : {H : Type 0} (hash : List ℕ → List ℕ) (holds : H → List
 payload_on hash holds q m n r l given a some leaf is =
     let next = after_record (ways_at q m.head) m.head m.leaf.left a.nodes a.records in
     let is_not : eqb l 0 ≡ false = ne_eqb l 0 (λ e. omega arith) in
-    let g = reads (want.Payload l) (λ p. next (record { number = n; rect = r; payload = bytes_in p })) in
+    let g = reads (want.Payload l) (λ p. next (record { number = n; rect = r; layer = 0; payload = bytes_in p })) in
     let here : behind_length next n r l ≡ g = rw is_not refl in
     waits_on hash holds q (record m { stage = stage.Payload n r l }) given (behind_length next n r l) g
     (ap noted here) (ap past_notes here)

@@ -12,7 +12,6 @@ use Rattle.mr_proof.specs.declared.want.Want.TheVariants as want
 use Rattle.mr_proof.specs.declared.field.Field.{Field}
 use Rattle.mr_proof.specs.Limits.{place_limit}
 use Rattle.mr_proof.specs.Fields.{size_of, field_of, only_if}
-use Rattle.mr_proof.specs.declared.way.Way.{Way}
 use Rattle.mr_proof.specs.Tight.{Question}
 use Rattle.mr_proof.specs.Grammar.{Grammar, must, opens, done, reads, notes, whole}
 use Rattle.mr_proof.specs.Layout.{fault, Stand, start, behind, field_or_fault, field_at}

@@ -12,7 +12,7 @@ use Rattle.mr_proof.specs.declared.want.Want.TheVariants as want
 use Rattle.mr_proof.specs.declared.field.Field.{Field}
 use Rattle.mr_proof.specs.declared.head.Head.{Head}
 use Rattle.mr_proof.specs.Limits.{place_limit}
-use Rattle.mr_proof.specs.Fields.{size_of, field_of}
+use Rattle.mr_proof.specs.Fields.{version, size_of, field_of}
 use Rattle.mr_proof.specs.Cut.{Cut}
 use Rattle.mr_proof.specs.Spelling.{Said, said}
 use Rattle.mr_proof.specs.declared.way.Way.{Way}
@@ -321,14 +321,14 @@ turn_record hash holds q r new s piece n one turn w behind at =
     r.machine.leaf.left i.above (w.stage j))) (record { at = r.at; last = i.last; rest = w.held j })) in
     let is_open : IsOpen hash holds q r.machine stage.Number (handed_out q s) i.above i.part =
     subst (λ (z : Stage). IsOpen hash holds q r.machine z (handed_out q s) i.above i.part) w.stage i.is_open in
-    let within : r.at + length (record_bytes one) ≤ place_limit = omega (arith, w.sized, w.place) in
-    let front : take n piece ≡ record_bytes one = ap (take n) w.bytes
-    ∙ take-append-le n (record_bytes one) (drop n piece) (omega (arith, w.sized))
-    ∙ take_all n (record_bytes one) (omega (arith, w.sized)) in
-    let less : take (n - 1) piece ≡ take (length (record_bytes one) - 1) (record_bytes one) =
+    let within : r.at + length (record_bytes version one) ≤ place_limit = omega (arith, w.sized, w.place) in
+    let front : take n piece ≡ record_bytes version one = ap (take n) w.bytes
+    ∙ take-append-le n (record_bytes version one) (drop n piece) (omega (arith, w.sized))
+    ∙ take_all n (record_bytes version one) (omega (arith, w.sized)) in
+    let less : take (n - 1) piece ≡ take (length (record_bytes version one) - 1) (record_bytes version one) =
     sym (take-take (n - 1) n piece (omega arith)) ∙ (λ j. take (w.sized j - 1) (front j)) in
-    let read = record_on X one r.at i.last w.is_record within in
-    let size : r.at + length (record_bytes one) ≡ r.at + n = ap (λ (k : ℕ). r.at + k) (sym w.sized) in
+    let read = record_on X one r.at i.last w.is_record w.layer within in
+    let size : r.at + length (record_bytes version one) ≡ r.at + n = ap (λ (k : ℕ). r.at + k) (sym w.sized) in
     let last = last_field r.at one in
     turn_behind hash holds q new s piece (drop n piece) n (r.at + n) last (X one) turn
     (take-append-drop n piece)

@@ -6,14 +6,15 @@ use Rattle.std.proofs.lemmas.Bool.{ne_eqb, le-ltb}
 use Rattle.std.proofs.lemmas.List.{append-nil, length-append, take-append-le, drop-append-le, take_all, drop_all, length-take-le}
 use Rattle.std.proofs.Math.Seq.{take-append-add}
 use Rattle.mr_geom.specs.Rectangle.{Rectangle}
-use Rattle.mr_record.specs.Record.{IsRecord, rectangle_bytes, record_bytes}
+use Rattle.mr_record.specs.Record.{IsRecord, HasLayer, rectangle_bytes, record_bytes}
+use Rattle.mr_record.proofs.RecordFields.{length-record_bytes}
 use Rattle.mr_record.specs.declared.record.Record.{Record}
 use Rattle.mr_proof.specs.declared.want.Want.{Want}
 use Rattle.mr_proof.specs.declared.want.Want.TheVariants as want
 use Rattle.mr_proof.specs.declared.field.Field.{Field}
 use Rattle.mr_proof.specs.declared.field.Field.TheVariants as field
 use Rattle.mr_proof.specs.Limits.{place_limit}
-use Rattle.mr_proof.specs.Fields.{size_of, field_of}
+use Rattle.mr_proof.specs.Fields.{version, size_of, field_of}
 use Rattle.mr_proof.specs.Spelling.{Said}
 use Rattle.mr_proof.specs.Grammar.{Grammar, reads, number_in, rect_in, bytes_in}
 use Rattle.mr_proof.specs.Layout.{Stand, field_at}
@@ -89,11 +90,12 @@ last_of p at last = if length p == 0 then last else at
 -- the payload
 payload_on : (X : Record → Grammar Said) (n : ℕ) (x : Rectangle) (p : List ℕ) (at last : ℕ)
     → at + length p ≤ place_limit
-    → On (behind_length X n x (length p)) (stand at last p) (X (record { number = n; rect = x; payload = p }))
+    → On (behind_length X n x (length p)) (stand at last p)
+    (X (record { number = n; rect = x; layer = 0; payload = p }))
     (stand (at + length p) (last_of p at last) [])
 payload_on X n x [] at last within =
     let same : at ≡ at + 0 = omega arith in
-    let r : Record = record { number = n; rect = x; payload = [] } in
+    let r : Record = record { number = n; rect = x; layer = 0; payload = [] } in
     record {
       stops = ap (λ (k : ℕ). stop (X r) (stand k last [])) same;
       hands = ap (λ (k : ℕ). handed (X r) (stand k last [])) same;
@@ -101,7 +103,7 @@ payload_on X n x [] at last within =
 payload_on X n x (b ∷ p) at last within =
     let l = length (b ∷ p) in
     let some : eqb l 0 ≡ false = ne_eqb l 0 (λ e. omega arith) in
-    let next = λ (f : Field). X (record { number = n; rect = x; payload = bytes_in f }) in
+    let next = λ (f : Field). X (record { number = n; rect = x; layer = 0; payload = bytes_in f }) in
     let here : behind_length X n x l ≡ reads (want.Payload l) next = rw some refl in
     let place : at ≡ last_of (b ∷ p) at last = rw some refl in
     let whole : (b ∷ p) ++ [] ≡ b ∷ p = append-nil (b ∷ p) in
@@ -118,41 +120,42 @@ payload_on X n x (b ∷ p) at last within =
 -- ---- all of them
 
 record_parts : (r : Record)
-    → record_bytes r ≡ to_be_bytes w64 r.number ++ (rectangle_bytes r.rect ++ (length r.payload ∷ r.payload))
+    → record_bytes version r ≡ to_be_bytes w64 r.number ++ (rectangle_bytes r.rect ++ (length r.payload ∷ r.payload))
 unfolding record_bytes
-record_parts r = append_assoc (to_be_bytes w64 r.number) (rectangle_bytes r.rect) (length r.payload ∷ r.payload)
+record_parts r =
+    let number = to_be_bytes w64 r.number in
+    let rest = length r.payload ∷ r.payload in
+    ap (λ (x : List ℕ). x ++ rest) (append-nil (number ++ rectangle_bytes r.rect))
+    ∙ append_assoc number (rectangle_bytes r.rect) rest
 
-pub record_long : (r : Record) → length (record_bytes r) ≡ 25 + length r.payload
-record_long r =
-    omega (
-      arith,
-      ap length (record_parts r),
-      length-append (to_be_bytes w64 r.number) (rectangle_bytes r.rect ++ (length r.payload ∷ r.payload)),
-      length-append (rectangle_bytes r.rect) (length r.payload ∷ r.payload),
-      word_long r.number,
-      rectangle_long r.rect,
-    )
+pub record_long : (r : Record) → length (record_bytes version r) ≡ 25 + length r.payload
+record_long r = length-record_bytes version r
 
 -- with all of its bytes the record is read
-pub record_on : (X : Record → Grammar Said) (r : Record) (at last : ℕ) → IsRecord r
-    → at + length (record_bytes r) ≤ place_limit
-    → On (reads want.Number (λ v. behind_number X (number_in v))) (stand at last (record_bytes r)) (X r)
-    (stand (at + length (record_bytes r)) (last_field at r) [])
-record_on X r at last is within =
+pub record_on : (X : Record → Grammar Said) (r : Record) (at last : ℕ) → IsRecord r → HasLayer version r
+    → at + length (record_bytes version r) ≤ place_limit
+    → On (reads want.Number (λ v. behind_number X (number_in v))) (stand at last (record_bytes version r)) (X r)
+    (stand (at + length (record_bytes version r)) (last_field at r) [])
+record_on X r at last is low within =
     let p = r.payload in
     let l = length p in
     let long = record_long r in
     let front = sides_on X r at last (l ∷ p) is (omega arith) in
     let sized = length_on X r.number r.rect l (at + 24) (at + 8) p is.payload (omega arith) in
     let paid = payload_on X r.number r.rect p ((at + 24) + 1) (at + 24) (omega arith) in
-    let ends : ((at + 24) + 1) + l ≡ at + length (record_bytes r) = omega arith in
+    let ends : ((at + 24) + 1) + l ≡ at + length (record_bytes version r) = omega arith in
     let up : (at + 24) + 1 ≡ at + 25 = omega arith in
     let g = reads want.Number (λ v. behind_number X (number_in v)) in
     let raw = to_be_bytes w64 r.number ++ (rectangle_bytes r.rect ++ (l ∷ p)) in
+    let flat : 0 ≡ r.layer = omega (arith, low) in
+    let same : X (record { number = r.number; rect = r.rect; layer = 0; payload = p }) ≡ X r =
+    λ i. X (record { number = r.number; rect = r.rect; layer = flat i; payload = p }) in
     let all : On g (stand at last raw) (X r) (stand (((at + 24) + 1) + l) (last_of p ((at + 24) + 1) (at + 24)) []) =
-    on_both _ _ _ _ _ _ front (on_both _ _ _ _ _ _ sized paid) in
+    subst (λ (k : Grammar Said). On g (stand at last raw) k (stand (((at + 24) + 1) + l)
+    (last_of p ((at + 24) + 1) (at + 24)) [])) same
+    (on_both _ _ _ _ _ _ front (on_both _ _ _ _ _ _ sized paid)) in
     subst (λ (bytes : List ℕ). On g (stand at last bytes) (X r)
-    (stand (at + length (record_bytes r)) (last_field at r) [])) (sym (record_parts r))
+    (stand (at + length (record_bytes version r)) (last_field at r) [])) (sym (record_parts r))
     (subst (λ (z : ℕ × ℕ). On g (stand at last raw) (X r) (stand z.0 (last_of p z.1 (at + 24)) []))
     (λ i. (ends i, up i)) all)
 
@@ -164,7 +167,7 @@ quiet_tail X n x [] at last few within =
 quiet_tail X n x (b ∷ p) at last few within =
     let l = length (b ∷ p) in
     let some : eqb l 0 ≡ false = ne_eqb l 0 (λ e. omega arith) in
-    let next = λ (f : Field). X (record { number = n; rect = x; payload = bytes_in f }) in
+    let next = λ (f : Field). X (record { number = n; rect = x; layer = 0; payload = bytes_in f }) in
     let here : behind_length X n x l ≡ reads (want.Payload l) next = rw some refl in
     let rest = take (length p) (b ∷ p) in
     let short : length rest < l = omega (arith, length-take-le (length p) (b ∷ p) (omega arith)) in
@@ -173,9 +176,9 @@ quiet_tail X n x (b ∷ p) at last few within =
     ∙ short_handed (want.Payload l) next (stand (at + 1) at rest) short
 
 pub quiet_on : (X : Record → Grammar Said) (r : Record) (at last : ℕ) → IsRecord r
-    → at + length (record_bytes r) ≤ place_limit
+    → at + length (record_bytes version r) ≤ place_limit
     → handed (reads want.Number (λ v. behind_number X (number_in v)))
-    (stand at last (take (length (record_bytes r) - 1) (record_bytes r))) ≡ []
+    (stand at last (take (length (record_bytes version r) - 1) (record_bytes version r))) ≡ []
 quiet_on X r at last is within =
     let p = r.payload in
     let l = length p in
@@ -183,9 +186,9 @@ quiet_on X r at last is within =
     let place = rectangle_bytes r.rect in
     let rest = take l (l ∷ p) in
     let long = record_long r in
-    let size : length (record_bytes r) - 1 ≡ length number + (length place + l) = omega
+    let size : length (record_bytes version r) - 1 ≡ length number + (length place + l) = omega
     (arith, word_long r.number, rectangle_long r.rect) in
-    let raw : take (length (record_bytes r) - 1) (record_bytes r) ≡ number ++ (place ++ rest) =
+    let raw : take (length (record_bytes version r) - 1) (record_bytes version r) ≡ number ++ (place ++ rest) =
     (λ i. take (size i) (record_parts r i))
     ∙ take-append-add number (place ++ (l ∷ p)) (length place + l)
     ∙ ap (λ (x : List ℕ). number ++ x) (take-append-add place (l ∷ p) l) in

@@ -3,6 +3,7 @@ pub mod Stops
 pub mod Popping
 pub mod Counting
 pub mod Stages
+pub mod OpenNodes
 pub mod Standing
 pub mod Heads
 pub mod Reads

@@ -1,7 +1,8 @@
 -- What a reader of bytes stands for. This serves private functions and proofs: the relation that it
 -- defines is known by what contracts say of it.
 use Rattle.std.specs.Prelude.{◌≡◌, ◌≢◌, ◌⊎◌, Bool, true, false, ◌==◌, if◌then◌else◌, Result, Ok, Err, ℕ, ◌-◌, ◌+◌, ◌<◌, ◌≤◌, ⊤, List, [], ◌∷◌, ◌++◌, length, take, drop, vec_len, Option, Some, None}
-use Rattle.mr_record.specs.Record.{IsRecord, record_bytes}
+use Rattle.mr_record.specs.Record.{IsRecord, HasLayer, record_bytes}
+use Rattle.mr_proof.specs.Fields.{version}
 use Rattle.mr_record.specs.declared.record.Record.{Record}
 use Rattle.mr_tree.specs.Digest.{root_preimage}
 use Rattle.mr_proof.specs.Tight.{Question}
@@ -141,8 +142,9 @@ pub record IsWhole {H : Type 0} (r : Reader H) (piece : List ℕ) (one : Record)
   pub stage : r.machine.stage ≡ stage.Number
   pub held : r.held ≡ []
   pub is_record : IsRecord one
-  pub bytes : piece ≡ record_bytes one ++ drop size piece
-  pub sized : size ≡ length (record_bytes one)
+  pub layer : HasLayer version one
+  pub bytes : piece ≡ record_bytes version one ++ drop size piece
+  pub sized : size ≡ length (record_bytes version one)
   pub place : r.at + size ≤ place_limit
 
 -- the place of the last field of a record at this place: its payload, or without one its length

@@ -7,7 +7,7 @@ use Rattle.mr_geom.specs.Rectangle.{Rectangle}
 use Rattle.mr_record.specs.declared.record.Record.{Record}
 use Rattle.mr_tree.specs.Tree.{first_level}
 use Rattle.mr_tree.specs.Digest.{Scheme, by, leaf_tag, inner_tag, no_entry, root_preimage}
-use Rattle.mr_tree.specs.Gathers.{Gathers, Piece, of_record, of_entry}
+use Rattle.mr_tree.specs.Gathers.{Piece, of_record, of_entry}
 use Rattle.mr_tree.specs.declared.entry.Entry.{Entry}
 use Rattle.mr_proof.specs.declared.way.Way.{Way}
 use Rattle.mr_proof.specs.declared.head.Kind.{Kind}
@@ -17,7 +17,7 @@ use Rattle.mr_proof.specs.declared.rule.Rule.TheVariants as rule
 use Rattle.mr_proof.specs.declared.want.Want.{Want}
 use Rattle.mr_proof.specs.declared.want.Want.TheVariants as want
 use Rattle.mr_proof.specs.declared.field.Field.{Field}
-use Rattle.mr_proof.specs.Fields.{pruned_tag}
+use Rattle.mr_proof.specs.Fields.{version, pruned_tag}
 use Rattle.mr_proof.specs.Cut.{Cut, Cuts, Pruned, Leaf, Inner, first, rect, entry, records}
 use Rattle.mr_proof.specs.Spelling.{Said, said, version_of, opened_records}
 use Rattle.mr_proof.specs.Tight.{Seen, opens_at, keeps_at, Question}
@@ -35,6 +35,7 @@ use Rattle.mr_check.specs.declared.machine.Stepped.TheVariants as stepped
 use Rattle.mr_check.specs.Stops.{past_notes, noted}
 use Rattle.mr_check.specs.Stages.{want_at, FitsStage}
 use Rattle.mr_check.specs.Counting.{Counts}
+use Rattle.mr_check.specs.OpenNodes.{Gathered}
 
 -- ---- what follows a node and a record
 
@@ -121,7 +122,8 @@ shown_next way next r =
 
 -- a record behind its number, behind its rectangle too, and behind its length too
 abbrev pub behind_length : (Record → Grammar Said) → ℕ → Rectangle → ℕ → Grammar Said
-behind_length next n r l = payload l (λ p. next (record { number = n; rect = r; payload = p }))
+behind_length next n r l =
+    payload l (λ p. next (record { number = n; rect = r; layer = 0; payload = p }))
 
 abbrev pub behind_sides : (Record → Grammar Said) → ℕ → Rectangle → Grammar Said
 behind_sides next n r = reads want.Length (λ l. behind_length next n r (number_in l))
@@ -157,7 +159,7 @@ next_at way h left a (stage.Length n r) v =
     behind_length (after_record (way h.radius) h left a.nodes a.records) n r (number_in v)
 next_at way h left a (stage.Payload n r l) v =
     after_record (way h.radius) h left a.nodes a.records (record
-    { number = n; rect = r; payload = bytes_in v })
+    { number = n; rect = r; layer = 0; payload = bytes_in v })
 next_at way h left a (stage.End node) v = done (said h None)
 
 -- what is still to be read
@@ -184,13 +186,13 @@ abbrev pub levels_of : List Entry → List ℕ
 levels_of es = map (λ (e : Entry). e.level) es
 
 abbrev pub parts_of : Scheme → ℕ → List Cut → List Piece
-parts_of s w front = map (λ (P : Cut). of_entry (entry s w P)) front
+parts_of s w front = map (λ (P : Cut). of_entry s.version (entry s w P)) front
 
 -- the frame is that of an open node whose children are of this level
 pub record IsFrame {H : Type 0} (s : Scheme) (holds : H → List ℕ → Type 0) (w : ℕ) (f : Frame H)
     (o : Open) : Type 0 where
   pub left : f.left ≡ o.left
-  pub gathers : Gathers (holds f.node.hasher) f.node.rect
+  pub gathers : Gathered holds f.node
       (inner_tag ∷ (w + 1) ∷ (length o.front + (o.left + 1)) ∷ []) (parts_of s w o.front)
   pub level : 0 < length o.front → first_level (levels_of (said_of s w o.front)) ≡ w
 
@@ -206,8 +208,7 @@ AreFrames s holds w (f ∷ fs) (o ∷ os) =
 -- the frame is that of an open leaf with these records so far, and one under way
 abbrev pub IsLeaf : {H : Type 0} → (H → List ℕ → Type 0) → Frame H → List Record → Type 0
 IsLeaf holds f rs =
-    Gathers (holds f.node.hasher) f.node.rect (leaf_tag ∷ (length rs + (f.left + 1)) ∷ [])
-    (map of_record rs)
+    Gathered holds f.node (leaf_tag ∷ (length rs + (f.left + 1)) ∷ []) (map (of_record version) rs)
 
 -- the records of the children that were read, in reading order
 abbrev pub so_far : List Open → List Record
@@ -221,8 +222,8 @@ pub record LeafRead {H : Type 0} (hash : List ℕ → List ℕ) (holds : H → L
     (h : Head) (fs : List (Frame H)) (t : RadiusCounts) (leaf : Frame H) (given : List Record)
     (a : Above)
     (r : Record) : Type 0 where
-  pub gathers : Gathers (holds leaf.node.hasher) leaf.node.rect
-      (leaf_tag ∷ length (a.records ++ r ∷ []) ∷ []) (map of_record (a.records ++ r ∷ []))
+  pub gathers : Gathered holds leaf.node (leaf_tag ∷ length (a.records ++ r ∷ []) ∷ [])
+      (map (of_record version) (a.records ++ r ∷ []))
   pub depth : length a.nodes ≡ h.level
   pub frames : AreFrames (scheme hash h) holds 0 fs a.nodes
   pub kept : given ≡ filter (is_handed_out q h) (so_far a.nodes ++ (a.records ++ r ∷ []))

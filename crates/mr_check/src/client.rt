@@ -2,6 +2,7 @@
 
 ghost use Rattle.std.specs.Prelude.{◌≡◌, IfOk, Err};
 ghost use Rattle.mr_record.specs.declared.version.Version.{Version};
+ghost use Rattle.mr_record.specs.declared.version.Version.TheVariants.{One};
 ghost use Rattle.mr_tree.specs.Digest.{by};
 ghost use Rattle.mr_proof.specs.declared.rule.Fault.{Fault};
 ghost use Rattle.mr_query.specs.Word.{IsAskable};
@@ -60,9 +61,9 @@ pub fn check<H: Hashes>(
     ensures one_half { OneHalf H.of root.now q.now proof.now }
     // What an answer is worth: the bytes prove it; they are the honest proof of the map with this
     // root, and it is the answer of a scan, or the hash function has a collision. The honest proof
-    // is accepted, and any other string is refused or shows a collision.
+    // of a map of version 1 is accepted, and any other string is refused or shows a collision.
     ensures proved { IfOk result (λ v. Proves H.of root.now q.now proof.now v.items) }
-    ensures complete { (v : Version) → AcceptsHonest (by v H.of) q.now }
+    ensures complete { AcceptsHonest (by One H.of) q.now }
     ensures headline { (v : Version) → Headline (by v H.of) q.now proof.now }
     ensures accepted { (v : Version) → AcceptedIsHonest (by v H.of) q.now proof.now }
     ensures other_strings { (v : Version) → OthersFail (by v H.of) q.now proof.now }

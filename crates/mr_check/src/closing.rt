@@ -29,7 +29,9 @@ pub(crate) fn close<H: Hashes, A: AsQuestion>(
     m: &mut Machine<H>,
     node: &Entry,
 ) -> Option<Rule>
-    requires { vec_len m.old.frames.list + node.now.level ≤ 7 }
+    requires deep { vec_len m.old.frames.list + node.now.level ≤ 7 }
+    requires mask { node.now.mask ≡ 0 }
+    requires count { node.now.count ≡ 0 }
     ensures fits { CloseFits m.new.head.kind m.new.stage (vec_len m.new.frames.list) result }
     ensures kept { m.new.latest ≡ m.old.latest }
     ensures closes { (given : List types.Record) (os : List Open) (P : Cut)

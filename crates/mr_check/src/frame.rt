@@ -3,14 +3,15 @@
 ghost use Rattle.std.specs.Prelude.{◌≡◌, ◌+◌, ◌<◌, ◌≤◌, [], ◌∷◌, reverse, vec_len, vec_capacity, IfOk};
 ghost use Rattle.mr_check.specs.Popping.{Pops};
 
-use mr_tree::{Gathering, Hashes};
+use crate::open_node::OpenNode;
+use mr_tree::Hashes;
 use std::alloc::{AllocError, Global};
 
 // An open node: what was gathered of the entries that were read, and how many stand behind the one
 // that is under way.
 #[derive(Drop)]
 pub(crate) struct Frame<H: Hashes> {
-    pub(crate) node: Gathering<H>,
+    pub(crate) node: OpenNode<H>,
     pub(crate) left: u8,
 }
 

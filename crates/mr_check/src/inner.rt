@@ -9,10 +9,11 @@ ghost use Rattle.mr_check.specs.Standing.{frames_of, Above, InTree, Steps, StepF
 use crate::closing::close;
 use crate::frame::{Frame, push};
 use crate::machine::{Machine, Stepped};
+use crate::open_node::OpenNode;
 use crate::stage::Stage;
 use mr_geom::Rect;
 use mr_proof::{AsQuestion, Rule, Shown};
-use mr_tree::{Gathering, Hashes};
+use mr_tree::Hashes;
 
 // The stage behind a tag.
 fn stage_of(level: u8, tag: u8) -> Stage
@@ -120,7 +121,7 @@ pub(crate) fn opened_inner<H: Hashes, A: AsQuestion>(
         (after (ways_at (A.question q.now) m.old.head) m.old.head (below + 1) a.nodes))) result }
 {
     let frame = Frame {
-        node: Gathering::<H>::inner(below + 1, entries),
+        node: OpenNode::<H>::inner(below + 1, entries),
         left: entries - 1,
     };
     push(&mut m.frames, frame);
@@ -145,7 +146,7 @@ pub(crate) fn opened_leaf<H: Hashes, A: AsQuestion>(
         (after (ways_at (A.question q.now) m.old.head) m.old.head 0 a.nodes))) result }
 {
     m.leaf = Frame {
-        node: Gathering::<H>::leaf(entries),
+        node: OpenNode::<H>::leaf(entries),
         left: entries - 1,
     };
     m.stage = Stage::Number;

@@ -4,17 +4,19 @@ ghost use Rattle.std.specs.Prelude.{◌≡◌, ◌≤◌, [], List, vec_len};
 ghost use Rattle.mr_record.specs.declared.record.Record as types;
 ghost use Rattle.mr_check.specs.Counting.{Counts};
 ghost use Rattle.mr_check.specs.Standing.{frames_of, Above, InTree, IsLeaf, LeafRead, Steps, StepFits, after_record, is_handed_out, ways_at, found_by, plus, behind_length};
-ghost use Rattle.mr_record.specs.Record.{payload_limit};
+ghost use Rattle.mr_record.specs.Record.{payload_limit, HasLayer};
+ghost use Rattle.mr_proof.specs.Fields.{version};
 
 use crate::closing::{close, is_to_be_opened};
 use crate::frame::Frame;
 use crate::machine::{Machine, Stepped};
+use crate::open_node::OpenNode;
 use crate::radius_counts::{RadiusCounts, count};
 use crate::stage::Stage;
 use mr_geom::Rect;
 use mr_proof::{AsQuestion, Head, Rule};
 use mr_record::{Payload, Record};
-use mr_tree::{Gathering, Hashes};
+use mr_tree::Hashes;
 use std::mem;
 
 // Whether the record is handed out; if so, it is counted.
@@ -37,7 +39,7 @@ fn taken<H: Hashes>(leaf: &mut Frame<H>) -> Frame<H>
     ensures { result ≡ leaf.old }
 {
     let blank = Frame {
-        node: Gathering::<H>::leaf(0),
+        node: OpenNode::<H>::leaf(0),
         left: 0,
     };
     mem::replace(leaf, blank)
@@ -81,7 +83,8 @@ fn last<H: Hashes, A: AsQuestion>(q: &A, m: &mut Machine<H>, handed_on: bool) ->
 
 // One more record of the open leaf was read.
 pub(crate) fn record<H: Hashes, A: AsQuestion>(q: &A, m: &mut Machine<H>) -> Stepped
-    requires { vec_len m.old.frames.list ≤ 7 }
+    requires deep { vec_len m.old.frames.list ≤ 7 }
+    requires layer { HasLayer version m.old.latest }
     ensures fits { StepFits m.new.head.kind m.new.stage (vec_len m.new.frames.list) result }
     ensures steps { (given : List types.Record) (a : Above) → IsLeaf H.holds m.old.leaf a.records
         → InTree H.of H.holds (A.question q.now) m.old.head (frames_of m.old) m.old.tally 0 given a
@@ -125,6 +128,7 @@ pub(crate) fn sized<H: Hashes, A: AsQuestion>(
     m.latest = Record {
         number,
         rect: *rect,
+        layer: 0,
         payload,
     };
     record(q, m)

@@ -17,6 +17,7 @@ mod intake;
 mod judge;
 mod leaf;
 mod machine;
+mod open_node;
 mod outline;
 mod radius_counts;
 mod reader;

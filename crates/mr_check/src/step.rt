@@ -93,6 +93,7 @@ pub(crate) fn step<H: Hashes, A: AsQuestion>(q: &A, m: &mut Machine<H>, field: &
             m.latest = Record {
                 number,
                 rect,
+                layer: 0,
                 payload: payload_of(field),
             };
             record(q, m)

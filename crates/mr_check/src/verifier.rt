@@ -14,6 +14,7 @@ use crate::fed::Fed;
 use crate::feeding::read_piece;
 use crate::frame::{Frame, no_frames};
 use crate::machine::Machine;
+use crate::open_node::OpenNode;
 use crate::outline::Outline;
 use crate::radius_counts::no_counts;
 use crate::reader::Reader;
@@ -21,7 +22,7 @@ use crate::stage::{HeadField, Stage};
 use mr_outside::Buffer;
 use mr_proof::{AsQuestion, Fault, Head};
 use mr_record::Record;
-use mr_tree::{Gathering, Hashes};
+use mr_tree::Hashes;
 use std::alloc::{AllocError, Global};
 
 /// Reads a proof against one root digest, as its bytes come in pieces of any size. What the proof
@@ -57,7 +58,7 @@ fn fresh<H: Hashes, A: AsQuestion>(alloc: Global, q: &A) -> Result<Reader<H>, Al
             stage: Stage::Head(HeadField::Magic),
             frames,
             leaf: Frame {
-                node: Gathering::<H>::leaf(0),
+                node: OpenNode::<H>::leaf(0),
                 left: 0,
             },
             tally: no_counts(),

@@ -1,21 +1,11 @@
 -- How many nodes of the map are fetched beside the items of a proof.
-use Rattle.std.proofs.Common.{◌≡◌, ℕ, suc, ◌+◌, ◌≤◌, ◌<◌, false, List, [], ◌++◌, append_assoc, append-nil, refl, sym, ap, subst, ◌∙◌, arith}
-use Rattle.std.specs.Prelude.{Option, Some, None, IfSome, Ok}
-use Rattle.mr_record.specs.declared.record.Record.{Record}
-use Rattle.mr_tree.specs.Digest.{by}
-use Rattle.mr_tree.specs.Nodes.{Standing, IsTop}
-use Rattle.mr_tree.specs.declared.nodes.Top.{Top}
+use Rattle.std.proofs.Common.{◌≡◌, ℕ, suc, ◌+◌, ◌≤◌, ◌<◌, false, List, [], ◌++◌, append_assoc, append-nil, sym, ap, subst, ◌∙◌, arith}
+use Rattle.std.specs.Prelude.{Option, Some, None, IfSome}
 use Rattle.mr_tree.specs.declared.tree.Tree.{Tree}
-use Rattle.mr_query.specs.declared.query.Query.{Query}
-use Rattle.mr_proof.specs.Tight.{kind_of}
-use Rattle.mr_proof.specs.Halves.{IsQueried}
 use Rattle.mr_proof.specs.declared.head.Head.{Head}
 use Rattle.mr_proof.specs.Cut.{Cut, Cuts, Pruned, Leaf, Inner, count_of, opened_nodes, all_opened}
 use Rattle.mr_proof.specs.Spelling.{cut_bytes, cuts_bytes, part_bytes, FitsCut, FitCuts, IsSpelled}
 use Rattle.mr_proof.specs.Honest.{opened_of}
-use Rattle.mr_proof.specs.Reading.{verdict}
-use Rattle.mr_proof.proofs.Pairs.{pair_found}
-use Rattle.mr_clash.specs.Finding.{opened_said, opened_by, opened_accepted, root_at}
 use Rattle.mr_clash.specs.Steps.{is_pruned, FetchesItem, FetchesChildren}
 use Rattle.mr_clash.proofs.Taking.{drop_cuts, next_cut}
 

@@ -1,12 +1,13 @@
 -- Just the honest proof is found to be sound, whatever it has to show.
-use Rattle.std.proofs.Common.{◌≡◌, ℕ, ◌<◌, ◌^◌, List, refl, sym, ap, subst, ◌∙◌}
+use Rattle.std.proofs.Common.{◌≡◌, ℕ, ◌<◌, ◌^◌, List, sym, ap, subst, ◌∙◌}
 use Rattle.std.specs.Prelude.{Option, Some, None, IfSome, Result, Ok, Err, IfOk}
 use Rattle.std.proofs.Math.Logic.{∥∥₁_elim}
 use Rattle.std.proofs.Props.{props}
 use Rattle.mr_tree.specs.Digest.{Scheme, by}
 use Rattle.mr_tree.specs.Digest as digests
 use Rattle.mr_tree.specs.Nodes.{Standing, IsTop}
-use Rattle.mr_tree.specs.WellFormed.{WellFormed}
+use Rattle.mr_tree.specs.WellFormed.{WellFormed, HasLayers}
+use Rattle.mr_record.specs.declared.version.Version.TheVariants.{One}
 use Rattle.mr_tree.specs.declared.nodes.Top.{Top}
 use Rattle.mr_tree.specs.declared.tree.Tree.{Tree}
 use Rattle.mr_proof.specs.declared.rule.Fault.{Fault}
@@ -41,19 +42,20 @@ shown p = Some p
 not_shown : (p : Pair) → shown p ≡ None → ⊥
 not_shown p e = cc
 
-module _ (h : Scheme) (a : Question) (t : Tree) (b : ℕ) (bytes : List ℕ) (well : WellFormed t) (low : b < 2 ^ 64)
+module _ (h : Scheme) (a : Question) (t : Tree) (b : ℕ) (bytes : List ℕ) (well : WellFormed t)
+    (layers : HasLayers h.version t) (low : b < 2 ^ 64)
     (accepts : AcceptsHonestProof h a) (matches : AcceptedMatchesHonest h a bytes) (quiet : HonestProofIsQuiet h a)
   where
     sound_is_own : (v : QuestionFinding)
         → IsQuestionFinding h t b a bytes v → IsSoundProof v → bytes ≡ proof_for h a t b
     sound_is_own (question_findings.Refused f) is sound = absurd sound
     sound_is_own (question_findings.Sound o) is sound =
-        (none_and h.of (clash_of a.kind h t b bytes) is.3 (matches t b is.0 well low is.1)).own
+        (none_and h.of (clash_of a.kind h t b bytes) is.3 (matches t b is.0 well layers low is.1)).own
     sound_is_own (question_findings.Collision owned shown) is sound = absurd sound
 
     own_checked : bytes ≡ proof_for h a t b
         → checked h.of (digests.root h t b) a bytes ≡ passed (honest_said h a t b)
-    own_checked own = ap (checked h.of (digests.root h t b) a) own ∙ accepts t b well low
+    own_checked own = ap (checked h.of (digests.root h t b) a) own ∙ accepts t b well layers low
 
     own_is_sound : (v : QuestionFinding)
         → IsQuestionFinding h t b a bytes v → bytes ≡ proof_for h a t b → IsSoundProof v
@@ -62,7 +64,7 @@ module _ (h : Scheme) (a : Question) (t : Tree) (b : ℕ) (bytes : List ℕ) (we
     own_is_sound (question_findings.Sound o) is own = tt
     own_is_sound (question_findings.Collision owned shown) is own =
         absurd (not_shown (record { owned = owned; shown = shown })
-        (sym is.2 ∙ ap (clash_of a.kind h t b) own ∙ quiet t b well low))
+        (sym is.2 ∙ ap (clash_of a.kind h t b) own ∙ quiet t b well layers low))
 
     pub finds_honest_proof : (v : QuestionFinding)
         → IsQuestionFinding h t b a bytes v → FindsHonestProof h t b a bytes v
@@ -79,25 +81,26 @@ answered_prop : (h : Scheme) (t : Tree) (b : ℕ) (a : Question) (bytes : List �
 answered_prop h t b a bytes (Ok v) = finds_prop h t b a bytes v
 answered_prop h t b a bytes (Err e) = hlevel props
 
--- so of what is found by a told tree, which is well formed
+-- so of what is found by a told tree, which is well formed and has the layers of version 1
 pub honest_proof_told : (hash : List ℕ → List ℕ) (a : Question) (bytes : List ℕ) (s : Standing) (top : Top)
     (r : Result QuestionFinding AuditErr) → IsTop hash s top → top.batch < 2 ^ 64
-    → AcceptsHonestProof (by s.version hash) a → AcceptedMatchesHonest (by s.version hash) a bytes
-    → HonestProofIsQuiet (by s.version hash) a → IfSome s.tree (λ t. ∥ WellFormed t ∥₁)
+    → AcceptsHonestProof (by One hash) a → AcceptedMatchesHonest (by One hash) a bytes
+    → HonestProofIsQuiet (by One hash) a → s.version ≡ One → IfSome s.tree (λ t. ∥ WellFormed t ∥₁)
     → IfSome s.tree (λ t. IfOk r (IsQuestionFinding (by s.version hash) t s.batch a bytes))
-    → IfSome s.tree (λ t. IfOk r (FindsHonestProof (by s.version hash) t s.batch a bytes))
-honest_proof_told hash a bytes s top r is low accepts matches quiet wells told = by_tree s.tree wells told
+    → IfSome s.tree (λ t. HasLayers One t → IfOk r (FindsHonestProof (by One hash) t s.batch a bytes))
+honest_proof_told hash a bytes s top r is low accepts matches quiet one wells told = by_tree s.tree wells told
   where
-    found_so : (t : Tree) → WellFormed t → (r : Result QuestionFinding AuditErr)
-        → IfOk r (IsQuestionFinding (by s.version hash) t s.batch a bytes)
-        → IfOk r (FindsHonestProof (by s.version hash) t s.batch a bytes)
-    found_so t well (Err e) told = tt
-    found_so t well (Ok v) told = finds_honest_proof (by s.version hash) a t s.batch bytes well
+    found_so : (t : Tree) → WellFormed t → HasLayers One t → (r : Result QuestionFinding AuditErr)
+        → IfOk r (IsQuestionFinding (by One hash) t s.batch a bytes)
+        → IfOk r (FindsHonestProof (by One hash) t s.batch a bytes)
+    found_so t well layers (Err e) told = tt
+    found_so t well layers (Ok v) told = finds_honest_proof (by One hash) a t s.batch bytes well layers
         (subst (λ n. n < 2 ^ 64) is.batch low) accepts matches quiet v told
 
     by_tree : (o : Option Tree) → IfSome o (λ t. ∥ WellFormed t ∥₁)
         → IfSome o (λ t. IfOk r (IsQuestionFinding (by s.version hash) t s.batch a bytes))
-        → IfSome o (λ t. IfOk r (FindsHonestProof (by s.version hash) t s.batch a bytes))
+        → IfSome o (λ t. HasLayers One t → IfOk r (FindsHonestProof (by One hash) t s.batch a bytes))
     by_tree None wells told = tt
-    by_tree (Some t) wells told =
-        ∥∥₁_elim wells (answered_prop (by s.version hash) t s.batch a bytes r) (λ well. found_so t well r told)
+    by_tree (Some t) wells told = λ layers.
+        ∥∥₁_elim wells (answered_prop (by One hash) t s.batch a bytes r) (λ well. found_so t well layers r
+        (subst (λ w. IfOk r (IsQuestionFinding (by w hash) t s.batch a bytes)) one told))

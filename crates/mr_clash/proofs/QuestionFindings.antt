@@ -19,7 +19,6 @@ use Rattle.mr_check.specs.Judged.{IsCollected, AnswersCollected}
 use Rattle.mr_clash.specs.Finding.{root_at}
 use Rattle.mr_clash.specs.Causes.{AuditCauses}
 use Rattle.mr_clash.specs.declared.question_finding.QuestionFinding.{QuestionFinding}
-use Rattle.mr_clash.specs.declared.question_finding.QuestionFinding.TheVariants as question_findings
 use Rattle.mr_clash.specs.declared.error.AuditErr.{AuditErr}
 use Rattle.mr_clash.specs.QuestionFindings.{IsQuestionFindingBy, IsQuestionFinding, QuestionFindingFor, QuestionFindingCollides, opened_checked, opened_checked_by, FetchesFor, Declines, QuestionFindingOf}
 use Rattle.mr_clash.proofs.Roots.{root_told}

@@ -2,16 +2,16 @@
 use Rattle.std.proofs.Common.{◌≡◌, ℕ, zero, suc, ◌≤◌, ◌<◌, ◌^◌, List, [], length, append-nil, refl, sym, ap, subst, ◌∙◌, arith}
 use Rattle.std.specs.Prelude.{Option, Some, None, IfSome, IsSome, IsSomeAnd, IsNone, option_map, Result, Ok, Err, IfOk}
 use Rattle.mr_tree.specs.Tree.{records}
-use Rattle.mr_record.proofs.Versions.{only_version}
 use Rattle.mr_tree.specs.Digest.{Scheme, by, root_preimage}
 use Rattle.mr_tree.specs.declared.entry.Entry.{Entry}
 use Rattle.mr_tree.specs.Digest as digests
-use Rattle.mr_tree.specs.Nodes.{Standing, IsTop, MayFetch, tree_under, top_version, root_entry}
+use Rattle.mr_tree.specs.Nodes.{Standing, IsTop, MayFetch, tree_under, root_entry}
 use Rattle.mr_tree.specs.View.{entry_of}
 use Rattle.mr_tree.specs.declared.child.Child.{Child}
 use Rattle.mr_tree.specs.declared.nodes.Top.{Top}
 use Rattle.mr_tree.specs.declared.tree.Tree.{Tree}
 use Rattle.mr_proof.specs.declared.head.Head.{Head}
+use Rattle.mr_proof.specs.Fields.{version}
 use Rattle.mr_proof.specs.Cut.{Cut, rect, digest, entry}
 use Rattle.mr_proof.specs.Spelling.{version_of, cut_bytes, part_bytes, FitsCut, IsSpelled}
 use Rattle.mr_proof.specs.Accepted.{root_bytes, root_found}
@@ -21,6 +21,7 @@ use Rattle.mr_proof.proofs.Pairs.{pair_found_of}
 use Rattle.mr_proof.proofs.Preimages.{entry-rect}
 use Rattle.mr_proof.proofs.SameNodes.{named_cut}
 use Rattle.mr_proof.proofs.SameRoots.{same_root, empty_filled}
+use Rattle.mr_proof.proofs.Worth.{version_said}
 use Rattle.mr_clash.specs.Finding.{root_at}
 use Rattle.mr_clash.specs.Steps.{scheme, pair_of, PassesRoot, Walks, WalkedOne, WalkedRoot, Compared, ComparedMap}
 use Rattle.mr_clash.specs.declared.walked.Walked.{Walked}
@@ -36,6 +37,8 @@ pub root_of_cut : (hash : List ℕ → List ℕ) (h : Head) (P : Cut) (x : Entry
 root_of_cut hash h P x fits e = λ i. root_preimage (version_of h) h.batch h.count (record {
   level = (ap (λ (e : Entry). e.level) e ∙ entry_at_level (scheme hash) h.level P fits) i;
   rect = (ap (λ (e : Entry). e.rect) e ∙ entry-rect (scheme hash) h.level P) i;
+  mask = x.mask;
+  count = x.count;
   digest = ap (λ (e : Entry). e.digest) e i;
 })
 
@@ -79,36 +82,39 @@ root_told hash s top t is told =
 
 -- ---- roots that are one
 
--- the cut is one of the root node's level, and what is said of the two is one
-pub record RootCut (hash : List ℕ → List ℕ) (c : Child) (h : Head) (P : Cut) : Type 0 where
+-- the map is of the version of proofs, and the cut one of the root node's level with its digest
+pub record RootCut (hash : List ℕ → List ℕ) (top : Top) (c : Child) (h : Head) (P : Cut) : Type 0 where
+  pub one : top.version ≡ version
   pub level : h.level ≡ c.level
-  pub same : entry_of c ≡ entry (scheme hash) c.level P
+  pub same : c.digest ≡ digest (scheme hash) c.level P
+
+-- what a root preimage says of the root node of a cut
+abbrev said_of : (List ℕ → List ℕ) → Head → Cut → Entry
+said_of hash h P = record {
+  level = h.level;
+  rect = rect P;
+  mask = 0;
+  count = 0;
+  digest = digest (scheme hash) h.level P;
+}
 
 -- a map with records and a proof of one
 pub root_cut : (hash : List ℕ → List ℕ) → ((m : List ℕ) → length (hash m) ≡ 32) → (top : Top) (c : Child) (h : Head)
     (P : Cut) (bytes : List ℕ) → top.root ≡ Some c → top.batch < 2 ^ 64 → top.count < 2 ^ 64 → 1 ≤ top.count
     → IsThere (Some c.rect) → IsSpelled h (Some P) bytes → root_at top ≡ root_bytes hash h (Some P)
-    → RootCut hash c h P
+    → RootCut hash top c h P
 root_cut hash sized top c h P bytes root batch count some there spelled e =
     let own : root_entry top.root ≡ entry_of c = ap root_entry root in
-    let f : Entry = record { level = h.level; rect = rect P; digest = digest (scheme hash) h.level P } in
     let place : (entry (scheme hash) h.level P).rect ≡ rect P = entry-rect (scheme hash) h.level P in
-    let same = same_root (top_version top) (version_of h) top.batch top.count h.batch h.count (entry_of c) f batch count
-    spelled.head.batch (omega (arith, spelled.head.count)) some (omega (arith, spelled.part.0)) there
+    let same = same_root top.version (version_of h) top.batch top.count h.batch h.count (entry_of c) (said_of hash h P)
+    batch count spelled.head.batch (omega (arith, spelled.head.count)) some (omega (arith, spelled.part.0)) there
     (subst IsThere place (named_cut (scheme hash) sized h.level P spelled.part.1).there)
-    (ap (root_preimage (top_version top) top.batch top.count) (sym own) ∙ e) in
+    (ap (root_preimage top.version top.batch top.count) (sym own) ∙ e) in
     let level : h.level ≡ c.level = sym same.level in
     record {
+      one = same.version;
       level = level;
-      same = (λ i. record {
-        level = same.level i;
-        rect = (same.same.rect ∙ sym place) i;
-        digest = same.same.digest i;
-      }) ∙ (λ i. record {
-        level = (sym (entry_at_level (scheme hash) h.level P spelled.part.1)) i;
-        rect = (entry (scheme hash) h.level P).rect;
-        digest = (entry (scheme hash) h.level P).digest;
-      }) ∙ ap (λ v. entry (scheme hash) v P) level;
+      same = same.same.digest ∙ ap (λ v. digest (scheme hash) v P) level;
     }
 
 -- ---- no root node
@@ -117,9 +123,9 @@ root_cut hash sized top c h P bytes root batch count some there spelled e =
 pub no_root_cut : (hash : List ℕ → List ℕ) (top : Top) (h : Head) (P : Cut) → top.count ≡ 0 → 1 ≤ h.count
     → root_at top ≡ root_bytes hash h (Some P) → ⊥
 no_root_cut hash top h P none some e =
-    empty_filled (top_version top) (version_of h) top.batch h.batch h.count (root_entry top.root)
-    (record { level = h.level; rect = rect P; digest = digest (scheme hash) h.level P }) some
-    ((λ i. root_preimage (top_version top) top.batch (sym none i) (root_entry top.root)) ∙ e)
+    empty_filled top.version (version_of h) top.batch h.batch h.count (root_entry top.root)
+    (said_of hash h P) some
+    ((λ i. root_preimage top.version top.batch (sym none i) (root_entry top.root)) ∙ e)
 
 some_records : (hash : List ℕ → List ℕ) (s : Standing) (top : Top) (c : Child) → IsTop hash s top
     → top.root ≡ Some c → 1 ≤ top.count
@@ -154,9 +160,23 @@ told_of hash s top h P bytes pair is spelled so = by_tree s.tree refl
         so t told
         ∙ ap (λ x. or_else (differ x (Some (root_bytes hash h P))) (part_clash (scheme hash) h.level t P))
         (root_told hash s top t is told)
-        ∙ ap (λ v. or_else (differ (digests.root_bytes (by s.version hash) t s.batch) (Some (root_bytes hash h P)))
-        (part_clash (by v hash) h.level t P)) (only_version s.version)
+        ∙ by_pair (differ (digests.root_bytes (by s.version hash) t s.batch) (Some (root_bytes hash h P))) refl
         ∙ sym (clash_spelled (by s.version hash) t s.batch h P bytes spelled)
+      where
+        -- where the strings of the roots are one, the map is of the version of proofs
+        by_pair : (o : Option Pair)
+            → differ (digests.root_bytes (by s.version hash) t s.batch) (Some (root_bytes hash h P)) ≡ o
+            → or_else (differ (digests.root_bytes (by s.version hash) t s.batch) (Some (root_bytes hash h P)))
+            (part_clash (scheme hash) h.level t P)
+            ≡ or_else (differ (digests.root_bytes (by s.version hash) t s.batch) (Some (root_bytes hash h P)))
+            (part_clash (by s.version hash) h.level t P)
+        by_pair (Some p) d =
+            ap (λ o. or_else o (part_clash (scheme hash) h.level t P)) d
+            ∙ sym (ap (λ o. or_else o (part_clash (by s.version hash) h.level t P)) d)
+        by_pair None d =
+            ap (λ v. or_else (differ (digests.root_bytes (by s.version hash) t s.batch) (Some (root_bytes hash h P)))
+            (part_clash (by v hash) h.level t P))
+            (sym (version_said (by s.version hash) t s.batch h P (same_strings _ _ (sym d))))
 
 -- the strings of the roots differ
 pub roots_differ : (hash : List ℕ → List ℕ) (s : Standing) (top : Top) (h : Head) (P : Option Cut) (bytes : List ℕ)
@@ -235,12 +255,14 @@ root_alone hash s top h P bytes v before r is root spelled some level here passe
 pub other_level : {E : Type 0} (hash : List ℕ → List ℕ) → ((m : List ℕ) → length (hash m) ≡ 32) → (s : Standing)
     (top : Top) (c : Child) (h : Head) (P : Option Cut) (bytes : List ℕ) (v : ℕ) (before : List ℕ)
     (r : Result Walked E) → IsTop hash s top → top.root ≡ Some c → top.batch < 2 ^ 64 → top.count < 2 ^ 64
-    → IsThere (Some c.rect) → (c.level ≡ v → ⊥) → IsSpelled h P bytes → (h.count ≡ 0 → ⊥) → v ≡ h.level
+    → IsThere (Some c.rect) → (top.version ≡ version → c.level ≡ v → ⊥) → IsSpelled h P bytes
+    → (h.count ≡ 0 → ⊥) → v ≡ h.level
     → before ≡ part_bytes P → PassesRoot hash v before r → IfOk r (WalkedRoot hash s top h P bytes)
 other_level hash sized s top c h P bytes v before r is root batch count there other spelled some level here passes =
     alone hash s top h P bytes v before r spelled some level here
-    (λ Q spelled d. other (sym (root_cut hash sized top c h Q bytes root batch count
-    (some_records hash s top c is root) there spelled (same_strings _ _ d)).level ∙ sym level))
+    (λ Q spelled d. let x = root_cut hash sized top c h Q bytes root batch count (some_records hash s top c is root)
+    there spelled (same_strings _ _ d) in
+    other x.one (sym x.level ∙ sym level))
     passes
 
 -- the root node was walked beside the item

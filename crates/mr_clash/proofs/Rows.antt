@@ -6,13 +6,12 @@ use Rattle.std.specs.List.{AllByRecursion}
 use Rattle.std.proofs.lemmas.List.{length-map}
 use Rattle.mr_tree.specs.declared.entry.Entry.{Entry}
 use Rattle.mr_tree.specs.Nodes.{Standing}
-use Rattle.mr_tree.specs.View.{entry_of}
 use Rattle.mr_tree.specs.declared.child.Child.{Child}
 use Rattle.mr_tree.specs.declared.tree.Tree.{Tree}
-use Rattle.mr_proof.specs.Cut.{Cut, Cuts, no_more, first, count_of, entry, entries}
+use Rattle.mr_proof.specs.Cut.{Cut, Cuts, no_more, first, count_of, entries, digest}
 use Rattle.mr_proof.specs.Spelling.{cut_bytes, cuts_bytes, FitsCut, FitCuts}
 use Rattle.mr_proof.specs.Clash.{Pair, or_else, node_clash, children_clash, IsCollision}
-use Rattle.mr_clash.specs.Steps.{scheme, pair_of, PassedAll, Compared, WalkedOne, WalkedAll}
+use Rattle.mr_clash.specs.Steps.{scheme, pair_of, held_of, shown_of, PassedAll, Compared, WalkedOne, WalkedAll}
 use Rattle.mr_clash.specs.declared.walked.Row.{Row}
 use Rattle.mr_clash.specs.declared.walked.Walked.{Walked}
 use Rattle.mr_clash.proofs.Taking.{drop_cuts, drop_all, length-entries}
@@ -23,7 +22,7 @@ record ChildCut (hash : List ℕ → List ℕ) (w : ℕ) (cs : List Child) (Ps :
   cut : Cut
   fits : FitsCut w cut
   here : drop_cuts i Ps ≡ first cut (drop_cuts (suc i) Ps)
-  same : map entry_of cs ≡ entries (scheme hash) w Ps → entry_of c ≡ entry (scheme hash) w cut
+  same : held_of cs ≡ shown_of (entries (scheme hash) w Ps) → c.digest ≡ digest (scheme hash) w cut
 
 child_cut : (hash : List ℕ → List ℕ) (w : ℕ) (cs : List Child) (Ps : Cuts) (i : ℕ) (c : Child) → i < length cs
     → c ≡ get_or cs i c → count_of Ps ≡ length cs → FitCuts w Ps → ChildCut hash w cs Ps i c
@@ -33,7 +32,7 @@ child_cut hash w (d ∷ cs) (first P Ps) zero c lt is count fits = record {
   cut = P;
   fits = fits.0;
   here = refl;
-  same = λ e. ap entry_of is ∙ head_is (entry_of d) (entry (scheme hash) w P) _ _ e;
+  same = λ e. ap (λ (c : Child). c.digest) is ∙ head_is d.digest (digest (scheme hash) w P) _ _ e;
 }
 child_cut hash w (d ∷ cs) (first P Ps) (suc i) c lt is count fits =
     let n = child_cut hash w cs Ps i c (omega arith) is (omega (arith, count)) fits.1 in
@@ -41,7 +40,7 @@ child_cut hash w (d ∷ cs) (first P Ps) (suc i) c lt is count fits =
       cut = n.cut;
       fits = n.fits;
       here = n.here;
-      same = λ e. n.same (tail_is (entry_of d) (entry (scheme hash) w P) _ _ e);
+      same = λ e. n.same (tail_is d.digest (digest (scheme hash) w P) _ _ e);
     }
 
 -- and the tree under it
@@ -91,7 +90,7 @@ pub record WalkedSome (hash : List ℕ → List ℕ) (s : Standing) (w : ℕ) (c
     (i : ℕ) (xs : List Entry) (pair : Option Pair) (bytes : List ℕ) : Type 0 where
   pub say : entries (scheme hash) w Ps ≡ xs ++ entries (scheme hash) w (drop_cuts i Ps)
   pub left_is : bytes ≡ cuts_bytes (drop_cuts i Ps) ++ rest
-  pub compared : map entry_of cs ≡ entries (scheme hash) w Ps → FirstOf hash s w cs Ps i pair
+  pub compared : held_of cs ≡ shown_of (entries (scheme hash) w Ps) → FirstOf hash s w cs Ps i pair
 
 pub none_walked : (hash : List ℕ → List ℕ) (s : Standing) (w : ℕ) (cs : List Child) (Ps : Cuts)
     (rest bytes : List ℕ) → bytes ≡ cuts_bytes Ps ++ rest → WalkedSome hash s w cs Ps rest 0 [] None bytes
@@ -196,7 +195,8 @@ pub other_count : (hash : List ℕ → List ℕ) (s : Standing) (w : ℕ) (cs : 
 other_count hash s w cs Ps rest row after other passed = record {
   say = passed.say;
   behind = passed.behind;
-  compared = λ same. absurd (other (sym (length-entries hash w Ps) ∙ sym (ap length same) ∙ length-map cs entry_of));
+  compared = λ same. absurd (other (sym (length-map (entries (scheme hash) w Ps) (λ (e : Entry). e.digest)
+      ∙ length-entries hash w Ps) ∙ sym (ap length same) ∙ length-map cs (λ (c : Child). c.digest)));
 }
 
 -- ---- one of several

@@ -1,5 +1,5 @@
 -- Bytes, records and cuts taken from the front of what is left.
-use Rattle.std.proofs.Common.{◌≡◌, ℕ, zero, suc, ◌+◌, ◌≤◌, ◌<◌, List, [], ◌∷◌, ◌++◌, length, map, take, drop, refl, sym, ap, subst, ◌∙◌, append_assoc, arith}
+use Rattle.std.proofs.Common.{◌≡◌, ℕ, zero, suc, ◌+◌, ◌≤◌, ◌<◌, List, [], ◌∷◌, ◌++◌, length, map, take, drop, refl, sym, ap, subst, ◌∙◌, append_assoc, append-nil, arith}
 use Rattle.std.specs.Prelude.{All, Option, Some, None}
 use Rattle.std.specs.Int.{w64, w128, to_be_bytes}
 use Rattle.std.specs.List.{flat_map, AllByRecursion}
@@ -12,9 +12,8 @@ use Rattle.mr_record.specs.declared.record.Record.{Record}
 use Rattle.mr_tree.specs.Tree.{rect_step}
 use Rattle.mr_tree.specs.declared.tree.Tree.TheOpen as node
 use Rattle.mr_tree.specs.declared.entry.Entry.{Entry}
-use Rattle.mr_proof.specs.declared.head.Kind.{Kind}
 use Rattle.mr_proof.specs.declared.head.Kind.TheVariants as kind
-use Rattle.mr_proof.specs.Fields.{kind_byte}
+use Rattle.mr_proof.specs.Fields.{version}
 use Rattle.mr_proof.specs.Cut.{Cut, Cuts, no_more, first, count_of, entry, entries}
 use Rattle.mr_proof.specs.Spelling.{cut_bytes, cuts_bytes, radius_bytes, FitsCut, FitCuts}
 use Rattle.mr_clash.specs.Steps.{scheme, Passed, PassedAll}
@@ -42,23 +41,27 @@ fields : (number rect payload rest : List ℕ) (size : ℕ)
 fields number rect payload rest size =
     append_assoc (number ++ rect) (size ∷ payload) rest ∙ append_assoc number rect (size ∷ (payload ++ rest))
 
-pub record_fields : (r : Record) (rest : List ℕ) → record_bytes r ++ rest
+pub record_fields : (r : Record) (rest : List ℕ) → record_bytes version r ++ rest
     ≡ to_be_bytes w64 r.number ++ (rectangle_bytes r.rect ++ (length r.payload ∷ (r.payload ++ rest)))
 unfolding record_bytes
-record_fields r rest = fields (to_be_bytes w64 r.number) (rectangle_bytes r.rect) r.payload rest (length r.payload)
+record_fields r rest =
+    let number = to_be_bytes w64 r.number in
+    let size = length r.payload in
+    ap (λ (x : List ℕ). (x ++ size ∷ r.payload) ++ rest) (append-nil (number ++ rectangle_bytes r.rect))
+    ∙ fields number (rectangle_bytes r.rect) r.payload rest size
 
 -- so many of them were passed over, and this is the rectangle round them
 pub record PassedRecords (rs : List Record) (rest : List ℕ) (i : ℕ) (all : Option Rectangle) (bytes : List ℕ)
     : Type 0 where
   pub round : rect_step (node.Leaf rs) ≡ join all (rect_step (node.Leaf (drop i rs)))
-  pub left_is : bytes ≡ flat_map record_bytes (drop i rs) ++ rest
+  pub left_is : bytes ≡ flat_map (record_bytes version) (drop i rs) ++ rest
 
 -- the record at this place
 pub record NextRecord (rs : List Record) (rest : List ℕ) (i : ℕ) (bytes : List ℕ) : Type 0 where
   pub one : Record
   pub is : IsRecord one
   pub more : drop i rs ≡ one ∷ drop (i + 1) rs
-  pub here : bytes ≡ record_bytes one ++ (flat_map record_bytes (drop (i + 1) rs) ++ rest)
+  pub here : bytes ≡ record_bytes version one ++ (flat_map (record_bytes version) (drop (i + 1) rs) ++ rest)
 
 record Next (rs : List Record) (i : ℕ) : Type 0 where
   one : Record
@@ -73,7 +76,7 @@ next (r ∷ rs) (suc i) lt all =
     record { one = n.one; is = n.is; more = n.more }
 
 pub next_record : (rs : List Record) (rest : List ℕ) (i : ℕ) (bytes : List ℕ) → i < length rs → All IsRecord rs
-    → bytes ≡ flat_map record_bytes (drop i rs) ++ rest → NextRecord rs rest i bytes
+    → bytes ≡ flat_map (record_bytes version) (drop i rs) ++ rest → NextRecord rs rest i bytes
 next_record rs rest i bytes lt all e =
     let n = next rs i lt (recursion_from_All IsRecord rs all) in
     let plus : suc i ≡ i + 1 = omega arith in
@@ -82,8 +85,8 @@ next_record rs rest i bytes lt all e =
       one = n.one;
       is = n.is;
       more = more;
-      here = e ∙ ap (λ xs. flat_map record_bytes xs ++ rest) more
-          ∙ append_assoc (record_bytes n.one) (flat_map record_bytes (drop (i + 1) rs)) rest;
+      here = e ∙ ap (λ xs. flat_map (record_bytes version) xs ++ rest) more
+          ∙ append_assoc (record_bytes version n.one) (flat_map (record_bytes version) (drop (i + 1) rs)) rest;
     }
 
 round_first : (r : Record) (rs : List Record)
@@ -93,7 +96,7 @@ round_first r rs = fold_join (Some r.rect) (map (λ (r : Record). Some r.rect) r
 -- one more was passed over
 pub record_more : (rs : List Record) (rest : List ℕ) (i : ℕ) (all more one : Option Rectangle) (bytes after : List ℕ)
     → PassedRecords rs rest i all bytes → (n : NextRecord rs rest i bytes) → one ≡ Some n.one.rect → more ≡ join all one
-    → after ≡ flat_map record_bytes (drop (i + 1) rs) ++ rest → PassedRecords rs rest (i + 1) more after
+    → after ≡ flat_map (record_bytes version) (drop (i + 1) rs) ++ rest → PassedRecords rs rest (i + 1) more after
 record_more rs rest i all more one bytes after so n is joined behind =
     let others = rect_step (node.Leaf (drop (i + 1) rs)) in
     record {
@@ -108,7 +111,7 @@ pub all_records : (rs : List Record) (rest : List ℕ) (i : ℕ) (all : Option R
     → length rs ≤ i → PassedRecords rs rest i all bytes → (all ≡ rect_step (node.Leaf rs)) × (bytes ≡ rest)
 all_records rs rest i all bytes le so = (
   sym (so.round ∙ ap (λ xs. join all (rect_step (node.Leaf xs))) (drop-all i rs le) ∙ join_none all),
-  so.left_is ∙ ap (λ xs. flat_map record_bytes xs ++ rest) (drop-all i rs le),
+  so.left_is ∙ ap (λ xs. flat_map (record_bytes version) xs ++ rest) (drop-all i rs le),
 )
 
 -- ---- a radius

@@ -10,23 +10,22 @@ use Rattle.mr_tree.specs.Digest.{by, entry_bytes, level_over, node_preimage}
 use Rattle.mr_tree.specs.declared.entry.Entry.{Entry}
 use Rattle.mr_tree.specs.Digest as digests
 use Rattle.mr_tree.specs.Nodes.{Standing, IsEntry, IsNodeOf, MayFetch, Shows}
-use Rattle.mr_tree.specs.View.{Node, IsChild, IsInner, IsView, children_in, entry_of, level_of, preimage_of}
+use Rattle.mr_tree.specs.View.{Node, IsChild, IsInner, IsView, children_in, entry_of, preimage_of}
 use Rattle.mr_tree.specs.declared.child.Child.{Child}
 use Rattle.mr_tree.specs.declared.tree.Tree.{Tree}
 use Rattle.mr_tree.specs.declared.tree.Tree.TheVariants as tree
 use Rattle.mr_tree.specs.declared.tree.Tree.TheOpen as node
 use Rattle.mr_proof.specs.declared.shown.Shown.{Shown}
-use Rattle.mr_proof.specs.Cut.{Cut, Cuts, Pruned, Leaf, Inner, no_more, first, entry, entries, preimage}
+use Rattle.mr_proof.specs.Fields.{version}
+use Rattle.mr_proof.specs.Cut.{Cut, Cuts, Pruned, Leaf, Inner, no_more, first, entry, entries, digest, preimage}
 use Rattle.mr_proof.specs.Spelling.{cut_bytes, FitsCut, FitCuts}
 use Rattle.mr_proof.specs.Clash.{Pair, differ, or_else, children, children_in as trees_in, node_clash, children_clash, IsCollision, NoneAnd}
 use Rattle.mr_proof.proofs.Values.{same_bytes}
 use Rattle.mr_proof.proofs.SameNodes.{IsNamed, entry_front, named_cut, none_differ, preimage-Leaf, preimage-Inner}
-use Rattle.mr_clash.specs.Steps.{scheme, pair_of, is_pruned, string_over, Passed, Compared, ComparedAll, WalkedOne, WalkedAll, WalkedLeaf, Closed}
+use Rattle.mr_clash.specs.Steps.{scheme, pair_of, held_of, shown_of, is_pruned, string_over, Passed, Compared, ComparedAll, WalkedOne, WalkedAll, WalkedLeaf, Closed}
 use Rattle.mr_clash.specs.declared.finding.Clash.{Clash}
 use Rattle.mr_clash.specs.declared.walked.Row.{Row}
 use Rattle.mr_clash.specs.declared.walked.Walked.{Walked}
-use Rattle.mr_record.proofs.Versions.{only_version}
-use Rattle.mr_clash.proofs.Levels.{entry_at_level}
 use Rattle.mr_clash.proofs.Nodes.{inner_passed, inner_string_shown, item_pruned}
 
 -- ---- two lists of entries with one string
@@ -50,29 +49,19 @@ named_entries hash sized w (first P Ps) fits = (
       Ps fits.1,
 )
 
-abbrev IsLevel : ℕ → Entry → Type 0
-IsLevel w e = e.level ≡ w
+same_digests : (es fs : List Entry) → AllByRecursion IsNamed es → AllByRecursion IsNamed fs → length es ≡ length fs
+    → flat_map (entry_bytes version) es ≡ flat_map (entry_bytes version) fs → shown_of es ≡ shown_of fs
+same_digests [] [] p q n e = refl
+same_digests [] (f ∷ fs) p q n e = absurd (omega arith)
+same_digests (x ∷ es) [] p q n e = absurd (omega arith)
+same_digests (x ∷ es) (f ∷ fs) p q n e =
+    let c = entry_front version x f (flat_map (entry_bytes version) es) (flat_map (entry_bytes version) fs) p.0 q.0 e in
+    let rest = same_digests es fs p.1 q.1 (omega arith) c.rest in
+    λ i. c.here.digest i ∷ rest i
 
-levels_entries : (hash : List ℕ → List ℕ) (w : ℕ) (Ps : Cuts) → FitCuts w Ps
-    → AllByRecursion (IsLevel w) (entries (scheme hash) w Ps)
-levels_entries hash w no_more fits = tt
-levels_entries hash w (first P Ps) fits = (entry_at_level (scheme hash) w P fits.0, levels_entries hash w Ps fits.1)
-
-levels_children : (w : ℕ) (cs : List Child) → AllByRecursion (λ (c : Child). c.level ≡ w) cs
-    → AllByRecursion (IsLevel w) (map entry_of cs)
-levels_children w [] all = tt
-levels_children w (c ∷ cs) all = (all.0, levels_children w cs all.1)
-
-same_entries : (w : ℕ) (es fs : List Entry) → AllByRecursion IsNamed es → AllByRecursion IsNamed fs
-    → AllByRecursion (IsLevel w) es → AllByRecursion (IsLevel w) fs → length es ≡ length fs
-    → flat_map entry_bytes es ≡ flat_map entry_bytes fs → es ≡ fs
-same_entries w [] [] p q l m n e = refl
-same_entries w [] (f ∷ fs) p q l m n e = absurd (omega arith)
-same_entries w (x ∷ es) [] p q l m n e = absurd (omega arith)
-same_entries w (x ∷ es) (f ∷ fs) p q l m n e =
-    let c = entry_front x f (flat_map entry_bytes es) (flat_map entry_bytes fs) p.0 q.0 e in
-    let rest = same_entries w es fs p.1 q.1 l.1 m.1 (omega arith) c.rest in
-    λ i. record { level = (l.0 ∙ sym m.0) i; rect = c.here.rect i; digest = c.here.digest i } ∷ rest i
+held_shown : (cs : List Child) → held_of cs ≡ shown_of (map entry_of cs)
+held_shown [] = refl
+held_shown (c ∷ cs) = ap (λ ds. c.digest ∷ ds) (held_shown cs)
 
 record Behind (n m : ℕ) (x y : List ℕ) : Type 0 where
   count : n ≡ m
@@ -83,16 +72,15 @@ behind a b c d n m x y e = record { count = cc; rest = cc }
 
 -- the children of a node and those of a cut of it with one string
 pub same_children : (hash : List ℕ → List ℕ) → ((m : List ℕ) → length (hash m) ≡ 32) → (w : ℕ) (cs : List Child)
-    (Ps : Cuts) → AllByRecursion IsChild cs → AllByRecursion (λ (c : Child). c.level ≡ w) cs → FitCuts w Ps
-    → node_preimage (node.Inner (map entry_of cs)) ≡ node_preimage (node.Inner (entries (scheme hash) w Ps))
-    → map entry_of cs ≡ entries (scheme hash) w Ps
-same_children hash sized w cs Ps are levels fits e =
+    (Ps : Cuts) → AllByRecursion IsChild cs → FitCuts w Ps
+    → node_preimage version (node.Inner (map entry_of cs)) ≡ node_preimage version (node.Inner (entries (scheme hash) w
+    Ps)) → held_of cs ≡ shown_of (entries (scheme hash) w Ps)
+same_children hash sized w cs Ps are fits e =
     let es = map entry_of cs in
     let fs = entries (scheme hash) w Ps in
-    let b = behind 0x4e 0x4e (level_over es) (level_over fs) (length es) (length fs) (flat_map entry_bytes es)
-    (flat_map entry_bytes fs) e in
-    same_entries w es fs (named_children cs are) (named_entries hash sized w Ps fits) (levels_children w cs levels)
-    (levels_entries hash w Ps fits) b.count b.rest
+    let b = behind 0x4e 0x4e (level_over es) (level_over fs) (length es) (length fs) (flat_map (entry_bytes version) es)
+    (flat_map (entry_bytes version) fs) e in
+    held_shown cs ∙ same_digests es fs (named_children cs are) (named_entries hash sized w Ps fits) b.count b.rest
 
 -- ---- a node whose tree is told
 
@@ -102,29 +90,31 @@ head_is a b xs ys e = cc
 pub tail_is : {A : Type 0} (a b : A) (xs ys : List A) → a ∷ xs ≡ b ∷ ys → xs ≡ ys
 tail_is a b xs ys e = cc
 
-entries_told : (hash : List ℕ → List ℕ) (s : Standing) (cs : List Child) (ts : List Tree)
+entries_told : (hash : List ℕ → List ℕ) (s : Standing) → s.version ≡ version → (cs : List Child) (ts : List Tree)
     → map (λ (c : Child). s.node c.id) cs ≡ map Some ts → AllByRecursion (IsEntry hash s) cs
     → map entry_of cs ≡ map (digests.entry (scheme hash)) ts
-entries_told hash s [] [] e all = refl
-entries_told hash s [] (t ∷ ts) e all = absurd cc
-entries_told hash s (c ∷ cs) [] e all = absurd cc
-entries_told hash s (c ∷ cs) (t ∷ ts) e all =
+entries_told hash s one [] [] e all = refl
+entries_told hash s one [] (t ∷ ts) e all = absurd cc
+entries_told hash s one (c ∷ cs) [] e all = absurd cc
+entries_told hash s one (c ∷ cs) (t ∷ ts) e all =
     let here : s.node c.id ≡ Some t = head_is (s.node c.id) (Some t) _ _ e in
     let own : entry_of c ≡ digests.entry (scheme hash) t =
     subst (λ (o : Option Tree). IsSomeAnd o (λ t. entry_of c ≡ digests.entry (scheme hash) t)) here
     (subst (λ (v : Version). IsSomeAnd (s.node c.id) (λ t. entry_of c ≡ digests.entry (by v hash) t))
-    (sym (only_version s.version)) all.0) in
-    let rest = entries_told hash s cs ts (tail_is (s.node c.id) (Some t) _ _ e) all.1 in
+    one all.0) in
+    let rest = entries_told hash s one cs ts (tail_is (s.node c.id) (Some t) _ _ e) all.1 in
     λ i. own i ∷ rest i
 
 -- the string of the node is that of its tree
-pub preimage_told : (hash : List ℕ → List ℕ) (s : Standing) (t : Tree) (n : Node) → IsNodeOf s t n
-    → AllByRecursion (IsEntry hash s) (children_in n) → digests.preimage (scheme hash) t ≡ preimage_of n
-preimage_told hash s t node.Empty is all = absurd is
-preimage_told hash s t (node.Leaf rs) is all = ap (digests.preimage (scheme hash)) is ∙ preimage-Leaf (scheme hash) rs
-preimage_told hash s t (node.Inner cs) is all =
+pub preimage_told : (hash : List ℕ → List ℕ) (s : Standing) → s.version ≡ version → (t : Tree) (n : Node)
+    → IsNodeOf s t n
+    → AllByRecursion (IsEntry hash s) (children_in n) → digests.preimage (scheme hash) t ≡ preimage_of version n
+preimage_told hash s one t node.Empty is all = absurd is
+preimage_told hash s one t (node.Leaf rs) is all =
+    ap (digests.preimage (scheme hash)) is ∙ preimage-Leaf (scheme hash) rs
+preimage_told hash s one t (node.Inner cs) is all =
     ap (digests.preimage (scheme hash)) is.1 ∙ preimage-Inner (scheme hash) is.0
-    ∙ ap (λ es. node_preimage (node.Inner es)) (sym (entries_told hash s cs is.0 is.2 all))
+    ∙ ap (λ es. node_preimage version (node.Inner es)) (sym (entries_told hash s one cs is.0 is.2 all))
 
 pub known_children : (hash : List ℕ → List ℕ) (s : Standing) (cs : List Child) → IsSome s.tree
     → AllByRecursion (MayFetch hash s) cs → AllByRecursion (IsEntry hash s) cs
@@ -137,12 +127,12 @@ known_children hash s (c ∷ cs) told all = (all.0.known told, known_children ha
 pub digest_shown : (hash : List ℕ → List ℕ) (v : ℕ) (P : Cut) (y : List ℕ) → preimage (scheme hash) v P ≡ Some y
     → (entry (scheme hash) v P).digest ≡ hash y
 digest_shown hash v (Pruned part) y e = absurd cc
-digest_shown hash v (Leaf rs) y e = ap hash (same_some (node_preimage (node.Leaf rs)) y e)
+digest_shown hash v (Leaf rs) y e = ap hash (same_some (node_preimage version (node.Leaf rs)) y e)
   where
     same_some : (a b : List ℕ) → ◌≡◌ {A = Option (List ℕ)} (Some a) (Some b) → a ≡ b
     same_some a b e = cc
 digest_shown hash v (Inner cuts) y e =
-    ap hash (same_some (node_preimage (node.Inner (entries (scheme hash) (v - 1) cuts))) y e)
+    ap hash (same_some (node_preimage version (node.Inner (entries (scheme hash) (v - 1) cuts))) y e)
   where
     same_some : (a b : List ℕ) → ◌≡◌ {A = Option (List ℕ)} (Some a) (Some b) → a ≡ b
     same_some a b e = cc
@@ -181,18 +171,19 @@ module _ (hash : List ℕ → List ℕ) (s : Standing) (c : Child) (P : Cut) whe
       of_node (Some t) (Leaf rs) is = absurd cc
       of_node (Some t) (Inner cuts) is = absurd cc
 
-module _ (hash : List ℕ → List ℕ) (s : Standing) (c : Child) (n : Node) (shows : Shows hash s c n)
-    (may : AllByRecursion (MayFetch hash s) (children_in n)) where
-  strings_told : (t : Tree) → IsSome s.tree → IsNodeOf s t n → digests.preimage (scheme hash) t ≡ preimage_of n
-  strings_told t told is = preimage_told hash s t n is (known_children hash s (children_in n) told may)
+module _ (hash : List ℕ → List ℕ) (s : Standing) (one : s.version ≡ version) (c : Child) (n : Node)
+    (shows : Shows hash s c n) (may : AllByRecursion (MayFetch hash s) (children_in n)) where
+  strings_told : (t : Tree) → IsSome s.tree → IsNodeOf s t n → digests.preimage (scheme hash) t ≡ preimage_of version n
+  strings_told t told is = preimage_told hash s one t n is (known_children hash s (children_in n) told may)
 
   -- the two strings of a node differ
   pub clash_compared : (P : Cut) (y : List ℕ) (p : Pair) → preimage (scheme hash) c.level P ≡ Some y
-      → entry_of c ≡ entry (scheme hash) c.level P → Some p ≡ differ (preimage_of n) (Some y)
+      → c.digest ≡ digest (scheme hash) c.level P → Some p ≡ differ (preimage_of version n) (Some y)
       → Compared hash s c.id c.level P (Some p)
   clash_compared P y p e same d = record {
-    collides = node_collides hash (preimage_of n) y c.digest (Some p) shows.digest
-        (ap (λ (x : Entry). x.digest) same ∙ digest_shown hash c.level P y e) d;
+    collides = node_collides hash (preimage_of version n) y c.digest (Some p)
+        (subst (λ v. hash (preimage_of v n) ≡ c.digest) one shows.digest)
+        (same ∙ digest_shown hash c.level P y e) d;
     told = λ told. of_node told (s.node c.id) shows.node;
   }
     where
@@ -203,7 +194,8 @@ module _ (hash : List ℕ → List ℕ) (s : Standing) (c : Child) (n : Node) (s
           sym (clash_here hash c.level t P y p e (ap (λ x. differ x (Some y)) (strings_told t told is) ∙ sym d))
 
   -- the strings of a leaf are one
-  pub leaf_compared : (rs : List Record) → None ≡ differ (preimage_of n) (Some (node_preimage (node.Leaf rs)))
+  pub leaf_compared : (rs : List Record)
+      → None ≡ differ (preimage_of version n) (Some (node_preimage version (node.Leaf rs)))
       → Compared hash s c.id c.level (Leaf rs) None
   leaf_compared rs d = record { collides = tt; told = λ told. of_node told (s.node c.id) shows.node }
     where
@@ -211,11 +203,12 @@ module _ (hash : List ℕ → List ℕ) (s : Standing) (c : Child) (n : Node) (s
           → IfSome o (λ t. None ≡ node_clash (scheme hash) c.level t (Leaf rs))
       of_node told None is = tt
       of_node told (Some t) is =
-          d ∙ ap (λ x. differ x (Some (node_preimage (node.Leaf rs)))) (sym (strings_told t told is))
+          d ∙ ap (λ x. differ x (Some (node_preimage version (node.Leaf rs)))) (sym (strings_told t told is))
 
   -- the strings of an inner node are one, and its children were compared
   pub inner_compared : (cs : List Child) (Ps : Cuts) (pair : Option Pair) → n ≡ node.Inner cs
-      → None ≡ differ (preimage_of n) (Some (node_preimage (node.Inner (entries (scheme hash) (c.level - 1) Ps))))
+      → None ≡ differ (preimage_of version n)
+      (Some (node_preimage version (node.Inner (entries (scheme hash) (c.level - 1) Ps))))
       → ComparedAll hash s (c.level - 1) cs Ps pair → Compared hash s c.id c.level (Inner Ps) pair
   inner_compared cs Ps pair is d all = record {
     collides = all.collides;
@@ -228,7 +221,7 @@ module _ (hash : List ℕ → List ℕ) (s : Standing) (c : Child) (n : Node) (s
       of_node told (Some t) of =
           let inner : IsNodeOf s t (node.Inner cs) = subst (IsNodeOf s t) is of in
           let own : children t ≡ inner.0 = ap children inner.1 ∙ ap trees_in (tree.outs-Inner inner.0) in
-          let y = node_preimage (node.Inner (entries (scheme hash) (c.level - 1) Ps)) in
+          let y = node_preimage version (node.Inner (entries (scheme hash) (c.level - 1) Ps)) in
           let none : differ (digests.preimage (scheme hash) t) (Some y) ≡ None =
           ap (λ x. differ x (Some y)) (strings_told t told of) ∙ sym d in
           all.told told inner.0 inner.2
@@ -274,13 +267,14 @@ pruned_walked hash s c P rest before after x is e fits passed =
     let p = item_pruned hash c.level P rest before after x is e fits passed in
     record { says = p.says; behind = p.behind; compared = λ same. pruned_compared hash s c P is }
 
-module _ (hash : List ℕ → List ℕ) (s : Standing) (c : Child) (n : Node) (shows : Shows hash s c n) where
+module _ (hash : List ℕ → List ℕ) (s : Standing) (one : s.version ≡ version) (c : Child) (n : Node)
+    (shows : Shows hash s c n) where
   may_all : AllByRecursion (MayFetch hash s) (children_in n)
   may_all = recursion_from_All (MayFetch hash s) (children_in n) shows.children
 
   -- a leaf
   pub leaf_walked : (P : Cut) (rest before after owned : List ℕ) (w : Walked) → FitsCut c.level P → c.level ≡ 0
-      → is_pruned P ≡ false → before ≡ cut_bytes P ++ rest → owned ≡ preimage_of n
+      → is_pruned P ≡ false → before ≡ cut_bytes P ++ rest → owned ≡ preimage_of version n
       → ((rs : List Record) → FitsCut 0 (Leaf rs) → before ≡ cut_bytes (Leaf rs) ++ rest
       → WalkedLeaf hash rs rest owned w after)
       → WalkedOne hash s c c.level P rest w after
@@ -288,80 +282,73 @@ module _ (hash : List ℕ → List ℕ) (s : Standing) (c : Child) (n : Node) (s
   leaf_walked (Inner Ps) rest before after owned w fits flat not_pruned e is walked =
       let above = fits.0.above in absurd (omega (arith, above, flat))
   leaf_walked (Leaf rs) rest before after owned w fits flat not_pruned e is walked =
-      let y = node_preimage (node.Leaf rs) in
-      let x = walked rs (record { at_leaf = refl; some = fits.some; few = fits.few; each = fits.each }) e in
+      let y = node_preimage version (node.Leaf rs) in
+      let x = walked rs
+      (record { at_leaf = refl; some = fits.some; few = fits.few; each = fits.each; layers = fits.layers }) e in
       record {
         says = x.says;
         behind = x.behind;
         compared = λ same. subst (Compared hash s c.id c.level (Leaf rs))
-            (sym (x.pair ∙ ap (λ o. differ o (Some y)) is)) (by_pair (differ (preimage_of n) (Some y)) refl same);
+            (sym (x.pair ∙ ap (λ o. differ o (Some y)) is))
+            (by_pair (differ (preimage_of version n) (Some y)) refl same);
       }
     where
-      by_pair : (o : Option Pair) → differ (preimage_of n) (Some (node_preimage (node.Leaf rs))) ≡ o
-          → entry_of c ≡ entry (scheme hash) c.level (Leaf rs) → Compared hash s c.id c.level (Leaf rs) o
-      by_pair None d same = leaf_compared hash s c n shows may_all rs (sym d)
+      by_pair : (o : Option Pair) → differ (preimage_of version n) (Some (node_preimage version (node.Leaf rs))) ≡ o
+          → c.digest ≡ digest (scheme hash) c.level (Leaf rs) → Compared hash s c.id c.level (Leaf rs) o
+      by_pair None d same = leaf_compared hash s one c n shows may_all rs (sym d)
       by_pair (Some p) d same =
-          clash_compared hash s c n shows may_all (Leaf rs) (node_preimage (node.Leaf rs)) p refl same (sym d)
+          clash_compared hash s one c n shows may_all (Leaf rs) (node_preimage version (node.Leaf rs)) p refl same
+          (sym d)
 
   -- an inner node
   pub inner_walked : ((m : List ℕ) → length (hash m) ≡ 32) → (P : Cut) (cs : List Child)
       (rest before after owned : List ℕ) (row : Row) (w : Walked) → FitsCut c.level P → (c.level ≡ 0 → ⊥)
-      → is_pruned P ≡ false → before ≡ cut_bytes P ++ rest → owned ≡ preimage_of n → IsView n
+      → is_pruned P ≡ false → before ≡ cut_bytes P ++ rest → owned ≡ preimage_of version n → IsView n
       → n ≡ node.Inner (children_in n) → cs ≡ children_in n
-      → All (λ (d : Child). d.level + 1 ≡ level_of n) (children_in n)
       → ((Ps : Cuts) → FitsCut c.level (Inner Ps) → before ≡ cut_bytes (Inner Ps) ++ rest
       → WalkedAll hash s (c.level - 1) cs Ps rest row after)
       → Closed hash c.level owned row w → WalkedOne hash s c c.level P rest w after
-  inner_walked sized (Pruned part) cs rest before after owned row w fits above not_pruned e is view inner own alike
+  inner_walked sized (Pruned part) cs rest before after owned row w fits above not_pruned e is view inner own
       walked closed = absurd cc
-  inner_walked sized (Leaf rs) cs rest before after owned row w fits above not_pruned e is view inner own alike
+  inner_walked sized (Leaf rs) cs rest before after owned row w fits above not_pruned e is view inner own
       walked closed = absurd (above fits.at_leaf)
-  inner_walked sized (Inner Ps) cs rest before after owned row w fits above not_pruned e is view inner own alike
+  inner_walked sized (Inner Ps) cs rest before after owned row w fits above not_pruned e is view inner own
       walked closed =
       let v = c.level - 1 in
       let es = row.entries.items in
       let all = walked Ps fits e in
       let above = fits.0.above in
       let up : c.level ≡ v + 1 = omega (arith, above) in
-      let shown : string_over c.level es ≡ node_preimage (node.Inner (entries (scheme hash) v Ps)) =
+      let shown : string_over c.level es ≡ node_preimage version (node.Inner (entries (scheme hash) v Ps)) =
       inner_string_shown hash v c.level Ps es up fits.0.some fits.1 all.say in
       let passed = inner_passed hash v c.level Ps rest es es w.entry after up fits.0.some fits.1 all.say refl
-      closed.at_level closed.place closed.digest all.behind in
+      closed.at_level closed.place closed.untold closed.digest all.behind in
       let is_inner : n ≡ node.Inner cs = inner ∙ ap node.Inner (sym own) in
       record {
         says = passed.says;
         behind = passed.behind;
         compared = λ same. subst (Compared hash s c.id c.level (Inner Ps))
             (sym (closed.pair ∙ (λ i. or_else (differ (is i) (Some (shown i))) (option_map pair_of row.clash))))
-            (by_pair (differ (preimage_of n) (Some (node_preimage (node.Inner (entries (scheme hash) v Ps))))) refl
+            (by_pair (differ (preimage_of version n)
+            (Some (node_preimage version (node.Inner (entries (scheme hash) v Ps))))) refl
             is_inner all.compared same);
       }
     where
       children_of : (n : Node) (cs : List Child) → n ≡ node.Inner cs → IsView n → All IsChild cs
       children_of n cs e view = let v : IsInner cs = subst IsView e view in v.each
 
-      below_all : (ds cs : List Child) → cs ≡ ds → AllByRecursion (λ (d : Child). d.level + 1 ≡ level_of n) ds
-          → AllByRecursion (λ (d : Child). d.level ≡ c.level - 1) cs
-      below_all ds cs e all = subst (AllByRecursion (λ (d : Child). d.level ≡ c.level - 1)) (sym e) (lower ds all)
-        where
-          lower : (ds : List Child) → AllByRecursion (λ (d : Child). d.level + 1 ≡ level_of n) ds
-              → AllByRecursion (λ (d : Child). d.level ≡ c.level - 1) ds
-          lower [] all = tt
-          lower (d ∷ ds) all = (omega (arith, all.0, shows.level), lower ds all.1)
-
       by_pair : (o : Option Pair)
-          → differ (preimage_of n) (Some (node_preimage (node.Inner (entries (scheme hash) (c.level - 1) Ps)))) ≡ o
+          → differ (preimage_of version n)
+          (Some (node_preimage version (node.Inner (entries (scheme hash) (c.level - 1) Ps)))) ≡ o
           → n ≡ node.Inner cs
-          → (map entry_of cs ≡ entries (scheme hash) (c.level - 1) Ps
+          → (held_of cs ≡ shown_of (entries (scheme hash) (c.level - 1) Ps)
           → ComparedAll hash s (c.level - 1) cs Ps (option_map pair_of row.clash))
-          → entry_of c ≡ entry (scheme hash) c.level (Inner Ps)
+          → c.digest ≡ digest (scheme hash) c.level (Inner Ps)
           → Compared hash s c.id c.level (Inner Ps) (or_else o (option_map pair_of row.clash))
-      by_pair (Some p) d is_inner all same = clash_compared hash s c n shows may_all (Inner Ps)
-          (node_preimage (node.Inner (entries (scheme hash) (c.level - 1) Ps))) p refl same (sym d)
+      by_pair (Some p) d is_inner all same = clash_compared hash s one c n shows may_all (Inner Ps)
+          (node_preimage version (node.Inner (entries (scheme hash) (c.level - 1) Ps))) p refl same (sym d)
       by_pair None d is_inner all same =
-          let strings = sym (ap preimage_of is_inner) ∙ same_strings _ _ (sym d) in
+          let strings = sym (ap (preimage_of version) is_inner) ∙ same_strings _ _ (sym d) in
           let each = recursion_from_All IsChild cs (children_of n cs is_inner view) in
-          let levels = below_all (children_in n) cs own
-          (recursion_from_All (λ (d : Child). d.level + 1 ≡ level_of n) (children_in n) alike) in
-          let one = same_children hash sized (c.level - 1) cs Ps each levels fits.1 strings in
-          inner_compared hash s c n shows may_all cs Ps (option_map pair_of row.clash) is_inner (sym d) (all one)
+          let held = same_children hash sized (c.level - 1) cs Ps each fits.1 strings in
+          inner_compared hash s one c n shows may_all cs Ps (option_map pair_of row.clash) is_inner (sym d) (all held)

@@ -1,6 +1,6 @@
 -- What an audit finds.
 use Rattle.std.proofs.Common.{◌≡◌, ℕ, ◌+◌, ◌<◌, ◌≤◌, ◌^◌, List, refl, sym, ap, subst, ◌∙◌, arith}
-use Rattle.std.specs.Prelude.{Option, Some, None, IfSome, Result, Ok, Err, IfOk}
+use Rattle.std.specs.Prelude.{Option, Some, None, IfSome, Result, Ok, Err}
 use Rattle.mr_tree.specs.Tree.{records}
 use Rattle.mr_tree.specs.Digest.{Scheme, by}
 use Rattle.mr_tree.specs.Digest as digests
@@ -12,7 +12,8 @@ use Rattle.std.proofs.Math.Logic.{∥∥₁_elim}
 use Rattle.std.proofs.Props.{props}
 use Rattle.std.specs.Coded.{Coded-set as set}
 use Rattle.mr_record.specs.contracts.record.Record.{the_row as row}
-use Rattle.mr_tree.specs.WellFormed.{WellFormed}
+use Rattle.mr_tree.specs.WellFormed.{WellFormed, HasLayers}
+use Rattle.mr_record.specs.declared.version.Version.TheVariants.{One}
 use Rattle.mr_query.specs.Scan.{scan}
 use Rattle.mr_query.specs.declared.query.Query.{Query}
 use Rattle.mr_proof.specs.declared.rule.Fault.{Fault}
@@ -29,7 +30,7 @@ use Rattle.mr_clash.specs.declared.question_finding.QuestionFinding.TheVariants 
 use Rattle.mr_clash.specs.declared.finding.Finding.{Finding}
 use Rattle.mr_clash.specs.declared.finding.Finding.TheVariants as findings
 use Rattle.mr_proof.specs.declared.head.Kind.{Kind}
-use Rattle.mr_proof.specs.Spelling.{Said, opened_records, IsSpelled}
+use Rattle.mr_proof.specs.Spelling.{Said, IsSpelled}
 use Rattle.mr_proof.specs.Tight.{kind_of, question}
 use Rattle.mr_proof.specs.Reading.{checked}
 use Rattle.mr_proof.specs.Halves.{IsQueried}
@@ -132,7 +133,8 @@ finding_collides hash q (question_findings.Collision owned shown) v collides of 
     collides
 
 module _ (h : Scheme) (q : Query) (t : Tree) (b : ℕ) (bytes : List ℕ) (well : WellFormed t)
-    (low : b < 2 ^ 64) (accepts : AcceptsHonest h q) (matches : AcceptedIsHonest h q bytes)
+    (layers : HasLayers h.version t) (low : b < 2 ^ 64) (accepts : AcceptsHonest h q)
+    (matches : AcceptedIsHonest h q bytes)
     (quiet : HonestIsQuiet h q) where
   abbrev Honest : List Record → Type 0
   Honest answer = IsHonest h t b q bytes answer
@@ -144,7 +146,7 @@ module _ (h : Scheme) (q : Query) (t : Tree) (b : ℕ) (bytes : List ℕ) (well 
   sound_own (Ok rs) (Some p) v e d is answer sound = absurd cc
   sound_own (Ok rs) None v e d is answer sound =
       let same : rs ≡ answer = same_answer rs answer (sym is ∙ sound) in
-      subst Honest same (none_and (clash h t b bytes) d (matches t b rs well low e))
+      subst Honest same (none_and (clash h t b bytes) d (matches t b rs well layers low e))
     where
       same_answer : (rs answer : List Record) → findings.Sound rs ≡ findings.Sound answer → rs ≡ answer
       same_answer rs answer e = cc
@@ -157,7 +159,7 @@ module _ (h : Scheme) (q : Query) (t : Tree) (b : ℕ) (bytes : List ℕ) (well 
       → v ≡ findings.Sound (scan (records t) q)
   honest_sound v is own =
       is ∙ ap (found h t b q) own
-      ∙ (λ i. finding_of (accepts t b well low i) (quiet t b well low i))
+      ∙ (λ i. finding_of (accepts t b well layers low i) (quiet t b well layers low i))
 
   sound_is : (v : Finding) → IsSound v → (answer : List Record) × (v ≡ findings.Sound answer)
   sound_is (findings.Refused f) sound = absurd sound
@@ -181,19 +183,20 @@ finds_prop h t b q bytes (findings.Refused f) = hlevel (props, set row.coded)
 finds_prop h t b q bytes (findings.Sound answer) = hlevel (props, set row.coded)
 finds_prop h t b q bytes (findings.Collision owned shown) = hlevel (props, set row.coded)
 
--- so of a finding by a told tree, which is well formed
+-- so of a finding by a told tree, which is well formed and has the layers of version 1
 pub honest_told : (hash : List ℕ → List ℕ) (q : Query) (bytes : List ℕ) (s : Standing) (top : Top)
-    (v : Finding) → IsTop hash s top → top.batch < 2 ^ 64 → AcceptsHonest (by s.version hash) q
-    → AcceptedIsHonest (by s.version hash) q bytes → HonestIsQuiet (by s.version hash) q
+    (v : Finding) → IsTop hash s top → top.batch < 2 ^ 64 → AcceptsHonest (by One hash) q
+    → AcceptedIsHonest (by One hash) q bytes → HonestIsQuiet (by One hash) q → s.version ≡ One
     → IfSome s.tree (λ t. ∥ WellFormed t ∥₁)
     → IfSome s.tree (λ t. v ≡ found (by s.version hash) t s.batch q bytes)
-    → IfSome s.tree (λ t. FindsHonest (by s.version hash) t s.batch q bytes v)
-honest_told hash q bytes s top v is low accepts matches quiet wells told = by_tree s.tree wells told
+    → IfSome s.tree (λ t. HasLayers One t → FindsHonest (by One hash) t s.batch q bytes v)
+honest_told hash q bytes s top v is low accepts matches quiet one wells told = by_tree s.tree wells told
   where
     by_tree : (o : Option Tree) → IfSome o (λ t. ∥ WellFormed t ∥₁)
         → IfSome o (λ t. v ≡ found (by s.version hash) t s.batch q bytes)
-        → IfSome o (λ t. FindsHonest (by s.version hash) t s.batch q bytes v)
+        → IfSome o (λ t. HasLayers One t → FindsHonest (by One hash) t s.batch q bytes v)
     by_tree None wells told = tt
-    by_tree (Some t) wells told = ∥∥₁_elim wells (finds_prop (by s.version hash) t s.batch q bytes v) (λ well.
-        finds_honest (by s.version hash) q t s.batch bytes well (subst (λ n. n < 2 ^ 64) is.batch low) accepts matches
-        quiet v told)
+    by_tree (Some t) wells told = λ layers.
+        ∥∥₁_elim wells (finds_prop (by One hash) t s.batch q bytes v) (λ well.
+        finds_honest (by One hash) q t s.batch bytes well layers (subst (λ n. n < 2 ^ 64) is.batch low) accepts
+        matches quiet v (told ∙ ap (λ w. found (by w hash) t s.batch q bytes) one))

@@ -3,7 +3,7 @@ use Rattle.std.specs.Prelude.{◌≡◌, ◌↔◌, ℕ, ◌+◌, ◌≤◌, Lis
 use Rattle.mr_record.specs.declared.record.Record.{Record}
 use Rattle.mr_tree.specs.Tree.{records}
 use Rattle.mr_tree.specs.Digest.{Scheme, root, root_preimage}
-use Rattle.mr_tree.specs.Nodes.{Standing, IsTop, top_version, root_entry}
+use Rattle.mr_tree.specs.Nodes.{Standing, IsTop, root_entry}
 use Rattle.mr_tree.specs.declared.nodes.Top.{Top}
 use Rattle.mr_tree.specs.declared.tree.Tree.{Tree}
 use Rattle.mr_query.specs.Scan.{scan}
@@ -52,7 +52,7 @@ Collides hash _ = ⊤
 
 -- the string that the root digest of a map is of, by what that says of itself
 abbrev pub root_at : Top → List ℕ
-root_at top = root_preimage (top_version top) top.batch top.count (root_entry top.root)
+root_at top = root_preimage top.version top.batch top.count (root_entry top.root)
 
 -- by the verdict of the bytes against the root digest of what a map that stands so says of itself:
 -- what is refused has its fault, what is sound its answer, and a pair is shown where it accepts

@@ -1,33 +1,26 @@
 -- What the auditor's private functions do, one by one. Nothing of this has to be believed: no
 -- public contract cites it.
-use Rattle.std.specs.Prelude.{◌≡◌, ℕ, ◌+◌, ◌-◌, ◌≤◌, ◌∷◌, ◌++◌, List, length, map, Option, Some, None, option_map, IfOk, IfSome, IsSome, Result, Ok, Err, Bool, true, false}
+use Rattle.std.specs.Prelude.{◌≡◌, ℕ, ◌+◌, ◌-◌, ◌≤◌, ◌∷◌, ◌++◌, List, length, map, Option, Some, None, option_map, IfOk, IfSome, IsSome, Result, Bool, true, false}
 use Rattle.std.specs.Global.{Vec}
 use Rattle.std.specs.List.{flat_map}
 use Rattle.mr_record.specs.declared.record.Record.{Record}
-use Rattle.mr_record.specs.declared.version.Version.TheVariants.{One}
 use Rattle.mr_tree.specs.Tree.{union_of}
 use Rattle.mr_tree.specs.Digest.{Scheme, by, inner_tag, entry_bytes, root_preimage}
 use Rattle.mr_tree.specs.Nodes.{Standing}
 use Rattle.mr_tree.specs.declared.entry.Entry.{Entry}
-use Rattle.mr_tree.specs.View.{entry_of}
 use Rattle.mr_tree.specs.declared.child.Child.{Child}
 use Rattle.mr_tree.specs.declared.nodes.Top.{Top}
 use Rattle.mr_tree.specs.declared.tree.Tree.{Tree}
 use Rattle.mr_proof.specs.declared.head.Head.{Head}
 use Rattle.mr_proof.specs.declared.head.Kind.{Kind}
-use Rattle.mr_proof.specs.Cut.{Cut, Cuts, Pruned, Leaf, Inner, count_of, entry, entries, preimage, opened_nodes, all_opened}
+use Rattle.mr_proof.specs.Fields.{version}
+use Rattle.mr_proof.specs.Cut.{Cut, Cuts, Pruned, Leaf, Inner, count_of, entry, entries, digest, preimage, opened_nodes, all_opened}
 use Rattle.mr_proof.specs.Spelling.{version_of, cut_bytes, cuts_bytes, part_bytes, FitsCut, FitCuts, IsSpelled}
 use Rattle.mr_proof.specs.Accepted.{root_bytes, root_found}
 use Rattle.mr_proof.specs.Honest.{opened_of}
 use Rattle.mr_proof.specs.Clash.{Pair, differ, or_else, node_clash, children_clash, clash_of, IsCollision}
-use Rattle.mr_check.specs.declared.error.CheckErr.{CheckErr}
-use Rattle.mr_check.specs.declared.error.CheckErr.TheVariants as errors
-use Rattle.mr_clash.specs.declared.error.AuditErr.{AuditErr}
-use Rattle.mr_clash.specs.declared.error.AuditErr.TheVariants as audits
 use Rattle.mr_clash.specs.Finding.{root_at}
 use Rattle.mr_clash.specs.declared.finding.Clash.{Clash}
-use Rattle.mr_clash.specs.declared.finding.Finding.{Finding}
-use Rattle.mr_clash.specs.declared.finding.Finding.TheVariants as findings
 use Rattle.mr_clash.specs.declared.rest.Rest.{Rest}
 use Rattle.mr_clash.specs.declared.root.Said.{Said}
 use Rattle.mr_clash.specs.declared.walked.Row.{Row}
@@ -42,9 +35,9 @@ left r = r.bytes.now
 abbrev pub pair_of : Clash → Pair
 pair_of c = record { owned = c.owned.items; shown = c.shown.items }
 
--- the hash function in the version of what is compared, of which there is one
+-- the hash function in the version of proofs
 abbrev pub scheme : (List ℕ → List ℕ) → Scheme
-scheme hash = by One hash
+scheme hash = by version hash
 
 -- ---- the bytes of a proof, taken from the front
 
@@ -95,12 +88,12 @@ pub record ComparedAll (hash : List ℕ → List ℕ) (s : Standing) (level : �
       → pair ≡ children_clash (scheme hash) level ts Ps
 
 -- An item of this level was passed over beside the node of the map of which the child is the entry.
--- The pair is that of the two, where what is said of them is one.
+-- The pair is that of the two, where they have one digest.
 pub record WalkedOne (hash : List ℕ → List ℕ) (s : Standing) (c : Child) (level : ℕ) (P : Cut)
     (rest : List ℕ) (w : Walked) (after : List ℕ) : Type 0 where
   pub says : w.entry ≡ entry (scheme hash) level P
   pub behind : after ≡ rest
-  pub compared : entry_of c ≡ entry (scheme hash) level P
+  pub compared : c.digest ≡ digest (scheme hash) level P
       → Compared hash s c.id level P (option_map pair_of w.clash)
 
 abbrev pub Walks : {E : Type 0} → (List ℕ → List ℕ) → Standing → Child → (before after : List ℕ)
@@ -109,12 +102,19 @@ Walks hash s c before after result =
     (P : Cut) (rest : List ℕ) → FitsCut c.level P → before ≡ cut_bytes P ++ rest
     → IfOk result (λ w. WalkedOne hash s c c.level P rest w after)
 
+-- the digests that the map holds of some children, and those of some cuts
+abbrev pub held_of : List Child → List (List ℕ)
+held_of cs = map (λ (c : Child). c.digest) cs
+
+abbrev pub shown_of : List Entry → List (List ℕ)
+shown_of es = map (λ (e : Entry). e.digest) es
+
 -- the same of some items of this level, side by side
 pub record WalkedAll (hash : List ℕ → List ℕ) (s : Standing) (level : ℕ) (cs : List Child)
     (Ps : Cuts) (rest : List ℕ) (row : Row) (after : List ℕ) : Type 0 where
   pub say : row.entries.items ≡ entries (scheme hash) level Ps
   pub behind : after ≡ rest
-  pub compared : map entry_of cs ≡ entries (scheme hash) level Ps
+  pub compared : held_of cs ≡ shown_of (entries (scheme hash) level Ps)
       → ComparedAll hash s level cs Ps (option_map pair_of row.clash)
 
 abbrev pub WalksAll : {E : Type 0} → (List ℕ → List ℕ) → Standing → ℕ → List Child
@@ -141,13 +141,14 @@ pub record WalkedLeaf (hash : List ℕ → List ℕ) (rs : List Record) (rest ow
 -- the string of an inner node of this level, by what is said of its children
 abbrev pub string_over : ℕ → List Entry → List ℕ
 string_over level children =
-    inner_tag ∷ level ∷ length children ∷ flat_map entry_bytes children
+    inner_tag ∷ level ∷ length children ∷ flat_map (entry_bytes version) children
 
 -- so many items made an inner node of this level, and its string was compared with the owner's
 pub record Closed (hash : List ℕ → List ℕ) (level : ℕ) (owned : List ℕ) (row : Row) (w : Walked)
     : Type 0 where
   pub at_level : w.entry.level ≡ level
   pub place : w.entry.rect ≡ union_of (map (λ (e : Entry). e.rect) row.entries.items)
+  pub untold : (w.entry.mask ≡ 0) × (w.entry.count ≡ 0)
   pub digest : w.entry.digest ≡ hash (string_over level row.entries.items)
   pub pair : option_map pair_of w.clash
       ≡ or_else (differ owned (Some (string_over level row.entries.items)))

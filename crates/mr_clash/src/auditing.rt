@@ -1,12 +1,15 @@
 //! The audit of a whole proof.
 
-ghost use Rattle.std.specs.Prelude.{◌≡◌, ◌+◌, ◌≤◌, ◌<◌, ◌^◌, ℕ, List, Option, None, Some, IfOk, IfErr, IfSome, option_map};
+ghost use Rattle.std.specs.Prelude.{◌≡◌, ◌+◌, ◌≤◌, ◌<◌, ◌^◌, ℕ, List, Option, None, Some, true, false, IfOk, IfErr, IfSome, option_map};
+ghost use Rattle.mr_record.specs.declared.version.Version.TheVariants.{One};
 ghost use Rattle.mr_geom.specs.Rectangle.{IsOrdered, FitsMap};
 ghost use Rattle.mr_tree.specs.Digest.{by};
+ghost use Rattle.mr_tree.specs.WellFormed.{HasLayers};
 ghost use Rattle.mr_tree.specs.Nodes.{IsTop, TellsRefusal};
 ghost use Rattle.mr_tree.specs.declared.nodes.Top as tops;
 ghost use Rattle.mr_tree.specs.declared.tree.Tree as trees;
 ghost use Rattle.mr_query.specs.Word.{IsAskable};
+ghost use Rattle.mr_proof.specs.Fields.{version};
 ghost use Rattle.mr_clash.specs.Causes.{AuditCauses, IsHandedOn, of_nodes};
 ghost use Rattle.mr_clash.specs.Finding.{found, opened_accepted, root_at, Collides, FindsFor, FindsHonest, FetchesFew};
 ghost use Rattle.mr_clash.specs.QuestionFindings.{FindsOf};
@@ -25,14 +28,15 @@ use mr_geom::Rect;
 use mr_outside::Items;
 use mr_proof::{Kind, accepted_is_honest, honest_is_accepted, query_is_lawful};
 use mr_query::{Query, is_query};
-use mr_tree::{Entry, Hashes, NodeView, Nodes, Top, root_digest};
+use mr_record::Version;
+use mr_tree::{Child, Entry, Hashes, NodeView, Nodes, Top, root_digest};
 use std::alloc::{AllocError, Global};
 
 // The root digest of the map.
 pub(crate) fn root_of<H: Hashes>(top: &Top) -> [u8; 32]
     ensures { result ≡ H.of (root_at top.now) }
 {
-    root_digest::<H>(top.version(), top.batch, top.count, &top.root_entry())
+    root_digest::<H>(top.version, top.batch, top.count, &top.root_entry())
 }
 
 // The strings of the two roots, where they differ, by what is said of the root node of a proof.
@@ -45,7 +49,7 @@ fn compare_roots(
     ensures { (hash : List ℕ → List ℕ) → ComparesRoots hash top.now said.now node.now result }
 {
     let root = top.root_entry();
-    let owned = root_string(alloc, top.version(), top.batch, top.count, &root)?;
+    let owned = root_string(alloc, top.version, top.batch, top.count, &root)?;
     let shown = root_string(alloc, said.version, said.batch, said.count, node)?;
     clash_of(alloc, owned, &shown)
 }
@@ -71,8 +75,20 @@ fn pass_root<H: Hashes>(alloc: Global, level: u8, from: &mut Rest<'_>) -> Result
     Ok(Walked { entry, clash: None })
 }
 
-// The root item behind the head, if there is one, beside the root node of the map. Where the two
-// have not one level, the strings of the roots differ, and so do they where only one is there.
+// Whether the map is of the version of proofs, and its root node of this level.
+fn is_alike(top: &Top, root: &Child, level: u8) -> bool
+    ensures alike { result ≡ true → (top.now.version ≡ version) × (root.now.level ≡ level) }
+    ensures other { result ≡ false → top.now.version ≡ version → root.now.level ≡ level → ⊥ }
+{
+    match top.version {
+        Version::One => root.level == level,
+        Version::Two => false,
+    }
+}
+
+// The root item behind the head, if there is one, beside the root node of the map. Where the map
+// is of another version than the proof, or the two have not one level, the strings of the roots
+// differ, and so do they where only one is there.
 fn walk_root<N: Nodes>(
     alloc: Global,
     nodes: &mut N,
@@ -104,7 +120,7 @@ fn walk_root<N: Nodes>(
             are_words(top.batch, top.count);
             digests_are_sized::<N::Hash>();
             is_rect(&root.rect);
-            if root.level == said.level {
+            if is_alike(top, &root, said.level) {
                 let mut view = NodeView::new();
                 return walk(alloc, nodes, &root, &mut view, from);
             }
@@ -177,9 +193,10 @@ pub fn audit<N: Nodes>(
     ensures told { IfSome (N.stands nodes.old).tree (λ t. IfOk result (λ v. v
         ≡ found (by (N.stands nodes.old).version N.Hash.of) t (N.stands nodes.old).batch
         q.now proof.now)) }
-    ensures honest { IfSome (N.stands nodes.old).tree (λ t. IfOk result (λ v.
-        FindsHonest (by (N.stands nodes.old).version N.Hash.of) t (N.stands nodes.old).batch
-        q.now proof.now v)) }
+    // Of a map of version 1 just the honest proof is found to be sound.
+    ensures honest { (N.stands nodes.old).version ≡ One → IfSome (N.stands nodes.old).tree (λ t.
+        HasLayers One t → IfOk result (λ v.
+        FindsHonest (by One N.Hash.of) t (N.stands nodes.old).batch q.now proof.now v)) }
     // Told or not, what is found goes by the verdict against the root digest of what `top` says.
     ensures judged { IfOk result (λ v.
         FindsFor N.Hash.of (N.stands nodes.old) q.now proof.now v) }

@@ -26,6 +26,8 @@ pub(crate) fn pass_pruned(level: u8, from: &mut Rest<'_>) -> Entry
     Entry {
         level,
         rect,
+        mask: 0,
+        count: 0,
         digest,
     }
 }
@@ -42,6 +44,8 @@ fn pass_leaf<H: Hashes>(from: &mut Rest<'_>) -> Entry
     Entry {
         level: 0,
         rect,
+        mask: 0,
+        count: 0,
         digest,
     }
 }

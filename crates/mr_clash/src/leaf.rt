@@ -6,6 +6,7 @@ ghost use Rattle.mr_record.specs.Record.{IsRecord, record_bytes};
 ghost use Rattle.mr_record.specs.declared.record.Record as types;
 ghost use Rattle.mr_tree.specs.Tree.{rect_step};
 ghost use Rattle.mr_tree.specs.declared.tree.Tree.TheOpen as node;
+ghost use Rattle.mr_proof.specs.Fields.{version};
 ghost use Rattle.mr_proof.specs.Cut.{Leaf};
 ghost use Rattle.mr_proof.specs.Spelling.{FitsCut, cut_bytes};
 ghost use Rattle.mr_clash.specs.Steps.{left};
@@ -16,7 +17,7 @@ use mr_geom::{Rect, joined};
 // Passes over the record that stands next, and gives its rectangle.
 fn pass_record(from: &mut Rest<'_>) -> Option<Rect>
     ensures { (r : types.Record) (rest : List ℕ) → IsRecord r
-        → left from.old ≡ record_bytes r ++ rest
+        → left from.old ≡ record_bytes version r ++ rest
         → (result ≡ Some r.rect) × (left from.new ≡ rest) }
 {
     let _number = take(from, 8);
@@ -29,7 +30,7 @@ fn pass_record(from: &mut Rest<'_>) -> Option<Rect>
 // Passes over so many records, and gives the least rectangle round them.
 fn pass_records(count: u8, from: &mut Rest<'_>) -> Option<Rect>
     ensures { (rs : List types.Record) (rest : List ℕ) → length rs ≡ count → All IsRecord rs
-        → left from.old ≡ flat_map record_bytes rs ++ rest
+        → left from.old ≡ flat_map (record_bytes version) rs ++ rest
         → (result ≡ rect_step (node.Leaf rs)) × (left from.new ≡ rest) }
 {
     let mut all = None;

@@ -1,9 +1,11 @@
 //! What a proof shows as the map holds it.
 
-ghost use Rattle.std.specs.Prelude.{◌≡◌, ◌≤◌, ◌++◌, true, false, length, map, Some};
+ghost use Rattle.std.specs.Prelude.{◌≡◌, ◌≤◌, ◌++◌, true, false, length, map, All, Some};
 ghost use Rattle.std.specs.List.{flat_map};
-ghost use Rattle.mr_record.specs.Record.{record_bytes};
+ghost use Rattle.mr_record.specs.Record.{HasLayer, record_bytes};
+ghost use Rattle.mr_record.specs.declared.version.Version.TheVariants.{Two};
 ghost use Rattle.mr_tree.specs.View.{entry_of};
+ghost use Rattle.mr_proof.specs.Fields.{version};
 ghost use Rattle.mr_proof.specs.Cut.{Leaf};
 ghost use Rattle.mr_proof.specs.Spelling.{cut_bytes};
 ghost use Rattle.mr_clash.specs.Steps.{left};
@@ -12,6 +14,7 @@ ghost use Rattle.mr_tree.specs.Limits.{leaf_limit};
 use crate::finding::are_same;
 use crate::rest::Rest;
 use mr_geom::Rect;
+use mr_proof::VERSION;
 use mr_record::{Record, encoded};
 use mr_tree::{Child, Entry};
 
@@ -29,14 +32,17 @@ fn pass_bytes(bytes: &[u8], from: &mut Rest<'_>) -> bool
 
 // Passes over this record, and tells whether it stood there.
 fn pass_own_record(one: &Record, from: &mut Rest<'_>) -> bool
-    ensures { result ≡ true → left from.old ≡ record_bytes one.now ++ left from.new }
+    requires { HasLayer Two one.now }
+    ensures { result ≡ true → left from.old ≡ record_bytes version one.now ++ left from.new }
 {
-    pass_bytes(encoded(one).as_slice(), from)
+    pass_bytes(encoded(VERSION, one).as_slice(), from)
 }
 
 // Passes over these records, and tells whether they stood there.
 fn pass_own_records(records: &[Record], from: &mut Rest<'_>) -> bool
-    ensures { result ≡ true → left from.old ≡ flat_map record_bytes records.now ++ left from.new }
+    requires { All (HasLayer Two) records.now }
+    ensures { result ≡ true
+        → left from.old ≡ flat_map (record_bytes version) records.now ++ left from.new }
 {
     for one in records {
         if !pass_own_record(one, from) {
@@ -48,7 +54,8 @@ fn pass_own_records(records: &[Record], from: &mut Rest<'_>) -> bool
 
 // Passes over the leaf with these records where it stands next, and else over nothing.
 pub(crate) fn pass_own_leaf(records: &[Record], from: &mut Rest<'_>) -> bool
-    requires { length records.now ≤ leaf_limit }
+    requires few { length records.now ≤ leaf_limit }
+    requires layers { All (HasLayer Two) records.now }
     ensures own { result ≡ true → left from.old ≡ cut_bytes (Leaf records.now) ++ left from.new }
     ensures other { result ≡ false → left from.new ≡ left from.old }
 {
@@ -80,6 +87,12 @@ fn is_own(child: &Child, shown: &Entry) -> bool
         return false;
     }
     if !is_rect(&child.rect, shown.rect) {
+        return false;
+    }
+    if shown.mask != child.mask {
+        return false;
+    }
+    if shown.count != child.count {
         return false;
     }
     are_same(&shown.digest, &child.digest)

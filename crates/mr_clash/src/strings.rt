@@ -1,13 +1,16 @@
 //! The strings that digests are of.
 
-ghost use Rattle.std.specs.Prelude.{◌≡◌, ◌≤◌, ◌<◌, ◌^◌, ◌∷◌, ◌++◌, length, map, IfOk, OnOk};
+ghost use Rattle.std.specs.Prelude.{◌≡◌, ◌≤◌, ◌<◌, ◌^◌, ◌∷◌, ◌++◌, length, map, All, IfOk, OnOk};
 ghost use Rattle.std.specs.List.{flat_map};
-ghost use Rattle.mr_record.specs.Record.{record_bytes};
+ghost use Rattle.mr_record.specs.Record.{HasLayer, record_bytes};
+ghost use Rattle.mr_record.specs.declared.version.Version.TheVariants.{Two};
 ghost use Rattle.mr_tree.specs.Digest.{leaf_tag, entry_bytes};
 ghost use Rattle.mr_tree.specs.View.{entry_of, preimage_of};
+ghost use Rattle.mr_proof.specs.Fields.{version};
 ghost use Rattle.mr_clash.specs.Steps.{string_over};
 ghost use Rattle.mr_tree.specs.Limits.{leaf_limit};
 
+use mr_proof::VERSION;
 use mr_record::{RECORD_LIMIT, Record, encoded};
 use mr_tree::{Child, ENTRY_LIMIT, Entry, NodeView};
 use std::alloc::{AllocError, Global};
@@ -21,9 +24,9 @@ fn entries_of(alloc: Global, children: &[Child]) -> Result<Vec<Entry>, AllocErro
 
 // Puts what a node holds of a child.
 fn put_entry(string: &mut Vec<u8>, child: &Entry) -> Result<(), AllocError>
-    ensures { OnOk result (string.new.items ≡ string.old.items ++ entry_bytes child.now) }
+    ensures { OnOk result (string.new.items ≡ string.old.items ++ entry_bytes version child.now) }
 {
-    let bytes = child.encoded();
+    let bytes = child.encoded(VERSION);
     string.extend_from_slice(bytes.as_slice())
 }
 
@@ -46,17 +49,19 @@ pub(crate) fn inner_string(
 
 // Puts the bytes of a record.
 fn put_record(string: &mut Vec<u8>, one: &Record) -> Result<(), AllocError>
-    ensures { OnOk result (string.new.items ≡ string.old.items ++ record_bytes one.now) }
+    requires { HasLayer Two one.now }
+    ensures { OnOk result (string.new.items ≡ string.old.items ++ record_bytes version one.now) }
 {
-    let bytes = encoded(one);
+    let bytes = encoded(VERSION, one);
     string.extend_from_slice(bytes.as_slice())
 }
 
 // The string of the leaf with these records.
 fn leaf_string(alloc: Global, records: &[Record]) -> Result<Vec<u8>, AllocError>
-    requires { length records.now ≤ leaf_limit }
+    requires few { length records.now ≤ leaf_limit }
+    requires layers { All (HasLayer Two) records.now }
     ensures { IfOk result (λ v. v.items ≡ leaf_tag ∷ length records.now
-        ∷ flat_map record_bytes records.now) }
+        ∷ flat_map (record_bytes version) records.now) }
 {
     let mut string = Vec::with_capacity(alloc, 2 + records.len() * RECORD_LIMIT)?;
     string.extend_from_slice(&[b'L', records.len() as u8])?;
@@ -66,9 +71,9 @@ fn leaf_string(alloc: Global, records: &[Record]) -> Result<Vec<u8>, AllocError>
     Ok(string)
 }
 
-// The string of a node of the map.
+// The string of a node of a map of the version of proofs.
 pub(crate) fn owned_string(alloc: Global, view: &NodeView) -> Result<Vec<u8>, AllocError>
-    ensures { IfOk result (λ v. v.items ≡ preimage_of view.now) }
+    ensures { IfOk result (λ v. v.items ≡ preimage_of version view.now) }
 {
     if view.level() == 0 {
         leaf_string(alloc, view.records())

@@ -1,8 +1,10 @@
 //! What is found of an item and the node of the map at its place.
 
-ghost use Rattle.std.specs.Prelude.{◌≡◌, ◌<◌, ◌^◌, ◌++◌, ℕ, List, IfOk, Some, length, option_map};
+ghost use Rattle.std.specs.Prelude.{◌≡◌, ◌<◌, ◌^◌, ◌++◌, ℕ, List, All, IfOk, Some, length, option_map};
+ghost use Rattle.mr_record.specs.Record.{HasLayer};
 ghost use Rattle.mr_record.specs.declared.record.Record as types;
-ghost use Rattle.mr_tree.specs.View.{level_of, preimage_of};
+ghost use Rattle.mr_tree.specs.View.{level_of, records_in, preimage_of};
+ghost use Rattle.mr_proof.specs.Fields.{version};
 ghost use Rattle.mr_proof.specs.Clash.{differ};
 ghost use Rattle.mr_proof.specs.Cut.{Leaf};
 ghost use Rattle.mr_proof.specs.Spelling.{FitsCut, cut_bytes};
@@ -63,13 +65,15 @@ fn compare_leaf<H: Hashes>(
     let entry = Entry {
         level: 0,
         rect,
+        mask: 0,
+        count: 0,
         digest,
     };
     Ok(Walked { entry, clash })
 }
 
-// The leaf that stands next beside this leaf of the map. Where it is the map's own, it is passed
-// over as it stands, and no string is made.
+// The leaf that stands next beside this leaf of a map of the version of proofs. Where it is the
+// map's own, it is passed over as it stands, and no string is made.
 pub(crate) fn walk_leaf<H: Hashes>(
     alloc: Global,
     child: &Child,
@@ -77,15 +81,19 @@ pub(crate) fn walk_leaf<H: Hashes>(
     from: &mut Rest<'_>,
 ) -> Result<Walked, AllocError>
     requires { level_of view.now ≡ 0 }
-    ensures { H.of (preimage_of view.now) ≡ child.now.digest → (rs : List types.Record)
-        (rest : List ℕ) → FitsCut 0 (Leaf rs) → left from.old ≡ cut_bytes (Leaf rs) ++ rest
-        → IfOk result (λ w. WalkedLeaf H.of rs rest (preimage_of view.now) w (left from.new)) }
+    ensures { H.of (preimage_of version view.now) ≡ child.now.digest
+        → All (HasLayer version) (records_in view.now) → (rs : List types.Record) (rest : List ℕ)
+        → FitsCut 0 (Leaf rs) → left from.old ≡ cut_bytes (Leaf rs) ++ rest
+        → IfOk result (λ w.
+        WalkedLeaf H.of rs rest (preimage_of version view.now) w (left from.new)) }
 {
     is_view(view);
     if pass_own_leaf(view.records(), from) {
         let entry = Entry {
             level: 0,
             rect: view.rect(),
+            mask: 0,
+            count: 0,
             digest: child.digest,
         };
         return Ok(Walked { entry, clash: None });
@@ -111,6 +119,8 @@ fn compare_inner<H: Hashes>(
     let entry = Entry {
         level: child.level,
         rect: bounds(&row.entries),
+        mask: 0,
+        count: 0,
         digest,
     };
     Ok(Walked {
@@ -119,8 +129,8 @@ fn compare_inner<H: Hashes>(
     })
 }
 
-// An inner node beside this one of the map, by what its children came to. Where that is what the
-// map holds of them, no string is made.
+// An inner node beside this one of a map of the version of proofs, by what its children came to.
+// Where that is what the map holds of them, no string is made.
 pub(crate) fn close_inner<H: Hashes>(
     alloc: Global,
     child: &Child,
@@ -130,13 +140,15 @@ pub(crate) fn close_inner<H: Hashes>(
     requires few { length row.entries.items < 2 ^ 8 }
     requires inner { 0 < level_of view.now }
     requires level { level_of view.now ≡ child.now.level }
-    ensures { H.of (preimage_of view.now) ≡ child.now.digest
-        → IfOk result (λ w. Closed H.of child.now.level (preimage_of view.now) row w) }
+    ensures { H.of (preimage_of version view.now) ≡ child.now.digest
+        → IfOk result (λ w. Closed H.of child.now.level (preimage_of version view.now) row w) }
 {
     if are_own(view.children(), &row.entries) {
         let entry = Entry {
             level: child.level,
             rect: bounds(&row.entries),
+            mask: 0,
+            count: 0,
             digest: child.digest,
         };
         return Ok(Walked {

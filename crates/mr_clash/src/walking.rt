@@ -1,8 +1,9 @@
-//! The nodes of the map and the items of a proof, side by side.
+//! The nodes of a map of the version of proofs and the items of a proof, side by side.
 
 ghost use Rattle.std.specs.Prelude.{◌≡◌, ◌+◌, ◌^◌, ◌<◌, ◌≤◌, ℕ, List, length, All, OnOk, IfOk, IfErr};
 ghost use Rattle.mr_tree.specs.Nodes.{MayFetch, Shows, TellsRefusal};
 ghost use Rattle.mr_tree.specs.declared.child.Child as types;
+ghost use Rattle.mr_proof.specs.Fields.{version};
 ghost use Rattle.mr_clash.specs.Causes.{AuditCauses, IsHandedOn, of_nodes};
 ghost use Rattle.mr_clash.specs.Steps.{left, FetchesChildren, FetchesItem, FetchesItems, Walks, WalksAll, WalksChildren};
 ghost use Rattle.mr_tree.specs.Limits.{inner_limit};
@@ -49,6 +50,7 @@ fn walk_children<N: Nodes>(
     requires above { 0 < level }
     requires few { length children.now ≤ inner_limit }
     requires may { All (MayFetch N.Hash.of (N.stands nodes.old)) children.now }
+    requires version { (N.stands nodes.old).version ≡ version }
     requires alike { All (λ (c : types.Child). c.level + 1 ≡ level) children.now }
     ensures kept { N.kept nodes.old nodes.new }
     ensures causes { AuditCauses (N.stands nodes.old) (N.faults nodes.old) (N.faults nodes.new)
@@ -84,6 +86,7 @@ fn walk_all<N: Nodes>(
 ) -> Result<Row, AuditErr>
     requires few { length children.now ≤ inner_limit }
     requires may { All (MayFetch N.Hash.of (N.stands nodes.old)) children.now }
+    requires version { (N.stands nodes.old).version ≡ version }
     requires alike { All (λ (c : types.Child). c.level ≡ level) children.now }
     ensures kept { N.kept nodes.old nodes.new }
     ensures causes { AuditCauses (N.stands nodes.old) (N.faults nodes.old) (N.faults nodes.new)
@@ -120,7 +123,8 @@ pub(crate) fn walk<N: Nodes>(
     view: &mut NodeView,
     from: &mut Rest<'_>,
 ) -> Result<Walked, AuditErr>
-    requires { MayFetch N.Hash.of (N.stands nodes.old) child.now }
+    requires may { MayFetch N.Hash.of (N.stands nodes.old) child.now }
+    requires version { (N.stands nodes.old).version ≡ version }
     ensures kept { N.kept nodes.old nodes.new }
     ensures causes { AuditCauses (N.stands nodes.old) (N.faults nodes.old) (N.faults nodes.new)
         result }

@@ -2,13 +2,14 @@
 use Rattle.std.proofs.Common.{◌≡◌, ℕ, ◌+◌, ◌≤◌, ltb, List, length, refl, sym, ap, subst, ◌∙◌, inl, inr, arith}
 use Rattle.std.specs.Prelude.{if◌then◌else◌, Option, Some, None, IfSome, IsSome, Result, Ok, Err}
 use Rattle.std.specs.Global.{Vec}
-use Rattle.std.proofs.lemmas.Bool.{cases_Bool, ltb-true, ltb-false}
+use Rattle.std.proofs.lemmas.Bool.{cases_Bool, ltb-false}
 use Rattle.mr_outside.specs.Files.{Files, file}
 use Rattle.mr_outside.specs.State.{Shelved}
 use Rattle.mr_outside.specs.Told.{OfFile}
 use Rattle.mr_record.specs.Bytes.{AreBytes}
 use Rattle.mr_record.specs.declared.record.Record.{Record}
 use Rattle.mr_record.specs.declared.text_fault.TextFault.{TextFault}
+use Rattle.mr_record.specs.declared.version.Version.TheVariants.{One}
 use Rattle.mr_tree.specs.Nodes.{Standing, HasSomeCause, subtrees}
 use Rattle.mr_tree.specs.Tree.{records}
 use Rattle.mr_tree.specs.WellFormed.{WellFormed}
@@ -20,7 +21,7 @@ use Rattle.mr_pages.specs.declared.error.MapErr.{MapErr}
 use Rattle.mr_pages.specs.declared.head.MapHead.{MapHead}
 use Rattle.mr_pages.specs.declared.opening.Opened.{Opened}
 use Rattle.mr_store.specs.Laws.{keeps_stands}
-use Rattle.mr_store.specs.Opening.{OpensMap, RefusesMap, pages_in}
+use Rattle.mr_store.specs.Opening.{OpensMap, RefusesMap, first_pages}
 use Rattle.mr_store.specs.Stored.{IsMapOf, IsSameMap, Keeps, room, stands_for, told_bytes}
 use Rattle.mr_edit.specs.Reads.{reads_along}
 use Rattle.mr_batch.specs.Admissible.{batch_fault}
@@ -43,12 +44,12 @@ use Rattle.mr_command.specs.declared.ending.Ending.{Ending}
 use Rattle.mr_command.specs.declared.ending.Halt.{Halt}
 use Rattle.mr_command.specs.declared.ending.Halt.TheVariants as halts
 use Rattle.mr_plan.specs.declared.status.Status.TheVariants.{BadBatch, BadText}
-use Rattle.mr_command.proofs.Audits.{map_in, reads_both, reads_but, untold_from}
+use Rattle.mr_command.proofs.Audits.{reads_both, reads_but, untold_from}
 use Rattle.mr_command.proofs.Batches.{says_applied}
 use Rattle.mr_command.proofs.Counting.{AllowsFrom, OnceFrom, few_stopped, taken_none}
 use Rattle.mr_command.proofs.Drafts.{by_some, at_some, halts_but, behind_given, behind_halted}
 use Rattle.mr_command.proofs.Going.{comes_missed, comes_read, comes_unread, judged_needs}
-use Rattle.mr_command.proofs.Pages.{HasMap, at_input, few_refused, few_there, file_has, files_told, has_map, refused_blamed, refused_told, told_on, with_same}
+use Rattle.mr_command.proofs.Pages.{map_in, HasMap, at_input, few_refused, few_there, file_has, files_told, has_map, refused_blamed, refused_told, told_on, with_same}
 use Rattle.mr_command.proofs.Plans.{stays}
 use Rattle.mr_command.proofs.Rereading.{comes_told, comes_untold, fetch_blamed, fetch_stopped, says_refused}
 use Rattle.mr_command.proofs.Served.{few_walked}
@@ -126,7 +127,7 @@ module _ (hash : List ℕ → List ℕ) (map new batch : List ℕ) (n n' : List 
 
     -- the batch may not be applied
     pub unadmitted : (text : List ℕ) (fault : BatchFault) (result : Result Ending Halt) → AreBytes text
-        → batch_of_text text ≡ Ok b → ((rs : List Record) × HaveNumbers dir rs)
+        → batch_of_text One text ≡ Ok b → ((rs : List Record) × HaveNumbers dir rs)
         → ((rs : List Record) → HaveNumbers dir rs → batch_fault rs held b ≡ Some fault)
         → GivesOrStops (ends BadBatch (bad_batch_line fault)) result
         → ComesBehind applies_batch standing (λ m. comes (said_of_batch m)) (few_of_batch mid) before mid result
@@ -215,12 +216,12 @@ module _ (hash : List ℕ → List ℕ) (map new batch : List ℕ) (s : Standing
   applies_text = applying hash map batch new
 
   abbrev said_of_text : Opened → Outcome
-  said_of_text m = say_apply_of hash new pages m (batch_of_text text)
+  said_of_text m = say_apply_of hash new pages m (batch_of_text One text)
 
   abbrev few_of_text : Shelved → Tree → Type 0
   few_of_text after = IsFewOfText pages held text before.reads after.reads
 
-  pub batch_read : (b : Changes) (after : Shelved) (result : Result Ending Halt) → batch_of_text text ≡ Ok b
+  pub batch_read : (b : Changes) (after : Shelved) (result : Result Ending Halt) → batch_of_text One text ≡ Ok b
       → ComesBehind applies_text s (λ m. comes (say_batch hash new pages m b))
       (IsFewOfChanges pages held b before.reads after.reads) before after result
       → ComesBehind applies_text s (λ m. comes (said_of_text m)) (few_of_text after) before after result
@@ -242,7 +243,7 @@ module _ (hash : List ℕ → List ℕ) (map new batch : List ℕ) (s : Standing
   few_none : IfSome s.tree (few_of_text before)
   few_none = by_some s.tree (few_of_text before) (λ t told. (0, omega arith, inl refl))
 
-  pub batch_bad : (fault : TextFault) (result : Result Ending Halt) → AreBytes text → batch_of_text text ≡ Err fault
+  pub batch_bad : (fault : TextFault) (result : Result Ending Halt) → AreBytes text → batch_of_text One text ≡ Err fault
       → GivesOrStops (ends BadText (bad_text_line fault)) result
       → ComesBehind applies_text s (λ m. comes (said_of_text m)) (few_of_text before) before before result
   batch_bad fault result are is gives =
@@ -269,7 +270,7 @@ module _ (hash : List ℕ → List ℕ) (map batch new : List ℕ) (n n' : List 
   applies_file = applying hash map batch new
 
   abbrev said_of_file : Tree → List ℕ → Outcome
-  said_of_file t text = say_apply_of hash new h.pages (map_in standing_of_file t) (batch_of_text text)
+  said_of_file t text = say_apply_of hash new h.pages (map_in standing_of_file t) (batch_of_text One text)
 
   abbrev few_of_file : Shelved → Tree → Type 0
   few_of_file after = IsFewOfFile h.pages h.batch before.files batch before.reads after.reads
@@ -282,7 +283,7 @@ module _ (hash : List ℕ → List ℕ) (map batch new : List ℕ) (n n' : List 
   pub file_read : (text : Vec ℕ) (read : Option (Vec ℕ)) (after : Shelved) (result : Result Ending Halt)
       → read ≡ Some text → Reads batch before mid (Ok read)
       → ComesBehind applies_file (stands_for h' (told_bytes mid.files n'))
-      (λ m. comes (say_apply_of hash new h'.pages m (batch_of_text text.items)))
+      (λ m. comes (say_apply_of hash new h'.pages m (batch_of_text One text.items)))
       (IsFewOfText h'.pages h'.batch text.items mid.reads after.reads) mid after result
       → behind_file after result
   file_read text read after result was got on = record {
@@ -309,15 +310,15 @@ module _ (hash : List ℕ → List ℕ) (map batch new : List ℕ) (n n' : List 
       is = subst (λ r. Reads batch before mid (Ok r)) was got
 
       own : ComesBehind applies_file standing_of_file (λ m. comes
-          (say_apply_of hash new h.pages m (batch_of_text text.items)))
+          (say_apply_of hash new h.pages m (batch_of_text One text.items)))
           (IsFewOfText h.pages h.batch text.items mid.reads after.reads) mid after result
       own =
           subst (λ (st : Standing). ComesBehind applies_file st
-          (λ m. comes (say_apply_of hash new h.pages m (batch_of_text text.items)))
+          (λ m. comes (say_apply_of hash new h.pages m (batch_of_text One text.items)))
           (IsFewOfText h.pages h.batch text.items mid.reads after.reads) mid after result)
           (λ i. stands_for (same.head i) (told_bytes (same.files i) (same.name i)))
           (subst (λ (x : MapHead). ComesBehind applies_file (stands_for h' (told_bytes mid.files n'))
-          (λ m. comes (say_apply_of hash new x.pages m (batch_of_text text.items)))
+          (λ m. comes (say_apply_of hash new x.pages m (batch_of_text One text.items)))
           (IsFewOfText x.pages x.batch text.items mid.reads after.reads) mid after result) same.head on)
 
       by_files : (t : Tree) (o : Option Files) → IsInput o batch (Some text.items)
@@ -440,23 +441,23 @@ module _ (name : List ℕ) (one other : List ℕ → Plan) (before after : Shelv
 -- how many pages a file has that may be missing
 abbrev pub pages_there : Input → ℕ
 pages_there None = 0
-pages_there (Some bytes) = pages_in bytes
+pages_there (Some bytes) = first_pages bytes
 
 -- by the size of the file that is there
 module _ (hash : List ℕ → List ℕ) (name : List ℕ) (next : ℕ → Opened → Plan) (before after : Shelved) (files : Files)
     (told : before.files ≡ Some files) where
   agree : (input : Input) → file files name ≡ input
-      → given name (λ bytes. opens hash bytes (given_map (next (pages_there (file files name))))) input
-      ≡ given name (λ bytes. opens hash bytes (given_map (next (pages_in bytes)))) input
+      → given name (λ bytes. opens One hash bytes (given_map (next (pages_there (file files name))))) input
+      ≡ given name (λ bytes. opens One hash bytes (given_map (next (first_pages bytes)))) input
   agree None is = refl
-  agree (Some bytes) is = ap (λ x. opens hash bytes (given_map (next (pages_there x)))) is
+  agree (Some bytes) is = ap (λ x. opens One hash bytes (given_map (next (pages_there x)))) is
 
   pub comes_sized : (result : Result Ending Halt)
       → ComesBut (needs_map hash name (next (pages_there (file files name)))) before after result
       → ComesBut (needs_sized_map hash name next) before after result
   comes_sized =
-      comes_alike name (λ bytes. opens hash bytes (given_map (next (pages_there (file files name)))))
-      (λ bytes. opens hash bytes (given_map (next (pages_in bytes)))) before after files told agree
+      comes_alike name (λ bytes. opens One hash bytes (given_map (next (pages_there (file files name)))))
+      (λ bytes. opens One hash bytes (given_map (next (first_pages bytes)))) before after files told agree
 
 -- ---- the whole of it
 
@@ -470,7 +471,7 @@ module _ (hash : List ℕ → List ℕ) (sized : (xs : List ℕ) → length (has
 
   goes : (pages : ℕ) → GoesOn (say_change hash batch new pages) before.files
   goes pages m =
-      judged_needs batch (λ text. say_apply_of hash new pages m (batch_of_text text)) before.files
+      judged_needs batch (λ text. say_apply_of hash new pages m (batch_of_text One text)) before.files
 
   -- the map was not opened
   few_unopened : (after : Shelved) (e : MapErr) → RefusesMap hash old before after e
@@ -478,7 +479,7 @@ module _ (hash : List ℕ → List ℕ) (sized : (xs : List ℕ) → length (has
   few_unopened after e r = by_told before.files r.reads
     where
       by_told : (o : Option Files)
-          → OfFile o old (after.reads ≡ before.reads) (λ bytes. after.reads ≤ before.reads + pages_in bytes)
+          → OfFile o old (after.reads ≡ before.reads) (λ bytes. after.reads ≤ before.reads + first_pages bytes)
           → AllowsFrom o (rereads applies plan) before.reads after.reads
       by_told None few = tt
       by_told (Some files) few =
@@ -517,11 +518,11 @@ module _ (hash : List ℕ → List ℕ) (sized : (xs : List ℕ) → length (has
       }
 
       few_in : (bytes : List ℕ) (input : Input) (t : Tree) → IsMap first_form hash bytes t standing_opened.batch
-          → h.pages ≡ pages_in bytes → mid.reads ≤ before.reads + pages_in bytes
+          → h.pages ≡ first_pages bytes → mid.reads ≤ before.reads + first_pages bytes
           → (k : ℕ) × (end.reads ≤ mid.reads + pieces_of input + k) × IsFewOfBatch h.pages t h.batch input k
           → (k : ℕ) × (end.reads ≤ before.reads + k) × IsFewApplied hash bytes input k
       few_in bytes input t stands pages few behind = (
-        pages_in bytes + pieces_of input + behind.0,
+        first_pages bytes + pieces_of input + behind.0,
         omega (arith, few, behind.1),
         inr (
           t,
@@ -529,7 +530,7 @@ module _ (hash : List ℕ → List ℕ) (sized : (xs : List ℕ) → length (has
           stands,
           behind.0,
           omega arith,
-          subst (λ k. IsFewOfBatch (pages_in bytes) t k input behind.0) (sym (batch_in h (told_bytes mid.files n)))
+          subst (λ k. IsFewOfBatch (first_pages bytes) t k input behind.0) (sym (batch_in h (told_bytes mid.files n)))
               (subst (λ k. IsFewOfBatch k t h.batch input behind.0) pages behind.2),
         ),
       )
@@ -537,10 +538,10 @@ module _ (hash : List ℕ → List ℕ) (sized : (xs : List ℕ) → length (has
       few_applied : (files : Files) → before.files ≡ Some files → HasMap hash sized old before standing_opened mid
           → ReadsFew (rereads applies plan) before end
       few_applied files told has =
-          let pages_are = at_input before.files files old has.bytes ⊥ (λ bytes. h.pages ≡ pages_in bytes) told
+          let pages_are = at_input before.files files old has.bytes ⊥ (λ bytes. h.pages ≡ first_pages bytes) told
           has.input o.pages in
           let few_are = at_input before.files files old has.bytes ⊥
-          (λ bytes. mid.reads ≤ before.reads + pages_in bytes) told has.input o.reads in
+          (λ bytes. mid.reads ≤ before.reads + first_pages bytes) told has.input o.reads in
           let own = at_some standing_opened.tree has.tree (IsFewOfFile h.pages h.batch mid.files batch mid.reads
           end.reads) has.told
           on.few_read in
@@ -558,7 +559,7 @@ module _ (hash : List ℕ → List ℕ) (sized : (xs : List ℕ) → length (has
               (untold_from applies before mid end result o.files o.quiet (on.untold (o.files ∙ none)))
           by_files (Some files) told =
               let has = has_map hash sized old before standing_opened mid o.files o.quiet o.answers files told in
-              let pages_are = at_input before.files files old has.bytes ⊥ (λ bytes. h.pages ≡ pages_in bytes) told
+              let pages_are = at_input before.files files old has.bytes ⊥ (λ bytes. h.pages ≡ first_pages bytes) told
               has.input o.pages in
               let there : file files old ≡ Some has.bytes =
               subst (λ o. IsInput o old (Some has.bytes)) told has.input in

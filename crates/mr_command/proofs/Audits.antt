@@ -17,7 +17,7 @@ use Rattle.mr_pages.specs.declared.opening.Opened.{Opened}
 use Rattle.mr_query.specs.declared.query.Query.{Query}
 use Rattle.mr_clash.specs.Finding.{found, opened_accepted, Collides, FindsFor}
 use Rattle.mr_clash.specs.declared.finding.Finding.{Finding}
-use Rattle.mr_store.specs.Opening.{TellsMap, pages_in}
+use Rattle.mr_store.specs.Opening.{TellsMap, first_pages}
 use Rattle.mr_store.specs.Stored.{room}
 use Rattle.mr_command.specs.Counting.{opened_beside, IsFewBeside, ReadsFew}
 use Rattle.mr_command.specs.Ending.{Comes, ComesBut, with_reads, GivesOrStops, IsBeside, Misses, NoneFalls, Read, Reads, ReadsBeside, ReadsOpened, SaysRefusal, SaysUntold, Stops}
@@ -32,13 +32,9 @@ use Rattle.mr_command.specs.declared.ending.Halt.{Halt}
 use Rattle.mr_command.specs.declared.ending.Halt.TheVariants as halts
 use Rattle.mr_command.proofs.Counting.{OnceFrom, few_none, once_none}
 use Rattle.mr_command.proofs.Going.{comes_given, comes_read, comes_missed, comes_unread, judged_needs}
-use Rattle.mr_command.proofs.Pages.{HasMap, few_beside, few_there, at_input, has_map, told_on, with_same}
+use Rattle.mr_command.proofs.Pages.{HasMap, map_in, few_beside, few_there, at_input, has_map, told_on, with_same}
 use Rattle.mr_command.proofs.Rereading.{comes_but, comes_told, comes_untold, fetch_blamed, fetch_stopped, says_refused, stops_with}
 use Rattle.mr_command.proofs.Verdicts.{says_finding, audit_writes, finding_writes}
-
--- the map of a tree that stands so
-abbrev pub map_in : Standing → Tree → Opened
-map_in s t = record { tree = t; batch = s.batch }
 
 -- ---- behind the bytes of a proof
 
@@ -284,8 +280,8 @@ module _ (hash : List ℕ → List ℕ) (sized : (xs : List ℕ) → length (has
     (proof : List ℕ) (before mid end : Shelved) (s : Standing) (h : MapHead)
     (same : mid.files ≡ before.files) (quiet : mid.faults ≡ before.faults)
     (answers : OfFile before.files map ⊥ (TellsMap hash s))
-    (pages : OfFile before.files map ⊥ (λ bytes. h.pages ≡ pages_in bytes))
-    (few : OfFile before.files map ⊥ (λ bytes. mid.reads ≤ before.reads + pages_in bytes))
+    (pages : OfFile before.files map ⊥ (λ bytes. h.pages ≡ first_pages bytes))
+    (few : OfFile before.files map ⊥ (λ bytes. mid.reads ≤ before.reads + first_pages bytes))
     (more : before.reads ≤ mid.reads) (counts : NoneFalls mid end)
     (beside : ReadsBeside hash q s h.pages proof mid end) where
   abbrev on_map : Opened → Plan
@@ -294,9 +290,9 @@ module _ (hash : List ℕ → List ℕ) (sized : (xs : List ℕ) → length (has
   few_audited : (files : Files) → before.files ≡ Some files → HasMap hash sized map before s mid
       → ReadsFew (rereads (auditing hash map q proof) (needs_map hash map on_map)) before end
   few_audited files told has =
-      let pages_are = at_input before.files files map has.bytes ⊥ (λ bytes. h.pages ≡ pages_in bytes) told has.input
+      let pages_are = at_input before.files files map has.bytes ⊥ (λ bytes. h.pages ≡ first_pages bytes) told has.input
       pages in
-      let few_are = at_input before.files files map has.bytes ⊥ (λ bytes. mid.reads ≤ before.reads + pages_in bytes)
+      let few_are = at_input before.files files map has.bytes ⊥ (λ bytes. mid.reads ≤ before.reads + first_pages bytes)
       told has.input few in
       few_there before.files files map has.bytes before.reads end.reads
       (λ files bytes n. IsFewBeside hash q bytes (file files proof) n) told has.input

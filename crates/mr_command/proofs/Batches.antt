@@ -1,6 +1,6 @@
 -- What is said of a batch, by whether it may be applied.
-use Rattle.std.proofs.Common.{◌≡◌, ℕ, List, refl, ap}
-use Rattle.std.specs.Prelude.{Option, Some, None, Ok, Err}
+use Rattle.std.proofs.Common.{◌≡◌, ℕ, List, get_or, refl, ap}
+use Rattle.std.specs.Prelude.{All, Option, Some, None, Ok, Err}
 use Rattle.mr_record.specs.declared.record.Record.{Record}
 use Rattle.mr_tree.specs.Tree.{records}
 use Rattle.mr_batch.specs.Admissible.{batch_fault}
@@ -8,6 +8,12 @@ use Rattle.mr_batch.specs.Applied.{IsAdmissible}
 use Rattle.mr_batch.specs.Changes.{Changes}
 use Rattle.mr_batch.specs.declared.admission.BatchFault.{BatchFault}
 use Rattle.mr_batch.proofs.Walking.{admitted}
+use Rattle.mr_record.specs.declared.version.Version.TheVariants.{One}
+use Rattle.mr_batch.proofs.BatchTexts.{answer_written}
+use Rattle.mr_batch.specs.BatchText.{batch_of_text, IsChange}
+use Rattle.mr_batch.specs.declared.change.Change.{Change}
+use Rattle.mr_batch.specs.declared.change.Change.TheVariants.{Add, Remove}
+use Rattle.mr_edit.specs.Replayed.{IsOfVersion}
 use Rattle.mr_plan.specs.Say.{say_admitted, say_batch, say_changed}
 use Rattle.mr_pages.specs.declared.opening.Opened.{Opened}
 
@@ -28,3 +34,12 @@ pub says_applied : (hash : List ℕ → List ℕ) (new : List ℕ) (pages : ℕ)
     → say_batch hash new pages map b ≡ say_changed hash new pages map.tree b
 says_applied hash new pages map b may =
     ap (say_admitted hash new pages map.tree b) (no_fault (records map.tree) map.batch b may)
+
+of_change : (c : Change) → IsChange One c → IsOfVersion One c
+of_change (Add r) is = is.1
+of_change (Remove n) is = tt
+
+-- the changes of a text of the first version are of that version
+pub of_first : (text : List ℕ) (b : Changes) → batch_of_text One text ≡ Ok b → All (IsOfVersion One) b.list
+of_first text b e k d within =
+    of_change (get_or b.list k d) ((answer_written One text (Ok b) e).0.changes.each k d within)

@@ -1,36 +1,31 @@
 -- What `check-all` says of a bundle, and what it comes to behind each step.
-use Rattle.std.proofs.Common.{◌≡◌, ℕ, suc, ◌+◌, ◌<◌, ◌≤◌, Bool, true, false, cond, ◌&&◌, eqb, List, [], ◌∷◌, ◌++◌, length, get_or, map, take, refl, sym, ap, subst, ◌∙◌, arith, append_assoc, append-nil}
-use Rattle.std.specs.Prelude.{Option, Some, None, Result, Ok, Err, All, is_none, OnOk, codes, decimal}
+use Rattle.std.proofs.Common.{◌≡◌, ℕ, ◌+◌, ◌≤◌, Bool, true, false, cond, ◌&&◌, eqb, List, [], ◌∷◌, ◌++◌, length, map, refl, sym, ap, subst, ◌∙◌, arith}
+use Rattle.std.specs.Prelude.{Option, Some, None, Result, Ok, Err, All, is_none}
 use Rattle.std.specs.Global.{Vec}
 use Rattle.std.specs.List.{AllByRecursion}
 use Rattle.std.proofs.lemmas.Bool.{eq-eqb}
-use Rattle.std.proofs.lemmas.List.{flat_map_more, length-map, length-take-le, take_more}
+use Rattle.std.proofs.lemmas.List.{flat_map_more, length-map}
 use Rattle.std.proofs.lemmas.List.Elements.{recursion_from_All}
 use Rattle.std.proofs.lemmas.List.Sums.{sum_by-cons}
 use Rattle.std.proofs.lemmas.Slice.Zip.{length-zip}
 use Rattle.mr_outside.specs.Files.{Files, file}
 use Rattle.mr_outside.specs.State.{Shelved}
-use Rattle.mr_record.specs.RecordText.{text_of}
-use Rattle.mr_record.specs.declared.record.Record.{Record}
 use Rattle.mr_record.specs.declared.text_fault.TextFault.{TextFault}
 use Rattle.mr_query.specs.Script.{queries_of_text}
 use Rattle.mr_query.specs.declared.query.Query.{Query}
+use Rattle.mr_tree.specs.Digest.{by}
 use Rattle.mr_bundle.specs.Bundle.{parts, part_bytes, bundle_of, bytes_of}
 use Rattle.mr_bundle.specs.Proofs.{bundle, proofs}
 use Rattle.mr_bundle.specs.Verdicts.{asked, judged, verdicts as verdicts_of}
 use Rattle.mr_bundle.specs.declared.reading.Part.{Part}
 use Rattle.mr_bundle.specs.declared.verdict.Verdict.{Verdict}
-use Rattle.mr_bundle.specs.declared.verdict.Verdict.TheVariants as verdicts
 use Rattle.mr_pages.specs.declared.opening.Opened.{Opened}
-use Rattle.mr_proof.specs.declared.rule.Fault.{Fault}
 use Rattle.mr_command.specs.Answer.{IsSettled}
 use Rattle.mr_command.specs.Ending.{AreJudged, Comes, Gives, GivesOrStops, Misses, Reads, Stops, printed_of}
-use Rattle.mr_plan.specs.First.{first}
-use Rattle.mr_plan.specs.Judged.{is_accepted, IsAccepted, verdict_text, verdict_lines, accepted_count, bundle_text, bundle_status}
+use Rattle.mr_plan.specs.Judged.{is_accepted, IsAccepted, accepted_count, bundle_text, bundle_status}
 use Rattle.mr_plan.specs.Lines.{bad_text_line}
 use Rattle.mr_plan.specs.Outcome.{Nothing}
 use Rattle.mr_plan.specs.Plan.{Plan, Input, comes}
-use Rattle.mr_plan.specs.Refusal.{refused_line}
 use Rattle.mr_command.specs.Counting.{pieces_of, reads_taken}
 use Rattle.mr_plan.specs.Say.{given, given_queries, needs, say_parts}
 use Rattle.mr_plan.specs.Saying.{ends, say_bundle, say_parts_of, say_serve_of, say_verdicts}
@@ -121,7 +116,7 @@ parts_done hash root queries bytes unbroken accepted =
 -- ---- the bundle of a server
 
 pub says_served : (hash : List ℕ → List ℕ) (name : List ℕ) (map : Opened) (queries : List Query) (list : List (List ℕ))
-    (bytes : List ℕ) → list ≡ proofs (first hash) map.tree map.batch queries → bytes ≡ bundle_of list
+    (bytes : List ℕ) → list ≡ proofs (by map.version hash) map.tree map.batch queries → bytes ≡ bundle_of list
     → say_bundle name (length queries) bytes ≡ say_serve_of hash name map (Ok queries)
 unfolding say_serve_of bundle
 says_served hash name map queries list bytes are is =

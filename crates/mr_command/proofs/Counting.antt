@@ -4,6 +4,7 @@ use Rattle.std.specs.Prelude.{Option, Some, None, MatchOption}
 use Rattle.mr_outside.specs.Files.{Files, file}
 use Rattle.mr_outside.specs.Reading.{piece_count}
 use Rattle.mr_outside.specs.Told.{OfFile, OfFiles}
+use Rattle.mr_record.specs.declared.version.Version.{Version}
 use Rattle.mr_pages.specs.Opening.{pages_in}
 use Rattle.mr_command.specs.Counting.{pieces_of, reads_taken, AllowsReads}
 use Rattle.mr_plan.specs.Found.{Found, Shows}
@@ -36,14 +37,15 @@ text_taken (Some files) name said before after once = by_input (file files name)
     by_input (Some bytes) once = once
 
 -- page by page, where a map is opened
-pub map_taken : (told : Option Files) (name : List ℕ) (hash : List ℕ → List ℕ) (next : Found → Plan) (before after : ℕ)
+pub map_taken : (told : Option Files) (name : List ℕ) (version : List ℕ → Version) (hash : List ℕ → List ℕ)
+    (next : Found → Plan) (before after : ℕ)
     → OfFile told name (after ≡ before) (λ bytes. after ≤ before + pages_in bytes)
-    → TakenFrom told name (λ bytes. opens hash bytes next) before after
-map_taken None name hash next before after once = tt
-map_taken (Some files) name hash next before after once = by_input (file files name) once
+    → TakenFrom told name (λ bytes. opens (version bytes) hash bytes next) before after
+map_taken None name version hash next before after once = tt
+map_taken (Some files) name version hash next before after once = by_input (file files name) once
   where
     by_input : (input : Input) → MatchOption input (after ≡ before) (λ bytes. after ≤ before + pages_in bytes)
-        → after ≤ before + reads_taken (given name (λ bytes. opens hash bytes next) input) input
+        → after ≤ before + reads_taken (given name (λ bytes. opens (version bytes) hash bytes next) input) input
     by_input None same = omega (arith, same)
     by_input (Some bytes) once = once
 
@@ -78,10 +80,11 @@ pub few_none : (told : Option Files) (said : Outcome) (r t : ℕ) → t ≡ r �
 few_none None said r t same = tt
 few_none (Some files) said r t same = (0, omega (arith, same), refl)
 
-pub few_found : (told : Option Files) (hash : List ℕ → List ℕ) (bytes : List ℕ) (next : Found → Plan) (found : Found)
-    (r t : ℕ) → Shows hash bytes found → AllowsFrom told (next found) r t → AllowsFrom told (opens hash bytes next) r t
-few_found None hash bytes next found r t is on = tt
-few_found (Some files) hash bytes next found r t is on = (on.0, on.1, (found, is, on.2))
+pub few_found : (told : Option Files) (v : Version) (hash : List ℕ → List ℕ) (bytes : List ℕ) (next : Found → Plan)
+    (found : Found) (r t : ℕ) → Shows v hash bytes found → AllowsFrom told (next found) r t
+    → AllowsFrom told (opens v hash bytes next) r t
+few_found None v hash bytes next found r t is on = tt
+few_found (Some files) v hash bytes next found r t is on = (on.0, on.1, (found, is, on.2))
 
 once_in : (found : Option (List ℕ)) (before after : ℕ)
     → MatchOption found (after ≡ before) (λ bytes. after ≤ before + piece_count (length bytes))

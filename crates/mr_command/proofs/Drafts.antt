@@ -45,8 +45,8 @@ use Rattle.mr_plan.specs.Say.{prints, say_text, say_changed}
 use Rattle.mr_command.specs.declared.ending.Ending.{Ending}
 use Rattle.mr_command.specs.declared.ending.Halt.{Halt}
 use Rattle.mr_command.specs.declared.ending.Halt.TheVariants as halts
-use Rattle.mr_command.proofs.Audits.{map_in}
 use Rattle.mr_command.proofs.Counting.{few_none}
+use Rattle.mr_command.proofs.Pages.{map_in}
 use Rattle.mr_command.proofs.Rereading.{IsBlamed, IsStopped, page_blamed, says_refused, stops_with}
 
 -- ---- where a tree is told
@@ -85,7 +85,7 @@ left_none P name before after none (inr held) = stays_none name held.0 before af
 -- what stands in the new file while it is no map
 record Unsealed (hash : List ℕ → List ℕ) (new : List ℕ) (before after : Option Files) : Type 0 where
   bytes : List ℕ
-  unsealed : IsUnsealed first_form hash bytes
+  unsealed : IsUnsealed hash bytes
   files : IsChanged (with_file new) bytes before after
 
 copied_on : (hash : List ℕ → List ℕ) (name : List ℕ) (h : MapHead) (before : Shelved) (new : List ℕ) (d e : Drawn)
@@ -141,6 +141,7 @@ again_of rule.Outside is = tt
 again_of rule.Twice is = absurd is
 again_of (rule.Digest held found) is = absurd is
 again_of rule.Rect is = absurd is
+again_of rule.Sum is = absurd is
 again_of rule.Fill is = absurd is
 again_of rule.Number is = absurd is
 again_of (rule.Count held found) is = absurd is
@@ -257,7 +258,7 @@ module _ (hash : List ℕ → List ℕ) (map new batch : List ℕ) (name : List 
   changes after result =
       ComesBehind (applying hash map batch new) s (λ m. comes (said m)) (few_of_copy after) before after result
 
-  may_stand : (t : Tree) (after : Option Files) → Leaves (IsUnsealed first_form hash) new before.files after
+  may_stand : (t : Tree) (after : Option Files) → Leaves (IsUnsealed hash) new before.files after
       → MayLeave (say_changed hash new h.pages t b).written before.files after
   may_stand t after (inl same) = inl same
   may_stand t after (inr held) = inr (held.0, inl held.1, held.2)
@@ -271,7 +272,7 @@ module _ (hash : List ℕ → List ℕ) (map new batch : List ℕ) (name : List 
       (record { faults = fails.later; reads = fails.more })
       (by_some s.tree (few_of_copy after) (λ t told. omega (arith, fails.few))) stop.halt stop.stops
       (λ t told. may_stand t after.files fails.left)
-      (λ none. left_none (IsUnsealed first_form hash) new before.files after.files none fails.left))
+      (λ none. left_none (IsUnsealed hash) new before.files after.files none fails.left))
 
   none_told : before.files ≡ None → (t : Tree) → s.tree ≡ Some t → ⊥
   none_told none t told =
@@ -288,7 +289,7 @@ module _ (hash : List ℕ → List ℕ) (map new batch : List ℕ) (name : List 
         (λ t told. absurd (none_told (fails.untold refl) t told));
     untold = λ none.
         says_refused hash (applying hash map batch new) map (λ said is. inl is) before after
-        (left_none (IsUnsealed first_form hash) new before.files after.files none fails.left) errors.Missing result
+        (left_none (IsUnsealed hash) new before.files after.files none fails.left) errors.Missing result
         (record { missing = λ is. fails.cause; fault = λ is. absurd (cc); map = λ f is. absurd (cc) }) says;
     few_read = by_some s.tree (few_of_copy after) (λ t told. omega (arith, fails.few));
   }

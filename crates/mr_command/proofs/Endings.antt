@@ -9,25 +9,26 @@ use Rattle.mr_outside.specs.declared.sink.SinkErr.{SinkErr}
 use Rattle.mr_outside.proofs.Taking.{Takes-none, Takes-append}
 use Rattle.mr_record.specs.declared.record.Record.{Record}
 use Rattle.mr_record.specs.RecordText.{line_of, text_of}
+use Rattle.mr_record.specs.declared.version.Version.{Version}
 
 -- a line alone
-pub line_alone : (line : List ℕ) (records : List Record) → records ≡ [] → line
-    ++ text_of records ≡ line
+pub line_alone : (v : Version) (line : List ℕ) (records : List Record) → records ≡ [] → line
+    ++ text_of v records ≡ line
 unfolding text_of
-line_alone line records none = ap (λ rs. line ++ text_of rs) none ∙ append-nil line
+line_alone v line records none = ap (λ rs. line ++ text_of v rs) none ∙ append-nil line
 
 -- nothing at all
-pub no_records : (records : List Record) → records ≡ [] → text_of records ≡ []
+pub no_records : (v : Version) (records : List Record) → records ≡ [] → text_of v records ≡ []
 unfolding text_of
-no_records records none = ap text_of none
+no_records v records none = ap (text_of v) none
 
 -- the text of two lists of records
-pub text_both : (xs ys : List Record) → text_of (xs ++ ys) ≡ text_of xs ++ text_of ys
+pub text_both : (v : Version) (xs ys : List Record) → text_of v (xs ++ ys) ≡ text_of v xs ++ text_of v ys
 unfolding text_of
-text_both [] ys = refl
-text_both (x ∷ xs) ys =
-    ap (λ text. (line_of x ++ 10 ∷ []) ++ text) (text_both xs ys)
-    ∙ sym (append_assoc (line_of x ++ 10 ∷ []) (text_of xs) (text_of ys))
+text_both v [] ys = refl
+text_both v (x ∷ xs) ys =
+    ap (λ text. (line_of v x ++ 10 ∷ []) ++ text) (text_both v xs ys)
+    ∙ sym (append_assoc (line_of v x ++ 10 ∷ []) (text_of v xs) (text_of v ys))
 
 -- nothing was taken
 pub front_none : (s : Sunk) (text : List ℕ) → TakesFront s s text

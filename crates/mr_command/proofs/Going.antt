@@ -12,12 +12,15 @@ use Rattle.mr_outside.specs.Writing.{IsChanged}
 use Rattle.mr_outside.specs.declared.shelf.ShelfErr.{ShelfErr}
 use Rattle.mr_outside.specs.declared.shelf.ShelfErr.TheVariants as shelf
 use Rattle.mr_record.specs.Bytes.{AreBytes}
-use Rattle.mr_tree.specs.WellFormed.{WellFormed}
+use Rattle.mr_record.specs.declared.version.Version.{Version}
+use Rattle.mr_record.specs.declared.version.Version.TheVariants.{One, Two}
+use Rattle.mr_tree.specs.WellFormed.{WellFormed, HasLayers}
 use Rattle.mr_tree.specs.declared.tree.Tree.{Tree}
-use Rattle.mr_pages.specs.PageBytes.{first_form}
+use Rattle.mr_pages.specs.Page.{Form}
+use Rattle.mr_pages.specs.PageBytes.{form_by}
 use Rattle.mr_pages.specs.Law.{Agrees, IsMap}
 use Rattle.mr_pages.specs.Saved.{saved, MayStand, Leaves}
-use Rattle.mr_pages.specs.Opening.{Answers, Fails, MapCauses, OrFails, SomeBytes, Tells}
+use Rattle.mr_pages.specs.Opening.{Answers, Fails, MapCauses, OrFails, Tells}
 use Rattle.mr_pages.specs.declared.error.MapErr.{MapErr}
 use Rattle.mr_pages.specs.declared.error.MapErr.TheVariants as errors
 use Rattle.mr_pages.specs.declared.rule.MapFault.{MapFault}
@@ -25,14 +28,14 @@ use Rattle.mr_command.specs.Ending.{Gives, GivesOrStops, Misses, Comes, Came, St
 use Rattle.mr_plan.specs.Found.{Found, Shows, bad_map_line}
 use Rattle.mr_plan.specs.Outcome.{Outcome, Content, Nothing, File, map_of, IsLaidOut, IsLeft, MayLeave}
 use Rattle.mr_plan.specs.Plan.{Plan, comes, opens, Input, IsInput, IsAbsent, LacksInput}
-use Rattle.mr_plan.specs.Say.{ends, needs, needs_map, given_map, says_missing}
+use Rattle.mr_plan.specs.Say.{ends, needs, needs_map_in, given_map, says_missing}
 use Rattle.mr_command.specs.declared.ending.Ending.{Ending}
 use Rattle.mr_command.specs.declared.ending.Halt.{Halt}
 use Rattle.mr_command.specs.declared.ending.Halt.TheVariants as halts
 use Rattle.mr_pages.specs.declared.opening.Opened.{Opened}
 use Rattle.mr_plan.specs.declared.status.Status.TheVariants.{BadMap, Outside}
 use Rattle.mr_command.proofs.Counting.{AllowsFrom, TakenFrom, text_taken, map_taken, few_behind, few_stopped, few_none, few_found, once_of}
-use Rattle.mr_pages.proofs.HeadLaws.{first_form_is}
+use Rattle.mr_pages.proofs.Answered.{form_by_is}
 use Rattle.mr_pages.proofs.SavedStands.{saved_stands}
 
 -- a step that left the files and the count of faults as they were
@@ -59,10 +62,11 @@ judged_given : (next : Opened → Plan) (told : Option Files) → GoesOn next to
 judged_given next told goes (Ok map) = goes map
 judged_given next told goes (Err fault) = tt
 
-judged_map : (hash : List ℕ → List ℕ) (name : List ℕ) (next : Opened → Plan) (told : Option Files)
-    → IsJudged hash told name → GoesOn next told → AreJudged (needs_map hash name next) told
-judged_map hash name next told judged goes None is = tt
-judged_map hash name next told judged goes (Some bytes) is =
+judged_map : (version : List ℕ → Version) (hash : List ℕ → List ℕ) (name : List ℕ) (next : Opened → Plan)
+    (told : Option Files)
+    → IsJudged version hash told name → GoesOn next told → AreJudged (needs_map_in version hash name next) told
+judged_map version hash name next told judged goes None is = tt
+judged_map version hash name next told judged goes (Some bytes) is =
     (judged bytes is, λ found shown. judged_given next told goes found)
 
 -- ---- behind a file that was read
@@ -166,62 +170,71 @@ out_of_memory said (Err halt) is = is
 -- ---- behind a file that was read as a map
 
 -- what came of a map or a fault that was found came of the bytes
-comes_found : (hash : List ℕ → List ℕ) (bytes : List ℕ) (next : Found → Plan) (found : Found) (before after : Shelved)
-    (result : Result Ending Halt) → AreJudged (opens hash bytes next) before.files
-    → WasFound before.files hash bytes found → IsWell found
-    → Comes (next found) before after result → Comes (opens hash bytes next) before after result
-comes_found hash bytes next found before after (Ok ending) judged is well on = record {
+comes_found : (v : Version) (hash : List ℕ → List ℕ) (bytes : List ℕ) (next : Found → Plan) (found : Found)
+    (before after : Shelved) (result : Result Ending Halt) → AreJudged (opens v hash bytes next) before.files
+    → WasFound before.files v hash bytes found → IsWell found
+    → Comes (next found) before after result → Comes (opens v hash bytes next) before after result
+comes_found v hash bytes next found before after (Ok ending) judged is well on = record {
   counts = on.counts;
   judged = judged;
   came = (found, is, well, on.came);
   outside = λ outside. elim (on.outside outside) [ inl rose ↦ inl rose | inr lacks ↦ inr (found, is.0, lacks) ];
   quiet = on.quiet;
-  few = few_found before.files hash bytes next found before.reads after.reads is.0 on.few;
+  few = few_found before.files v hash bytes next found before.reads after.reads is.0 on.few;
 }
-comes_found hash bytes next found before after (Err halt) judged is well on = record {
+comes_found v hash bytes next found before after (Err halt) judged is well on = record {
   counts = on.counts;
   judged = judged;
   came = (on.came.0, (found, is.0, on.came.1));
   outside = tt;
   quiet = tt;
-  few = few_found before.files hash bytes next found before.reads after.reads is.0 on.few;
+  few = few_found before.files v hash bytes next found before.reads after.reads is.0 on.few;
 }
 
 -- the bytes of a file that was opened, and what was found in them
-record Holds (hash : List ℕ → List ℕ) (told : Option Files) (name : List ℕ) (found : Found) : Type 0 where
+record Holds (version : List ℕ → Version) (hash : List ℕ → List ℕ) (told : Option Files) (name : List ℕ)
+    (found : Found) : Type 0 where
   pub bytes : List ℕ
   pub input : IsInput told name (Some bytes)
   pub are : AreBytes bytes
-  pub is : WasFound told hash bytes found
+  pub is : WasFound told (version bytes) hash bytes found
 
-comes_opened : (hash : List ℕ → List ℕ) (name : List ℕ) (next : Opened → Plan) (before between after : Shelved)
+comes_opened : (version : List ℕ → Version) (hash : List ℕ → List ℕ) (name : List ℕ) (next : Opened → Plan)
+    (before between after : Shelved)
     (found : Found) (result : Result Ending Halt) → IsStep before between → ReadsPages name before between
-    → IsJudged hash before.files name → GoesOn next before.files → Holds hash before.files name found → IsWell found
-    → Comes (given_map next found) between after result → Comes (needs_map hash name next) before after result
-comes_opened hash name next before between after found result step once judged goes holds well on =
-    comes_on name (λ bytes. opens hash bytes (given_map next)) holds.bytes before between after step
-    (map_taken before.files name hash (given_map next) before.reads between.reads once) holds.input holds.are
-    (judged_map hash name next before.files judged goes) result
-    (comes_found hash holds.bytes (given_map next) found between after result
-    (subst (AreJudged (opens hash holds.bytes (given_map next))) (sym step.files)
-    (judged_map hash name next before.files judged goes (Some holds.bytes) holds.input))
-    (subst (λ files. WasFound files hash holds.bytes found) (sym step.files) holds.is) well on)
+    → IsJudged version hash before.files name → GoesOn next before.files → Holds version hash before.files name found
+    → IsWell found
+    → Comes (given_map next found) between after result →
+    Comes (needs_map_in version hash name next) before after result
+comes_opened version hash name next before between after found result step once judged goes holds well on =
+    comes_on name (λ bytes. opens (version bytes) hash bytes (given_map next)) holds.bytes before between after step
+    (map_taken before.files name version hash (given_map next) before.reads between.reads once) holds.input holds.are
+    (judged_map version hash name next before.files judged goes) result
+    (comes_found (version holds.bytes) hash holds.bytes (given_map next) found between after result
+    (subst (AreJudged (opens (version holds.bytes) hash holds.bytes (given_map next))) (sym step.files)
+    (judged_map version hash name next before.files judged goes (Some holds.bytes) holds.input))
+    (subst (λ files. WasFound files (version holds.bytes) hash holds.bytes found) (sym step.files) holds.is) well on)
 
-pub comes_map : (hash : List ℕ → List ℕ) (name : List ℕ) (next : Opened → Plan) (before between after : Shelved)
-    (map : Opened) (result : Result Ending Halt) → HoldsMap hash name before between map → GoesOn next before.files
-    → Comes (next map) between after result → Comes (needs_map hash name next) before after result
-comes_map hash name next before between after map result holds goes on =
-    comes_opened hash name next before between after (Ok map) result
+pub comes_map : (version : List ℕ → Version) (hash : List ℕ → List ℕ) (name : List ℕ) (next : Opened → Plan)
+    (before between after : Shelved)
+    (map : Opened) (result : Result Ending Halt) → HoldsMap version hash name before between map →
+    GoesOn next before.files
+    → Comes (next map) between after result → Comes (needs_map_in version hash name next) before after result
+comes_map version hash name next before between after map result holds goes on =
+    comes_opened version hash name next before between after (Ok map) result
     (record { counts = holds.counts; files = holds.files; faults = holds.quiet }) holds.once holds.judged goes
     (record { bytes = holds.bytes; input = holds.input; are = holds.are; is = holds.found }) (holds.well, holds.low) on
 
 -- the same where the file stands for no map
-comes_bad : (hash : List ℕ → List ℕ) (name : List ℕ) (next : Opened → Plan) (before after : Shelved)
+comes_bad : (version : List ℕ → Version) (hash : List ℕ → List ℕ) (name : List ℕ) (next : Opened → Plan)
+    (before after : Shelved)
     (fault : MapFault) (ending : Ending) → IsStep before after → ReadsPages name before after
-    → IsJudged hash before.files name → GoesOn next before.files → Holds hash before.files name (Err fault)
-    → Gives (ends BadMap (bad_map_line fault)) ending → Comes (needs_map hash name next) before after (Ok ending)
-comes_bad hash name next before after fault ending step once judged goes holds gives =
-    comes_opened hash name next before after after (Err fault) (Ok ending) step once judged goes holds tt
+    → IsJudged version hash before.files name → GoesOn next before.files →
+    Holds version hash before.files name (Err fault)
+    → Gives (ends BadMap (bad_map_line fault)) ending →
+    Comes (needs_map_in version hash name next) before after (Ok ending)
+comes_bad version hash name next before after fault ending step once judged goes holds gives =
+    comes_opened version hash name next before after after (Err fault) (Ok ending) step once judged goes holds tt
     (comes_at_once (ends BadMap (bad_map_line fault)) after ending refl gives)
 
 -- where it is missing
@@ -331,40 +344,69 @@ comes_unread name said before after halt got =
 
 -- ---- what opening a file answers
 
+-- the bytes of a file that is told, read in their version, give this; of one that is not told some bytes do
+abbrev pub SomeIn : (List ℕ → Version) → (List ℕ → List ℕ) → Result Opened MapErr → Type 0
+SomeIn version hash result =
+    (bytes : List ℕ) × AreBytes bytes × Answers (form_by (version bytes)) hash bytes result
+
 -- a clause of the call that opens a file, at what it answered
-abbrev pub Answered : (List ℕ → List ℕ) → List ℕ → Shelved → Shelved → Result Opened MapErr → Type 0
-Answered hash name before after result =
-    OfFile before.files name (Fails result) (λ bytes. Tells first_form hash bytes result)
-    × SomeBytes first_form hash result
+abbrev pub Answered : (List ℕ → Version) → (List ℕ → List ℕ) → List ℕ → Shelved → Shelved → Result Opened MapErr
+    → Type 0
+Answered version hash name before after result =
+    OfFile before.files name (Fails result) (λ bytes. Tells (form_by (version bytes)) hash bytes result)
+    × SomeIn version hash result
     × MapCauses name before after result
     × (after.files ≡ before.files)
     × (before.reads ≤ after.reads)
     × ReadsPages name before after
 
-told_bytes : (hash : List ℕ → List ℕ) (files : Files) (name : List ℕ) (found : Found) (result : Result Opened MapErr)
-    → (Fails result → ⊥)
-    → ((bytes : List ℕ) → Answers first_form hash bytes result → Shows hash bytes found)
-    → ((map : Opened) → OrFails result (Ok map) → found ≡ Ok map) → (input : Input)
-    → file files name ≡ input → MatchOption input (Fails result) (λ bytes. Tells first_form hash bytes result)
-    → Holds hash (Some files) name found
-told_bytes hash files name found result not shows only None e is = absurd (not is)
-told_bytes hash files name found result not shows only (Some bytes) e is = record {
-  bytes = bytes;
-  input = e;
-  are = is.are;
-  is = (shows bytes is.answers, λ map stands. only map (is.map map.tree map.batch stands));
-}
+pub version_by : (v : Version) → (form_by v).version ≡ v
+version_by One = refl
+version_by Two = refl
 
-holds_found : (hash : List ℕ → List ℕ) (told : Option Files) (name : List ℕ) (found : Found)
+shown_by : (v : Version) (hash : List ℕ → List ℕ) (bytes : List ℕ) (map : Opened)
+    → Answers (form_by v) hash bytes (Ok map) → Shows v hash bytes (Ok map)
+shown_by v hash bytes map a = (a.0 ∙ version_by v, a.1)
+
+-- the answer that is wanted is that map
+wanted : (v : Version) (form : Form) (map : Opened) (result : Result Opened MapErr) → form.version ≡ v
+    → map.version ≡ v → OrFails result (Ok (record { tree = map.tree; version = form.version; batch = map.batch }))
+    → OrFails result (Ok map)
+wanted v form map result is has =
+    let same = is ∙ sym has in
+    subst (λ w. OrFails result (Ok (record { tree = map.tree; version = w; batch = map.batch }))) same
+
+told_bytes : (version : List ℕ → Version) (hash : List ℕ → List ℕ) (files : Files) (name : List ℕ) (found : Found)
     (result : Result Opened MapErr) → (Fails result → ⊥)
-    → ((bytes : List ℕ) → Answers first_form hash bytes result → Shows hash bytes found)
+    → ((bytes : List ℕ) → Answers (form_by (version bytes)) hash bytes result → Shows (version bytes) hash bytes found)
+    → ((map : Opened) → OrFails result (Ok map) → found ≡ Ok map) → (input : Input)
+    → file files name ≡ input
+    → MatchOption input (Fails result) (λ bytes. Tells (form_by (version bytes)) hash bytes result)
+    → Holds version hash (Some files) name found
+told_bytes version hash files name found result not shows only None e is = absurd (not is)
+told_bytes version hash files name found result not shows only (Some bytes) e is =
+    let v = version bytes in
+    record {
+      bytes = bytes;
+      input = e;
+      are = is.are;
+      is = (
+        shows bytes is.answers,
+        λ map stands. only map (wanted v (form_by v) map result (version_by v) stands.0
+            (is.map map.tree map.batch stands.1)),
+      );
+    }
+
+holds_found : (version : List ℕ → Version) (hash : List ℕ → List ℕ) (told : Option Files) (name : List ℕ)
+    (found : Found) (result : Result Opened MapErr) → (Fails result → ⊥)
+    → ((bytes : List ℕ) → Answers (form_by (version bytes)) hash bytes result → Shows (version bytes) hash bytes found)
     → ((map : Opened) → OrFails result (Ok map) → found ≡ Ok map)
-    → OfFile told name (Fails result) (λ bytes. Tells first_form hash bytes result)
-    → SomeBytes first_form hash result → Holds hash told name found
-holds_found hash None name found result not shows only exact some = record
+    → OfFile told name (Fails result) (λ bytes. Tells (form_by (version bytes)) hash bytes result)
+    → SomeIn version hash result → Holds version hash told name found
+holds_found version hash None name found result not shows only exact some = record
     { bytes = some.0; input = some.1; are = some.1; is = (shows some.0 some.2, tt) }
-holds_found hash (Some files) name found result not shows only exact some =
-    told_bytes hash files name found result not shows only (file files name) refl exact
+holds_found version hash (Some files) name found result not shows only exact some =
+    told_bytes version hash files name found result not shows only (file files name) refl exact
 
 -- the one answer, as what is found
 pub found_only : (map other : Opened) → OrFails (Ok map) (Ok other) → ◌≡◌ {A = Found} (Ok map) (Ok other)
@@ -382,29 +424,30 @@ no_fault_rose before after name result not causes = elim causes.quiet
     [ inl same ↦ same | inr fails ↦ absurd (not fails) ]
 
 -- told or not
-pub is_judged : (hash : List ℕ → List ℕ) (told : Option Files) (name : List ℕ)
-    → OfFile told name ⊤ (Agrees first_form hash) → ((bytes : List ℕ) → AreBytes bytes → Agrees first_form hash bytes)
-    → IsJudged hash told name
-is_judged hash None name agrees law bytes is = law bytes is
-is_judged hash (Some files) name agrees law bytes is =
-    subst (λ input. MatchOption input ⊤ (Agrees first_form hash)) is agrees
+pub is_judged : (version : List ℕ → Version) (hash : List ℕ → List ℕ) (told : Option Files) (name : List ℕ)
+    → OfFile told name ⊤ (λ bytes. Agrees (form_by (version bytes)) hash bytes)
+    → ((bytes : List ℕ) → AreBytes bytes → Agrees (form_by (version bytes)) hash bytes)
+    → IsJudged version hash told name
+is_judged version hash None name agrees law bytes is = law bytes is
+is_judged version hash (Some files) name agrees law bytes is =
+    subst (λ input. MatchOption input ⊤ (λ bytes. Agrees (form_by (version bytes)) hash bytes)) is agrees
 
 halt_is : (halt other : Halt) → ◌≡◌ {A = Result Ending Halt} (Err halt) (Err other) → halt ≡ other
 halt_is halt other is = cc
 
-counts_of : (hash : List ℕ → List ℕ) (name : List ℕ) (before after : Shelved) (result : Result Opened MapErr)
-    → Answered hash name before after result → NoneFalls before after
-counts_of hash name before after result on = record { faults = on.2.faults; reads = on.4 }
+counts_of : (version : List ℕ → Version) (hash : List ℕ → List ℕ) (name : List ℕ) (before after : Shelved)
+    (result : Result Opened MapErr) → Answered version hash name before after result → NoneFalls before after
+counts_of version hash name before after result on = record { faults = on.2.faults; reads = on.4 }
 
-module _ (hash : List ℕ → List ℕ) (name : List ℕ) (before after : Shelved)
-    (judged : IsJudged hash before.files name) where
-  pub opens_map : (map : Opened) → Answered hash name before after (Ok map) → WellFormed map.tree
-      → map.batch < 2 ^ 64 → HoldsMap hash name before after map
-  opens_map map on well low =
-      let holds = holds_found hash before.files name (Ok map) (Ok map) (λ f. f) (λ bytes a. a) (found_only map) on.0
-      on.1 in
+module _ (version : List ℕ → Version) (hash : List ℕ → List ℕ) (name : List ℕ) (before after : Shelved)
+    (judged : IsJudged version hash before.files name) where
+  pub opens_map : (map : Opened) → Answered version hash name before after (Ok map) → WellFormed map.tree
+      → HasLayers map.version map.tree → map.batch < 2 ^ 64 → HoldsMap version hash name before after map
+  opens_map map on well layers low =
+      let holds = holds_found version hash before.files name (Ok map) (Ok map) (λ f. f)
+      (λ bytes a. shown_by (version bytes) hash bytes map a) (found_only map) on.0 on.1 in
       record {
-        counts = counts_of hash name before after (Ok map) on;
+        counts = counts_of version hash name before after (Ok map) on;
         files = on.3;
         quiet = no_fault_rose before after name (Ok map) (λ f. f) on.2;
         once = on.5;
@@ -414,55 +457,57 @@ module _ (hash : List ℕ → List ℕ) (name : List ℕ) (before after : Shelve
         judged = judged;
         found = holds.is;
         well = well;
+        layers = layers;
         low = low;
       }
 
-  pub opens_bad : (fault : MapFault) (ending : Ending) → Answered hash name before after (Err (errors.Map fault))
-      → Gives (ends BadMap (bad_map_line fault)) ending → Opens hash name before after (Ok (Err ending))
+  pub opens_bad : (fault : MapFault) (ending : Ending) →
+      Answered version hash name before after (Err (errors.Map fault))
+      → Gives (ends BadMap (bad_map_line fault)) ending → Opens version hash name before after (Ok (Err ending))
   opens_bad fault ending on gives next goes =
-      comes_bad hash name next before after fault ending
+      comes_bad version hash name next before after fault ending
       (record {
-        counts = counts_of hash name before after (Err (errors.Map fault)) on;
+        counts = counts_of version hash name before after (Err (errors.Map fault)) on;
         files = on.3;
         faults = no_fault_rose before after name (Err (errors.Map fault)) (λ f. f) on.2;
       }) on.5 judged goes
-      (holds_found hash before.files name (Err fault) (Err (errors.Map fault)) (λ f. f) (λ bytes a. a)
+      (holds_found version hash before.files name (Err fault) (Err (errors.Map fault)) (λ f. f) (λ bytes a. a)
       (fault_only fault) on.0 on.1) gives
 
-  pub opens_missing : (ending : Ending) → Answered hash name before after (Err errors.Missing)
+  pub opens_missing : (ending : Ending) → Answered version hash name before after (Err errors.Missing)
       → ending.status ≡ Outside → printed_of ending ≡ (says_missing name).printed
-      → Opens hash name before after (Ok (Err ending))
+      → Opens version hash name before after (Ok (Err ending))
   opens_missing ending on status printed next goes =
-      comes_missing name (λ bytes. opens hash bytes (given_map next)) before after ending
-      (counts_of hash name before after (Err errors.Missing) on)
-      (map_taken before.files name hash (given_map next) before.reads after.reads on.5) on.3
-      (judged_map hash name next before.files judged goes)
+      comes_missing name (λ bytes. opens (version bytes) hash bytes (given_map next)) before after ending
+      (counts_of version hash name before after (Err errors.Missing) on)
+      (map_taken before.files name version hash (given_map next) before.reads after.reads on.5) on.3
+      (judged_map version hash name next before.files judged goes)
       (misses before.files name before.faults after.faults (on.2.missing refl)) status printed
 
   pub opens_halted : (halt : Halt) → NoneFalls before after
       → ReadsPages name before after → after.files ≡ before.files → Stops before after halt
-      → Opens hash name before after (Err halt)
+      → Opens version hash name before after (Err halt)
   opens_halted halt counts few files stops next goes =
-      comes_halted name (λ bytes. opens hash bytes (given_map next)) before after halt counts
-      (map_taken before.files name hash (given_map next) before.reads after.reads few) files
-      (judged_map hash name next before.files judged goes) stops
+      comes_halted name (λ bytes. opens (version bytes) hash bytes (given_map next)) before after halt counts
+      (map_taken before.files name version hash (given_map next) before.reads after.reads few) files
+      (judged_map version hash name next before.files judged goes) stops
 
   -- by its refusal
-  pub opens_refused : (error : MapErr) (ending : Ending) → Answered hash name before after (Err error)
-      → SaysRefusal name error (Ok ending) → Opens hash name before after (Ok (Err ending))
+  pub opens_refused : (error : MapErr) (ending : Ending) → Answered version hash name before after (Err error)
+      → SaysRefusal name error (Ok ending) → Opens version hash name before after (Ok (Err ending))
   opens_refused (errors.Map fault) ending on says = opens_bad fault ending on says
   opens_refused errors.Missing ending on says = opens_missing ending on says.0 says.1
   opens_refused errors.Fault ending on says = absurd (cc)
   opens_refused errors.NoMemory ending on says = absurd (cc)
 
   -- memory ran out, or the shelf failed
-  out : (error : MapErr) (halt : Halt) → Answered hash name before after (Err error) → Stops before after halt
-      → Opens hash name before after (Err halt)
+  out : (error : MapErr) (halt : Halt) → Answered version hash name before after (Err error) → Stops before after halt
+      → Opens version hash name before after (Err halt)
   out error halt on stops =
-      opens_halted halt (counts_of hash name before after (Err error) on) on.5 on.3 stops
+      opens_halted halt (counts_of version hash name before after (Err error) on) on.5 on.3 stops
 
-  pub opens_given_up : (error : MapErr) (halt : Halt) → Answered hash name before after (Err error)
-      → SaysRefusal name error (Err halt) → Opens hash name before after (Err halt)
+  pub opens_given_up : (error : MapErr) (halt : Halt) → Answered version hash name before after (Err error)
+      → SaysRefusal name error (Err halt) → Opens version hash name before after (Err halt)
   opens_given_up (errors.Map fault) halt on says =
       out (errors.Map fault) halt on (subst (Stops before after) (sym says) tt)
   opens_given_up errors.Missing halt on says = out errors.Missing halt on (subst (Stops before after) (sym says) tt)
@@ -512,33 +557,39 @@ abbrev pub IsSized : (List ℕ → List ℕ) → Type 0
 IsSized hash = (xs : List ℕ) → length (hash xs) ≡ 32
 
 -- what a save leaves
-module _ (hash : List ℕ → List ℕ) (sized : IsSized hash) (name : List ℕ) (tree : Tree) (batch : ℕ)
-    (before after : Shelved) (well : WellFormed tree) (low : batch < 2 ^ 64) where
-  is_map : IsMap first_form hash (saved first_form hash tree batch) tree batch
-  is_map = record { well = well; stands = saved_stands first_form first_form_is hash sized tree batch well low }
+module _ (v : Version) (hash : List ℕ → List ℕ) (sized : IsSized hash) (name : List ℕ) (tree : Tree) (batch : ℕ)
+    (before after : Shelved) (well : WellFormed tree) (layers : HasLayers v tree) (low : batch < 2 ^ 64) where
+  is_map : IsMap (form_by v) hash (saved (form_by v) hash tree batch) tree batch
+  is_map =
+      let here = subst (λ u. HasLayers u tree) (sym (version_by v)) layers in
+      record {
+        well = well;
+        layers = here;
+        stands = saved_stands (form_by v) (form_by_is v) hash sized tree batch well here low;
+      }
 
-  laid_out : (bytes : List ℕ) → bytes ≡ saved first_form hash tree batch → IsLaidOut hash tree batch bytes
+  laid_out : (bytes : List ℕ) → bytes ≡ saved (form_by v) hash tree batch → IsLaidOut v hash tree batch bytes
   laid_out bytes laid = record {
     laid = laid;
-    stands = subst (λ b. IsMap first_form hash b tree batch) (sym laid) is_map;
+    stands = subst (λ b. IsMap (form_by v) hash b tree batch) (sym laid) is_map;
   }
 
   pub saved_so : (done : Unit) → before.faults ≤ after.faults → after.reads ≡ before.reads
       → after.faults ≡ before.faults
-      → IsChanged (with_file name) (saved first_form hash tree batch) before.files after.files
-      → Saves name (map_of hash tree batch) before after (Ok done)
+      → IsChanged (with_file name) (saved (form_by v) hash tree batch) before.files after.files
+      → Saves name (map_of v hash tree batch) before after (Ok done)
   saved_so done faults same quiet changed = record {
     counts = record { faults = faults; reads = omega (arith, same) };
     unread = same;
     saved = (
-      (saved first_form hash tree batch, laid_out (saved first_form hash tree batch) refl, changed),
+      (saved (form_by v) hash tree batch, laid_out (saved (form_by v) hash tree batch) refl, changed),
       quiet,
     );
   }
 
   pub unsaved : (halt : Halt) → before.faults ≤ after.faults → after.reads ≡ before.reads → Stops before after halt
-      → Leaves (MayStand first_form hash tree batch) name before.files after.files
-      → Saves name (map_of hash tree batch) before after (Err halt)
+      → Leaves (MayStand (form_by v) hash tree batch) name before.files after.files
+      → Saves name (map_of v hash tree batch) before after (Err halt)
   unsaved halt faults same stops left = record {
     counts = record { faults = faults; reads = omega (arith, same) };
     unread = same;

@@ -2,6 +2,9 @@ pub mod Showing
 pub mod Plans
 pub mod Endings
 pub mod Counting
+pub mod Layered
+pub mod Plain
+pub mod Versions
 pub mod Going
 pub mod Rereading
 pub mod Texts

@@ -1,6 +1,11 @@
 -- Sorting records beside their numbers sorts the records.
-use Rattle.std.proofs.Common.{◌≡◌, ℕ, List, [], ◌∷◌, ◌++◌, map, take, drop, refl, sym, ap, ◌∙◌}
+use Rattle.std.proofs.Common.{◌≡◌, ℕ, zero, suc, subst, List, [], ◌∷◌, ◌++◌, map, take, drop, refl, sym, ap, ◌∙◌}
+use Rattle.std.specs.Prelude.{All}
+use Rattle.std.specs.List.{AllByRecursion}
 use Rattle.std.proofs.lemmas.List.{map-append, take-append-drop}
+use Rattle.std.proofs.lemmas.List.Elements.{recursion_from_All, All-from_recursion}
+use Rattle.mr_record.specs.Record.{HasLayer}
+use Rattle.mr_record.specs.declared.version.Version.{Version}
 use Rattle.std.specs.Ordering.{is_lt, nat_cmp}
 use Rattle.mr_record.specs.Sorting.{sorted_by_key}
 use Rattle.mr_record.specs.declared.record.Record.{Record}
@@ -36,3 +41,30 @@ sorted_entries es rs same =
     ∙ sorted_map numbered (λ (a b : Record). is_lt (nat_cmp a.number b.number))
     (λ (a b : ℕ × Record). is_lt (nat_cmp a.0 b.0)) (λ a b. refl) rs)
     ∙ records_numbered (by_number rs)
+
+-- the layers of a part are among those of all
+pub front_layers : (v : Version) (es some others : List Numbered) (n : ℕ) → some ≡ take n es → others ≡ drop n es
+    → All (HasLayer v) (items_of es) → All (HasLayer v) (items_of some)
+front_layers v es some others n front back all =
+    subst (λ fs. All (HasLayer v) (items_of fs)) (sym front)
+    (All-from_recursion (HasLayer v) (items_of (take n es))
+    (front_each v n es (recursion_from_All (HasLayer v) (items_of es) all)))
+  where
+    front_each : (u : Version) (k : ℕ) (fs : List Numbered) → AllByRecursion (HasLayer u) (items_of fs)
+        → AllByRecursion (HasLayer u) (items_of (take k fs))
+    front_each u zero fs each = tt
+    front_each u (suc k) [] each = tt
+    front_each u (suc k) (f ∷ fs) each = (each.0, front_each u k fs each.1)
+
+pub back_layers : (v : Version) (es some others : List Numbered) (n : ℕ) → some ≡ take n es → others ≡ drop n es
+    → All (HasLayer v) (items_of es) → All (HasLayer v) (items_of others)
+back_layers v es some others n front back all =
+    subst (λ fs. All (HasLayer v) (items_of fs)) (sym back)
+    (All-from_recursion (HasLayer v) (items_of (drop n es))
+    (back_each v n es (recursion_from_All (HasLayer v) (items_of es) all)))
+  where
+    back_each : (u : Version) (k : ℕ) (fs : List Numbered) → AllByRecursion (HasLayer u) (items_of fs)
+        → AllByRecursion (HasLayer u) (items_of (drop k fs))
+    back_each u zero fs each = each
+    back_each u (suc k) [] each = tt
+    back_each u (suc k) (f ∷ fs) each = back_each u k fs each.1

@@ -1,5 +1,5 @@
 -- `prove` and `audit` on a map that is opened page by page.
-use Rattle.std.proofs.Common.{◌≡◌, ℕ, ◌+◌, ◌*◌, ◌<◌, ◌≤◌, ◌^◌, List, [], length, refl, sym, ap, subst, ◌∙◌, inl, inr, arith}
+use Rattle.std.proofs.Common.{◌≡◌, ℕ, ◌+◌, ◌*◌, ◌<◌, ◌≤◌, List, length, refl, sym, ap, subst, ◌∙◌, inl, inr, arith}
 use Rattle.std.specs.Prelude.{⊤, ◌⊎◌, max, ltb, Option, Some, None, IfOk, IfErr, IfSome, IsSome, OnOk, MatchOption, Result, Ok, Err}
 use Rattle.mr_outside.specs.Files.{Files, file}
 use Rattle.mr_outside.specs.Faults.{last_count}
@@ -11,8 +11,8 @@ use Rattle.mr_tree.specs.Digest.{by}
 use Rattle.mr_tree.specs.Nodes.{Standing, HasSomeCause}
 use Rattle.mr_tree.specs.declared.nodes.NodesErr.{NodesErr}
 use Rattle.mr_tree.specs.declared.tree.Tree.{Tree}
-use Rattle.mr_pages.specs.Law.{IsMap}
-use Rattle.mr_pages.specs.Opening.{Fails, SomeBytes, Tells}
+use Rattle.mr_pages.specs.Law.{Agrees, IsMap}
+use Rattle.mr_pages.specs.Opening.{Fails, SomeBytes, Tells, pages_in as pages_read}
 use Rattle.mr_pages.specs.PageBytes.{first_form}
 use Rattle.mr_pages.specs.declared.error.MapErr.{MapErr}
 use Rattle.mr_pages.specs.declared.error.MapErr.TheVariants as errors
@@ -20,22 +20,21 @@ use Rattle.mr_pages.specs.declared.head.MapHead.{MapHead}
 use Rattle.mr_pages.specs.declared.opening.Opened.{Opened}
 use Rattle.std.proofs.lemmas.Bool.{cases_Bool, ltb-true, ltb-false}
 use Rattle.mr_pages.proofs.Agreement.{agrees}
-use Rattle.mr_pages.proofs.Answered.{agrees_of}
 use Rattle.mr_pages.proofs.HeadLaws.{first_form_is}
 use Rattle.mr_query.specs.declared.query.Query.{Query}
 use Rattle.mr_proof.specs.Honest.{proof as honest_proof, opened}
 use Rattle.mr_prove.specs.Causes.{rounds}
 use Rattle.mr_clash.specs.Finding.{opened_accepted}
-use Rattle.mr_store.specs.Opening.{TellsMap, RefusesMap, pages_in}
+use Rattle.mr_store.specs.Opening.{TellsMap, RefusesMap, first_pages}
 use Rattle.mr_store.specs.Stored.{ReadsFew as FewFetches, Keeps, room, stands_for, told_bytes}
 use Rattle.mr_command.specs.Counting.{pieces_of, opened_beside, IsFewOf, IsFewBeside, ReadsFew}
 use Rattle.mr_command.specs.Ending.{Comes, ComesBut, with_reads, GoesOn, HoldsMap, IsBeside, IsJudged, KeepsProof, NoneFalls, ReadsOpened, SaysRefusal, Stops}
-use Rattle.mr_plan.specs.First.{first}
+use Rattle.mr_plan.specs.First.{first, first_map}
 use Rattle.mr_plan.specs.Found.{as_map_error}
 use Rattle.mr_plan.specs.Outcome.{Outcome}
 use Rattle.mr_plan.specs.Plan.{Plan, comes, rereads, Input, IsInput}
 use Rattle.mr_plan.specs.Rereading.{Rereading, proving, auditing, IsRefused, MaySay}
-use Rattle.mr_plan.specs.Say.{needs_map, say_prove_of, say_written}
+use Rattle.mr_plan.specs.Say.{always_first, needs_map, say_prove_of, say_written}
 use Rattle.mr_command.specs.declared.ending.Ending.{Ending}
 use Rattle.mr_command.specs.declared.ending.Halt.{Halt}
 use Rattle.mr_bundle.specs.declared.text.Text.{Text}
@@ -43,6 +42,10 @@ use Rattle.mr_command.proofs.Counting.{AllowsFrom}
 use Rattle.mr_command.proofs.Going.{Answered, is_judged, comes_map, opens_map, opens_refused, opens_given_up, opens_halted}
 use Rattle.mr_command.proofs.Rereading.{IsBlamed, comes_but, comes_told, comes_untold, fetch_blamed, fetch_stopped, says_last, says_refused, stops_with}
 use Rattle.mr_command.proofs.Texts.{says_proof}
+
+-- the map of a tree that stands so
+abbrev pub map_in : Standing → Tree → Opened
+map_in s t = first_map t s.batch
 
 -- ---- the bytes of the map's file
 
@@ -86,17 +89,27 @@ are_of (Some files) name P Q are has = by_found (file files name) has
     by_found None has = tt
     by_found (Some bytes) has = are bytes has
 
+-- what follows of cells that are bytes
+judged_of : (told : Option Files) (name : List ℕ) (P : List ℕ → Type 0) → ((bytes : List ℕ) → AreBytes bytes → P bytes)
+    → OfFile told name ⊤ AreBytes → OfFile told name ⊤ P
+judged_of None name P all are = tt
+judged_of (Some files) name P all are = by_found (file files name) are
+  where
+    by_found : (o : Option (List ℕ)) → MatchOption o ⊤ AreBytes → MatchOption o ⊤ P
+    by_found None are = tt
+    by_found (Some bytes) are = all bytes are
+
 -- as many reads after as before
 same_reads : (told : Option Files) (name : List ℕ) (n : ℕ)
-    → OfFile told name (n ≡ n) (λ bytes. n ≤ n + pages_in bytes)
+    → OfFile told name (n ≡ n) (λ bytes. n ≤ n + pages_read bytes)
 same_reads None name n = tt
 same_reads (Some files) name n = by_found (file files name)
   where
-    by_found : (o : Option (List ℕ)) → MatchOption o (n ≡ n) (λ bytes. n ≤ n + pages_in bytes)
+    by_found : (o : Option (List ℕ)) → MatchOption o (n ≡ n) (λ bytes. n ≤ n + pages_read bytes)
     by_found None = refl
     by_found (Some bytes) = omega arith
 
--- there is one version
+-- a store is of the first version
 pub version_first : (h : MapHead) (o : Option (List ℕ)) → (stands_for h o).version ≡ One
 version_first h None = refl
 version_first h (Some bytes) = refl
@@ -110,15 +123,17 @@ with_same n a b files faults = λ i. record { files = files i; faults = faults i
 
 module _ (hash : List ℕ → List ℕ) (sized : (xs : List ℕ) → length (hash xs) ≡ 32) (map : List ℕ)
     (before : Shelved) where
-  judged : OfFile before.files map ⊤ AreBytes → IsJudged hash before.files map
+  judged : OfFile before.files map ⊤ AreBytes → IsJudged always_first hash before.files map
   judged are =
-      is_judged hash before.files map (agrees_of first_form first_form_is hash sized before.files map are)
+      is_judged always_first hash before.files map
+      (judged_of before.files map (Agrees first_form hash)
+      (λ bytes all. agrees first_form first_form_is hash sized bytes all) are)
       (λ bytes all. agrees first_form first_form_is hash sized bytes all)
 
   -- ---- a map that is not opened
 
   module _ (after : Shelved) (e : MapErr) (r : RefusesMap hash map before after e) where
-    refused_answer : Answered hash map (with_reads after.reads before) after (Err e)
+    refused_answer : Answered always_first hash map (with_reads after.reads before) after (Err e)
     refused_answer = (
       r.answers,
       r.some,
@@ -142,10 +157,10 @@ module _ (hash : List ℕ → List ℕ) (sized : (xs : List ℕ) → length (has
         → (result : Result Ending Halt) → SaysRefusal map e result
         → ComesBut (needs_map hash map next) before after result
     refused_told next goes files told (Ok ending) says =
-        opens_refused hash map (with_reads after.reads before) after (judged are_there) e ending
+        opens_refused always_first hash map (with_reads after.reads before) after (judged are_there) e ending
         refused_answer says next goes
     refused_told next goes files told (Err halt) says =
-        opens_given_up hash map (with_reads after.reads before) after (judged are_there) e halt
+        opens_given_up always_first hash map (with_reads after.reads before) after (judged are_there) e halt
         refused_answer says next goes
 
     -- over others each cause is outside
@@ -188,8 +203,8 @@ module _ (hash : List ℕ → List ℕ) (sized : (xs : List ℕ) → length (has
     pub bytes : List ℕ
     pub input : IsInput before.files map (Some bytes)
     pub stands : IsMap first_form hash bytes tree s.batch
-    pub holds : (n : ℕ) → HoldsMap hash map (with_reads n before) (with_reads n after)
-        (record { tree = tree; batch = s.batch })
+    pub holds : (n : ℕ) → HoldsMap always_first hash map (with_reads n before) (with_reads n after)
+        (first_map tree s.batch)
 
   module _ (s : Standing) (after : Shelved) (same : after.files ≡ before.files)
       (quiet : after.faults ≡ before.faults) (answers : OfFile before.files map ⊥ (TellsMap hash s)) where
@@ -199,16 +214,16 @@ module _ (hash : List ℕ → List ℕ) (sized : (xs : List ℕ) → length (has
     pub has_map : (files : Files) → before.files ≡ Some files → HasMap s after
     has_map files told =
         let there = file_has before.files files map (TellsMap hash s) told answers in
-        let m : Opened = record { tree = there.has.0; batch = s.batch } in
+        let m : Opened = first_map there.has.0 s.batch in
         let tells : Tells first_form hash there.bytes (Ok m) = there.has.2 in
         record {
           tree = there.has.0;
           told = there.has.1;
           bytes = there.bytes;
           input = there.input;
-          stands = tells.answers;
+          stands = tells.answers.1;
           holds = λ n.
-              opens_map hash map (with_reads n before) (with_reads n after) (judged are_opened) m (
+              opens_map always_first hash map (with_reads n before) (with_reads n after) (judged are_opened) m (
                 of_input before.files files map there.bytes (Fails (Ok m)) (λ bytes. Tells first_form hash bytes (Ok m))
                     told there.input tells,
                 (there.bytes, tells.are, tells.answers),
@@ -221,23 +236,23 @@ module _ (hash : List ℕ → List ℕ) (sized : (xs : List ℕ) → length (has
                 same,
                 omega arith,
                 same_reads before.files map n,
-              ) tells.answers.well tells.answers.stands.batch_fits;
+              ) tells.answers.1.well tells.answers.1.layers tells.answers.1.stands.batch_fits;
         }
 
     module _ (next : Opened → Plan) (goes : GoesOn next before.files) where
       -- what follows on the map
       pub told_on : (has : HasMap s after) (later : Shelved) (result : Result Ending Halt)
-          → Comes (next (record { tree = has.tree; batch = s.batch })) (with_reads later.reads after) later result
+          → Comes (next (first_map has.tree s.batch)) (with_reads later.reads after) later result
           → ComesBut (needs_map hash map next) before later result
       told_on has later result on =
-          comes_map hash map next (with_reads later.reads before) (with_reads later.reads after) later
-          (record { tree = has.tree; batch = s.batch }) result (has.holds later.reads) goes on
+          comes_map always_first hash map next (with_reads later.reads before) (with_reads later.reads after) later
+          (first_map has.tree s.batch) result (has.holds later.reads) goes on
 
       -- the store or memory failed
       pub told_halted : (later : Shelved) (halt : Halt) → later.files ≡ after.files → before.faults ≤ later.faults
           → Stops before later halt → ComesBut (needs_map hash map next) before later (Err halt)
       told_halted later halt kept faults stops =
-          opens_halted hash map (with_reads later.reads before) later (judged are_opened) halt
+          opens_halted always_first hash map (with_reads later.reads before) later (judged are_opened) halt
           (record { faults = faults; reads = omega arith }) (same_reads before.files map later.reads) (kept ∙ same)
           (stops_with later.reads before later halt stops) next goes
 
@@ -245,11 +260,11 @@ module _ (hash : List ℕ → List ℕ) (sized : (xs : List ℕ) → length (has
 
 -- so few where a map is opened and its nodes are fetched for a proof
 few_pages : (hash : List ℕ → List ℕ) (q : Query) (h : MapHead) (bytes : List ℕ) (r m e f : ℕ) (t : Tree) (batch : ℕ)
-    → IsMap first_form hash bytes t batch → h.pages ≡ pages_in bytes → m ≤ r + pages_in bytes
+    → IsMap first_form hash bytes t batch → h.pages ≡ first_pages bytes → m ≤ r + first_pages bytes
     → (h.pages ≤ room + 1 → e ≡ m) → FewFetches m 0 e f → e ≤ max m last_count
     → f ≤ 0 + rounds q * opened (first hash) t q → (n : ℕ) × (e ≤ r + n) × IsFewOf hash q bytes n
 few_pages hash q h bytes r m e f t batch stands pages few still fetched most bound =
-    let all : ℕ = pages_in bytes + rounds q * opened (first hash) t q in
+    let all : ℕ = first_pages bytes + rounds q * opened (first hash) t q in
     elim (cases_Bool (ltb (room + 1) h.pages)) [
       | inl large ↦ (
         all,
@@ -260,21 +275,21 @@ few_pages hash q h bytes r m e f t batch stands pages few still fetched most bou
         inr (subst (λ n. room + 1 < n) pages (ltb-true (room + 1) h.pages large), (t, batch, stands, omega arith)),
       )
       | inr small ↦
-          (pages_in bytes, omega (arith, few, still (ltb-false (room + 1) h.pages small)), inl (omega arith))
+          (first_pages bytes, omega (arith, few, still (ltb-false (room + 1) h.pages small)), inl (omega arith))
     ]
 
 -- the same beside a proof, whose pieces come on top
 pub few_beside : (hash : List ℕ → List ℕ) (q : Query) (h : MapHead) (bytes : List ℕ) (proof : Input) (r m e : ℕ)
-    (t : Tree) (batch : ℕ) → IsMap first_form hash bytes t batch → h.pages ≡ pages_in bytes → m ≤ r + pages_in bytes
-    → IsBeside hash t batch q h.pages proof m e
+    (t : Tree) (batch : ℕ) → IsMap first_form hash bytes t batch → h.pages ≡ first_pages bytes
+    → m ≤ r + first_pages bytes → IsBeside hash t batch q h.pages proof m e
     → (n : ℕ) × (e ≤ r + n) × IsFewBeside hash q bytes proof n
 few_beside hash q h bytes proof r m e t batch stands pages few (inl small) = (
-  pages_in bytes + pieces_of proof,
+  first_pages bytes + pieces_of proof,
   omega (arith, few, small),
   inr (t, batch, stands, inl (omega arith)),
 )
 few_beside hash q h bytes proof r m e t batch stands pages few (inr large) =
-    let all : ℕ = pages_in bytes + pieces_of proof + opened_beside hash t batch q proof in (
+    let all : ℕ = first_pages bytes + pieces_of proof + opened_beside hash t batch q proof in (
       all,
       omega (arith, few, large.1),
       inr (t, batch, stands, inr (subst (λ n. room + 1 < n) pages large.0, omega arith)),
@@ -322,16 +337,16 @@ files_told h (Some files) name told = refl
 
 -- where it is not opened
 pub few_refused : (told : Option Files) (name : List ℕ) (r e : ℕ) (P : List ℕ → ℕ → Type 0)
-    → ((bytes : List ℕ) → P bytes (pages_in bytes))
-    → OfFile told name (e ≡ r) (λ bytes. e ≤ r + pages_in bytes)
+    → ((bytes : List ℕ) → P bytes (first_pages bytes))
+    → OfFile told name (e ≡ r) (λ bytes. e ≤ r + first_pages bytes)
     → OfFiles told (λ files. (n : ℕ) × (e ≤ r + n) × MatchOption (file files name) (n ≡ 0) (λ bytes. P bytes n))
 few_refused None name r e P all few = tt
 few_refused (Some files) name r e P all few = by_found (file files name) few
   where
-    by_found : (o : Option (List ℕ)) → MatchOption o (e ≡ r) (λ bytes. e ≤ r + pages_in bytes)
+    by_found : (o : Option (List ℕ)) → MatchOption o (e ≡ r) (λ bytes. e ≤ r + first_pages bytes)
         → (n : ℕ) × (e ≤ r + n) × MatchOption o (n ≡ 0) (λ bytes. P bytes n)
     by_found None same = (0, omega (arith, same), refl)
-    by_found (Some bytes) few = (pages_in bytes, few, all bytes)
+    by_found (Some bytes) few = (first_pages bytes, few, all bytes)
 
 pub proving_refused : (hash : List ℕ → List ℕ) (map : List ℕ) (q : Query) (proof : List ℕ) (next : Plan)
     (before after : Shelved) (e : MapErr) → RefusesMap hash map before after e
@@ -346,7 +361,7 @@ pub auditing_refused : (hash : List ℕ → List ℕ) (map : List ℕ) (q : Quer
 auditing_refused hash map q proof next before after e r = by_told before.files r.reads
   where
     by_told : (o : Option Files)
-        → OfFile o map (after.reads ≡ before.reads) (λ bytes. after.reads ≤ before.reads + pages_in bytes)
+        → OfFile o map (after.reads ≡ before.reads) (λ bytes. after.reads ≤ before.reads + first_pages bytes)
         → AllowsFrom o (rereads (auditing hash map q proof) next) before.reads after.reads
     by_told None few = tt
     by_told (Some files) few =
@@ -376,8 +391,8 @@ module _ (hash : List ℕ → List ℕ) (sized : (xs : List ℕ) → length (has
     (proof n n' : List ℕ) (before mid end after : Shelved) (s : Standing) (h h' : MapHead) (f0 f : ℕ) (none : f0 ≡ 0)
     (first_is : s.version ≡ One) (same : mid.files ≡ before.files) (quiet : mid.faults ≡ before.faults)
     (more : before.reads ≤ mid.reads) (answers : OfFile before.files map ⊥ (TellsMap hash s))
-    (pages : OfFile before.files map ⊥ (λ bytes. h.pages ≡ pages_in bytes))
-    (few : OfFile before.files map ⊥ (λ bytes. mid.reads ≤ before.reads + pages_in bytes))
+    (pages : OfFile before.files map ⊥ (λ bytes. h.pages ≡ first_pages bytes))
+    (few : OfFile before.files map ⊥ (λ bytes. mid.reads ≤ before.reads + first_pages bytes))
     (kept : Keeps n n' h h' mid end f0 f)
     (fetched : IfSome s.tree (λ t. f ≤ f0 + rounds q * opened (by s.version hash) t q)) where
   abbrev on_map : Opened → Plan
@@ -388,9 +403,9 @@ module _ (hash : List ℕ → List ℕ) (sized : (xs : List ℕ) → length (has
       → HasMap hash sized map before s mid
       → ReadsFew (rereads (proving hash map q proof) (needs_map hash map on_map)) before after
   few_proved unread files told has =
-      let pages_are = at_input before.files files map has.bytes ⊥ (λ bytes. h.pages ≡ pages_in bytes) told has.input
+      let pages_are = at_input before.files files map has.bytes ⊥ (λ bytes. h.pages ≡ first_pages bytes) told has.input
       pages in
-      let few_are = at_input before.files files map has.bytes ⊥ (λ bytes. mid.reads ≤ before.reads + pages_in bytes)
+      let few_are = at_input before.files files map has.bytes ⊥ (λ bytes. mid.reads ≤ before.reads + first_pages bytes)
       told has.input few in
       let bound = subst (λ o. IfSome o (λ t. f ≤ f0 + rounds q * opened (by s.version hash) t q)) has.told fetched in
       few_there before.files files map has.bytes before.reads after.reads (λ files bytes n. IsFewOf hash q bytes n) told
@@ -423,7 +438,7 @@ module _ (hash : List ℕ → List ℕ) (sized : (xs : List ℕ) → length (has
           (inr (text.bytes.items, refl)) none (kept.files ∙ same) (calm ∙ quiet) keeps)
       by_files (Some files) told =
           let has = has_map hash sized map before s mid same quiet answers files told in
-          let m : Opened = record { tree = has.tree; batch = s.batch } in
+          let m : Opened = first_map has.tree s.batch in
           let own = subst (λ o. IfSome o (λ t. text.bytes.items ≡ honest_proof (by s.version hash) t s.batch q))
           has.told written in
           let own_first : text.bytes.items ≡ honest_proof (first hash) has.tree s.batch q =

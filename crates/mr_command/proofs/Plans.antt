@@ -30,8 +30,8 @@ leads_on (reads name next) told judged =
     let input = input_of told name in
     let on = leads_on (next input.0) told (judged input.0 input.1) in
     (on.0, (input.0, input.1, on.1))
-leads_on (opens hash bytes next) told judged =
-    let found = found_in hash bytes judged.0 in
+leads_on (opens v hash bytes next) told judged =
+    let found = found_in v hash bytes judged.0 in
     let on = leads_on (next found.0) told (judged.1 found.0 found.1) in
     (on.0, (found.0, found.1, on.1))
 leads_on (rereads reading next) None judged = may_miss reading
@@ -45,9 +45,10 @@ one_outcome (comes meant) files judged said leads = leads
 one_outcome (reads name next) files judged said leads =
     one_outcome (next (file files name)) files (judged (file files name) refl) said
     (subst (λ input. Leads (next input) (Some files) said) (sym leads.1) leads.2)
-one_outcome (opens hash bytes next) files judged said leads = λ found shown.
+one_outcome (opens v hash bytes next) files judged said leads = λ found shown.
     one_outcome (next found) files (judged.1 found shown) said
-    (subst (λ f. Leads (next f) (Some files) said) (one_found hash bytes judged.0 leads.0 found leads.1 shown) leads.2)
+    (subst (λ f. Leads (next f) (Some files) said)
+    (one_found v hash bytes judged.0 leads.0 found leads.1 shown) leads.2)
 one_outcome (rereads reading next) files judged said leads = one_outcome next files judged said leads
 one_outcome (judges hash root query proof next) files judged said leads = one_outcome next files judged said leads
 
@@ -78,7 +79,7 @@ ended_so (reads name next) before after status text ends =
       text_is = on.text_is;
       files = on.files;
     }
-ended_so (opens hash bytes next) before after status text ends =
+ended_so (opens v hash bytes next) before after status text ends =
     let on = ended_so (next ends.0) before after status text ends.3 in
     record {
       said = on.said;
@@ -128,7 +129,7 @@ given_up (reads name next) before after judged (inl same) =
 given_up (reads name next) before after judged (inr up) =
     let on = given_up (next up.0) before after (judged up.0 up.1) up.2 in
     record { said = on.said; leads = (up.0, up.1, on.leads); files = on.files }
-given_up (opens hash bytes next) before after judged up =
+given_up (opens v hash bytes next) before after judged up =
     let on = given_up (next up.0) before after (judged.1 up.0 up.1) up.2 in
     record { said = on.said; leads = (up.0, up.1, on.leads); files = on.files }
 given_up (rereads reading next) None after judged up =

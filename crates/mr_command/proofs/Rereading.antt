@@ -23,7 +23,7 @@ use Rattle.mr_plan.specs.Say.{ends, needs, says_missing}
 use Rattle.mr_command.specs.declared.ending.Ending.{Ending}
 use Rattle.mr_command.specs.declared.ending.Halt.{Halt}
 use Rattle.mr_command.specs.declared.ending.Halt.TheVariants as halts
-use Rattle.mr_plan.specs.declared.status.Status.TheVariants.{BadMap, Outside}
+use Rattle.mr_plan.specs.declared.status.Status.TheVariants.{BadMap}
 use Rattle.mr_command.proofs.Counting.{AllowsFrom, few_none, few_stopped, taken_none}
 
 -- ---- another count of reads

@@ -7,6 +7,8 @@ use Rattle.mr_outside.specs.Faults.{Rose, last_count}
 use Rattle.mr_outside.specs.State.{Shelved}
 use Rattle.mr_outside.specs.Told.{OfFile}
 use Rattle.mr_record.specs.Bytes.{AreBytes}
+use Rattle.mr_record.specs.declared.version.Version.TheVariants.{One}
+use Rattle.mr_plan.specs.First.{first_map}
 use Rattle.mr_tree.specs.Nodes.{Standing, HasSomeCause, subtrees}
 use Rattle.mr_tree.specs.Snapshot.{standing, standing_of, tree_of}
 use Rattle.mr_tree.specs.WellFormed.{WellFormed}
@@ -20,7 +22,7 @@ use Rattle.mr_pages.specs.declared.error.MapErr.{MapErr}
 use Rattle.mr_pages.specs.declared.head.MapHead.{MapHead}
 use Rattle.mr_pages.specs.declared.opening.Opened.{Opened}
 use Rattle.mr_query.specs.Script.{queries_of_text}
-use Rattle.mr_store.specs.Opening.{TellsMap, RefusesMap, pages_in}
+use Rattle.mr_store.specs.Opening.{TellsMap, RefusesMap, first_pages}
 use Rattle.mr_store.specs.Stored.{ReadsFew as FewFetches, Keeps, StandsFor, room}
 use Rattle.mr_command.specs.Counting.{pieces_of, IsFewServed, ReadsFew}
 use Rattle.mr_command.specs.Ending.{Comes, Ends, GivesUp, GoesOn, NoneFalls, SaysRefusal, SaysUntold, printed_of}
@@ -42,13 +44,13 @@ same_tree : (a b : Tree) → ◌≡◌ {A = Option Tree} (Some a) (Some b) → a
 same_tree a b e = cc
 
 -- it is the one that stands so
-one_map : (s : Standing) (nodes : List Stored) (top : Top) (t : Tree)
+one_map : (s : Standing) (nodes : List Stored) (top : Top) (t : Tree) → top.version ≡ One
     → standing nodes top ≡ standing_of s.version s.batch t
-    → held_in nodes top ≡ record { tree = t; batch = s.batch }
-one_map s nodes top t e =
+    → held_in nodes top ≡ first_map t s.batch
+one_map s nodes top t first_is e =
     let trees : tree_of nodes top ≡ t = same_tree (tree_of nodes top) t (ap (λ (x : Standing). x.tree) e) in
     let batches : top.batch ≡ s.batch = ap (λ (x : Standing). x.batch) e in
-    λ i. record { tree = trees i; batch = batches i }
+    λ i. record { tree = trees i; version = first_is i; batch = batches i }
 
 -- ---- over files that are not told
 
@@ -101,7 +103,7 @@ pub serving_refused : (hash : List ℕ → List ℕ) (map script bundle : List �
 serving_refused hash map script bundle next before after e r = by_told before.files r.reads
   where
     by_told : (o : Option Files)
-        → OfFile o map (after.reads ≡ before.reads) (λ bytes. after.reads ≤ before.reads + pages_in bytes)
+        → OfFile o map (after.reads ≡ before.reads) (λ bytes. after.reads ≤ before.reads + first_pages bytes)
         → AllowsFrom o (rereads (serving hash map script bundle) next) before.reads after.reads
     by_told None few = tt
     by_told (Some files) few =
@@ -117,13 +119,13 @@ few_walked r r' f f' n none few most bound = elim few [
 
 -- the pages of the map, and the pieces of the script; and the nodes of a large one
 few_script : (hash : List ℕ → List ℕ) (h : MapHead) (bytes : List ℕ) (script : Input) (r m e : ℕ) (t : Tree)
-    (batch : ℕ) → IsMap first_form hash bytes t batch → h.pages ≡ pages_in bytes → m ≤ r + pages_in bytes
+    (batch : ℕ) → IsMap first_form hash bytes t batch → h.pages ≡ first_pages bytes → m ≤ r + first_pages bytes
     → (h.pages ≤ room + 1 → e ≤ m + pieces_of script) → e ≤ m + length (subtrees t) + pieces_of script
     → (n : ℕ) × (e ≤ r + n) × IsFewServed hash bytes script n
 few_script hash h bytes script r m e t batch stands pages few still nodes =
     elim (cases_Bool (ltb (room + 1) h.pages)) [
       | inl large ↦ (
-        pages_in bytes + length (subtrees t) + pieces_of script,
+        first_pages bytes + length (subtrees t) + pieces_of script,
         omega (arith, few, nodes),
         inr (
           t,
@@ -133,7 +135,7 @@ few_script hash h bytes script r m e t batch stands pages few still nodes =
         ),
       )
       | inr small ↦ (
-        pages_in bytes + pieces_of script,
+        first_pages bytes + pieces_of script,
         omega (arith, few, still (ltb-false (room + 1) h.pages small)),
         inr (t, batch, stands, inl (omega arith)),
       )
@@ -145,8 +147,8 @@ module _ (hash : List ℕ → List ℕ) (sized : (xs : List ℕ) → length (has
     (n n' : List ℕ) (before mid end : Shelved) (s : Standing) (h h' : MapHead) (f0 f : ℕ)
     (same : mid.files ≡ before.files) (quiet : mid.faults ≡ before.faults)
     (more : before.reads ≤ mid.reads) (answers : OfFile before.files map ⊥ (TellsMap hash s))
-    (pages : OfFile before.files map ⊥ (λ bytes. h.pages ≡ pages_in bytes))
-    (few : OfFile before.files map ⊥ (λ bytes. mid.reads ≤ before.reads + pages_in bytes))
+    (pages : OfFile before.files map ⊥ (λ bytes. h.pages ≡ first_pages bytes))
+    (few : OfFile before.files map ⊥ (λ bytes. mid.reads ≤ before.reads + first_pages bytes))
     (kept : Keeps n n' h h' mid end f0 f) (none : f0 ≡ 0)
     (fetched : IfSome s.tree (λ t. f ≤ f0 + length (subtrees t))) where
   abbrev on_map : Opened → Plan
@@ -166,9 +168,9 @@ module _ (hash : List ℕ → List ℕ) (sized : (xs : List ℕ) → length (has
       → after.reads ≤ end.reads + pieces_of (file files script)
       → ReadsFew (rereads reading (needs_map hash map on_map)) before after
   few_served after files told has pieces =
-      let pages_are = at_input before.files files map has.bytes ⊥ (λ bytes. h.pages ≡ pages_in bytes) told has.input
+      let pages_are = at_input before.files files map has.bytes ⊥ (λ bytes. h.pages ≡ first_pages bytes) told has.input
       pages in
-      let few_are = at_input before.files files map has.bytes ⊥ (λ bytes. mid.reads ≤ before.reads + pages_in bytes)
+      let few_are = at_input before.files files map has.bytes ⊥ (λ bytes. mid.reads ≤ before.reads + first_pages bytes)
       told has.input few in
       let bound = subst (λ o. IfSome o (λ t. f ≤ f0 + length (subtrees t))) has.told fetched in
       let walked = few_walked mid.reads end.reads f0 f (length (subtrees has.tree)) none kept.few kept.most bound in
@@ -181,10 +183,10 @@ module _ (hash : List ℕ → List ℕ) (sized : (xs : List ℕ) → length (has
 
   -- the script was read
   pub served : (nodes : List Stored) (top : Top) (after : Shelved) (result : Result Ending Halt)
-      → StandsFor s nodes top → ∥ WellFormed (tree_of nodes top) ∥₁ → end.faults ≡ mid.faults
+      → StandsFor s nodes top → top.version ≡ One → ∥ WellFormed (tree_of nodes top) ∥₁ → end.faults ≡ mid.faults
       → Comes (on_map (held_in nodes top)) end after result
       → Comes (rereads reading (needs_map hash map on_map)) before after result
-  served nodes top after result stands well calm on = by_files before.files refl
+  served nodes top after result stands first_is well calm on = by_files before.files refl
     where
       counts : NoneFalls before after
       counts = record {
@@ -199,11 +201,11 @@ module _ (hash : List ℕ → List ℕ) (sized : (xs : List ℕ) → length (has
           comes_untold reading (needs_map hash map on_map) before after none result counts
           (untold_from reading before end after result (kept.files ∙ same) (calm ∙ quiet)
           (says_needs reading script (said m) end after (kept.files ∙ same ∙ none) (inr (inl refl))
-          (λ bytes are. inr (inr (m, well, bytes, are, refl))) result on))
+          (λ bytes are. inr (inr (m, first_is, well, bytes, are, refl))) result on))
       by_files (Some files) told =
           let has = has_map hash sized map before s mid same quiet answers files told in
-          let m : Opened = record { tree = has.tree; batch = s.batch } in
-          let own = one_map s nodes top has.tree (stands has.tree has.told) in
+          let m : Opened = first_map has.tree s.batch in
+          let own = one_map s nodes top has.tree first_is (stands has.tree has.told) in
           let pieces = few_pieces end.files files script (said (held_in nodes top)) end.reads after.reads
           (kept.files ∙ same ∙ told) on.few in
           comes_told reading (needs_map hash map on_map) before after files told result counts.reads

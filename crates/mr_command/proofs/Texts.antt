@@ -14,6 +14,7 @@ use Rattle.mr_command.specs.Ending.{Saves, Stops, halt_of}
 use Rattle.mr_plan.specs.First.{first}
 use Rattle.mr_plan.specs.Outcome.{text}
 use Rattle.mr_record.specs.RecordText.{text_of}
+use Rattle.mr_record.specs.declared.version.Version.TheVariants.{One}
 use Rattle.mr_batch.specs.Workload.{generated}
 use Rattle.mr_plan.specs.Lines.{made_line}
 use Rattle.mr_plan.specs.Say.{say_make_of, say_prove_of, say_text, say_written}
@@ -122,6 +123,6 @@ says_proof hash q name map bytes is = ap (say_written name) is
 
 -- the text of generated records is what was written
 pub says_made : (count seed : ℕ) (line name bytes : List ℕ) → line ≡ made_line count
-    → bytes ≡ text_of (generated count seed) → say_text line name bytes ≡ say_make_of count seed name
+    → bytes ≡ text_of One (generated count seed) → say_text line name bytes ≡ say_make_of count seed name
 unfolding say_make_of
 says_made count seed line name bytes lines texts = λ i. say_text (lines i) name (texts i)

@@ -3,6 +3,7 @@ use Rattle.std.proofs.Common.{◌≡◌, ℕ, List, length, refl, sym, ap, subst
 use Rattle.std.specs.Prelude.{Result, Ok, Err}
 use Rattle.mr_record.specs.declared.record.Record.{Record}
 use Rattle.mr_record.specs.declared.text_fault.TextFault.{TextFault}
+use Rattle.mr_record.specs.declared.version.Version.{Version}
 use Rattle.mr_tree.specs.declared.tree.Tree.{Tree}
 use Rattle.mr_query.specs.declared.query.Query.{Query}
 use Rattle.mr_proof.specs.declared.rule.Fault.{Fault}
@@ -14,7 +15,8 @@ use Rattle.mr_proof.specs.Reading.{verdict}
 use Rattle.mr_query.specs.Scan.{scan}
 use Rattle.mr_tree.specs.Digest as digests
 use Rattle.mr_tree.specs.Tree.{records}
-use Rattle.mr_tree.specs.WellFormed.{WellFormed}
+use Rattle.mr_record.specs.declared.version.Version.TheVariants.{One}
+use Rattle.mr_tree.specs.WellFormed.{WellFormed, HasLayers}
 use Rattle.mr_clash.specs.Finding.{found}
 use Rattle.mr_clash.specs.declared.finding.Finding.{Finding}
 use Rattle.mr_clash.specs.declared.finding.Finding.TheVariants as findings
@@ -62,10 +64,10 @@ finding_writes (findings.Sound answer) = refl
 finding_writes (findings.Collision owned shown) = refl
 
 -- nor does the command `root`
-pub root_writes : (hash : List ℕ → List ℕ) (found : Result (List Record) TextFault)
-    → (say_root_of hash found).written ≡ Nothing
-root_writes hash (Ok records) = refl
-root_writes hash (Err fault) = refl
+pub root_writes : (v : Version) (hash : List ℕ → List ℕ) (found : Result (List Record) TextFault)
+    → (say_root_of v hash found).written ≡ Nothing
+root_writes v hash (Ok records) = refl
+root_writes v hash (Err fault) = refl
 
 -- nor does the command `audit`
 pub audit_writes : (hash : List ℕ → List ℕ) (q : Query) (map : Opened) (bytes : List ℕ)
@@ -80,11 +82,11 @@ says_finding hash q map bytes f is = ap say_finding is
 
 -- the honest proof is accepted with the answer of a scan
 pub accepted_scan : (hash : List ℕ → List ℕ) (q : Query) (t : Tree) (root bytes : List ℕ)
-    → AcceptsHonest (first hash) q → WellFormed t → root ≡ digests.root (first hash) t 0
+    → AcceptsHonest (first hash) q → WellFormed t → HasLayers One t → root ≡ digests.root (first hash) t 0
     → bytes ≡ proof (first hash) t 0 q
     → verdict hash root q bytes ≡ Ok (scan (records t) q)
-accepted_scan hash q t root bytes accepts well roots own =
-    (λ i. verdict hash (roots i) q (own i)) ∙ accepts t 0 well (omega arith)
+accepted_scan hash q t root bytes accepts well layers roots own =
+    (λ i. verdict hash (roots i) q (own i)) ∙ accepts t 0 well layers (omega arith)
 
 abbrev Verdict : Type 0
 Verdict = Result (List Record) Fault

@@ -3,6 +3,7 @@ use Rattle.std.specs.Prelude.{◌≡◌, ℕ, ◌+◌, ◌≤◌, List, length, 
 use Rattle.mr_outside.specs.Files.{Files, file}
 use Rattle.mr_outside.specs.State.{Shelved}
 use Rattle.mr_outside.specs.Told.{OfFiles}
+use Rattle.mr_plan.specs.First.{first_map}
 use Rattle.mr_tree.specs.Nodes.{Standing}
 use Rattle.mr_tree.specs.Tree.{records}
 use Rattle.mr_tree.specs.declared.tree.Tree.{Tree}
@@ -55,7 +56,7 @@ pub record MayApply (dir : Entries) (held : ℕ) (batch : Changes) (t : Tree) : 
 pub record ComesBehind (reading : Rereading) (s : Standing) (next : Opened → Plan)
     (few : Tree → Type 0) (before after : Shelved) (result : Result Ending Halt) : Type 0 where
   pub counts : NoneFalls before after
-  pub told : IfSome s.tree (λ t. ComesBut (next (record { tree = t; batch = s.batch })) before after
+  pub told : IfSome s.tree (λ t. ComesBut (next (first_map t s.batch)) before after
       result)
   pub untold : before.files ≡ None → SaysUntold reading before after result
   pub few_read : IfSome s.tree few

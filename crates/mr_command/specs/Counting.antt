@@ -9,7 +9,9 @@ use Rattle.mr_outside.specs.Told.{OfFiles}
 use Rattle.mr_tree.specs.Nodes.{subtrees}
 use Rattle.mr_tree.specs.Tree.{records}
 use Rattle.mr_tree.specs.declared.tree.Tree.{Tree}
+use Rattle.mr_record.specs.declared.version.Version.TheVariants.{One}
 use Rattle.mr_pages.specs.Law.{IsMap}
+use Rattle.mr_pages.specs.Opening.{pages_in}
 use Rattle.mr_pages.specs.PageBytes.{first_form}
 use Rattle.mr_batch.specs.Applied.{IsAdmissible}
 use Rattle.mr_batch.specs.BatchText.{batch_of_text}
@@ -21,7 +23,7 @@ use Rattle.mr_proof.specs.Honest.{opened}
 use Rattle.mr_prove.specs.Causes.{rounds}
 use Rattle.mr_clash.specs.Finding.{opened_accepted}
 use Rattle.mr_edit.specs.Reads.{reads_along}
-use Rattle.mr_store.specs.Opening.{pages_in}
+use Rattle.mr_store.specs.Opening.{first_pages}
 use Rattle.mr_store.specs.Stored.{room}
 use Rattle.mr_plan.specs.First.{first}
 use Rattle.mr_plan.specs.Found.{Found, Shows}
@@ -35,19 +37,19 @@ pieces_of (Some bytes) = piece_count (length bytes)
 
 -- in how many reads an input is read, by what follows on it: page by page what is opened as a map
 abbrev pub reads_taken : Plan → Input → ℕ
-reads_taken (opens hash bytes next) input = pages_in bytes
+reads_taken (opens v hash bytes next) input = pages_in bytes
 reads_taken _ input = pieces_of input
 
 -- a map of these bytes has more pages than are all kept
 abbrev pub IsLarge : List ℕ → Type 0
-IsLarge bytes = room + 1 < pages_in bytes
+IsLarge bytes = room + 1 < first_pages bytes
 
 -- the pages of a map of these bytes, or of a large one besides the nodes that its proof opens, once
 -- or twice
 abbrev pub IsFewOf : (List ℕ → List ℕ) → Query → List ℕ → ℕ → Type 0
-IsFewOf hash q bytes n = (n ≤ pages_in bytes)
+IsFewOf hash q bytes n = (n ≤ first_pages bytes)
     ⊎ (IsLarge bytes × ((t : Tree) × (batch : ℕ) × IsMap first_form hash bytes t batch
-    × (n ≤ pages_in bytes + rounds q * opened (first hash) t q)))
+    × (n ≤ first_pages bytes + rounds q * opened (first hash) t q)))
 
 -- the nodes that a proof opens, where it is there and is accepted against the map
 abbrev pub opened_beside : (List ℕ → List ℕ) → Tree → (batch : ℕ) → Query → Input → ℕ
@@ -57,18 +59,18 @@ opened_beside hash t batch q (Some bytes) = opened_accepted (first hash) t batch
 -- the pages of a file of these bytes; where it stands for a map the pieces of a proof besides, and
 -- where that is large the nodes that the proof opens
 abbrev pub IsFewBeside : (List ℕ → List ℕ) → Query → List ℕ → Input → ℕ → Type 0
-IsFewBeside hash q bytes proof n = (n ≤ pages_in bytes)
+IsFewBeside hash q bytes proof n = (n ≤ first_pages bytes)
     ⊎ ((t : Tree) × (batch : ℕ) × IsMap first_form hash bytes t batch
-    × ((n ≤ pages_in bytes + pieces_of proof) ⊎ (IsLarge bytes
-    × (n ≤ pages_in bytes + pieces_of proof + opened_beside hash t batch q proof))))
+    × ((n ≤ first_pages bytes + pieces_of proof) ⊎ (IsLarge bytes
+    × (n ≤ first_pages bytes + pieces_of proof + opened_beside hash t batch q proof))))
 
 -- the pages of a file of these bytes; where it stands for a map the pieces of a script besides, and
 -- where that is large each of its nodes once, of which there are fewer than pages
 abbrev pub IsFewServed : (List ℕ → List ℕ) → List ℕ → Input → ℕ → Type 0
-IsFewServed hash bytes script n = (n ≤ pages_in bytes)
+IsFewServed hash bytes script n = (n ≤ first_pages bytes)
     ⊎ ((t : Tree) × (batch : ℕ) × IsMap first_form hash bytes t batch
-    × ((n ≤ pages_in bytes + pieces_of script) ⊎ (IsLarge bytes
-    × (n ≤ pages_in bytes + length (subtrees t) + pieces_of script))))
+    × ((n ≤ first_pages bytes + pieces_of script) ⊎ (IsLarge bytes
+    × (n ≤ first_pages bytes + length (subtrees t) + pieces_of script))))
 
 -- what the directory of a map in so many pages reads again: each node once, where it is large
 abbrev pub nodes_listed : (pages : ℕ) → Tree → ℕ
@@ -85,15 +87,15 @@ IsFewBehind pages t held batch n = (n ≤ nodes_listed pages t)
 abbrev pub IsFewOfBatch : (pages : ℕ) → Tree → (held : ℕ) → Input → ℕ → Type 0
 IsFewOfBatch pages t held None n = n ≡ 0
 IsFewOfBatch pages t held (Some text) n = (n ≡ 0)
-    ⊎ ((batch : Changes) × (batch_of_text text ≡ Ok batch) × IsFewBehind pages t held batch n)
+    ⊎ ((batch : Changes) × (batch_of_text One text ≡ Ok batch) × IsFewBehind pages t held batch n)
 
 -- the pages of a file of these bytes; where it stands for a map the pieces of a batch besides, and
 -- what is read behind it
 abbrev pub IsFewApplied : (List ℕ → List ℕ) → List ℕ → Input → ℕ → Type 0
-IsFewApplied hash bytes batch n = (n ≤ pages_in bytes)
+IsFewApplied hash bytes batch n = (n ≤ first_pages bytes)
     ⊎ ((t : Tree) × (held : ℕ) × IsMap first_form hash bytes t held
-    × (behind : ℕ) × (n ≤ pages_in bytes + pieces_of batch + behind)
-    × IsFewOfBatch (pages_in bytes) t held batch behind)
+    × (behind : ℕ) × (n ≤ first_pages bytes + pieces_of batch + behind)
+    × IsFewOfBatch (first_pages bytes) t held batch behind)
 
 -- so many reads of the map, and of the proof for an audit, the script for a bundle, or the batch
 -- and the new file for `apply`
@@ -120,7 +122,7 @@ AllowsReads (comes said) files n = n ≡ 0
 AllowsReads (reads name next) files n = (here : ℕ) × (rest : ℕ) × (n ≡ here + rest)
     × (here ≤ reads_taken (next (file files name)) (file files name))
     × ((rest ≡ 0) ⊎ AllowsReads (next (file files name)) files rest)
-AllowsReads (opens hash bytes next) files n = (found : Found) × Shows hash bytes found
+AllowsReads (opens v hash bytes next) files n = (found : Found) × Shows v hash bytes found
     × AllowsReads (next found) files n
 AllowsReads (rereads reading next) files n = AllowsPages reading files n
 AllowsReads (judges hash root q proof next) files n = AllowsReads next files n

@@ -1,8 +1,7 @@
 -- What a command comes to before it is printed (`Comes`, `GivesOrStops`), and how it is printed.
 -- All but these two, and what they are made of, serves private functions.
-use Rattle.std.specs.Prelude.{◌≡◌, ◌⊎◌, ℕ, ◌+◌, ◌^◌, ◌<◌, ◌≤◌, List, ◌++◌, Option, Some, None, IfSome, ⊤, Result, Ok, Err}
+use Rattle.std.specs.Prelude.{◌≡◌, ◌⊎◌, ℕ, ◌+◌, ◌^◌, ◌<◌, ◌≤◌, List, ◌++◌, All, Option, Some, None, IfSome, ⊤, Result, Ok, Err}
 use Rattle.std.specs.Global.{Vec}
-use Rattle.std.specs.String.{string_bytes}
 use Rattle.mr_outside.specs.Files.{Files, file}
 use Rattle.mr_outside.specs.Faults.{Rose}
 use Rattle.mr_outside.specs.State.{Shelved, Sunk}
@@ -11,14 +10,18 @@ use Rattle.mr_outside.specs.declared.shelf.ShelfErr.{ShelfErr}
 use Rattle.mr_outside.specs.declared.shelf.ShelfErr.TheVariants as shelf
 use Rattle.mr_record.specs.Bytes.{AreBytes}
 use Rattle.mr_record.specs.RecordText.{text_of}
+use Rattle.mr_record.specs.Record.{HasLayer}
 use Rattle.mr_record.specs.declared.record.Record.{Record}
+use Rattle.mr_record.specs.declared.version.Version.{Version}
+use Rattle.mr_record.specs.declared.version.Version.TheVariants.{One}
 use Rattle.mr_query.specs.Scan.{by_number}
 use Rattle.mr_tree.specs.Tree.{records}
-use Rattle.mr_pages.specs.PageBytes.{first_form}
+use Rattle.mr_pages.specs.PageBytes.{form_by}
 use Rattle.mr_pages.specs.Opening.{pages_in}
-use Rattle.mr_pages.specs.Law.{Agrees, IsMap}
+use Rattle.mr_pages.specs.Law.{Agrees}
 use Rattle.mr_command.specs.Answer.{IsSettled}
-use Rattle.mr_tree.specs.WellFormed.{WellFormed}
+use Rattle.mr_command.specs.Shown.{kept_in}
+use Rattle.mr_tree.specs.WellFormed.{WellFormed, HasLayers}
 use Rattle.mr_pages.specs.declared.error.MapErr.{MapErr}
 use Rattle.mr_pages.specs.declared.error.MapErr.TheVariants as errors
 use Rattle.mr_tree.specs.declared.nodes.NodesErr.{NodesErr}
@@ -26,6 +29,8 @@ use Rattle.mr_tree.specs.declared.tree.Tree.{Tree}
 use Rattle.mr_tree.specs.Nodes.{Standing}
 use Rattle.mr_query.specs.declared.query.Query.{Query}
 use Rattle.mr_clash.specs.Finding.{opened_accepted}
+use Rattle.mr_clash.specs.declared.finding.Finding.{Finding}
+use Rattle.mr_clash.specs.declared.finding.Finding.TheVariants as findings
 use Rattle.mr_store.specs.Stored.{room}
 use Rattle.mr_plan.specs.Found.{Found, Shows, as_map_error, bad_map_line}
 use Rattle.mr_plan.specs.Lines.{bad_words_line, shelf_fault_line}
@@ -34,7 +39,7 @@ use Rattle.mr_command.specs.Counting.{pieces_of, opened_beside, ReadsFew}
 use Rattle.mr_plan.specs.First.{first}
 use Rattle.mr_plan.specs.Plan.{Plan, comes, reads, opens, rereads, judges, Input, IsInput, IsAbsent, LacksInput}
 use Rattle.mr_plan.specs.Rereading.{Rereading, MaySay}
-use Rattle.mr_plan.specs.Say.{ends, needs_map, says_missing, say_written}
+use Rattle.mr_plan.specs.Say.{ends, needs_map_in, says_missing, say_written}
 use Rattle.mr_command.specs.declared.ending.Ending.{Ending}
 use Rattle.mr_command.specs.declared.ending.Shown.{Shown}
 use Rattle.mr_command.specs.declared.ending.Shown.TheVariants as shown
@@ -50,9 +55,20 @@ abbrev pub shown_of : Shown → List Record
 shown_of (shown.Records list) = list.items
 shown_of (shown.OfTree alloc tree) = by_number (records tree)
 
+-- the layers of all are those of the version in whose lines they are printed
+abbrev pub HasLines : Version → Shown → Type 0
+HasLines v s = All (HasLayer v) (kept_in s)
+
+-- the records of an answer that is sound have the layer of the first version, whose lines do not
+-- spell it
+abbrev pub HasPlainAnswer : Finding → Type 0
+HasPlainAnswer (findings.Refused fault) = ⊤
+HasPlainAnswer (findings.Sound answer) = All (HasLayer One) answer
+HasPlainAnswer (findings.Collision owned shown) = ⊤
+
 -- what is printed of an ending: its text, then a line for each record
 abbrev pub printed_of : Ending → List ℕ
-printed_of ending = ending.text.items ++ text_of (shown_of ending.records)
+printed_of ending = ending.text.items ++ text_of ending.version (shown_of ending.records)
 
 -- the ending is what is said, for a reason that is not outside
 pub record Gives (said : Outcome) (ending : Ending) : Type 0 where
@@ -87,19 +103,18 @@ pub record NoneFalls (before after : Shelved) : Type 0 where
   pub reads : before.reads ≤ after.reads
 
 -- a map that the bytes stand for is what is found
-abbrev pub FindsMap : (List ℕ → List ℕ) → List ℕ → Found → Type 0
-FindsMap hash bytes found =
-    (map : Opened) → IsMap first_form hash bytes map.tree map.batch → found ≡ Ok map
+abbrev pub FindsMap : Version → (List ℕ → List ℕ) → List ℕ → Found → Type 0
+FindsMap v hash bytes found = (map : Opened) → Shows v hash bytes (Ok map) → found ≡ Ok map
 
 -- a map is of a well-formed tree at a batch of 64 bits
 abbrev pub IsWell : Found → Type 0
 IsWell (Ok map) = WellFormed map.tree × (map.batch < 2 ^ 64)
 IsWell (Err fault) = ⊤
 
--- this was found in the bytes of a file
-abbrev pub WasFound : Option Files → (List ℕ → List ℕ) → List ℕ → Found → Type 0
-WasFound told hash bytes found = Shows hash bytes found
-    × OfFiles told (λ files. FindsMap hash bytes found)
+-- this was found in the bytes of a file, which were read in this version
+abbrev pub WasFound : Option Files → Version → (List ℕ → List ℕ) → List ℕ → Found → Type 0
+WasFound told v hash bytes found = Shows v hash bytes found
+    × OfFiles told (λ files. FindsMap v hash bytes found)
 
 -- the plan comes to this status and text, and the files are left as its outcome says
 abbrev pub Ends : Plan → Option Files → Option Files → Status → List ℕ → Type 0
@@ -107,8 +122,8 @@ Ends (comes said) before after status text = (status ≡ said.status) × (text �
     × IsLeft said.written before after
 Ends (reads name next) before after status text = (input : Input) × IsInput before name input
     × IfSome input AreBytes × Ends (next input) before after status text
-Ends (opens hash bytes next) before after status text = (found : Found)
-    × WasFound before hash bytes found × IsWell found × Ends (next found) before after status text
+Ends (opens v hash bytes next) before after status text = (found : Found)
+    × WasFound before v hash bytes found × IsWell found × Ends (next found) before after status text
 Ends (rereads reading next) None after status text = (said : Outcome) × MaySay reading said
     × (status ≡ said.status) × (text ≡ said.printed) × IsLeft said.written None after
 Ends (rereads reading next) (Some files) after status text =
@@ -121,7 +136,7 @@ abbrev pub GivesUp : Plan → Option Files → Option Files → Type 0
 GivesUp (comes said) before after = MayLeave said.written before after
 GivesUp (reads name next) before after = (after ≡ before)
     ⊎ ((input : Input) × IsInput before name input × GivesUp (next input) before after)
-GivesUp (opens hash bytes next) before after = (found : Found) × Shows hash bytes found
+GivesUp (opens v hash bytes next) before after = (found : Found) × Shows v hash bytes found
     × GivesUp (next found) before after
 GivesUp (rereads reading next) None after = after ≡ None
 GivesUp (rereads reading next) (Some files) after = GivesUp next (Some files) after
@@ -132,8 +147,8 @@ abbrev pub AreJudged : Plan → Option Files → Type 0
 AreJudged (comes said) told = ⊤
 AreJudged (reads name next) told =
     (input : Input) → IsInput told name input → AreJudged (next input) told
-AreJudged (opens hash bytes next) told = Agrees first_form hash bytes
-    × ((found : Found) → Shows hash bytes found → AreJudged (next found) told)
+AreJudged (opens v hash bytes next) told = Agrees (form_by v) hash bytes
+    × ((found : Found) → Shows v hash bytes found → AreJudged (next found) told)
 AreJudged (rereads reading next) None = ⊤
 AreJudged (rereads reading next) (Some files) = AreJudged next (Some files)
 AreJudged (judges hash root query proof next) told = AreJudged next told
@@ -248,14 +263,15 @@ pub record Reads (name : List ℕ) (before after : Shelved) (result : Result (Op
   pub read : Read name before after result
   pub once : ReadsOnce name before after
 
--- whatever bytes may be there, they stand for one map or have one fault
-abbrev pub IsJudged : (List ℕ → List ℕ) → Option Files → List ℕ → Type 0
-IsJudged hash told name =
-    (bytes : List ℕ) → IsInput told name (Some bytes) → Agrees first_form hash bytes
+-- whatever bytes may be there, they stand for one map or have one fault, read in the version that
+-- goes by them
+abbrev pub IsJudged : (List ℕ → Version) → (List ℕ → List ℕ) → Option Files → List ℕ → Type 0
+IsJudged version hash told name =
+    (bytes : List ℕ) → IsInput told name (Some bytes) → Agrees (form_by (version bytes)) hash bytes
 
 -- a file was read that stands for this map
-pub record HoldsMap (hash : List ℕ → List ℕ) (name : List ℕ) (before after : Shelved) (map : Opened)
-    : Type 0 where
+pub record HoldsMap (version : List ℕ → Version) (hash : List ℕ → List ℕ) (name : List ℕ)
+    (before after : Shelved) (map : Opened) : Type 0 where
   pub counts : NoneFalls before after
   pub files : after.files ≡ before.files
   pub quiet : after.faults ≡ before.faults
@@ -263,9 +279,10 @@ pub record HoldsMap (hash : List ℕ → List ℕ) (name : List ℕ) (before aft
   pub bytes : List ℕ
   pub input : IsInput before.files name (Some bytes)
   pub are : AreBytes bytes
-  pub judged : IsJudged hash before.files name
-  pub found : WasFound before.files hash bytes (Ok map)
+  pub judged : IsJudged version hash before.files name
+  pub found : WasFound before.files (version bytes) hash bytes (Ok map)
   pub well : WellFormed map.tree
+  pub layers : HasLayers map.version map.tree
   pub low : map.batch < 2 ^ 64
 
 -- what follows on any map opens no bytes but such
@@ -273,15 +290,15 @@ abbrev pub GoesOn : (Opened → Plan) → Option Files → Type 0
 GoesOn next told = (map : Opened) → AreJudged (next map) told
 
 -- a map was read, or what is said without it is settled
-abbrev pub Opens : (List ℕ → List ℕ) → List ℕ → Shelved → Shelved
+abbrev pub Opens : (List ℕ → Version) → (List ℕ → List ℕ) → List ℕ → Shelved → Shelved
     → Result (Result Opened Ending) Halt → Type 0
-Opens hash name before after (Ok (Ok map)) = HoldsMap hash name before after map
-Opens hash name before after (Ok (Err ending)) =
+Opens version hash name before after (Ok (Ok map)) = HoldsMap version hash name before after map
+Opens version hash name before after (Ok (Err ending)) =
     (next : Opened → Plan) → GoesOn next before.files
-    → Comes (needs_map hash name next) before after (Ok ending)
-Opens hash name before after (Err halt) =
+    → Comes (needs_map_in version hash name next) before after (Ok ending)
+Opens version hash name before after (Err halt) =
     (next : Opened → Plan) → GoesOn next before.files
-    → Comes (needs_map hash name next) before after (Err halt)
+    → Comes (needs_map_in version hash name next) before after (Err halt)
 
 -- the halt over a refusal of the shelf
 abbrev pub halt_of : ShelfErr → Halt

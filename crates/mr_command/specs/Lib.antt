@@ -1,5 +1,6 @@
 pub mod Counting
 pub mod Answer
+pub mod Shown
 pub mod Ending
 pub mod Bundled
 pub mod Listing

@@ -1,10 +1,12 @@
 //! The command `apply`.
 
-ghost use Rattle.std.specs.Prelude.{◌≡◌, ◌≢◌, ◌<◌, ◌^◌, List, ℕ, length, IfSome, Ok};
+ghost use Rattle.std.specs.Prelude.{◌≡◌, ◌≢◌, ◌<◌, ◌^◌, List, ℕ, length, All, IfSome, Ok};
 ghost use Rattle.std.specs.String.{string_bytes};
 ghost use Rattle.mr_batch.specs.Answer.{Answers};
 ghost use Rattle.mr_batch.specs.BatchText.{batch_of_text};
+ghost use Rattle.mr_edit.specs.Replayed.{IsOfVersion};
 ghost use Rattle.mr_record.specs.Bytes.{AreBytes};
+ghost use Rattle.mr_record.specs.declared.version.Version.TheVariants.{One};
 ghost use Rattle.mr_store.specs.Stored.{stands_for, told_bytes};
 ghost use Rattle.mr_command.specs.Applying.{of_copy, of_edit, SaysSealed, MayApply, ComesBehind, IsFewOfCopy, IsFewOfChanges, IsFewOfText, IsFewOfFile};
 ghost use Rattle.mr_command.specs.Ending.{Comes, GivesOrStops, SaysRefusal};
@@ -110,6 +112,7 @@ fn change<H: Hash32, S: Shelf>(
     batch: &Batch,
 ) -> (Result<Ending, Halt>, S)
     requires names { string_bytes paged.name ≢ new.now }
+    requires plain { All (IsOfVersion One) batch.now.list }
     requires may { IfSome (stands_for paged.head
         (told_bytes (S.state paged.shelf).files (string_bytes paged.name))).tree
         (MayApply dir paged.head.batch batch.now) }
@@ -147,7 +150,7 @@ fn apply_batch<H: Hash32, S: Shelf>(
 ) -> (Result<Ending, Halt>, S)
     requires names { string_bytes paged.name ≢ new.now }
     requires none { paged.fetches ≡ 0 }
-    requires text { (text : List ℕ) × AreBytes text × (batch_of_text text ≡ Ok batch.now) }
+    requires text { (text : List ℕ) × AreBytes text × (batch_of_text One text ≡ Ok batch.now) }
     ensures { (name : List ℕ) → let before = S.state paged.shelf in
         ComesBehind (applying H.of map.now name new.now)
         (stands_for paged.head (told_bytes before.files (string_bytes paged.name)))
@@ -168,7 +171,7 @@ fn apply_batch<H: Hash32, S: Shelf>(
 
 // The batch of a text, which is given up for it.
 fn batch_in(alloc: Global, text: Vec<u8>) -> Result<Batch, TextErr>
-    ensures { Answers result (batch_of_text text.items) }
+    ensures { Answers result (batch_of_text One text.items) }
 {
     read_batch(alloc, &text)
 }
@@ -186,7 +189,7 @@ fn apply_text<H: Hash32, S: Shelf>(
     ensures { (name : List ℕ) → let before = S.state paged.shelf in
         ComesBehind (applying H.of map.now name new.now)
         (stands_for paged.head (told_bytes before.files (string_bytes paged.name)))
-        (λ m. comes (say_apply_of H.of new.now paged.head.pages m (batch_of_text text.items)))
+        (λ m. comes (say_apply_of H.of new.now paged.head.pages m (batch_of_text One text.items)))
         (IsFewOfText paged.head.pages paged.head.batch text.items before.reads
         (S.state result.1).reads) before (S.state result.1) result.0 }
 {

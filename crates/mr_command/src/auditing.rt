@@ -2,9 +2,10 @@
 
 ghost use Rattle.std.specs.Prelude.{◌≡◌, None, IfSome};
 ghost use Rattle.std.specs.String.{string_bytes};
+ghost use Rattle.mr_plan.specs.First.{first_map};
 ghost use Rattle.mr_query.specs.Word.{IsAskable};
 ghost use Rattle.mr_store.specs.Stored.{IsSameMap, stands_for, told_bytes};
-ghost use Rattle.mr_command.specs.Ending.{Comes, ComesBut, GivesOrStops, NoneFalls, Reads, ReadsBeside, ReadsOpened, SaysUntold};
+ghost use Rattle.mr_command.specs.Ending.{Comes, ComesBut, GivesOrStops, HasPlainAnswer, NoneFalls, Reads, ReadsBeside, ReadsOpened, SaysUntold};
 ghost use Rattle.mr_plan.specs.Plan.{comes};
 ghost use Rattle.mr_plan.specs.Rereading.{auditing};
 ghost use Rattle.mr_plan.specs.Say.{needs, say_audit, say_audit_of, say_finding};
@@ -24,6 +25,7 @@ use std::alloc::Global;
 
 // The ending over a finding.
 fn say_found(alloc: Global, finding: Finding) -> Result<Ending, Halt>
+    requires { HasPlainAnswer finding }
     ensures { GivesOrStops (say_finding finding) result }
 {
     match finding {
@@ -55,7 +57,7 @@ fn audit_bytes<H: Hash32, S: Shelf>(
         let stands = stands_for paged.old.head
         (told_bytes before.files (string_bytes paged.old.name)) in
         IfSome stands.tree (λ t. ComesBut (comes (say_audit_of H.of query.now
-        (record { tree = t; batch = stands.batch }) bytes.now)) before (S.state paged.new.shelf)
+        (first_map t stands.batch) bytes.now)) before (S.state paged.new.shelf)
         result) }
     ensures untold { (S.state paged.old.shelf).files ≡ None →
         SaysUntold (auditing H.of map.now query.now proof.now) (S.state paged.old.shelf)
@@ -99,7 +101,7 @@ fn audit_file<H: Hash32, S: Shelf>(
         let stands = stands_for paged.old.head
         (told_bytes before.files (string_bytes paged.old.name)) in
         IfSome stands.tree (λ t. ComesBut (needs proof.now (λ bytes. comes (say_audit_of H.of
-        query.now (record { tree = t; batch = stands.batch }) bytes))) before
+        query.now (first_map t stands.batch) bytes))) before
         (S.state paged.new.shelf) result) }
     ensures untold { (S.state paged.old.shelf).files ≡ None →
         SaysUntold (auditing H.of map.now query.now proof.now) (S.state paged.old.shelf)

@@ -1,4 +1,4 @@
-//! The command `build`.
+//! The command `build`, in either version.
 
 ghost use Rattle.std.specs.Prelude.{Ok};
 ghost use Rattle.mr_record.specs.RecordText.{IsRecordList, records_of_text};
@@ -8,10 +8,10 @@ ghost use Rattle.mr_plan.specs.Say.{say_build, say_build_of};
 
 use crate::ending::{Ending, Halt};
 use crate::input::{bad_text, missing, read, records_in};
+use crate::packing::packed;
 use crate::saving::save_map;
 use mr_outside::{Gate, Shelf};
-use mr_pack::pack_joined_distinct;
-use mr_record::{Record, TextErr};
+use mr_record::{Record, TextErr, Version};
 use mr_tree::Hash32;
 use std::alloc::Global;
 use std::thread::Threads;
@@ -20,53 +20,56 @@ use std::thread::Threads;
 fn build_records<H: Hash32, S: Shelf, G: Gate, R: Threads + Sync>(
     rt: &R,
     alloc: Global,
+    version: Version,
     map: &str,
     records: Vec<Record>,
     shelf: &mut S,
     gate: &G,
 ) -> Result<Ending, Halt>
-    requires { IsRecordList records.items }
-    ensures { Comes (comes (say_build_of H.of map.now (Ok records.items))) (S.state shelf.old)
-        (S.state shelf.new) result }
+    requires { IsRecordList version records.items }
+    ensures { Comes (comes (say_build_of version H.of map.now (Ok records.items)))
+        (S.state shelf.old) (S.state shelf.new) result }
 {
-    let made = pack_joined_distinct::<H, G, R>(rt, alloc, records, gate)?;
-    save_map::<H, S>(alloc, map, &made.0, 0, &made.1, shelf)
+    let made = packed::<H, G, R>(rt, alloc, version, records, gate)?;
+    save_map::<H, S>(alloc, version, map, &made.0, 0, &made.1, shelf)
 }
 
 // The same for the records of a text, or its fault.
 fn build_text<H: Hash32, S: Shelf, G: Gate, R: Threads + Sync>(
     rt: &R,
     alloc: Global,
+    version: Version,
     map: &str,
     text: Vec<u8>,
     shelf: &mut S,
     gate: &G,
 ) -> Result<Ending, Halt>
-    ensures { Comes (comes (say_build_of H.of map.now (records_of_text text.items)))
+    ensures { Comes (comes (say_build_of version H.of map.now (records_of_text version text.items)))
         (S.state shelf.old) (S.state shelf.new) result }
 {
-    match records_in(alloc, text) {
-        Ok(records) => build_records::<H, S, G, R>(rt, alloc, map, records, shelf, gate),
+    match records_in(alloc, version, text) {
+        Ok(records) => build_records::<H, S, G, R>(rt, alloc, version, map, records, shelf, gate),
         Err(TextErr::Text(fault)) => bad_text(alloc, &fault),
         Err(TextErr::NoMemory) => Err(Halt::NoMemory),
     }
 }
 
-/// The map of the records of a file, written to another one: its nodes stand in preorder from page
-/// 1 on, and no page is free.
+/// The map of the records of a file, written to another one, both of this version: its nodes stand
+/// in preorder from page 1 on, and no page is free.
 pub fn build<H: Hash32, S: Shelf, G: Gate, R: Threads + Sync>(
     rt: &R,
     alloc: Global,
+    version: Version,
     map: &str,
     records: &str,
     shelf: &mut S,
     gate: &G,
 ) -> Result<Ending, Halt>
-    ensures { Comes (say_build H.of map.now records.now) (S.state shelf.old) (S.state shelf.new)
-        result }
+    ensures { Comes (say_build version H.of map.now records.now) (S.state shelf.old)
+        (S.state shelf.new) result }
 {
     match read(alloc, records, shelf) {
-        Ok(Some(text)) => build_text::<H, S, G, R>(rt, alloc, map, text, shelf, gate),
+        Ok(Some(text)) => build_text::<H, S, G, R>(rt, alloc, version, map, text, shelf, gate),
         Ok(None) => missing(alloc, records),
         Err(halt) => Err(halt),
     }

@@ -7,7 +7,7 @@ ghost use Rattle.mr_command.specs.Ending.{Comes, GivesOrStops};
 ghost use Rattle.mr_plan.specs.Say.{given_queries, say_check_all, say_parts, say_parts_of};
 
 use crate::ending::{Ending, Halt};
-use crate::input::{bad_text, missing, queries_in, read};
+use crate::input::{are_bytes, bad_text, missing, queries_in, read};
 use mr_bundle::{check_all, read_bundle};
 use mr_outside::{Gate, Shelf};
 use mr_plan::{count_accepted, judged_status, judged_text};
@@ -30,6 +30,7 @@ fn check_bytes<H: Hash32, G: Gate, R: Threads + Sync>(
     requires few { length queries.now ≤ script_limit }
     ensures { GivesOrStops (say_parts_of H.of root.now queries.now bytes.items) result }
 {
+    are_bytes(&bytes);
     let parts = read_bundle(alloc, &bytes, queries.len())?;
     let list = check_all::<H, G, R>(
         rt,

@@ -6,7 +6,7 @@ ghost use Rattle.mr_record.specs.declared.version.Version.TheVariants.{One};
 ghost use Rattle.mr_tree.specs.Digest.{root as root_digest};
 ghost use Rattle.mr_tree.specs.Snapshot.{standing_of};
 ghost use Rattle.mr_tree.specs.Tree.{records};
-ghost use Rattle.mr_tree.specs.WellFormed.{WellFormed};
+ghost use Rattle.mr_tree.specs.WellFormed.{WellFormed, HasLayers};
 ghost use Rattle.mr_query.specs.Scan.{scan};
 ghost use Rattle.mr_query.specs.Word.{IsAskable};
 ghost use Rattle.mr_proof.specs.Honest.{proof};
@@ -16,13 +16,14 @@ ghost use Rattle.mr_plan.specs.First.{first};
 ghost use Rattle.mr_plan.specs.Say.{prints};
 
 use crate::ending::{Ending, Halt};
+use crate::packing::packed;
 use mr_batch::{generate, generate_queries};
 use mr_bundle::proof_of_nodes;
 use mr_check::{CheckErr, check};
 use mr_outside::Gate;
-use mr_pack::pack_joined_distinct;
 use mr_plan::{Status, map_lines, push_queries, push_totals};
 use mr_query::Query;
+use mr_record::Version;
 use mr_tree::{Hash32, Hashes, Nodes, Snapshot, Tree, level_of};
 use std::alloc::{AllocError, Global};
 use std::thread::Threads;
@@ -46,6 +47,7 @@ fn answer_size<H: Hashes>(
     bytes: &[u8],
 ) -> Result<usize, AllocError>
     requires well_formed { WellFormed tree.now }
+    requires layers { HasLayers One tree.now }
     requires root { root.now ≡ root_digest (first H.of) tree.now 0 }
     requires askable { IsAskable query.now }
     requires own { bytes.now ≡ proof (first H.of) tree.now 0 query.now }
@@ -69,6 +71,7 @@ fn try_query<N: Nodes>(
 ) -> Result<Totals, AllocError>
     requires stands { N.stands nodes.old ≡ standing_of One 0 tree.now }
     requires well_formed { WellFormed tree.now }
+    requires layers { HasLayers One tree.now }
     requires root { root.now ≡ root_digest (first N.Hash.of) tree.now 0 }
     requires askable { IsAskable query.now }
     ensures stands { N.stands nodes.new ≡ standing_of One 0 tree.now }
@@ -100,6 +103,7 @@ fn try_queries<N: Nodes>(
 ) -> Result<Totals, AllocError>
     requires stands { N.stands nodes.old ≡ standing_of One 0 tree.now }
     requires well_formed { WellFormed tree.now }
+    requires layers { HasLayers One tree.now }
     requires root { root.now ≡ root_digest (first N.Hash.of) tree.now 0 }
     requires askable { All IsAskable queries.now }
     requires few { length queries.now ≤ 2 ^ 16 }
@@ -124,6 +128,7 @@ fn totals_of<H: Hash32>(
     queries: &[Query],
 ) -> Result<Totals, AllocError>
     requires well_formed { WellFormed tree.now }
+    requires layers { HasLayers One tree.now }
     requires root { root.now ≡ root_digest (first H.of) tree.now 0 }
     requires askable { All IsAskable queries.now }
     requires few { length queries.now ≤ 2 ^ 16 }
@@ -144,6 +149,7 @@ fn tried<H: Hash32>(
     queries: &[Query],
 ) -> Result<String, AllocError>
     requires well_formed { WellFormed tree.now }
+    requires layers { HasLayers One tree.now }
     requires root { root.now ≡ root_digest (first H.of) tree.now 0 }
     requires askable { All IsAskable queries.now }
     requires few { length queries.now ≤ 2 ^ 16 }
@@ -170,7 +176,7 @@ fn demo_lines<H: Hash32, G: Gate, R: Threads + Sync>(
     ensures { IfOk result (λ lines. string_bytes lines ≡ lines_of H.of count seed) }
 {
     let records = generate(alloc, count, seed)?;
-    let made = pack_joined_distinct::<H, G, R>(rt, alloc, records, gate)?;
+    let made = packed::<H, G, R>(rt, alloc, Version::One, records, gate)?;
     let queries = generate_queries(alloc, DEMO_QUERIES, seed)?;
     tried::<H>(alloc, count, &made.0, &made.1, &queries)
 }

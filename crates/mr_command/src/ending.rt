@@ -1,16 +1,19 @@
 //! What a command comes to, and why it may be given up.
 
-ghost use Rattle.std.specs.Prelude.{◌≡◌, ◌++◌};
+ghost use Rattle.std.specs.Prelude.{◌≡◌, ◌++◌, All};
 ghost use Rattle.std.specs.String.{string_bytes};
+ghost use Rattle.std.proofs.Props.{props};
+ghost use Rattle.mr_record.specs.Record.{HasLayer};
 ghost use Rattle.mr_record.specs.RecordText.{text_of};
+ghost use Rattle.mr_record.specs.declared.version.Version.TheVariants.{One};
 ghost use Rattle.mr_query.specs.Scan.{by_number};
 ghost use Rattle.mr_tree.specs.Tree.{records as records_of};
-ghost use Rattle.mr_command.specs.Ending.{halt_of, printed_of};
-ghost use Rattle.mr_command.specs.declared.ending.Halt.TheVariants as halts;
+ghost use Rattle.mr_tree.specs.WellFormed.{HasLayers};
+ghost use Rattle.mr_command.specs.Shown.{kept_in};
 
 use mr_outside::ShelfErr;
 use mr_plan::Status;
-use mr_record::Record;
+use mr_record::{Record, Version};
 use mr_tree::Tree;
 use std::alloc::{AllocError, Global};
 
@@ -31,11 +34,15 @@ pub struct Ending {
     pub status: Status,
     /// Whole lines, or nothing.
     pub text: Vec<u8>,
-    /// The records behind them.
+    /// In whose lines the records behind them are printed.
+    pub version: Version,
     pub records: Shown,
+    ghost layers: { All (HasLayer version) (kept_in records) } by { Prim.hlevel props },
 }
 
 impl Ending {
+    ghost use Rattle.mr_command.specs.Ending.{printed_of};
+
     // Prints this text alone.
     pub(crate) fn text(alloc: Global, status: Status, text: Vec<u8>) -> Ending
         ensures status { result.status ≡ status }
@@ -44,6 +51,7 @@ impl Ending {
         Ending {
             status,
             text,
+            version: Version::One,
             records: Shown::Records(Vec::new(alloc)),
         }
     }
@@ -56,38 +64,45 @@ impl Ending {
         Ending::text(alloc, status, line.into_bytes())
     }
 
-    // Prints this line, and then these records.
+    // Prints this line, and then these records in lines of version 1.
     pub(crate) fn both(status: Status, line: String, records: Vec<Record>) -> Ending
+        requires { All (HasLayer One) records.items }
         ensures status { result.status ≡ status }
-        ensures printed { printed_of result ≡ string_bytes line ++ text_of records.items }
+        ensures printed { printed_of result ≡ string_bytes line ++ text_of One records.items }
     {
         Ending {
             status,
             text: line.into_bytes(),
+            version: Version::One,
             records: Shown::Records(records),
         }
     }
 
-    // Prints these records alone.
+    // Prints these records alone, in lines of version 1.
     pub(crate) fn records(alloc: Global, status: Status, records: Vec<Record>) -> Ending
+        requires { All (HasLayer One) records.items }
         ensures status { result.status ≡ status }
-        ensures printed { printed_of result ≡ text_of records.items }
+        ensures printed { printed_of result ≡ text_of One records.items }
     {
         Ending {
             status,
             text: Vec::new(alloc),
+            version: Version::One,
             records: Shown::Records(records),
         }
     }
 
-    // Prints the records of a tree in rising number. The tree is kept until then, and not copied.
-    pub(crate) fn tree(alloc: Global, status: Status, tree: Tree) -> Ending
+    // Prints the records of a tree in rising number, in lines of this version. The tree is kept
+    // until then, and not copied.
+    pub(crate) fn tree(alloc: Global, status: Status, version: Version, tree: Tree) -> Ending
+        requires { HasLayers version tree }
         ensures status { result.status ≡ status }
-        ensures printed { printed_of result ≡ text_of (by_number (records_of tree)) }
+        ensures printed { printed_of result ≡ text_of version (by_number (records_of tree)) }
     {
         Ending {
             status,
             text: Vec::new(alloc),
+            version,
             records: Shown::OfTree(alloc, tree),
         }
     }
@@ -105,6 +120,8 @@ pub enum Halt {
 }
 
 impl From<AllocError> for Halt {
+    ghost use Rattle.mr_command.specs.declared.ending.Halt.TheVariants as halts;
+
     ghost from_gives = { λ _ e. e ≡ halts.NoMemory };
 
     fn from(_error: AllocError) -> Halt {
@@ -113,6 +130,8 @@ impl From<AllocError> for Halt {
 }
 
 impl From<ShelfErr> for Halt {
+    ghost use Rattle.mr_command.specs.Ending.{halt_of};
+
     ghost from_gives = { λ e h. h ≡ halt_of e };
 
     fn from(error: ShelfErr) -> Halt {

@@ -14,7 +14,7 @@ use crate::ending::{Ending, Halt};
 use mr_outside::{Shelf, ShelfErr, read_all};
 use mr_plan::{Status, bad_text_line, missing_line};
 use mr_query::{Query, read_script};
-use mr_record::{Record, TextErr, TextFault, read_lines};
+use mr_record::{Record, TextErr, TextFault, Version, read_lines_of};
 use std::alloc::Global;
 
 // What the type tells of its values.
@@ -48,12 +48,17 @@ pub(crate) fn read<S: Shelf>(
     as_input(read_all(alloc, shelf, name))
 }
 
-// The records of a text, which is given up for them: both would be held while a tree is built.
-pub(crate) fn records_in(alloc: Global, text: Vec<u8>) -> Result<Vec<Record>, TextErr>
-    ensures exact { Answers result (records_of_text text.items) }
-    ensures list { IfOk result (λ v. IsRecordList v.items) }
+// The records of a text of this version, which is given up for them: both would be held while a
+// tree is built.
+pub(crate) fn records_in(
+    alloc: Global,
+    version: Version,
+    text: Vec<u8>,
+) -> Result<Vec<Record>, TextErr>
+    ensures exact { Answers result (records_of_text version text.items) }
+    ensures list { IfOk result (λ v. IsRecordList version v.items) }
 {
-    read_lines(alloc, &text)
+    read_lines_of(alloc, version, &text)
 }
 
 // The queries of a text, which is given up for them.

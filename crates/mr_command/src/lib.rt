@@ -18,10 +18,12 @@ mod input;
 mod listing;
 mod making;
 mod opening;
+mod packing;
 mod pieces;
 mod proving;
 mod saving;
 mod serving;
+mod upgrading;
 
 pub use applying::apply;
 pub use auditing::audit_query;
@@ -35,3 +37,4 @@ pub use listing::{list, write_tree};
 pub use making::make;
 pub use proving::prove_query;
 pub use serving::serve;
+pub use upgrading::upgrade;

@@ -1,12 +1,14 @@
 //! The command `list`.
 
-ghost use Rattle.std.specs.Prelude.{◌≡◌, ◌++◌, map, IfOk, OnOk};
+ghost use Rattle.std.specs.Prelude.{◌≡◌, ◌++◌, map, All, IfOk, OnOk};
+ghost use Rattle.mr_record.specs.Record.{HasLayer};
 ghost use Rattle.mr_record.specs.Sorting.{sorted_by_key};
 ghost use Rattle.mr_outside.specs.Causes.{SinkCauses};
 ghost use Rattle.mr_outside.specs.Told.{Takes, TakesFront};
 ghost use Rattle.mr_record.specs.RecordText.{text_of};
 ghost use Rattle.mr_query.specs.Scan.{by_number};
 ghost use Rattle.mr_tree.specs.Tree.{records};
+ghost use Rattle.mr_tree.specs.WellFormed.{HasLayers};
 ghost use Rattle.mr_command.specs.Ending.{Comes};
 ghost use Rattle.mr_command.specs.Listing.{items_of, seen, numbered as numbered_record};
 ghost use Rattle.mr_plan.specs.Say.{say_list};
@@ -15,7 +17,7 @@ use crate::ending::{Ending, Halt};
 use crate::opening::open_map;
 use mr_outside::{Shelf, Sink, SinkErr};
 use mr_plan::Status;
-use mr_record::{Record, write_lines};
+use mr_record::{Record, Version, write_lines};
 use mr_tree::{Hash32, Tree};
 use std::alloc::{AllocError, Global};
 
@@ -81,61 +83,75 @@ fn copies(alloc: Global, entries: &[Numbered<'_>]) -> Result<Vec<Record>, AllocE
     entries.iter().map(|entry| *entry.item).collect(alloc)
 }
 
-// Writes a line for each of these records, which are copied at once.
-fn write_some<W: Sink>(alloc: Global, out: &mut W, entries: &[Numbered<'_>]) -> Result<(), SinkErr>
+// Writes a line of this version for each of these records, which are copied at once.
+fn write_some<W: Sink>(
+    alloc: Global,
+    out: &mut W,
+    version: Version,
+    entries: &[Numbered<'_>],
+) -> Result<(), SinkErr>
+    requires { All (HasLayer version) (items_of entries.now) }
     ensures whole { OnOk result
-        (Takes (W.state out.old) (W.state out.new) (text_of (items_of entries.now))) }
+        (Takes (W.state out.old) (W.state out.new) (text_of version (items_of entries.now))) }
     ensures front { TakesFront (W.state out.old) (W.state out.new)
-        (text_of (items_of entries.now)) }
+        (text_of version (items_of entries.now)) }
     ensures causes { SinkCauses (W.state out.old) (W.state out.new) result }
 {
     let list = copies(alloc, entries)?;
-    write_lines(out, &list)
+    write_lines(out, version, &list)
 }
 
 // How many records are copied at once.
 const COPIED: usize = 32_768;
 
-// Writes a line for each of these records.
+// Writes a line of this version for each of these records.
 fn write_entries<W: Sink>(
     alloc: Global,
     out: &mut W,
+    version: Version,
     entries: &[Numbered<'_>],
 ) -> Result<(), SinkErr>
+    requires { All (HasLayer version) (items_of entries.now) }
     ensures whole { OnOk result
-        (Takes (W.state out.old) (W.state out.new) (text_of (items_of entries.now))) }
+        (Takes (W.state out.old) (W.state out.new) (text_of version (items_of entries.now))) }
     ensures front { TakesFront (W.state out.old) (W.state out.new)
-        (text_of (items_of entries.now)) }
+        (text_of version (items_of entries.now)) }
     ensures causes { SinkCauses (W.state out.old) (W.state out.new) result }
 {
     if entries.len() <= COPIED {
-        return write_some(alloc, out, entries);
+        return write_some(alloc, out, version, entries);
     }
     let (some, others) = entries.split_at(COPIED);
-    write_some(alloc, out, some)?;
-    write_entries(alloc, out, others)
+    write_some(alloc, out, version, some)?;
+    write_entries(alloc, out, version, others)
 }
 
-/// Writes a line for each record of a tree, in rising number. Numbers are sorted with references;
-/// records are copied 32,768 at a time.
-pub fn write_tree<W: Sink>(alloc: Global, out: &mut W, tree: &Tree) -> Result<(), SinkErr>
+/// Writes a line of this version for each record of a tree, in rising number. Numbers are sorted
+/// with references; records are copied 32,768 at a time.
+pub fn write_tree<W: Sink>(
+    alloc: Global,
+    out: &mut W,
+    version: Version,
+    tree: &Tree,
+) -> Result<(), SinkErr>
+    requires { HasLayers version tree.now }
     ensures whole { OnOk result (Takes (W.state out.old) (W.state out.new)
-        (text_of (by_number (records tree.now)))) }
+        (text_of version (by_number (records tree.now)))) }
     ensures front { TakesFront (W.state out.old) (W.state out.new)
-        (text_of (by_number (records tree.now))) }
+        (text_of version (by_number (records tree.now))) }
     ensures causes { SinkCauses (W.state out.old) (W.state out.new) result }
 {
     let mut entries = entries_of(alloc, tree)?;
     sort(&mut entries)?;
-    write_entries(alloc, out, &entries)
+    write_entries(alloc, out, version, &entries)
 }
 
-/// The records of the map in a file, in rising number.
+/// The records of the map in a file of either version, in rising number, in lines of that version.
 pub fn list<H: Hash32, S: Shelf>(alloc: Global, name: &str, shelf: &mut S) -> Result<Ending, Halt>
     ensures { Comes (say_list H.of name.now) (S.state shelf.old) (S.state shelf.new) result }
 {
     match open_map::<H, S>(alloc, name, shelf)? {
-        Ok(map) => Ok(Ending::tree(alloc, Status::Done, map.tree)),
+        Ok(map) => Ok(Ending::tree(alloc, Status::Done, map.version, map.tree)),
         Err(ending) => Ok(ending),
     }
 }

@@ -2,6 +2,7 @@
 
 ghost use Rattle.std.specs.Prelude.{◌≡◌, ◌≤◌, ◌^◌, IfOk};
 ghost use Rattle.mr_record.specs.RecordText.{text_of};
+ghost use Rattle.mr_record.specs.declared.version.Version.TheVariants.{One};
 ghost use Rattle.mr_batch.specs.Workload.{generated};
 ghost use Rattle.mr_command.specs.Ending.{Comes};
 ghost use Rattle.mr_plan.specs.Say.{say_make};
@@ -17,7 +18,7 @@ use std::alloc::{AllocError, Global};
 // The text of so many generated records.
 fn made_text(alloc: Global, count: u32, seed: u64) -> Result<Text, AllocError>
     requires { count ≤ 2 ^ 20 }
-    ensures { IfOk result (λ t. t.bytes.items ≡ text_of (generated count seed)) }
+    ensures { IfOk result (λ t. t.bytes.items ≡ text_of One (generated count seed)) }
 {
     let list = generate(alloc, count, seed)?;
     text_of_records(alloc, &list)

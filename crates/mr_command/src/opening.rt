@@ -4,6 +4,7 @@ ghost use Rattle.std.specs.Prelude.{◌≡◌, ◌<◌, ◌^◌, IfOk};
 ghost use Rattle.mr_command.specs.Ending.{Gives, Opens, SaysRefusal};
 ghost use Rattle.mr_plan.specs.Found.{bad_map_line as line_of};
 ghost use Rattle.mr_plan.specs.Say.{ends};
+ghost use Rattle.mr_pages.specs.File.{version_of};
 
 use crate::ending::{Ending, Halt};
 use crate::input::missing;
@@ -38,18 +39,18 @@ pub(crate) fn unopened(alloc: Global, name: &str, error: &MapErr) -> Result<Endi
     }
 }
 
-// The map in a file, or what the command comes to without it.
+// The map in a file of either version, or what the command comes to without it.
 pub(crate) fn open_map<H: Hash32, S: Shelf>(
     alloc: Global,
     name: &str,
     shelf: &mut S,
 ) -> Result<Result<Opened, Ending>, Halt>
-    ensures { Opens H.of name.now (S.state shelf.old) (S.state shelf.new) result }
+    ensures { Opens version_of H.of name.now (S.state shelf.old) (S.state shelf.new) result }
 {
     match open_plain::<H, S>(alloc, shelf, name) {
-        Ok((tree, batch)) => {
-            is_word(batch);
-            Ok(Ok(Opened { tree, batch }))
+        Ok(map) => {
+            is_word(map.batch);
+            Ok(Ok(map))
         }
         Err(error) => Ok(Err(unopened(alloc, name, &error)?)),
     }

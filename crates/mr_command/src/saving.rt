@@ -2,18 +2,19 @@
 
 ghost use Rattle.std.specs.Prelude.{◌≡◌};
 ghost use Rattle.std.specs.String.{string_bytes};
-ghost use Rattle.mr_tree.specs.Digest.{root as root_digest};
-ghost use Rattle.mr_tree.specs.WellFormed.{WellFormed};
+ghost use Rattle.mr_record.specs.declared.version.Version.TheVariants.{One, Two};
+ghost use Rattle.mr_tree.specs.Digest.{by, root as root_digest};
+ghost use Rattle.mr_tree.specs.WellFormed.{WellFormed, HasLayers};
 ghost use Rattle.mr_command.specs.Ending.{Comes, Saves};
-ghost use Rattle.mr_plan.specs.First.{first};
 ghost use Rattle.mr_plan.specs.Outcome.{map_of, text};
 ghost use Rattle.mr_plan.specs.Plan.{comes};
 ghost use Rattle.mr_plan.specs.Say.{say_map, say_text};
 
 use crate::ending::{Ending, Halt};
 use mr_outside::{Shelf, ShelfErr};
-use mr_pages::save_plain;
+use mr_pages::{save_plain, save2_plain};
 use mr_plan::{Status, digest_line};
+use mr_record::Version;
 use mr_tree::{Hash32, Tree};
 use std::alloc::Global;
 
@@ -42,17 +43,18 @@ pub(crate) fn save_text<S: Shelf>(
     Ok(Ending::line(alloc, Status::Done, line))
 }
 
-// Writes a map to a file.
-fn save<H: Hash32, S: Shelf>(
+// Writes a map to a file of version 1.
+fn save_first<H: Hash32, S: Shelf>(
     alloc: Global,
     name: &str,
     tree: &Tree,
     batch: u64,
     shelf: &mut S,
 ) -> Result<(), Halt>
-    requires { WellFormed tree.now }
-    ensures { Saves name.now (map_of H.of tree.now batch) (S.state shelf.old) (S.state shelf.new)
-        result }
+    requires well_formed { WellFormed tree.now }
+    requires layers { HasLayers One tree.now }
+    ensures { Saves name.now (map_of One H.of tree.now batch) (S.state shelf.old)
+        (S.state shelf.new) result }
 {
     match save_plain::<H, S>(alloc, shelf, name, tree, batch) {
         Ok(()) => Ok(()),
@@ -62,9 +64,50 @@ fn save<H: Hash32, S: Shelf>(
     }
 }
 
-// The map of a tree at a batch, written to a file, and its root.
+// The same in version 2.
+fn save_second<H: Hash32, S: Shelf>(
+    alloc: Global,
+    name: &str,
+    tree: &Tree,
+    batch: u64,
+    shelf: &mut S,
+) -> Result<(), Halt>
+    requires { WellFormed tree.now }
+    ensures { Saves name.now (map_of Two H.of tree.now batch) (S.state shelf.old)
+        (S.state shelf.new) result }
+{
+    match save2_plain::<H, S>(alloc, shelf, name, tree, batch) {
+        Ok(()) => Ok(()),
+        Err(ShelfErr::NoMemory) => Err(Halt::NoMemory),
+        Err(ShelfErr::Missing) => Err(Halt::Shelf),
+        Err(ShelfErr::Fault) => Err(Halt::Shelf),
+    }
+}
+
+// Writes a map to a file of this version.
+fn save<H: Hash32, S: Shelf>(
+    alloc: Global,
+    version: Version,
+    name: &str,
+    tree: &Tree,
+    batch: u64,
+    shelf: &mut S,
+) -> Result<(), Halt>
+    requires well_formed { WellFormed tree.now }
+    requires layers { HasLayers version tree.now }
+    ensures { Saves name.now (map_of version H.of tree.now batch) (S.state shelf.old)
+        (S.state shelf.new) result }
+{
+    match version {
+        Version::One => save_first::<H, S>(alloc, name, tree, batch, shelf),
+        Version::Two => save_second::<H, S>(alloc, name, tree, batch, shelf),
+    }
+}
+
+// The map of a tree at a batch, written to a file of this version, and its root.
 pub(crate) fn save_map<H: Hash32, S: Shelf>(
     alloc: Global,
+    version: Version,
     name: &str,
     tree: &Tree,
     batch: u64,
@@ -72,11 +115,12 @@ pub(crate) fn save_map<H: Hash32, S: Shelf>(
     shelf: &mut S,
 ) -> Result<Ending, Halt>
     requires well_formed { WellFormed tree.now }
-    requires root { root.now ≡ root_digest (first H.of) tree.now batch }
-    ensures { Comes (comes (say_map H.of name.now tree.now batch)) (S.state shelf.old)
+    requires layers { HasLayers version tree.now }
+    requires root { root.now ≡ root_digest (by version H.of) tree.now batch }
+    ensures { Comes (comes (say_map version H.of name.now tree.now batch)) (S.state shelf.old)
         (S.state shelf.new) result }
 {
     let line = digest_line(alloc, root)?;
-    save::<H, S>(alloc, name, tree, batch, shelf)?;
+    save::<H, S>(alloc, version, name, tree, batch, shelf)?;
     Ok(Ending::line(alloc, Status::Done, line))
 }

@@ -6,7 +6,7 @@ use Rattle.mr_outside.specs.Files.{Files, with_file}
 use Rattle.mr_outside.specs.State.{Shelved}
 use Rattle.mr_outside.specs.Writing.{IsChanged}
 use Rattle.mr_outside.proofs.Changes.{file-with_file}
-use Rattle.mr_pages.specs.PageBytes.{page_size, first_form}
+use Rattle.mr_pages.specs.PageBytes.{page_size}
 use Rattle.mr_pages.specs.Saved.{IsUnsealed, Leaves}
 use Rattle.mr_pages.specs.Source.{told_bytes}
 use Rattle.mr_pages.specs.declared.head.MapHead.{MapHead}
@@ -92,7 +92,7 @@ module _ (hash : List ℕ → List ℕ) (h : MapHead) (es : Entries) (cap : ℕ)
 
 unsealed_at : (hash : List ℕ → List ℕ) (name bytes : List ℕ) (pages : ℕ) (before after : Option Files) →
     IsChanged (with_file name) bytes before after → ArePages after name pages →
-    Leaves (IsUnsealed first_form hash) name before after
+    Leaves (IsUnsealed hash) name before after
 unsealed_at hash name bytes pages None after put are = inr ([], unsealed_none hash, put)
 unsealed_at hash name bytes pages (Some files) after put are =
     let there : told_bytes after name ≡ Some bytes = ap (λ o. told_bytes o name) put

@@ -142,6 +142,9 @@ module _ (hash : List ℕ → List ℕ) (told : Option Book) (es : Entries) (cap
   pub found_some : (c : Child) (n : view.Node) → IsFound es c n → 1 ≤ view.size n
   found_some c n f = subst (λ m. 1 ≤ view.size m) (sym f.node) (k.each (c.id, f.kept) (found_kept c n f)).shape.some
 
+  pub found_told : (c : Child) (n : view.Node) → IsFound es c n → view.AreTold One n
+  found_told c n f = subst (view.AreTold One) (sym f.node) (k.each (c.id, f.kept) (found_kept c n f)).told
+
   pub found_node : (c : Child) (n : view.Node) → IsFound es c n → IfSome told (λ b. HasNode b c.id (page_node n))
   found_node c n f = at told k.on
     where
@@ -151,17 +154,18 @@ module _ (hash : List ℕ → List ℕ) (told : Option Book) (es : Entries) (cap
 
   -- a node is kept
   pub kept_more : (c : Child) (n : view.Node) (cap0 : ℕ) (es' : Entries) (cap' : ℕ) → HasShape n →
-      view.level_of n ≡ c.level → hash (view.preimage_of n) ≡ c.digest →
+      view.AreTold One n → view.level_of n ≡ c.level → hash (view.preimage_of One n) ≡ c.digest →
       IfSome told (λ b. HasNode b c.id (page_node n)) → Gains cap0 es es' c n → cap' ≡ cap →
       AreKept hash told es' cap'
-  kept_more c n cap0 es' cap' shape level digest node gains same = record {
+  kept_more c n cap0 es' cap' shape may level digest node gains same = record {
     cap_is = same ∙ k.cap_is;
     each = λ e there. elim (gains.each e there) [
       | inl old ↦ k.each e old
       | inr new' ↦ record {
         shape = subst HasShape (sym new'.node) shape;
         level = ap view.level_of new'.node ∙ level ∙ sym new'.that.level;
-        digest = ap (λ m. hash (view.preimage_of m)) new'.node ∙ digest ∙ sym new'.that.digest;
+        told = subst (view.AreTold One) (sym new'.node) may;
+        digest = ap (λ m. hash (view.preimage_of One m)) new'.node ∙ digest ∙ sym new'.that.digest;
       }
     ];
     on = at told k.on node;
@@ -189,7 +193,7 @@ put_node (Some a) told' page n put =
 
 -- a page that spells this was put
 pub put_as : (told told' : Option Book) (page : ℕ) (bytes : List ℕ) (n : Node) → bytes ≡ first_form.node_page n →
-    IsNode n → told' ≡ option_map (with_sheet page (sheet_of bytes)) told →
+    IsNode One n → told' ≡ option_map (with_sheet page (sheet_of bytes)) told →
     told' ≡ option_map (with_sheet page (node_sheet n)) told
 put_as told told' page bytes n is fits put =
     put ∙ ap (λ s. option_map (with_sheet page s) told) (ap sheet_of is ∙ sheet_of_node n fits)
@@ -208,11 +212,11 @@ pub said_level : (hash : List ℕ → List ℕ) (c : Child) (n : view.Node) → 
 said_level hash c n said = level_known hash n ∙ sym (ap (λ (l : Link). l.entry.level) said)
 
 pub said_digest : (hash : List ℕ → List ℕ) (c : Child) (n : view.Node) → IsEntryOf hash c n →
-    hash (view.preimage_of n) ≡ c.digest
+    hash (view.preimage_of One n) ≡ c.digest
 said_digest hash c n said = digest_known hash n ∙ sym (ap (λ (l : Link). l.entry.digest) said)
 
-pub view_shape : (n : view.Node) → view.IsView n → 1 ≤ view.size n → HasShape n
-view_shape n is some = shape_of n is (view_fits n is some)
+pub view_shape : (n : view.Node) → view.IsView n → 1 ≤ view.size n → view.AreTold One n → HasShape n
+view_shape n is some may = shape_of One n is (view_fits One n is some may) may
 
 -- ---- where the pages are told, a node that is held is on its page
 

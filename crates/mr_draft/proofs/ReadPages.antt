@@ -58,7 +58,7 @@ module _ (told : Option Files) (name : List ℕ) (pages : ℕ) where
       at None h e = let no : ◌≡◌ {A = Option (List ℕ)} None (Some bytes) = e in absurd cc
       at (Some files) h e = subst (λ x. MatchOption x ⊥ P) e h
 
-  pub read_sheet : (page : ℕ) (p : List ℕ) → page < pages → OfFile told name ⊥ (TellsPage page p) →
+  pub read_sheet : (page : ℕ) (p : List ℕ) → page < pages → OfFile told name ⊥ (TellsPage first_form page p) →
       IfSome (book_on told name pages) (λ b. b.sheet page ≡ sheet_of p)
   read_sheet page p within h = at (book_on told name pages) refl
     where
@@ -67,7 +67,7 @@ module _ (told : Option Files) (name : List ℕ) (pages : ℕ) where
       at (Some b) e =
           let t = told_book b e in
           sym (ap (λ (x : Book). x.sheet page) t.book.is)
-          ∙ ap sheet_of (sym (of_file (TellsPage page p) h t.bytes t.found pages t.book.whole within))
+          ∙ ap sheet_of (sym (of_file (TellsPage first_form page p) h t.bytes t.found pages t.book.whole within))
 
 -- ---- free pages
 

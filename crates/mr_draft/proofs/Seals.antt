@@ -4,34 +4,40 @@ use Rattle.std.specs.Prelude.{⊤, ◌==◌, if◌then◌else◌, Option, Some, 
 use Rattle.std.specs.Option.{option_and_then}
 use Rattle.std.proofs.lemmas.Bool.{cases_lt, eqb-true}
 use Rattle.std.proofs.lemmas.List.{take_at}
-use Rattle.std.proofs.lemmas.List.Elements.{All-take, All-drop}
+use Rattle.std.specs.List.{flat_map, AllByRecursion}
+use Rattle.std.proofs.lemmas.List.Elements.{All-take, All-drop, All-from_recursion, recursion_from_All}
 use Rattle.mr_record.specs.Bytes.{AreBytes}
+use Rattle.mr_record.specs.Record.{HasLayer}
+use Rattle.mr_record.specs.declared.version.Version.{Version}
 use Rattle.mr_record.specs.declared.version.Version.TheVariants.{One}
 use Rattle.mr_outside.specs.Files.{Files, file, with_file, replaced, overwritten}
 use Rattle.mr_outside.specs.State.{Shelved}
 use Rattle.mr_outside.specs.Writing.{IsChanged, IsChangedPartly}
 use Rattle.mr_outside.proofs.Changes.{with_change-found, overwritten-none}
-use Rattle.mr_tree.specs.Digest.{by, entry, root, root_preimage, no_entry}
+use Rattle.mr_tree.specs.Digest.{Scheme, by, entry, root, root_preimage, no_entry}
 use Rattle.mr_tree.specs.Nodes.{root_entry}
 use Rattle.mr_tree.specs.Tree.{records}
 use Rattle.mr_tree.specs.View.{entry_of}
-use Rattle.mr_tree.specs.WellFormed.{WellFormed}
+use Rattle.mr_tree.specs.WellFormed.{WellFormed, HasLayers}
 use Rattle.mr_tree.specs.declared.child.Child.{Child}
 use Rattle.mr_tree.specs.declared.tree.Tree.{Tree}
-use Rattle.mr_tree.proofs.Equations.{records-Empty}
-use Rattle.mr_pages.specs.declared.layout.Layout.{Layout}
+use Rattle.mr_tree.specs.declared.tree.Tree.TheVariants as tree
+use Rattle.mr_tree.specs.declared.tree.Tree.TheOpen as node
+use Rattle.mr_tree.proofs.Equations.{records-Empty, records-Leaf}
+use Rattle.mr_grow.proofs.Kept.{records_below}
 use Rattle.mr_pages.specs.Law.{IsMap}
-use Rattle.mr_pages.specs.Page.{Link, Node, Head}
-use Rattle.mr_pages.specs.PageBytes.{page_size, first_form, first_layout, form_of, IsLayout}
+use Rattle.mr_pages.specs.Page.{Link, Node, Head, IsNode}
+use Rattle.mr_pages.specs.PageBytes.{page_size, first_form, first_layout}
 use Rattle.mr_pages.specs.File.{page_at}
 use Rattle.mr_pages.specs.Saved.{IsUnsealed}
 use Rattle.mr_pages.specs.Source.{told_bytes}
 use Rattle.mr_pages.specs.Stands as stands
-use Rattle.mr_pages.specs.Stands.{Placed, IsWritten, IsChain, AreAllPages, link_of, whole_tree, whole_pages, Stands}
+use Rattle.mr_pages.specs.Stands.{Placed, Row, no_more, first, tree_of, trees_of, IsWritten, AreWritten, IsChain, AreAllPages, link_of, whole_tree, whole_pages, Stands}
 use Rattle.mr_pages.specs.Walking.{child_link}
 use Rattle.mr_pages.proofs.Agreement.{written_as, chain_as}
 use Rattle.mr_pages.proofs.HeadLaws.{first_form_is, first_layout_is}
-use Rattle.mr_pages.proofs.Imaged.{front_unsealed, part_unsealed}
+use Rattle.mr_pages.proofs.Imaged.{front_unsealed, head_front_says, part_unsealed}
+use Rattle.mr_pages.proofs.Lists.{all_append}
 use Rattle.mr_edit.specs.Book.{Sheet, Book, HasNode, HasFree, Owned}
 use Rattle.mr_draft.specs.Draft.{Drawn, DraftOf, head_in_draft, IsSealed, Seals, MayBeSealed, SealFails}
 use Rattle.mr_edit.specs.Drafted.{Drafted}
@@ -45,31 +51,52 @@ use Rattle.mr_draft.proofs.ZeroPages.{no_sheet, sheet_in_zeros, length_zeros}
 
 -- ---- not sealed yet
 
-front_of : (layout : Layout) → IsLayout layout → (hash : List ℕ → List ℕ) (bytes rest nodes : List ℕ) →
-    zeros layout.size ++ nodes ≡ bytes ++ rest → IsUnsealed (form_of layout) hash bytes
+front_of : (hash : List ℕ → List ℕ) (bytes rest nodes : List ℕ) → zeros page_size ++ nodes ≡ bytes ++ rest →
+    IsUnsealed hash bytes
 unfolding zeros
-front_of layout fit hash bytes rest nodes e = front_unsealed layout fit hash bytes rest nodes e
+front_of hash bytes rest nodes e = front_unsealed page_size (omega arith) hash bytes rest nodes e
 
-part_of : (layout : Layout) → IsLayout layout → (hash : List ℕ → List ℕ) (front held nodes : List ℕ) →
-    held ≡ zeros layout.size ++ nodes → length front < layout.size →
-    IsUnsealed (form_of layout) hash (replaced 0 front held)
+part_of : (hash : List ℕ → List ℕ) (h : Head) (front rest held nodes : List ℕ) →
+    held ≡ zeros page_size ++ nodes → length front < page_size → first_form.head_page h ≡ front ++ rest →
+    IsUnsealed hash (replaced 0 front held)
 unfolding zeros
-part_of layout fit hash front held nodes e short =
-    part_unsealed layout fit hash (replaced 0 front held) front held nodes e short refl
+part_of hash h front rest held nodes e short whole =
+    part_unsealed first_layout refl first_layout_is hash (replaced 0 front held) front held nodes e short
+    (head_front_says first_layout h front rest whole) refl
 
-pub unsealed_front : (hash : List ℕ → List ℕ) (bytes : List ℕ) → IsFront bytes → IsUnsealed first_form hash bytes
-unsealed_front hash bytes f = front_of first_layout first_layout_is hash bytes f.1 f.0 f.2
+pub unsealed_front : (hash : List ℕ → List ℕ) (bytes : List ℕ) → IsFront bytes → IsUnsealed hash bytes
+unsealed_front hash bytes f = front_of hash bytes f.1 f.0 f.2
 
-pub unsealed_none : (hash : List ℕ → List ℕ) → IsUnsealed first_form hash []
+pub unsealed_none : (hash : List ℕ → List ℕ) → IsUnsealed hash []
 unsealed_none hash = unsealed_front hash [] ([], zeros page_size ++ [], refl)
 
 zero_front : (pages : ℕ) (held : List ℕ) → HasPages pages held → held ≡ zeros page_size ++ drop page_size held
 zero_front pages held have = sym (take-append-drop page_size held) ∙ ap (λ xs. xs ++ drop page_size held) have.blank
 
 pub unsealed_pages : (hash : List ℕ → List ℕ) (pages : ℕ) (held : List ℕ) → HasPages pages held →
-    IsUnsealed first_form hash held
+    IsUnsealed hash held
 unsealed_pages hash pages held have =
     unsealed_front hash held (drop page_size held, [], sym (zero_front pages held have) ∙ sym (append-nil held))
+
+-- ---- the layers of the records on pages
+
+mutual
+  -- where each page's node has the layers of a version
+  layers_on : (v : Version) (s : Scheme) (on : ℕ → Node → Type 0) → ((p : ℕ) (n : Node) → on p n → IsNode v n) →
+      (P : Placed) → IsWritten s on P → AllByRecursion (HasLayer v) (records (tree_of P))
+  layers_on v s on fits (stands.Leaf p rs) w =
+      subst (AllByRecursion (HasLayer v)) (sym (records-Leaf rs))
+      (recursion_from_All (HasLayer v) rs (λ k d within. ((fits p (node.Leaf rs) w).2 k d within).1))
+  layers_on v s on fits (stands.Inner p Ps) w =
+      subst (AllByRecursion (HasLayer v)) (sym (records_below (trees_of Ps))) (row_layers_on v s on fits Ps w.1)
+
+  row_layers_on : (v : Version) (s : Scheme) (on : ℕ → Node → Type 0) →
+      ((p : ℕ) (n : Node) → on p n → IsNode v n) → (Ps : Row) → AreWritten s on Ps →
+      AllByRecursion (HasLayer v) (flat_map records (trees_of Ps))
+  row_layers_on v s on fits no_more w = tt
+  row_layers_on v s on fits (first P Ps) w =
+      all_append (HasLayer v) (records (tree_of P)) (flat_map records (trees_of Ps)) (layers_on v s on fits P w.0)
+      (row_layers_on v s on fits Ps w.1)
 
 -- ---- the pages are those of a map
 
@@ -176,8 +203,24 @@ module _ (hash : List ℕ → List ℕ) (pages free : ℕ) (top : Option Child) 
       };
     }
 
+    -- and their records have the layers of its version
+    fits_held : (p : ℕ) (n : Node) → HasNode d.book p n → IsNode One n
+    fits_held p n e =
+        (first_form_is.nodes.spelled (page_at first_form held p) n (bytes_of p) (node_held p n e)).0
+
+    layered : (po : Option Placed) → IfSome po (IsWritten (by One hash) (HasNode d.book)) →
+        HasLayers One (whole_tree po)
+    layered None w = All-from_recursion (HasLayer One) (records tree.Empty)
+        (subst (AllByRecursion (HasLayer One)) (sym records-Empty) tt)
+    layered (Some P) w = All-from_recursion (HasLayer One) (records (tree_of P))
+        (layers_on One (by One hash) (HasNode d.book) fits_held P w)
+
     pub sealed_map : IsMap first_form hash after t batch
-    sealed_map = record { well = well; stands = sealed_stands }
+    sealed_map = record {
+      well = well;
+      layers = subst (HasLayers One) d.tree (layered d.placed d.written);
+      stands = sealed_stands;
+    }
 
     pub sealed_size : length after ≡ pages * page_size
     sealed_size = size_after
@@ -284,12 +327,12 @@ module _ (hash : List ℕ → List ℕ) (d : Drawn) (page : List ℕ) (low : d.b
       ((xs : List ℕ) → told_bytes d.shelf.files d.name ≡ Some xs → bytes ≡ replaced 0 front xs) →
       (told_bytes d.shelf.files d.name ≡ None → bytes ≡ []) → MayBeSealed hash d bytes
   may_be front rest whole None e bytes held none =
-      inl (subst (IsUnsealed first_form hash) (sym (none e)) (unsealed_none hash))
+      inl (subst (IsUnsealed hash) (sym (none e)) (unsealed_none hash))
   may_be front rest whole (Some xs) e bytes held none = elim (cases_lt (length front) page_size) [
     | inl short ↦
-        inl (subst (IsUnsealed first_form hash) (sym (held xs e))
-        (part_of first_layout first_layout_is hash front xs (drop page_size xs)
-        (zero_front d.pages xs (pages_told xs e)) short))
+        inl (subst (IsUnsealed hash) (sym (held xs e))
+        (part_of hash (head_in_draft d) front rest xs (drop page_size xs)
+        (zero_front d.pages xs (pages_told xs e)) short (sym is ∙ whole)))
     | inr long ↦
         let all : page ≡ front = whole_front front rest whole (omega (
           arith,

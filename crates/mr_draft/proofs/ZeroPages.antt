@@ -6,6 +6,7 @@ use Rattle.std.proofs.lemmas.List.{take-append-le, drop-append-le, drop-replicat
 use Rattle.std.proofs.lemmas.List.Elements.{All-append, All-nil, All-cons}
 use Rattle.std.proofs.Math.Seq.{drop-append-add}
 use Rattle.mr_record.specs.Bytes.{AreBytes}
+use Rattle.mr_record.specs.declared.version.Version.TheVariants.{One}
 use Rattle.mr_tree.specs.declared.tree.Tree.TheOpen.{Empty, Leaf, Inner}
 use Rattle.mr_pages.specs.declared.layout.Layout.{Layout}
 use Rattle.mr_pages.specs.Page.{Node, IsNode, page_limit}
@@ -41,7 +42,8 @@ free_of_zero size rest = refl
 free_of_none : (size : ℕ) → free_in size [] ≡ None
 free_of_none size = refl
 
-free_of_node : (size : ℕ) (layout : Layout) (n : Node) → IsNode n → free_in size (node_page layout n) ≡ None
+free_of_node : (size : ℕ) (layout : Layout) (n : Node) → IsNode layout.version n →
+    free_in size (node_page layout n) ≡ None
 free_of_node size layout Empty is = absurd is
 free_of_node size layout (Leaf rs) is = refl
 free_of_node size layout (Inner links) is = refl
@@ -54,7 +56,7 @@ sheet_of_zeros (suc n) = λ i. record {
   free = free_of_zero page_size (replicate n 0) i;
 }
 
-pub sheet_of_node : (n : Node) → IsNode n → sheet_of (first_form.node_page n) ≡ node_sheet n
+pub sheet_of_node : (n : Node) → IsNode One n → sheet_of (first_form.node_page n) ≡ node_sheet n
 unfolding sheet_of
 sheet_of_node n is = λ i. record {
   node = node_again first_layout n (omega arith) is i;

@@ -103,7 +103,7 @@ pub record Copies (hash : List ℕ → List ℕ) (name : List ℕ) (h : MapHead)
   pub others : List ℕ
   pub blank : bytes ≡ zeros page_size ++ others
   pub same : IfSome (told_bytes before.files name) (λ was. others ≡ drop page_size was)
-  pub unsealed : IsUnsealed first_form hash bytes
+  pub unsealed : IsUnsealed hash bytes
   pub files : IsChanged (with_file new) bytes before.files d.shelf.files
   pub quiet : d.shelf.faults ≡ before.faults
   pub more : before.reads ≤ d.shelf.reads
@@ -113,7 +113,7 @@ pub record Copies (hash : List ℕ → List ℕ) (name : List ℕ) (h : MapHead)
 -- missing comes only where none is told.
 pub record CopyFails (hash : List ℕ → List ℕ) (h : MapHead) (before : Shelved) (new : List ℕ)
     (after : Shelved) (e : EditErr) : Type 0 where
-  pub left : Leaves (IsUnsealed first_form hash) new before.files after.files
+  pub left : Leaves (IsUnsealed hash) new before.files after.files
   pub cause : HasShelfCause before.faults after.faults e
   pub untold : e ≡ errors.Missing → before.files ≡ None
   pub later : before.faults ≤ after.faults
@@ -147,7 +147,7 @@ Applies hash before dir b after dir' =
 pub record KeepsDraft (hash : List ℕ → List ℕ) (before after : Drawn) : Type 0 where
   pub name : after.name ≡ before.name
   pub pages : before.pages ≤ after.pages
-  pub left : Leaves (IsUnsealed first_form hash) before.name before.shelf.files after.shelf.files
+  pub left : Leaves (IsUnsealed hash) before.name before.shelf.files after.shelf.files
   pub faults : before.shelf.faults ≤ after.shelf.faults
   pub reads : before.shelf.reads ≤ after.shelf.reads
 
@@ -170,7 +170,7 @@ pub record Seals (hash : List ℕ → List ℕ) (d : Drawn) (digest : List ℕ) 
 -- what a seal that is refused may leave: no map yet, or all
 abbrev pub MayBeSealed : (List ℕ → List ℕ) → Drawn → (bytes : List ℕ) → Type 0
 MayBeSealed hash d bytes =
-    IsUnsealed first_form hash bytes ⊎ ((t : Tree) → DraftOf hash d t → IsSealed hash d t bytes)
+    IsUnsealed hash bytes ⊎ ((t : Tree) → DraftOf hash d t → IsSealed hash d t bytes)
 
 -- It was not sealed.
 pub record SealFails (hash : List ℕ → List ℕ) (d : Drawn) (after : Shelved) (e : EditErr)

@@ -2,10 +2,11 @@
 use Rattle.std.specs.Prelude.{◌≡◌, ◌≢◌, ⊤, ◌⊎◌, ℕ, ◌+◌, ◌-◌, ◌*◌, ◌≤◌, ◌==◌, if◌then◌else◌, List, [], ◌++◌, length, take, drop, replicate, Contains, Option, Some, None, IfSome, IsSome, MatchOption}
 use Rattle.std.specs.Option.{option_and_then}
 use Rattle.mr_record.specs.Bytes.{AreBytes}
+use Rattle.mr_record.specs.declared.version.Version.TheVariants.{One}
 use Rattle.mr_outside.specs.Files.{Files, file, with_file}
 use Rattle.mr_outside.specs.State.{Shelved}
 use Rattle.mr_outside.specs.Writing.{IsChanged}
-use Rattle.mr_tree.specs.View.{level_of, preimage_of}
+use Rattle.mr_tree.specs.View.{AreTold, level_of, preimage_of}
 use Rattle.mr_tree.specs.Snapshot.{HasShape}
 use Rattle.mr_tree.specs.declared.child.Child.{Child}
 use Rattle.mr_tree.specs.declared.nodes.NodesErr.{NodesErr}
@@ -65,7 +66,9 @@ pub record ArePages (told : Option Files) (name : List ℕ) (pages : ℕ) : Type
 pub record IsKeptAs (hash : List ℕ → List ℕ) (k : Kept) : Type 0 where
   pub shape : HasShape (node_of k.node)
   pub level : level_of (node_of k.node) ≡ k.level
-  pub digest : hash (preimage_of (node_of k.node)) ≡ k.digest
+  -- what its version may tell
+  pub told : AreTold One (node_of k.node)
+  pub digest : hash (preimage_of One (node_of k.node)) ≡ k.digest
 
 -- each page that is kept holds what is kept of it
 abbrev pub AreOn : Entries → Book → Type 0

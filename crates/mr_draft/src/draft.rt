@@ -1,13 +1,15 @@
 //! A draft of a map.
 
-ghost use Rattle.std.specs.Prelude.{◌≡◌, ◌≢◌, ◌+◌, ◌≤◌, ◌↔◌, [], max, IfOk, IfErr, OnOk, MatchResult, IsTrue};
+ghost use Rattle.std.specs.Prelude.{◌≡◌, ◌≢◌, ◌+◌, ◌≤◌, ◌↔◌, [], max, All, IfOk, IfErr, OnOk, MatchResult, IsTrue};
 ghost use Rattle.std.specs.String.{string_bytes};
+ghost use Rattle.mr_record.specs.declared.version.Version.TheVariants.{One};
 ghost use Rattle.mr_tree.specs.declared.tree.Tree.{Tree};
 ghost use Rattle.mr_pages.specs.Page.{page_limit};
 ghost use Rattle.mr_edit.specs.Causes.{HasEditCause};
 ghost use Rattle.mr_edit.specs.Outcome.{IsLow};
 ghost use Rattle.mr_draft.specs.Draft.{drawn, IsTop, IsOff, Copies, CopyFails, CanApply, Applies, KeepsDraft};
 ghost use Rattle.mr_edit.specs.Reads.{reads_along};
+ghost use Rattle.mr_edit.specs.Replayed.{IsOfVersion};
 ghost use Rattle.mr_draft.specs.Sheets.{HasCopied, CopyStops, IsFiled, IsSheets};
 ghost use Rattle.mr_edit.specs.Shelves.{HasShelfCause};
 ghost use Rattle.mr_store.specs.Stored.{room};
@@ -159,10 +161,11 @@ fn judge_top(count: u64, root: &Option<Child>) -> Result<(), EditErr>
 
 impl<S: Shelf, H: Hashes> Draft<S, H> {
     /// Makes the changes of a batch on the pages. The directory, which is that of the map's
-    /// records, follows them.
+    /// records, follows them. Each record that comes has layer 0, as a map of version 1 has it.
     ///
     /// Where the files are told, the batch is to be one that may be applied to the map.
     pub fn apply_batch(&mut self, dir: &mut Directory, batch: &Batch) -> Result<(), EditErr>
+        requires { All (IsOfVersion One) batch.now.list }
         ensures applies { OnOk result (Applies H.of
             (drawn (S.state self.old.desk.file.shelf) (string_bytes self.old.desk.file.name)
             self.old.desk.file.pages self.old.desk.free self.old.root self.old.count self.old.batch)

@@ -2,7 +2,8 @@
 
 ghost use Rattle.std.specs.Prelude.{◌≡◌, ◌+◌, ◌<◌, ◌≤◌, nat_eq, option_map, IsOk, IfErr, OnOk, IfSome};
 ghost use Rattle.std.specs.Map.{remove_entry};
-ghost use Rattle.mr_tree.specs.View.{size, level_of};
+ghost use Rattle.mr_record.specs.declared.version.Version.TheVariants.{One};
+ghost use Rattle.mr_tree.specs.View.{AreTold, size, level_of};
 ghost use Rattle.mr_pages.specs.Walking.{page_node};
 ghost use Rattle.mr_edit.specs.Book.{HasNode, node_sheet, free_sheet, with_sheet};
 ghost use Rattle.mr_edit.specs.Causes.{HasEditCause, CanRead};
@@ -106,6 +107,7 @@ fn show_inside<H: Hashes, S: Shelf>(
     ensures page { OnOk result (1 ≤ child.now.id) }
     ensures level { OnOk result (level_of into.new ≡ child.now.level) }
     ensures some { OnOk result (1 ≤ size into.new) }
+    ensures shown { OnOk result (AreTold One into.new) }
     ensures node { OnOk result (IfSome (book_on (S.state shelf.old).files name.now pages)
         (λ b. HasNode b child.now.id (page_node into.new))) }
     ensures kept { KeepsSheets name.now name.now pages pages (S.state shelf.old)
@@ -115,7 +117,7 @@ fn show_inside<H: Hashes, S: Shelf>(
     ensures caches { OnOk result (IsHeld cache.new.entries child.now) }
     ensures held { IsHeld cache.old.entries child.now →
         (S.state shelf.new).reads ≡ (S.state shelf.old).reads }
-    ensures shown { IsHeld cache.old.entries child.now → IsOk result }
+    ensures found { IsHeld cache.old.entries child.now → IsOk result }
     ensures quiet { OnOk result ((S.state shelf.new).faults ≡ (S.state shelf.old).faults) }
     ensures given { IfErr result (RefusesRead H.of pages child.now) }
     ensures cause { IfErr result (HasEditCause (S.state shelf.old).faults
@@ -149,6 +151,7 @@ pub(crate) fn show_node<H: Hashes, S: Shelf>(
     ensures page { OnOk result (1 ≤ child.now.id) }
     ensures level { OnOk result (level_of into.new ≡ child.now.level) }
     ensures some { OnOk result (1 ≤ size into.new) }
+    ensures shown { OnOk result (AreTold One into.new) }
     ensures node { OnOk result (IfSome (book_on (S.state shelf.old).files name.now pages)
         (λ b. HasNode b child.now.id (page_node into.new))) }
     ensures kept { KeepsSheets name.now name.now pages pages (S.state shelf.old)
@@ -158,7 +161,7 @@ pub(crate) fn show_node<H: Hashes, S: Shelf>(
     ensures caches { OnOk result (IsHeld cache.new.entries child.now) }
     ensures held { IsHeld cache.old.entries child.now →
         (S.state shelf.new).reads ≡ (S.state shelf.old).reads }
-    ensures shown { IsHeld cache.old.entries child.now → 1 ≤ child.now.id →
+    ensures found { IsHeld cache.old.entries child.now → 1 ≤ child.now.id →
         child.now.id < pages → IsOk result }
     ensures quiet { OnOk result ((S.state shelf.new).faults ≡ (S.state shelf.old).faults) }
     ensures given { IfErr result (RefusesRead H.of pages child.now) }
@@ -191,6 +194,7 @@ pub(crate) fn write_node<H: Hashes, S: Shelf>(
     requires page { 1 ≤ child.now.id }
     requires some { 1 ≤ size view.now }
     requires said { IsEntryOf H.of child.now view.now }
+    requires shown { AreTold One view.now }
     ensures sheets { IsSheets H.of (S.state shelf.new).files name.now pages cache.new.entries
         cache.new.cap }
     ensures put { OnOk result (book_on (S.state shelf.new).files name.now pages

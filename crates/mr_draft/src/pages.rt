@@ -13,7 +13,7 @@ ghost use Rattle.mr_edit.specs.Shelves.{HasShelfCause, Refuses};
 
 use mr_edit::EditErr;
 use mr_outside::{Shelf, ShelfErr};
-use mr_pages::{MapFault, MapRule, PAGE_LIMIT, PAGE_SIZE, page_bytes, read_free_page};
+use mr_pages::{FIRST, MapFault, MapRule, PAGE_LIMIT, PAGE_SIZE, page_into, read_free_page};
 
 // The same cause in a change's own words.
 pub(crate) fn refusal(error: ShelfErr) -> EditErr
@@ -194,8 +194,9 @@ pub(crate) fn read_bytes<S: Shelf>(
     ensures cause { IfErr result (HasShelfCause (S.state shelf.old).faults
         (S.state shelf.new).faults) }
 {
-    match page_bytes(shelf, name, page) {
-        Ok(bytes) => Ok(bytes),
+    let mut bytes = [0; PAGE_SIZE];
+    match page_into(shelf, name, FIRST, page, &mut bytes) {
+        Ok(()) => Ok(bytes),
         Err(error) => Err(refusal(error)),
     }
 }

@@ -89,11 +89,12 @@ fn digest_of<H: Hashes>(head: &MapHead) -> [u8; 32]
         (root_entry head.now.root)) }
 {
     let top = Top {
+        version: FIRST.version,
         batch: head.batch,
         count: head.count,
         root: head.root,
     };
-    root_digest::<H>(FIRST.version, top.batch, top.count, &top.root_entry())
+    root_digest::<H>(top.version, top.batch, top.count, &top.root_entry())
 }
 
 // Writes page 0, which says this of the map, and answers the root digest.
@@ -134,6 +135,8 @@ fn is_child(one: &Child)
 {
     is_id(one.id);
     let _corners = one.rect.corners();
+    is_word(one.mask);
+    is_word(one.count);
     is_digest(&one.digest);
 }
 

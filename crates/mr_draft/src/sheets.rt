@@ -3,7 +3,8 @@
 ghost use Rattle.std.specs.Prelude.{◌≡◌, ◌+◌, ◌<◌, ◌≤◌, option_map, IsOk, IfErr, OnOk, IfSome};
 ghost use Rattle.std.specs.String.{string_bytes};
 ghost use Rattle.std.proofs.Props.{props};
-ghost use Rattle.mr_tree.specs.View.{size, level_of};
+ghost use Rattle.mr_record.specs.declared.version.Version.TheVariants.{One};
+ghost use Rattle.mr_tree.specs.View.{AreTold, size, level_of};
 ghost use Rattle.mr_pages.specs.Walking.{page_node};
 ghost use Rattle.mr_edit.specs.Book.{HasNode, node_sheet, with_sheet};
 ghost use Rattle.mr_edit.specs.Causes.{HasEditCause, CanRead};
@@ -56,6 +57,7 @@ impl<S: Shelf, H: Hashes> PageFile for Sheets<S, H> {
         ensures page { OnOk result (1 ≤ child.now.id) }
         ensures level { OnOk result (level_of into.new ≡ child.now.level) }
         ensures some { OnOk result (1 ≤ size into.new) }
+        ensures shown { OnOk result (AreTold One into.new) }
         ensures node { OnOk result (IfSome (book_on (S.state self.old.shelf).files
             (string_bytes self.old.name) self.old.pages)
             (λ b. HasNode b child.now.id (page_node into.new))) }
@@ -74,7 +76,7 @@ impl<S: Shelf, H: Hashes> PageFile for Sheets<S, H> {
         ensures caches { OnOk result (IsHeld self.new.cache.entries child.now) }
         ensures held { IsHeld self.old.cache.entries child.now →
             (S.state self.new.shelf).reads ≡ (S.state self.old.shelf).reads }
-        ensures shown { IsHeld self.old.cache.entries child.now → 1 ≤ child.now.id →
+        ensures found { IsHeld self.old.cache.entries child.now → 1 ≤ child.now.id →
             child.now.id < self.old.pages → IsOk result }
     {
         show_node::<H, S>(
@@ -96,6 +98,7 @@ impl<S: Shelf, H: Hashes> PageFile for Sheets<S, H> {
         requires page { 1 ≤ child.now.id }
         requires some { 1 ≤ size view.now }
         requires said { IsEntryOf H.of child.now view.now }
+        requires shown { AreTold One view.now }
         ensures sound { IfErr result (λ e. NeverMap e (CanWrite
             (book_on (S.state self.old.shelf).files (string_bytes self.old.name) self.old.pages)
             child.now.id)) }

@@ -18,12 +18,12 @@ pub all_append : {X : Type 0} (P : X → Type 0) (xs ys : List X) → AllByRecur
 all_append P [] ys all more = more
 all_append P (x ∷ xs) ys all more = (all.0, all_append P xs ys all.1 more)
 
-all_take : {X : Type 0} (P : X → Type 0) (n : ℕ) (xs : List X) → AllByRecursion P xs → AllByRecursion P (take n xs)
+pub all_take : {X : Type 0} (P : X → Type 0) (n : ℕ) (xs : List X) → AllByRecursion P xs → AllByRecursion P (take n xs)
 all_take P zero xs all = tt
 all_take P (suc n) [] all = tt
 all_take P (suc n) (x ∷ xs) all = (all.0, all_take P n xs all.1)
 
-all_drop : {X : Type 0} (P : X → Type 0) (n : ℕ) (xs : List X) → AllByRecursion P xs → AllByRecursion P (drop n xs)
+pub all_drop : {X : Type 0} (P : X → Type 0) (n : ℕ) (xs : List X) → AllByRecursion P xs → AllByRecursion P (drop n xs)
 all_drop P zero xs all = all
 all_drop P (suc n) [] all = tt
 all_drop P (suc n) (x ∷ xs) all = all_drop P n xs all.1
@@ -55,6 +55,14 @@ replaced_below level at cs new d all within is levels =
     (all_take (λ (c : Child). c.level + 1 ≡ level) at cs all)
     (all_append (λ (c : Child). c.level + 1 ≡ level) new (drop (suc at) cs) (one_up level d.level new up levels)
     (all_drop (λ (c : Child). c.level + 1 ≡ level) (suc at) cs all))
+
+-- what holds of the other entries and of these holds then of all
+pub replaced_all : {X : Type 0} (P : X → Type 0) (at : ℕ) (xs new all : List X) →
+    all ≡ take at xs ++ (new ++ drop (suc at) xs) → AllByRecursion P xs → AllByRecursion P new → AllByRecursion P all
+replaced_all P at xs new all is old more =
+    subst (AllByRecursion P) (sym is)
+    (all_append P (take at xs) (new ++ drop (suc at) xs) (all_take P at xs old)
+    (all_append P new (drop (suc at) xs) more (all_drop P (suc at) xs old)))
 
 -- and there is one entry more at most
 pub replaced_length : {X : Type 0} (at : ℕ) (xs new : List X) → at < length xs →

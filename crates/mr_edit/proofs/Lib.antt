@@ -4,6 +4,7 @@ pub mod Frame
 pub mod Places
 pub mod Entries
 pub mod Levels
+pub mod Shown
 pub mod Writes
 pub mod Taking
 pub mod Splitting
@@ -28,6 +29,7 @@ pub mod Sought
 pub mod Deletable
 pub mod Directed
 pub mod Turns
+pub mod Layers
 pub mod Admitted
 pub mod OwnedOnce
 pub mod FreeReads

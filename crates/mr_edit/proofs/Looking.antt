@@ -1,6 +1,6 @@
 -- A node that is looked at, where the pages are told, is the one that its entry is of, and as full as it has to be.
 use Rattle.std.proofs.Common.{◌≡◌, ℕ, zero, suc, ◌<◌, ◌≤◌, Bool, true, false, List, [], ◌∷◌, ◌++◌, map, refl, sym, ap, subst, ◌∙◌, arith}
-use Rattle.std.specs.Prelude.{not, nat_lt, Option, Some, IfSome}
+use Rattle.std.specs.Prelude.{◌==◌, ◌&&◌, ◌||◌, not, nat_lt, Option, Some, IfSome}
 use Rattle.std.proofs.lemmas.Bool.{le-ltb}
 use Rattle.mr_geom.specs.Rectangle.{union_of}
 use Rattle.mr_record.specs.declared.version.Version.TheVariants.{One}
@@ -9,7 +9,7 @@ use Rattle.mr_tree.specs.View as view
 use Rattle.mr_tree.specs.declared.entry.Entry.{Entry}
 use Rattle.mr_tree.specs.declared.child.Child.{Child}
 use Rattle.mr_tree.specs.declared.tree.Tree.TheOpen.{Empty, Leaf, Inner}
-use Rattle.mr_pages.specs.Faults.{same_rect, size, least}
+use Rattle.mr_pages.specs.Faults.{same_rect, same_sums, size, least}
 use Rattle.mr_pages.specs.Judging.{Fills}
 use Rattle.mr_pages.specs.Page.{Link, Node, entry_of}
 use Rattle.mr_pages.specs.Stands as placed
@@ -24,6 +24,7 @@ use Rattle.mr_edit.specs.Causes.{CanRead, CanLook, KnowsBelow}
 use Rattle.mr_edit.proofs.Frame.{times-append}
 use Rattle.mr_edit.proofs.Places.{owned_within}
 use Rattle.mr_edit.proofs.Entries.{same_node, said_leaf, said_inner}
+use Rattle.mr_edit.proofs.Shown.{no_mask, no_count}
 
 both : (b : Bool) → b ≡ true → b ≡ false → ⊥
 both true p q = cc
@@ -69,6 +70,39 @@ round scheme b c P n names has =
     ∙ ap (entry_of scheme) (node_there scheme b c P (page_node n) names has) ∙ node_said scheme c P names.said) in
     ap (λ o. same_rect o (Some c.rect)) same ∙ same_rect_self (Some c.rect)
 
+-- ---- its layers and the number of its records
+
+nothing_said : (root : Bool) (found said : Entry) → found.mask ≡ 0 → found.count ≡ 0 → said.mask ≡ 0 →
+    said.count ≡ 0 → same_sums root found said ≡ true
+nothing_said true found said a b x y = ap (λ m. (m == said.mask) && true) a ∙ ap (λ m. (0 == m) && true) x
+nothing_said false found said a b x y =
+    ap (λ m. (m == said.mask) && (found.count == said.count)) a ∙ ap (λ m. (0 == m) && (found.count == said.count)) x
+    ∙ ap (λ m. m == said.count) b ∙ ap (λ m. 0 == m) y
+
+sums : (hash : List ℕ → List ℕ) (root : Bool) (b : Book) (c : Child) (P : Placed) (n : view.Node) (found : Entry) →
+    Names (by One hash) b c P → HasNode b c.id (page_node n) → view.AreTold One n → found.mask ≡ 0 →
+    found.count ≡ 0 → same_sums root found (child_link c).entry ≡ true
+sums hash root b c P n found names has told mask count =
+    let is : view.entry_over (by One hash) n ≡ view.entry_of c = entry_same (by One hash) n
+    ∙ ap (entry_of (by One hash)) (node_there (by One hash) b c P (page_node n) names has)
+    ∙ node_said (by One hash) c P names.said in
+    nothing_said root found (child_link c).entry mask count
+    (sym (ap (λ (e : Entry). e.mask) is) ∙ no_mask hash n told)
+    (sym (ap (λ (e : Entry). e.count) is) ∙ no_count hash n told)
+
+same_as : (root : Bool) (found e said : Entry) → e.mask ≡ found.mask → e.count ≡ found.count →
+    same_sums root found said ≡ true → same_sums root e said ≡ true
+same_as root found e said masks counts same =
+    ap (λ m. (m == said.mask) && (root || e.count == said.count)) masks
+    ∙ ap (λ k. (found.mask == said.mask) && (root || k == said.count)) counts ∙ same
+
+pub sums_shown : (hash : List ℕ → List ℕ) (root : Bool) (n : view.Node) (found said : Entry) → view.AreTold One n →
+    found.mask ≡ 0 → found.count ≡ 0 → same_sums root found said ≡ true →
+    same_sums root (view.entry_over (by One hash) n) said ≡ true
+sums_shown hash root n found said told mask count same =
+    same_as root found (view.entry_over (by One hash) n) said (no_mask hash n told ∙ sym mask)
+    (no_count hash n told ∙ sym count) same
+
 -- ---- how full it is
 
 full : (scheme : Scheme) (root : Bool) (P : Placed) → FilledAs root (tree_of P) →
@@ -96,6 +130,13 @@ pub off_blames : (hash : List ℕ → List ℕ) (root : Bool) (told : Option Boo
 off_blames hash root told c n reads off k =
     both (same_rect (view.rect_of n) (Some c.rect)) (round (by One hash) k.read.book c k.read.placed n k.read.names
     (reads_in told k.read.book c n k.read.is reads)) off
+
+pub sums_blames : (hash : List ℕ → List ℕ) (root : Bool) (told : Option Book) (c : Child) (n : view.Node)
+    (found : Entry) → IfSome told (λ b. HasNode b c.id (page_node n)) → view.AreTold One n → found.mask ≡ 0 →
+    found.count ≡ 0 → same_sums root found (child_link c).entry ≡ false → CanLook hash root told c → ⊥
+sums_blames hash root told c n found reads shown mask count off k =
+    both (same_sums root found (child_link c).entry) (sums hash root k.read.book c k.read.placed n found k.read.names
+    (reads_in told k.read.book c n k.read.is reads) shown mask count) off
 
 pub few_blames : (hash : List ℕ → List ℕ) (root : Bool) (told : Option Book) (c : Child) (n : view.Node) →
     IfSome told (λ b. HasNode b c.id (page_node n)) → Fills root n ≡ false → CanLook hash root told c → ⊥

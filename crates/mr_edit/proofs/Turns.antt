@@ -40,7 +40,7 @@ use Rattle.mr_edit.proofs.Once.{once_apart}
 
 -- ---- the directory
 
-new_part : (b c : Bool) → (not b && c) ≡ true → b ≡ false
+pub new_part : (b c : Bool) → (not b && c) ≡ true → b ≡ false
 new_part true c e = cc
 new_part false c e = refl
 

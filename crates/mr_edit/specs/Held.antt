@@ -2,6 +2,7 @@
 use Rattle.std.specs.Prelude.{◌≡◌, ℕ, List, ◌∷◌, map}
 use Rattle.std.specs.List.{flat_map, AllZip}
 use Rattle.std.specs.Option.{option_to_list}
+use Rattle.mr_record.specs.declared.version.Version.{Version}
 use Rattle.mr_record.specs.declared.version.Version.TheVariants.{One}
 use Rattle.mr_tree.specs.Digest.{Scheme, by}
 use Rattle.mr_tree.specs.View as view
@@ -17,6 +18,10 @@ use Rattle.mr_edit.specs.declared.stand.Stand.{Stand}
 pub record Names (scheme : Scheme) (b : Book) (c : Child) (P : Placed) : Type 0 where
   pub said : child_link c ≡ link_of scheme P
   pub written : IsWritten scheme (HasNode b) P
+
+-- its version may tell what is told of the node
+abbrev pub IsTold : Version → Child → Type 0
+IsTold v c = view.MayTell v c.mask c.count
 
 -- the entry is that of the node that a view shows
 abbrev pub IsEntryOf : (List ℕ → List ℕ) → Child → view.Node → Type 0

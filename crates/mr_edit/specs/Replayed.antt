@@ -1,12 +1,15 @@
 -- What the changes of a batch leave of a draft, of the directory of its records, and of the number
 -- of pages of its file.
-use Rattle.std.specs.Prelude.{◌≡◌, ℕ, true, Option}
+use Rattle.std.specs.Prelude.{◌≡◌, ⊤, ℕ, true, Option}
+use Rattle.mr_record.specs.Record.{HasLayer}
+use Rattle.mr_record.specs.declared.version.Version.{Version}
 use Rattle.mr_tree.specs.Digest.{Scheme}
 use Rattle.mr_tree.specs.Tree.{records}
 use Rattle.mr_tree.specs.WellFormed.{WellFormed}
 use Rattle.mr_tree.specs.declared.child.Child.{Child}
 use Rattle.mr_tree.specs.declared.tree.Tree.{Tree}
 use Rattle.mr_batch.specs.declared.change.Change.{Change}
+use Rattle.mr_batch.specs.declared.change.Change.TheVariants.{Add, Remove}
 use Rattle.mr_batch.specs.Changes.{Changes}
 use Rattle.mr_batch.specs.Applied.{may_make, IsAdmissible}
 use Rattle.mr_batch.specs.Directory.{Entries, IsDirectoryOf}
@@ -21,6 +24,11 @@ pub record OnPages (scheme : Scheme) (told : Option Book) (free : ℕ) (root : O
   pub reaches : Reaches scheme told free root t least size most
   pub well : WellFormed t
   pub directory : IsDirectoryOf dir (records t)
+
+-- a record that comes has a layer of the version
+abbrev pub IsOfVersion : Version → Change → Type 0
+IsOfVersion v (Add r) = HasLayer v r
+IsOfVersion v (Remove n) = ⊤
 
 -- a change is made, if it may be
 abbrev pub ChangesOne : Scheme → (told : Option Book) → (free : ℕ) → Option Child → Entries →

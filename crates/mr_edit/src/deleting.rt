@@ -1,10 +1,12 @@
 //! Deletion from a map.
 
-ghost use Rattle.std.specs.Prelude.{◌≡◌, ◌+◌, ◌*◌, ◌≤◌, length, IfOk, IfErr, OnOk};
+ghost use Rattle.std.specs.Prelude.{◌≡◌, ◌+◌, ◌*◌, ◌≤◌, length, All, IfOk, IfErr, IfSome, OnOk};
+ghost use Rattle.mr_record.specs.Record.{HasLayer};
 ghost use Rattle.mr_record.specs.declared.version.Version.TheVariants.{One};
 ghost use Rattle.mr_tree.specs.Digest.{by};
 ghost use Rattle.mr_edit.specs.Causes.{HasEditCause};
 ghost use Rattle.mr_edit.specs.Counted.{DeletesTwice};
+ghost use Rattle.mr_edit.specs.Held.{IsTold};
 ghost use Rattle.mr_edit.specs.Outcome.{NeverMap, IsLow};
 ghost use Rattle.mr_edit.specs.Growing.{CanInsert};
 ghost use Rattle.mr_edit.specs.Deleted.{InsertsAll, Deletes};
@@ -28,6 +30,7 @@ fn put_all<F: PageFile>(
     mut root: Option<Child>,
     records: &[Record],
 ) -> Result<Option<Child>, EditErr>
+    requires { All (HasLayer One) records.now }
     ensures inserts { IfOk result (λ r. InsertsAll (by One F.Hash.of) (F.told desk.old.file)
         desk.old.free root (F.told desk.new.file) desk.new.free r records.now) }
     ensures sound { IfErr result (λ e. NeverMap e
@@ -37,6 +40,7 @@ fn put_all<F: PageFile>(
         ≤ F.reads desk.old.file + length records.now * insertion_reads }
     ensures quiet { OnOk result (F.faults desk.new.file ≡ F.faults desk.old.file) }
     ensures low { IfOk result (λ r. IsLow root → IsLow r) }
+    ensures told { IfOk result (λ r. IfSome root (IsTold One) → IfSome r (IsTold One)) }
     ensures cause { IfErr result (HasEditCause (F.faults desk.old.file) (F.faults desk.new.file)) }
 {
     for one in records {
@@ -68,6 +72,7 @@ pub(crate) fn delete<F: PageFile>(
         rect.now (F.reads desk.old.file) (F.reads desk.new.file) }
     ensures quiet { OnOk result (F.faults desk.new.file ≡ F.faults desk.old.file) }
     ensures low { IfOk result IsLow }
+    ensures told { IfOk result (λ r. IfSome r (IsTold One)) }
     ensures cause { IfErr result (HasEditCause (F.faults desk.old.file) (F.faults desk.new.file)) }
 {
     let Some(child) = root else {

@@ -5,20 +5,22 @@ ghost use Rattle.mr_record.specs.declared.version.Version.TheVariants.{One};
 ghost use Rattle.mr_tree.specs.Digest.{by};
 ghost use Rattle.mr_tree.specs.declared.child.Child as child_types;
 ghost use Rattle.mr_tree.specs.declared.tree.Tree.TheOpen.{Leaf, Inner};
-ghost use Rattle.mr_tree.specs.View.{size, level_of, rect_of};
-ghost use Rattle.mr_pages.specs.Faults.{same_rect};
+ghost use Rattle.mr_record.specs.Record.{HasLayer};
+ghost use Rattle.mr_tree.specs.View.{size, level_of, rect_of, entry_over, AreTold};
+ghost use Rattle.mr_pages.specs.Faults.{same_rect, same_sums};
 ghost use Rattle.mr_pages.specs.Judging.{Fills};
 ghost use Rattle.mr_pages.specs.Walking.{child_link, page_node};
 ghost use Rattle.mr_edit.specs.Book.{HasNode};
+ghost use Rattle.mr_edit.specs.Held.{IsTold};
 ghost use Rattle.mr_edit.specs.Causes.{HasEditCause, CanLook};
 ghost use Rattle.mr_edit.specs.Outcome.{TakesPage, Writes, NeverMap, CanTake, CanWrite};
 ghost use Rattle.mr_tree.specs.Limits.{inner_limit, leaf_limit};
 
 use crate::hints::Hints;
 use crate::{EditErr, PageFile};
-use mr_pages::{FIRST, MapFault, MapRule, child_on, is_full, is_said};
+use mr_pages::{FIRST, MapFault, MapRule, child_on, has_sums, is_full, is_said};
 use mr_record::Record;
-use mr_tree::{Child, NodeView};
+use mr_tree::{Child, Entry, NodeView};
 use std::alloc::Global;
 
 /// A file and its first free page, 0 for none.
@@ -43,6 +45,20 @@ impl<F> Desk<F> {
     }
 }
 
+// What is to be said of a node of version 1: no mask and no count.
+fn said_as_first(child: &Child) -> Entry
+    ensures mask { result.mask ≡ 0 }
+    ensures count { result.count ≡ 0 }
+{
+    Entry {
+        level: child.level,
+        rect: Some(child.rect),
+        mask: 0,
+        count: 0,
+        digest: child.digest,
+    }
+}
+
 // Reads the node of which the child is the entry, and judges it by itself, as a root or below it.
 pub(crate) fn look<F: PageFile>(
     file: &mut F,
@@ -54,9 +70,12 @@ pub(crate) fn look<F: PageFile>(
     ensures page { OnOk result (1 ≤ child.now.id) }
     ensures level { OnOk result (level_of into.new ≡ child.now.level) }
     ensures some { OnOk result (1 ≤ size into.new) }
+    ensures shown { OnOk result (AreTold One into.new) }
     ensures node { OnOk result (IfSome (F.told file.old)
         (λ b. HasNode b child.now.id (page_node into.new))) }
     ensures round { OnOk result (same_rect (rect_of into.new) (Some child.now.rect) ≡ true) }
+    ensures sums { OnOk result (same_sums root (entry_over (by One F.Hash.of) into.new)
+        (child_link child.now).entry ≡ true) }
     ensures full { OnOk result (Fills root into.new ≡ true) }
     ensures kept { F.kept file.old file.new }
     ensures reads { F.reads file.new ≤ F.reads file.old + 1 }
@@ -67,6 +86,12 @@ pub(crate) fn look<F: PageFile>(
 {
     file.read(child, into)?;
     if !is_said(into.rect(), child.rect) {
+        return Err(EditErr::Map(MapFault {
+            page: child.id,
+            rule: MapRule::Page,
+        }));
+    }
+    if !has_sums(&said_as_first(child), child, root) {
         return Err(EditErr::Map(MapFault {
             page: child.id,
             rule: MapRule::Page,
@@ -110,9 +135,11 @@ pub(crate) fn write_leaf<F: PageFile>(
     requires page { 1 ≤ page }
     requires some { 1 ≤ length records.now }
     requires few { length records.now ≤ leaf_limit }
+    requires layers { All (HasLayer One) records.now }
     ensures writes { IfOk result (λ c. Writes (by One F.Hash.of) (F.told desk.old.file)
         desk.old.free (F.told desk.new.file) desk.new.free page (Leaf records.now) c) }
     ensures level { IfOk result (λ c. c.level ≡ 0) }
+    ensures told { IfOk result (IsTold One) }
     ensures sound { IfErr result (λ e. NeverMap e (CanWrite (F.told desk.old.file) page)) }
     ensures kept { F.kept desk.old.file desk.new.file }
     ensures reads { F.reads desk.new.file ≡ F.reads desk.old.file }
@@ -139,10 +166,12 @@ pub(crate) fn write_inner<F: PageFile>(
     requires some { 1 ≤ length children.now }
     requires few { length children.now ≤ inner_limit }
     requires below { All (λ (c : child_types.Child). c.level + 1 ≡ level) children.now }
+    requires told { All (IsTold One) children.now }
     ensures writes { IfOk result (λ c. Writes (by One F.Hash.of) (F.told desk.old.file)
         desk.old.free (F.told desk.new.file) desk.new.free page
         (Inner (map child_link children.now)) c) }
     ensures level { IfOk result (λ c. c.level ≡ level) }
+    ensures told { IfOk result (IsTold One) }
     ensures sound { IfErr result (λ e. NeverMap e (CanWrite (F.told desk.old.file) page)) }
     ensures kept { F.kept desk.old.file desk.new.file }
     ensures reads { F.reads desk.new.file ≡ F.reads desk.old.file }

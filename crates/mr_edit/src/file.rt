@@ -1,7 +1,8 @@
 //! The pages of a map file under edit.
 
 ghost use Rattle.std.specs.Prelude.{◌≡◌, ℕ, ◌+◌, ◌<◌, ◌≤◌, Option, option_map, IfSome, IsSomeAnd, IfOk, IfErr, OnOk};
-ghost use Rattle.mr_tree.specs.View.{size, level_of};
+ghost use Rattle.mr_record.specs.declared.version.Version.TheVariants.{One};
+ghost use Rattle.mr_tree.specs.View.{size, level_of, AreTold};
 ghost use Rattle.mr_pages.specs.Page.{page_limit};
 ghost use Rattle.mr_pages.specs.Walking.{page_node};
 ghost use Rattle.mr_edit.specs.Book.{Book, HasNode, HasFree, with_sheet, node_sheet, free_sheet, longer};
@@ -34,6 +35,7 @@ pub trait PageFile {
         ensures page { OnOk result (1 ≤ child.now.id) }
         ensures level { OnOk result (level_of into.new ≡ child.now.level) }
         ensures some { OnOk result (1 ≤ size into.new) }
+        ensures shown { OnOk result (AreTold One into.new) }
         ensures node { OnOk result (IfSome (told self.old)
             (λ b. HasNode b child.now.id (page_node into.new))) }
         ensures kept { kept self.old self.new }
@@ -60,6 +62,7 @@ pub trait PageFile {
         requires page { 1 ≤ child.now.id }
         requires some { 1 ≤ size view.now }
         requires said { IsEntryOf Self.Hash.of child.now view.now }
+        requires shown { AreTold One view.now }
         ensures sound { IfErr result (λ e. NeverMap e (CanWrite (told self.old) child.now.id)) }
         ensures put { OnOk result (told self.new
             ≡ option_map (with_sheet child.now.id (node_sheet (page_node view.now)))

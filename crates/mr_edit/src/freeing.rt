@@ -1,6 +1,7 @@
 //! Pages that are free again.
 
-ghost use Rattle.std.specs.Prelude.{◌≡◌, ◌≤◌, ◌∷◌, [], IfErr, OnOk};
+ghost use Rattle.std.specs.Prelude.{◌≡◌, ◌≤◌, ◌∷◌, [], All, IfErr, OnOk};
+ghost use Rattle.mr_record.specs.Record.{HasLayer};
 ghost use Rattle.mr_record.specs.declared.version.Version.TheVariants.{One};
 ghost use Rattle.mr_tree.specs.Digest.{by};
 ghost use Rattle.mr_edit.specs.Causes.{HasEditCause};
@@ -38,6 +39,8 @@ fn free_subtree<F: PageFile>(
 ) -> Result<(), EditErr>
     ensures frees { OnOk result (Frees (by One F.Hash.of) (F.told desk.old.file) desk.old.free
         (F.told desk.new.file) desk.new.free (child.now ∷ []) list.old.items list.new.items) }
+    ensures layers { OnOk result
+        (All (HasLayer One) list.old.items → All (HasLayer One) list.new.items) }
     ensures kept { F.kept desk.old.file desk.new.file }
     ensures once { FreesOnce (by One F.Hash.of) (F.told desk.old.file) desk.old.free
         (child.now ∷ [])
@@ -69,6 +72,8 @@ pub(crate) fn free_subtrees<F: PageFile>(
 ) -> Result<(), EditErr>
     ensures frees { OnOk result (Frees (by One F.Hash.of) (F.told desk.old.file) desk.old.free
         (F.told desk.new.file) desk.new.free children.now list.old.items list.new.items) }
+    ensures layers { OnOk result
+        (All (HasLayer One) list.old.items → All (HasLayer One) list.new.items) }
     ensures kept { F.kept desk.old.file desk.new.file }
     ensures once { FreesOnce (by One F.Hash.of) (F.told desk.old.file) desk.old.free children.now
         (F.reads desk.old.file) (F.reads desk.new.file) }

@@ -1,14 +1,16 @@
 //! Deletion below an entry.
 
-ghost use Rattle.std.specs.Prelude.{Some, ◌≡◌, ◌≢◌, ◌≤◌, ◌<◌, ◌+◌, ◌-◌, ◌==◌, ◌&&◌, not, if◌then◌else◌, ◌++◌, ◌∷◌, [], suc, length, map, take, drop, true, false, IfOk, IfSome, IfErr, OnOk};
+ghost use Rattle.std.specs.Prelude.{Some, ◌≡◌, ◌≢◌, ◌≤◌, ◌<◌, ◌+◌, ◌-◌, ◌==◌, ◌&&◌, not, if◌then◌else◌, ◌++◌, ◌∷◌, [], suc, length, map, take, drop, true, false, All, IfOk, IfSome, IfErr, OnOk};
 ghost use Rattle.std.specs.List.{AllByRecursion};
 ghost use Rattle.std.specs.Option.{option_to_list};
 ghost use Rattle.mr_geom.specs.Rectangle.{union};
+ghost use Rattle.mr_record.specs.Record.{HasLayer};
 ghost use Rattle.mr_record.specs.declared.version.Version.TheVariants.{One};
 ghost use Rattle.mr_tree.specs.Digest.{by};
 ghost use Rattle.mr_tree.specs.declared.child.Child as child_types;
 ghost use Rattle.mr_edit.specs.Causes.{HasEditCause, KnowsBelow};
 ghost use Rattle.mr_edit.specs.Counted.{FreesOnce, LeavesOnce, ReadsTwice, TakesTwice};
+ghost use Rattle.mr_edit.specs.Held.{IsTold};
 ghost use Rattle.mr_edit.specs.Outcome.{NeverMap, CanWrite, IsLow};
 ghost use Rattle.mr_edit.specs.Removal.{LeavesLeaf, LeavesInner, Shortens, Searches};
 ghost use Rattle.mr_edit.specs.Removable.{CanLeave, CanTakeOut};
@@ -42,6 +44,7 @@ fn leave_leaf<F: PageFile>(
 ) -> Result<Left, EditErr>
     requires page { 1 ≤ page }
     requires few { length records.items ≤ leaf_limit }
+    requires layers { All (HasLayer One) records.items }
     ensures leaves { IfOk result (λ l. LeavesLeaf (by One F.Hash.of) false (F.told desk.old.file)
         desk.old.free (F.told desk.new.file) desk.new.free page records.items
         (option_to_list l.entry) l.aside.items) }
@@ -51,6 +54,8 @@ fn leave_leaf<F: PageFile>(
     ensures reads { F.reads desk.new.file ≡ F.reads desk.old.file }
     ensures quiet { OnOk result (F.faults desk.new.file ≡ F.faults desk.old.file) }
     ensures low { IfOk result (λ l. IsLow l.entry) }
+    ensures told { IfOk result (λ l. IfSome l.entry (IsTold One)) }
+    ensures layers { IfOk result (λ l. All (HasLayer One) l.aside.items) }
     ensures cause { IfErr result (HasEditCause (F.faults desk.old.file) (F.faults desk.new.file)) }
     ensures sound { IfErr result (λ e. NeverMap e (CanWrite (F.told desk.old.file) page)) }
 {
@@ -78,6 +83,7 @@ fn leave_top_leaf<F: PageFile>(
 ) -> Result<Left, EditErr>
     requires page { 1 ≤ page }
     requires few { length records.items ≤ leaf_limit }
+    requires layers { All (HasLayer One) records.items }
     ensures leaves { IfOk result (λ l. LeavesLeaf (by One F.Hash.of) true (F.told desk.old.file)
         desk.old.free (F.told desk.new.file) desk.new.free page records.items
         (option_to_list l.entry) l.aside.items) }
@@ -85,6 +91,8 @@ fn leave_top_leaf<F: PageFile>(
     ensures reads { F.reads desk.new.file ≡ F.reads desk.old.file }
     ensures quiet { OnOk result (F.faults desk.new.file ≡ F.faults desk.old.file) }
     ensures low { IfOk result (λ l. IsLow l.entry) }
+    ensures told { IfOk result (λ l. IfSome l.entry (IsTold One)) }
+    ensures layers { IfOk result (λ l. All (HasLayer One) l.aside.items) }
     ensures cause { IfErr result (HasEditCause (F.faults desk.old.file) (F.faults desk.new.file)) }
     ensures sound { IfErr result (λ e. NeverMap e (CanWrite (F.told desk.old.file) page)) }
 {
@@ -117,6 +125,8 @@ fn leave_inner<F: PageFile>(
     requires few { length children.now ≤ inner_limit }
     requires below { AllByRecursion (λ (c : child_types.Child). c.level + 1 ≡ level)
         children.now }
+    requires told { AllByRecursion (IsTold One) children.now }
+    requires layers { All (HasLayer One) aside.items }
     ensures leaves { IfOk result (λ l. LeavesInner (by One F.Hash.of) false (F.told desk.old.file)
         desk.old.free (F.told desk.new.file) desk.new.free page children.now aside.items
         (option_to_list l.entry) l.aside.items) }
@@ -129,6 +139,8 @@ fn leave_inner<F: PageFile>(
         (λ c. F.reads desk.new.file ≡ F.reads desk.old.file)) }
     ensures quiet { OnOk result (F.faults desk.new.file ≡ F.faults desk.old.file) }
     ensures low { IfOk result (λ l. IsLow l.entry) }
+    ensures told { IfOk result (λ l. IfSome l.entry (IsTold One)) }
+    ensures layers { IfOk result (λ l. All (HasLayer One) l.aside.items) }
     ensures cause { IfErr result (HasEditCause (F.faults desk.old.file) (F.faults desk.new.file)) }
     ensures sound { IfErr result (λ e. NeverMap e
         (CanLeave F.Hash.of (F.told desk.old.file) desk.old.free page children.now)) }
@@ -153,6 +165,7 @@ fn leave_inner<F: PageFile>(
 
 // The root that a node gives way to: itself, unless it has one child.
 fn shorten<F: PageFile>(desk: &mut Desk<F>, child: &Child) -> Result<Child, EditErr>
+    requires { IsTold One child.now }
     ensures shortens { IfOk result (λ c. Shortens (by One F.Hash.of) (F.told desk.old.file)
         desk.old.free (F.told desk.new.file) desk.new.free child.now c) }
     ensures kept { F.kept desk.old.file desk.new.file }
@@ -161,6 +174,7 @@ fn shorten<F: PageFile>(desk: &mut Desk<F>, child: &Child) -> Result<Child, Edit
         (F.reads desk.old.file) (F.reads desk.new.file) }
     ensures quiet { OnOk result (F.faults desk.new.file ≡ F.faults desk.old.file) }
     ensures low { IfOk result (λ c. IsLow (Some c)) }
+    ensures told { IfOk result (IsTold One) }
     ensures cause { IfErr result (HasEditCause (F.faults desk.old.file) (F.faults desk.new.file)) }
     ensures sound { IfErr result (λ e. NeverMap e
         (KnowsBelow F.Hash.of false (F.told desk.old.file) desk.old.free child.now)) }
@@ -192,6 +206,8 @@ fn leave_top_inner<F: PageFile>(
     requires few { length children.now ≤ inner_limit }
     requires below { AllByRecursion (λ (c : child_types.Child). c.level + 1 ≡ level)
         children.now }
+    requires told { AllByRecursion (IsTold One) children.now }
+    requires layers { All (HasLayer One) aside.items }
     ensures leaves { IfOk result (λ l. LeavesInner (by One F.Hash.of) true (F.told desk.old.file)
         desk.old.free (F.told desk.new.file) desk.new.free page children.now aside.items
         (option_to_list l.entry) l.aside.items) }
@@ -200,6 +216,8 @@ fn leave_top_inner<F: PageFile>(
         children.now (F.reads desk.old.file) (F.reads desk.new.file) }
     ensures quiet { OnOk result (F.faults desk.new.file ≡ F.faults desk.old.file) }
     ensures low { IfOk result (λ l. IsLow l.entry) }
+    ensures told { IfOk result (λ l. IfSome l.entry (IsTold One)) }
+    ensures layers { IfOk result (λ l. All (HasLayer One) l.aside.items) }
     ensures cause { IfErr result (HasEditCause (F.faults desk.old.file) (F.faults desk.new.file)) }
     ensures sound { IfErr result (λ e. NeverMap e
         (CanLeave F.Hash.of (F.told desk.old.file) desk.old.free page children.now)) }
@@ -241,6 +259,8 @@ fn leave<F: PageFile>(
     requires few { length children.now ≤ inner_limit }
     requires below { AllByRecursion (λ (c : child_types.Child). c.level + 1 ≡ level)
         children.now }
+    requires told { AllByRecursion (IsTold One) children.now }
+    requires layers { All (HasLayer One) aside.items }
     ensures leaves { IfOk result (λ l. LeavesInner (by One F.Hash.of) root (F.told desk.old.file)
         desk.old.free (F.told desk.new.file) desk.new.free page children.now aside.items
         (option_to_list l.entry) l.aside.items) }
@@ -253,6 +273,8 @@ fn leave<F: PageFile>(
         (λ c. F.reads desk.new.file ≡ F.reads desk.old.file)) }
     ensures quiet { OnOk result (F.faults desk.new.file ≡ F.faults desk.old.file) }
     ensures low { IfOk result (λ l. IsLow l.entry) }
+    ensures told { IfOk result (λ l. IfSome l.entry (IsTold One)) }
+    ensures layers { IfOk result (λ l. All (HasLayer One) l.aside.items) }
     ensures cause { IfErr result (HasEditCause (F.faults desk.old.file) (F.faults desk.new.file)) }
     ensures sound { IfErr result (λ e. NeverMap e
         (CanLeave F.Hash.of (F.told desk.old.file) desk.old.free page children.now)) }
@@ -274,6 +296,7 @@ fn leave_records<F: PageFile>(
 ) -> Result<Left, EditErr>
     requires page { 1 ≤ page }
     requires few { length records.items ≤ leaf_limit }
+    requires layers { All (HasLayer One) records.items }
     ensures leaves { IfOk result (λ l. LeavesLeaf (by One F.Hash.of) root (F.told desk.old.file)
         desk.old.free (F.told desk.new.file) desk.new.free page records.items
         (option_to_list l.entry) l.aside.items) }
@@ -283,6 +306,8 @@ fn leave_records<F: PageFile>(
     ensures reads { F.reads desk.new.file ≡ F.reads desk.old.file }
     ensures quiet { OnOk result (F.faults desk.new.file ≡ F.faults desk.old.file) }
     ensures low { IfOk result (λ l. IsLow l.entry) }
+    ensures told { IfOk result (λ l. IfSome l.entry (IsTold One)) }
+    ensures layers { IfOk result (λ l. All (HasLayer One) l.aside.items) }
     ensures cause { IfErr result (HasEditCause (F.faults desk.old.file) (F.faults desk.new.file)) }
     ensures sound { IfErr result (λ e. NeverMap e (CanWrite (F.told desk.old.file) page)) }
 {
@@ -349,6 +374,8 @@ pub(crate) fn take_out<F: PageFile>(
         desk.old.free child.now number rect.now (F.reads desk.old.file) (F.reads desk.new.file)) }
     ensures quiet { OnOk result (F.faults desk.new.file ≡ F.faults desk.old.file) }
     ensures low { IfOk result (λ found. IfSome found (λ l. IsLow l.entry)) }
+    ensures told { IfOk result (λ found. IfSome found (λ l. IfSome l.entry (IsTold One))) }
+    ensures layers { IfOk result (λ found. IfSome found (λ l. All (HasLayer One) l.aside.items)) }
     ensures cause { IfErr result (HasEditCause (F.faults desk.old.file) (F.faults desk.new.file)) }
     ensures sound { IfErr result (λ e. NeverMap e (CanTakeOut F.Hash.of root
         (F.told desk.old.file) desk.old.free child.now number rect.now)) }

@@ -1,15 +1,17 @@
 //! The changes of a batch.
 
-ghost use Rattle.std.specs.Prelude.{◌≡◌, ◌+◌, ◌≤◌, IfOk, IfErr, OnOk};
+ghost use Rattle.std.specs.Prelude.{◌≡◌, ◌+◌, ◌≤◌, All, IfOk, IfErr, IfSome, OnOk};
+ghost use Rattle.mr_record.specs.Record.{HasLayer};
 ghost use Rattle.mr_record.specs.declared.version.Version.TheVariants.{One};
 ghost use Rattle.mr_tree.specs.Digest.{by};
 ghost use Rattle.mr_batch.specs.declared.change.Change.TheVariants as changes;
 ghost use Rattle.mr_edit.specs.Causes.{HasEditCause};
 ghost use Rattle.mr_edit.specs.Changing.{CanChange, CanReplay};
 ghost use Rattle.mr_edit.specs.Counted.{ChangesWithin, ReplaysWithin};
+ghost use Rattle.mr_edit.specs.Held.{IsTold};
 ghost use Rattle.mr_edit.specs.Outcome.{NeverMap, IsLow};
 ghost use Rattle.mr_edit.specs.Reads.{insertion_reads};
-ghost use Rattle.mr_edit.specs.Replayed.{ChangesOne, Replays};
+ghost use Rattle.mr_edit.specs.Replayed.{IsOfVersion, ChangesOne, Replays};
 
 use crate::deleting::delete;
 use crate::learning::learn_once;
@@ -28,6 +30,7 @@ fn add<F: PageFile>(
     dir: &mut Directory,
     one: &Record,
 ) -> Result<Option<Child>, EditErr>
+    requires { HasLayer One one.now }
     ensures changes { IfOk result (λ r. ChangesOne (by One F.Hash.of) (F.told desk.old.file)
         desk.old.free root dir.old (F.told desk.new.file) desk.new.free r dir.new
         (changes.Add one.now)) }
@@ -35,6 +38,7 @@ fn add<F: PageFile>(
     ensures reads { F.reads desk.new.file ≤ F.reads desk.old.file + insertion_reads }
     ensures quiet { OnOk result (F.faults desk.new.file ≡ F.faults desk.old.file) }
     ensures low { IfOk result IsLow }
+    ensures told { IfOk result (λ r. IfSome r (IsTold One)) }
     ensures cause { IfErr result (HasEditCause (F.faults desk.old.file)
         (F.faults desk.new.file)) }
     ensures sound { IfErr result (λ e. NeverMap e (CanChange F.Hash.of (F.told desk.old.file)
@@ -64,6 +68,7 @@ fn remove<F: PageFile>(
         (F.reads desk.new.file) }
     ensures quiet { OnOk result (F.faults desk.new.file ≡ F.faults desk.old.file) }
     ensures low { IfOk result IsLow }
+    ensures told { IfOk result (λ r. IfSome r (IsTold One)) }
     ensures cause { IfErr result (HasEditCause (F.faults desk.old.file) (F.faults desk.new.file)) }
     ensures sound { IfErr result (λ e. NeverMap e (CanChange F.Hash.of (F.told desk.old.file)
         desk.old.free root dir.old (changes.Remove number))) }
@@ -91,6 +96,7 @@ fn make_change<F: PageFile>(
     learned: &mut bool,
     change: &Change,
 ) -> Result<Option<Child>, EditErr>
+    requires { IsOfVersion One change.now }
     ensures changes { IfOk result (λ r. ChangesOne (by One F.Hash.of) (F.told desk.old.file)
         desk.old.free root dir.old (F.told desk.new.file) desk.new.free r dir.new change.now) }
     ensures kept { F.kept desk.old.file desk.new.file }
@@ -99,6 +105,7 @@ fn make_change<F: PageFile>(
         (F.reads desk.new.file) }
     ensures quiet { OnOk result (F.faults desk.new.file ≡ F.faults desk.old.file) }
     ensures low { IfOk result IsLow }
+    ensures told { IfOk result (λ r. IfSome r (IsTold One)) }
     ensures cause { IfErr result (HasEditCause (F.faults desk.old.file) (F.faults desk.new.file)) }
     ensures sound { IfErr result (λ e. NeverMap e (CanChange F.Hash.of (F.told desk.old.file)
         desk.old.free root dir.old change.now)) }
@@ -119,6 +126,7 @@ pub fn replay<F: PageFile>(
     dir: &mut Directory,
     batch: &Batch,
 ) -> Result<Option<Child>, EditErr>
+    requires { All (IsOfVersion One) batch.now.list }
     ensures replays { IfOk result (λ r. Replays (by One F.Hash.of) (F.told desk.old.file)
         desk.old.free root dir.old (F.told desk.new.file) desk.new.free r dir.new batch.now) }
     ensures kept { F.kept desk.old.file desk.new.file }
@@ -127,6 +135,8 @@ pub fn replay<F: PageFile>(
     ensures quiet { OnOk result (F.faults desk.new.file ≡ F.faults desk.old.file) }
     // Told or not, the root is no higher than a map's may be.
     ensures low { IfOk result (λ r. IsLow root → IsLow r) }
+    // Nor does it tell more than one of version 1 may.
+    ensures told { IfOk result (λ r. IfSome root (IsTold One) → IfSome r (IsTold One)) }
     ensures cause { IfErr result (HasEditCause (F.faults desk.old.file) (F.faults desk.new.file)) }
     ensures sound { IfErr result (λ e. NeverMap e (CanReplay F.Hash.of (F.told desk.old.file)
         desk.old.free root dir.old batch.now)) }

@@ -1,9 +1,11 @@
 //! Insertion into a map.
 
 ghost use Rattle.std.specs.Prelude.{◌≡◌, ◌+◌, ◌≤◌, IfOk, IfErr, OnOk, Some, None};
+ghost use Rattle.mr_record.specs.Record.{HasLayer};
 ghost use Rattle.mr_record.specs.declared.version.Version.TheVariants.{One};
 ghost use Rattle.mr_tree.specs.Digest.{by};
 ghost use Rattle.mr_edit.specs.Causes.{HasEditCause};
+ghost use Rattle.mr_edit.specs.Held.{IsTold};
 ghost use Rattle.mr_edit.specs.Outcome.{Raises, NeverMap, IsAlike, IsLow, root_page, IsOfRoot};
 ghost use Rattle.mr_edit.specs.Drafted.{Inserts};
 ghost use Rattle.mr_edit.specs.Reads.{insertion_reads};
@@ -20,6 +22,7 @@ use std::alloc::Global;
 
 // The root of a map of one record.
 fn first_root<F: PageFile>(desk: &mut Desk<F>, one: &Record) -> Result<Child, EditErr>
+    requires { HasLayer One one.now }
     ensures inserts { IfOk result (λ c. Inserts (by One F.Hash.of) (F.told desk.old.file)
         desk.old.free None (F.told desk.new.file) desk.new.free c one.now) }
     ensures sound { IfErr result (λ e. NeverMap e (CanAdd (F.told desk.old.file) desk.old.free)) }
@@ -27,6 +30,7 @@ fn first_root<F: PageFile>(desk: &mut Desk<F>, one: &Record) -> Result<Child, Ed
     ensures reads { F.reads desk.new.file ≤ F.reads desk.old.file + 1 }
     ensures quiet { OnOk result (F.faults desk.new.file ≡ F.faults desk.old.file) }
     ensures low { IfOk result (λ c. IsLow (Some c)) }
+    ensures told { IfOk result (IsTold One) }
     ensures cause { IfErr result (HasEditCause (F.faults desk.old.file) (F.faults desk.new.file)) }
 {
     let page = take_page(desk)?;
@@ -35,7 +39,8 @@ fn first_root<F: PageFile>(desk: &mut Desk<F>, one: &Record) -> Result<Child, Ed
 
 // A root above two nodes.
 fn raise<F: PageFile>(desk: &mut Desk<F>, first: Child, second: Child) -> Result<Child, EditErr>
-    requires { second.level ≡ first.level }
+    requires alike { second.level ≡ first.level }
+    requires told { IsTold One first × IsTold One second }
     ensures raises { IfOk result (λ c. Raises (by One F.Hash.of) (F.told desk.old.file)
         desk.old.free (F.told desk.new.file) desk.new.free first second c) }
     ensures sound { IfErr result (λ e. NeverMap e
@@ -44,6 +49,7 @@ fn raise<F: PageFile>(desk: &mut Desk<F>, first: Child, second: Child) -> Result
     ensures reads { F.reads desk.new.file ≤ F.reads desk.old.file + 1 }
     ensures quiet { OnOk result (F.faults desk.new.file ≡ F.faults desk.old.file) }
     ensures low { IfOk result (λ c. IsLow (Some c)) }
+    ensures told { IfOk result (IsTold One) }
     ensures cause { IfErr result (HasEditCause (F.faults desk.old.file) (F.faults desk.new.file)) }
 {
     if first.level >= LEVEL_LIMIT {
@@ -91,6 +97,7 @@ fn put_below<F: PageFile>(
     root: &Child,
     one: &Record,
 ) -> Result<Child, EditErr>
+    requires { HasLayer One one.now }
     ensures inserts { IfOk result (λ c. Inserts (by One F.Hash.of) (F.told desk.old.file)
         desk.old.free (Some root.now) (F.told desk.new.file) desk.new.free c one.now) }
     ensures sound { IfErr result (λ e. NeverMap e
@@ -99,6 +106,7 @@ fn put_below<F: PageFile>(
     ensures reads { F.reads desk.new.file ≤ F.reads desk.old.file + insertion_reads }
     ensures quiet { OnOk result (F.faults desk.new.file ≡ F.faults desk.old.file) }
     ensures low { IfOk result (λ c. IsLow (Some c)) }
+    ensures told { IfOk result (IsTold One) }
     ensures cause { IfErr result (HasEditCause (F.faults desk.old.file) (F.faults desk.new.file)) }
 {
     let Stand { first, second } = put_into::<F>(alloc, desk, root, true, one)?;
@@ -110,15 +118,16 @@ fn put_below<F: PageFile>(
 
 /// Puts a record into a map with this root, and answers its root then.
 ///
-/// Where the pages are not told, `Page` blames besides a node whose rectangle is not the one that
-/// its entry tells of, or one with too few entries; and the root, or page 0 where there is none,
-/// where it would rise too high or the file would grow past its last page.
+/// Where the pages are not told, `Page` blames besides a node whose rectangle, mask or count is not
+/// the one that its entry tells of, or one with too few entries; and the root, or page 0 where
+/// there is none, where it would rise too high or the file would grow past its last page.
 pub fn insert<F: PageFile>(
     alloc: Global,
     desk: &mut Desk<F>,
     root: Option<Child>,
     one: &Record,
 ) -> Result<Child, EditErr>
+    requires { HasLayer One one.now }
     ensures inserts { IfOk result (λ c. Inserts (by One F.Hash.of) (F.told desk.old.file)
         desk.old.free root (F.told desk.new.file) desk.new.free c one.now) }
     ensures sound { IfErr result (λ e. NeverMap e
@@ -129,6 +138,7 @@ pub fn insert<F: PageFile>(
     ensures quiet { OnOk result (F.faults desk.new.file ≡ F.faults desk.old.file) }
     // Told or not, the root is no higher than a map's may be.
     ensures low { IfOk result (λ c. IsLow (Some c)) }
+    ensures told { IfOk result (IsTold One) }
     ensures cause { IfErr result (HasEditCause (F.faults desk.old.file) (F.faults desk.new.file)) }
 {
     match root {

@@ -2,6 +2,8 @@
 
 ghost use Rattle.std.specs.Prelude.{◌≡◌, ◌+◌, ◌≤◌, ◌<◌, ◌++◌, ◌∷◌, length, take, drop, false, IfOk, IfErr, OnOk};
 ghost use Rattle.std.specs.List.Sorted.{IsPermutation};
+ghost use Rattle.mr_record.specs.Record.{HasLayer};
+ghost use Rattle.mr_record.specs.declared.version.Version.TheVariants.{Two};
 ghost use Rattle.mr_tree.specs.Limits.{count_limit};
 ghost use Rattle.mr_tree.specs.Tree.{records};
 ghost use Rattle.mr_tree.specs.WellFormed.{WellFormed};
@@ -71,6 +73,7 @@ pub(crate) fn inserted(alloc: Global, tree: Tree, one: Record) -> Result<Tree, A
 /// look.
 pub fn grow(alloc: Global, tree: Tree, one: Record) -> Result<Tree, AllocError>
     requires well_formed { WellFormed tree }
+    requires layer { HasLayer Two one }
     requires absent { has_number one.number (records tree) ≡ false }
     requires room { length (records tree) < count_limit }
     ensures exact { IfOk result (λ t. t ≡ ins one tree) }
@@ -106,7 +109,8 @@ impl From<AllocError> for GrowErr {
 /// two that stand beside each other, and a root that is split gets a root above it. The rectangles
 /// of the nodes beside its way are computed anew.
 pub fn insert(alloc: Global, tree: Tree, one: Record) -> Result<Tree, GrowErr>
-    requires { WellFormed tree }
+    requires well_formed { WellFormed tree }
+    requires layer { HasLayer Two one }
     ensures exact { IfOk result (λ t. t ≡ ins one tree) }
     ensures well_formed { IfOk result WellFormed }
     ensures records { IfOk result (λ t. IsPermutation (one ∷ records tree) (records t)) }

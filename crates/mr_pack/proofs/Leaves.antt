@@ -5,6 +5,10 @@ use Rattle.std.proofs.lemmas.List.{map-append, length-map, length-append, drop_m
 use Rattle.std.proofs.Math.Seq.{take-append_seam, drop-append_seam}
 use Rattle.std.proofs.lemmas.List.Folds.{flat_map-map}
 use Rattle.mr_record.specs.declared.record.Record.{Record}
+use Rattle.std.specs.Prelude.{All}
+use Rattle.std.proofs.lemmas.List.Elements.{All-from_recursion}
+use Rattle.mr_tree.specs.Tree.{records}
+use Rattle.mr_tree.proofs.Equations.{records-Leaf, records-Inner}
 use Rattle.mr_tree.specs.Digest.{Scheme}
 use Rattle.mr_tree.specs.declared.entry.Entry.{Entry}
 use Rattle.mr_tree.specs.Slim.{IsSlim, IsSlimNode}
@@ -134,6 +138,43 @@ leaves_small = tree_induction HasSmallLeaves
     (λ rs slim. subst (AllByRecursion IsSmall) (sym (leaves-Leaf rs)) (here-Leaf IsSlimNode rs slim, tt))
     (λ ts below slim. subst (AllByRecursion IsSmall) (sym (leaves_below ts))
     (all_small ts below (every_child IsSlimNode ts slim)))
+
+-- What holds of each record holds in each leaf.
+
+parted : (P : Record → Type 0) (xs ys : List Record) → AllByRecursion P (xs ++ ys) →
+    AllByRecursion P xs × AllByRecursion P ys
+parted P [] ys all = (tt, all)
+parted P (x ∷ xs) ys all = let rest = parted P xs ys all.1 in ((all.0, rest.0), rest.1)
+
+abbrev HoldsInLeaves : (Record → Type 0) → Tree → Type 0
+HoldsInLeaves P t = AllByRecursion P (records t) → AllByRecursion (λ (rs : List Record). All P rs) (leaves t)
+
+joined_leaves : (Q : List Record → Type 0) (xs ys : List (List Record)) → AllByRecursion Q xs → AllByRecursion Q ys →
+    AllByRecursion Q (xs ++ ys)
+joined_leaves Q [] ys some others = others
+joined_leaves Q (x ∷ xs) ys some others = (some.0, joined_leaves Q xs ys some.1 others)
+
+all_have : (P : Record → Type 0) (ts : List Tree) → AllByRecursion (HoldsInLeaves P) ts →
+    AllByRecursion P (flat_map records ts) → AllByRecursion (λ (rs : List Record). All P rs) (flat_map leaves ts)
+all_have P [] below all = tt
+all_have P (t ∷ ts) below all =
+    let two = parted P (records t) (flat_map records ts) all in
+    joined_leaves (λ (rs : List Record). All P rs) (leaves t) (flat_map leaves ts) (below.0 two.0)
+    (all_have P ts below.1 two.1)
+
+pub leaves_have : (P : Record → Type 0) (t : Tree) → AllByRecursion P (records t) →
+    AllByRecursion (λ (rs : List Record). All P rs) (leaves t)
+leaves_have P = tree_induction (HoldsInLeaves P)
+    (λ all. subst (AllByRecursion (λ (rs : List Record). All P rs)) (sym leaves-Empty) tt)
+    (λ rs all. subst (AllByRecursion (λ (us : List Record). All P us)) (sym (leaves-Leaf rs))
+    (All-from_recursion P rs (subst (AllByRecursion P) (records-Leaf rs) all), tt))
+    (λ ts below all. subst (AllByRecursion (λ (rs : List Record). All P rs)) (sym (leaves_below ts))
+    (all_have P ts below (subst (AllByRecursion P) (records-Inner ts ∙ flat_map-map (λ list. list) records ts) all)))
+
+pub both_of : {X : Type 0} (P Q : X → Type 0) (xs : List X) → AllByRecursion P xs → AllByRecursion Q xs →
+    AllByRecursion (λ x. P x × Q x) xs
+both_of P Q [] p q = tt
+both_of P Q (x ∷ xs) p q = ((p.0, q.0), both_of P Q xs p.1 q.1)
 
 -- what holds of each image holds of each element, for the image
 pub recursion_from_map : {X Y : Type 0} (P : Y → Type 0) (f : X → Y) (xs : List X) →

@@ -4,7 +4,8 @@ ghost use Rattle.std.specs.Prelude.{◌≡◌, List, ◌++◌, ◌<◌, ◌≤�
 ghost use Rattle.std.specs.Int.{w64, from_be_bytes};
 ghost use Rattle.std.specs.Borrow.{Bor};
 ghost use Rattle.mr_record.specs.declared.record.Record as types;
-ghost use Rattle.mr_record.specs.declared.version.Version.TheVariants.{One};
+ghost use Rattle.mr_record.specs.declared.version.Version.TheVariants.{One, Two};
+ghost use Rattle.mr_record.specs.Record.{HasLayer};
 ghost use Rattle.mr_tree.specs.Limits.{leaf_limit};
 ghost use Rattle.mr_tree.specs.Tree.{level as level_in};
 ghost use Rattle.mr_tree.specs.Digest.{by, entry, root};
@@ -79,14 +80,14 @@ impl<'a, H: Hash32> Work for LeafHashing<'a, H> {
 
     type Found = Entry;
 
-    ghost may = { λ w rs. length rs.now ≤ leaf_limit };
+    ghost may = { λ w rs. (length rs.now ≤ leaf_limit) × All (HasLayer Two) rs.now };
 
     ghost gives = { λ w rs. entry_of_leaf (by One H.of) rs.now };
 
     ghost number_of = { λ found. from_be_bytes w64 (drop 24 found.digest) };
 
     fn carry_out(&self, piece: &&'a [Record]) -> Result<Entry, AllocError> {
-        Ok(leaf_entry::<H>(piece))
+        Ok(leaf_entry::<H>(Version::One, piece))
     }
 
     fn number(found: &Entry) -> u64
@@ -103,7 +104,8 @@ fn hashed<H: Hash32, G: Gate, R: Threads + Sync>(
     list: &[&[Record]],
     gate: &G,
 ) -> Result<Vec<Entry>, AllocError>
-    requires { All (λ (rs : Bor (List types.Record)). length rs.now ≤ leaf_limit) list.now }
+    requires { All (λ (rs : Bor (List types.Record)). (length rs.now ≤ leaf_limit)
+        × All (HasLayer Two) rs.now) list.now }
     ensures { IfOk result (λ v. v.items
         ≡ map (λ (rs : Bor (List types.Record)). entry_of_leaf (by One H.of) rs.now) list.now) }
 {
@@ -131,7 +133,7 @@ fn entry_over<H: Hashes>(tree: &Tree, level: u8, entries: &[Entry]) -> Entry
             for child in children.as_slice() {
                 let (front, back) = rest.split_at(leaf_count(child));
                 let one = entry_over::<H>(child, level - 1, front);
-                all.add_entry(&one);
+                all.add_entry(Version::One, &one);
                 rest = back;
             }
             all.close(level)

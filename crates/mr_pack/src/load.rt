@@ -1,9 +1,10 @@
 //! A whole tree, from its leaves up to its root.
 
-ghost use Rattle.std.specs.Prelude.{◌≡◌, ◌≢◌, ◌≤◌, ◌^◌, ◌<◌, length, map, IfOk, IfErr, OnOk, AllPairs};
+ghost use Rattle.std.specs.Prelude.{◌≡◌, ◌≢◌, ◌≤◌, ◌^◌, ◌<◌, length, map, IfOk, IfErr, OnOk, All, AllPairs};
 ghost use Rattle.std.specs.List.Sorted.{IsPermutation};
 ghost use Rattle.mr_record.specs.declared.record.Record as types;
-ghost use Rattle.mr_record.specs.declared.version.Version.TheVariants.{One};
+ghost use Rattle.mr_record.specs.declared.version.Version.TheVariants.{One, Two};
+ghost use Rattle.mr_record.specs.Record.{HasLayer};
 ghost use Rattle.mr_tree.specs.Digest.{by, root as root_in};
 ghost use Rattle.mr_tree.specs.Tree.{records};
 ghost use Rattle.mr_tree.specs.WellFormed.{WellFormed};
@@ -90,6 +91,7 @@ fn check_numbers(alloc: Global, list: &[Record]) -> Result<(), PackErr>
 /// As `pack`, where it is known that the numbers differ; it does not look.
 pub fn pack_distinct(alloc: Global, list: Vec<Record>) -> Result<Tree, AllocError>
     requires few { length list.items ≤ 2 ^ 20 }
+    requires layers { All (HasLayer Two) list.items }
     requires apart { AllPairs (λ (a b : types.Record). a.number ≢ b.number) list.items }
     ensures exact { IfOk result (λ t. t ≡ pack list.items) }
     ensures well_formed { IfOk result WellFormed }
@@ -108,6 +110,7 @@ pub fn pack_joined_distinct<H: Hash32, G: Gate, R: Threads + Sync>(
     gate: &G,
 ) -> Result<(Tree, [u8; 32]), AllocError>
     requires few { length list.items ≤ 2 ^ 20 }
+    requires layers { All (HasLayer Two) list.items }
     requires apart { AllPairs (λ (a b : types.Record). a.number ≢ b.number) list.items }
     ensures exact { IfOk result (λ p. p.0 ≡ pack list.items) }
     ensures root { IfOk result (λ p. p.1 ≡ root_in (by One H.of) (pack list.items) 0) }
@@ -127,7 +130,8 @@ pub fn pack_joined_distinct<H: Hash32, G: Gate, R: Threads + Sync>(
 /// and Edgington 1997). Equal middles are decided by the number of a record, and among nodes by
 /// their position.
 pub fn pack(alloc: Global, list: Vec<Record>) -> Result<Tree, PackErr>
-    requires { length list.items ≤ 2 ^ 20 }
+    requires few { length list.items ≤ 2 ^ 20 }
+    requires layers { All (HasLayer Two) list.items }
     ensures exact { IfOk result (λ t. t ≡ pack list.items) }
     ensures apart { OnOk result
         (AllPairs (λ (a b : types.Record). a.number ≢ b.number) list.items) }
@@ -152,7 +156,8 @@ pub fn pack_joined<H: Hash32, G: Gate, R: Threads + Sync>(
     list: Vec<Record>,
     gate: &G,
 ) -> Result<(Tree, [u8; 32]), PackErr>
-    requires { length list.items ≤ 2 ^ 20 }
+    requires few { length list.items ≤ 2 ^ 20 }
+    requires layers { All (HasLayer Two) list.items }
     ensures exact { IfOk result (λ p. p.0 ≡ pack list.items) }
     ensures root { IfOk result (λ p. p.1 ≡ root_in (by One H.of) (pack list.items) 0) }
     ensures apart { OnOk result

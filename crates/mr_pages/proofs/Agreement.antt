@@ -9,13 +9,15 @@ use Rattle.std.proofs.lemmas.List.Elements.{All-take, All-drop, recursion_from_A
 use Rattle.std.proofs.lemmas.Nat.{div-add-mod'}
 use Rattle.std.proofs.Math.Nat.{mul-mod_left, mul-div_cancel, mul-pos}
 use Rattle.mr_record.specs.Bytes.{AreBytes}
-use Rattle.mr_record.specs.Record.{IsRecord}
+use Rattle.mr_record.specs.Version.{told}
+use Rattle.mr_tree.specs.Limits.{count_limit}
+use Rattle.mr_tree.proofs.Told.{count_told}
 use Rattle.mr_tree.specs.Tree.{level, records}
-use Rattle.mr_tree.specs.WellFormed.{WellFormed, HasOneLevel, IsFilledRoot}
+use Rattle.mr_tree.specs.WellFormed.{WellFormed, HasLayers, HasOneLevel, IsFilledRoot}
 use Rattle.mr_tree.specs.declared.tree.Tree.{Tree}
 use Rattle.mr_tree.specs.declared.tree.Tree.TheViews.{out-Tree}
 use Rattle.mr_tree.specs.declared.tree.Tree.TheFolds.{every-Tree}
-use Rattle.mr_tree.proofs.Equations.{records-Empty}
+use Rattle.mr_tree.proofs.Equations.{records-Empty, entry_count}
 use Rattle.mr_pages.specs.declared.rule.MapRule.{MapRule}
 use Rattle.mr_pages.specs.declared.rule.MapRule.TheVariants as rule
 use Rattle.mr_pages.specs.Page.{Node, Head, page_limit, IsNode, IsRoot, IsHead, Form, IsForm}
@@ -27,6 +29,7 @@ use Rattle.mr_pages.proofs.Chains.{all_within}
 use Rattle.mr_pages.proofs.Building.{IsRead}
 use Rattle.mr_pages.proofs.AsRead.{StandsRead, stands_without_fault, no_fault_where_it_stands, one_map}
 use Rattle.mr_pages.proofs.Fitting.{fits}
+use Rattle.mr_pages.proofs.PageLaws.{FitsRecord}
 
 -- ---- whole pages
 
@@ -77,7 +80,7 @@ module _ (form : Form) (is : IsForm form) (bytes : List ℕ) where
   pub record HeadRead (h : Head) : Type 0 where
     pub whole : IsWhole form.size (length bytes)
     pub same : h.pages ≡ length bytes / form.size
-    pub fits_head : IsHead h
+    pub fits_head : IsHead form.version h
     pub spelled : form.head_page h ≡ page_at form bytes 0
 
   page_bytes : AreBytes bytes → (p : ℕ) → AreBytes (page_at form bytes p)
@@ -178,30 +181,39 @@ module _ (form : Form) (is : IsForm form) (hash : List ℕ → List ℕ) (bytes 
 
   record WholeFits (count : ℕ) (po : Option Placed) : Type 0 where
     read : IfSome po (IsRead (by form.version hash) (file_of form bytes).node)
-    root : IsRoot count (option_map (link_of (by form.version hash)) po)
+    root : IsRoot form.version count (option_map (link_of (by form.version hash)) po)
 
   read_as : ((xs : List ℕ) → length (hash xs) ≡ 32) → (count pages : ℕ) (t : Tree) → WellFormed t →
+      HasLayers form.version t →
       count ≡ length (records t) → (po : Option Placed) → whole_tree po ≡ t →
       IfSome po (IsWritten (by form.version hash) (HasNode form bytes)) →
       AllByRecursion (λ p. (0 < p) × (p < pages)) (whole_pages po) →
       pages ≤ page_limit → WholeFits count po
-  read_as sized count pages t well many None same written inside few = record {
+  read_as sized count pages t well layers many None same written inside few = record {
     read = tt;
     root = many ∙ ap length (ap records (sym same) ∙ records-Empty);
   }
-  read_as sized count pages t well many (Some P) same written inside few =
+  read_as sized count pages t well layers many (Some P) same written inside few =
       let f = fits (by form.version hash) sized (HasNode form bytes) P _ true written
       (subst (every-Tree HasOneLevel) (sym same) well.one_level) refl
       (subst (λ u. level u ≤ 7) (sym same) well.shallow)
       (subst (λ u. IsFilledRoot (out-Tree u)) (sym same) well.filled)
-      (recursion_from_All IsRecord (records (tree_of P))
-      (subst (λ u. All IsRecord (records u)) (sym same) well.each))
+      (subst (λ u. length (records u) ≤ count_limit) (sym same) well.few)
+      (recursion_from_All (FitsRecord form.version) (records (tree_of P))
+      (subst (λ u. All (FitsRecord form.version) (records u)) (sym same)
+      (λ k d within. (well.each k d within, layers k d within))))
       (all_weaker (λ p. (0 < p) × (p < pages)) IsLow (λ p h. omega (arith, h.1, few)) (pages_of P) inside) in
       record {
-        read = written_as (by form.version hash) (λ p n. HasNode form bytes p n × IsNode n)
+        read = written_as (by form.version hash) (λ p n. HasNode form bytes p n × IsNode form.version n)
             (λ p n. form.node_in (page_at form bytes p) ≡ Some n)
             (λ p n both. ap form.node_in both.0 ∙ is.nodes.read_again n both.1) P f.both;
-        root = (omega (arith, many, f.some, ap (λ u. length (records u)) same), not_first P inside, f.said);
+        root = (
+          omega (arith, many, f.some, ap (λ u. length (records u)) same),
+          not_first P inside,
+          entry_count (by form.version hash) (tree_of P) ∙ count_told form.version (tree_of P)
+              ∙ ap (told form.version) (ap (λ u. length (records u)) same ∙ sym many),
+          f.said,
+        );
       }
     where
       not_first : (P : Placed) → AllByRecursion (λ p. (0 < p) × (p < pages)) (pages_of P) → page_of P ≢ 0
@@ -209,23 +221,24 @@ module _ (form : Form) (is : IsForm form) (hash : List ℕ → List ℕ) (bytes 
       not_first (Inner p Ps) all e = let low : 0 < p = all.0.0 in omega (arith, low, e)
 
   pub read_as_spelled : ((xs : List ℕ) → length (hash xs) ≡ 32) →
-      (t : Tree) (b : ℕ) → WellFormed t → Stands form hash bytes t b → StandsRead hash (file_of form bytes) t b
-  read_as_spelled sized t b well s =
+      (t : Tree) (b : ℕ) → WellFormed t → HasLayers form.version t → Stands form hash bytes t b →
+      StandsRead hash (file_of form bytes) t b
+  read_as_spelled sized t b well layers s =
       let n = s.head.pages in
       let even : is_odd_size form.size (length bytes) ≡ false =
       are_whole_pages form.size (length bytes) n is.some s.size s.some s.few in
       let pages : length bytes / form.size ≡ n = ap (λ m. m / form.size) s.size ∙ mul-div_cancel n is.some in
       let inside = all_within n (whole_pages s.placed ++ s.lies.chain) s.lies.all in
-      let w = read_as sized s.head.count n t well s.count s.placed s.tree s.lies.written
+      let w = read_as sized s.head.count n t well layers s.count s.placed s.tree s.lies.written
       (all_left (λ p. (0 < p) × (p < n)) (whole_pages s.placed) s.lies.chain inside) s.few in
       let low : AllByRecursion IsLow s.lies.chain = all_weaker (λ p. (0 < p) × (p < n)) IsLow
       (λ p h. omega (arith, h.1, s.few)) s.lies.chain
       (all_right (λ p. (0 < p) × (p < n)) (whole_pages s.placed) s.lies.chain inside) in
-      let good : IsHead s.head = record {
+      let good : IsHead form.version s.head = record {
         batch = omega (arith, s.batch_fits, s.at_batch);
         count = omega (arith, s.count, well.few);
         pages = (s.some, s.few);
-        root = subst (IsRoot s.head.count) (sym s.root) w.root;
+        root = subst (IsRoot form.version s.head.count) (sym s.root) w.root;
         free = begins_low (HasFree form bytes) s.head.free s.lies.chain s.lies.linked low;
       } in
       record {
@@ -258,13 +271,21 @@ agrees form is hash sized bytes all =
     let good = is_file form is bytes all in
     record {
       map = λ e.
-          let s = stands_without_fault hash (file_of form bytes) good e in
-          (s.t, s.b, record { well = s.well; stands = spelled_as_read form is hash bytes all s.t s.b s.stands });
+          let s = stands_without_fault hash (file_of form bytes) good e in (
+            s.t,
+            s.b,
+            record {
+              well = s.well;
+              layers = s.layers;
+              stands =
+                  spelled_as_read form is hash bytes all s.t s.b s.stands;
+            },
+          );
       none = λ t b m. no_fault_where_it_stands hash (file_of form bytes) good t b m.well
-          (read_as_spelled form is hash bytes sized t b m.well m.stands);
+          (read_as_spelled form is hash bytes sized t b m.well m.layers m.stands);
       only = λ t b m u c k.
           let one = one_map hash (file_of form bytes) good t u b c m.well k.well
-          (read_as_spelled form is hash bytes sized t b m.well m.stands)
-          (read_as_spelled form is hash bytes sized u c k.well k.stands) in
+          (read_as_spelled form is hash bytes sized t b m.well m.layers m.stands)
+          (read_as_spelled form is hash bytes sized u c k.well k.layers k.stands) in
           (one.trees, one.batches);
     }

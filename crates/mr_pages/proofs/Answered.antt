@@ -1,13 +1,13 @@
 -- What opening a file answers, and that it is the only answer.
-use Rattle.std.proofs.Common.{Fits, w8, ◌≡◌, ℕ, zero, suc, ◌+◌, ◌*◌, ◌/◌, ◌<◌, ◌≤◌, ◌^◌, true, false, List, [], length, get_or, sym, refl, ap, subst, ◌∙◌, arith, inl, inr}
-use Rattle.std.specs.Prelude.{⊤, Option, Some, None, option_map, Result, Ok, Err, replicate, if◌then◌else◌, MatchOption, IfOk, IfSome, IsSome}
+use Rattle.std.proofs.Common.{Fits, w8, ◌≡◌, ℕ, zero, suc, ◌+◌, ◌*◌, ◌/◌, ◌<◌, ◌≤◌, ◌^◌, true, false, List, [], ◌++◌, length, take, drop, get_or, sym, refl, ap, subst, ◌∙◌, arith, inl, inr}
+use Rattle.std.specs.Prelude.{⊤, Bool, max, min, Option, Some, None, option_map, Result, Ok, Err, replicate, if◌then◌else◌, MatchOption, IfOk, IfSome, IsSome}
 use Rattle.std.proofs.lemmas.List.{get_or_default}
 use Rattle.mr_record.specs.Bytes.{AreBytes}
-use Rattle.mr_tree.specs.WellFormed.{WellFormed}
+use Rattle.mr_tree.specs.WellFormed.{WellFormed, HasLayers}
 use Rattle.mr_tree.specs.declared.tree.Tree.{Tree}
 use Rattle.std.proofs.lemmas.Bool.{both_ways}
-use Rattle.std.proofs.lemmas.List.{length-replicate}
-use Rattle.std.proofs.lemmas.List.Elements.{All-nil, All-cons}
+use Rattle.std.proofs.lemmas.List.{length-replicate, length-take-le, take-append-drop}
+use Rattle.std.proofs.lemmas.List.Elements.{All-nil, All-cons, All-take}
 use Rattle.mr_outside.specs.Files.{Files, file}
 use Rattle.mr_outside.specs.declared.shelf.ShelfErr.{ShelfErr}
 use Rattle.mr_outside.specs.declared.shelf.ShelfErr.TheVariants as shelf
@@ -22,18 +22,23 @@ use Rattle.mr_pages.specs.declared.opening.Opened.{Opened}
 use Rattle.mr_pages.specs.declared.error.MapErr.{MapErr}
 use Rattle.mr_pages.specs.declared.error.MapErr.TheVariants as errors
 use Rattle.mr_pages.specs.Page.{Form, IsForm, page_limit}
-use Rattle.mr_pages.specs.File.{File, page_at, is_odd_size, pages_of, file_of}
+use Rattle.mr_pages.specs.File.{File, page_at, is_odd_size, pages_of, file_of, version_of, form_at}
 use Rattle.mr_pages.specs.Stands.{Stands}
 use Rattle.mr_pages.specs.Faults.{file_faults, first_of, mapfault}
 use Rattle.mr_pages.specs.Law.{IsOnlyMap, Agrees}
 use Rattle.mr_pages.specs.Walking.{Opens, child_link, head_of}
 use Rattle.mr_pages.specs.declared.checking.Checked.{Checked}
-use Rattle.mr_pages.specs.PageBytes.{page_size, first_form}
-use Rattle.mr_pages.specs.Opening.{of_shelf, pages_in, Fails, OrFails, Answers, SomeBytes, Tells, MapCauses}
-use Rattle.mr_pages.specs.Source.{Settles, GivesFile, CheckedWhole, Checks, MakesTree, HasPages, IsPaged, on_shelf, told_bytes}
-use Rattle.mr_pages.proofs.HeadLaws.{first_form_is}
+use Rattle.mr_record.specs.declared.version.Version.{Version}
+use Rattle.mr_record.specs.declared.version.Version.TheVariants.{One, Two}
+use Rattle.std.proofs.Math.Nat.{mul-div_cancel}
+use Rattle.mr_pages.specs.PageBytes.{page_size, head_bytes, form_by}
+use Rattle.mr_pages.specs.Opening.{of_shelf, pages_in, Fails, OrFails, Answers, SomeBytes, SomeFile, Tells, MapCauses}
+use Rattle.mr_pages.specs.Source.{Settles, GivesFile, CheckedWhole, Checks, MakesTree, HasPages, IsPaged, IsFront, HasFirst, TellsPage, on_shelf, told_bytes}
+use Rattle.mr_pages.proofs.HeadLaws.{first_form_is, second_form_is}
+use Rattle.mr_pages.proofs.PageReads.{if_there}
+use Rattle.mr_pages.proofs.Short.{at_least}
 use Rattle.mr_pages.proofs.AsRead.{stands_there}
-use Rattle.mr_pages.proofs.Agreement.{is_file, spelled_as_read, agrees, are_whole_pages}
+use Rattle.mr_pages.proofs.Agreement.{is_file, spelled_as_read, agrees, whole_pages_are, are_whole_pages}
 
 -- whole pages are read as the file is
 pub same_file : (form : Form) (pages : ℕ) (bytes : List ℕ) → pages ≡ length bytes / form.size →
@@ -62,12 +67,15 @@ module _ (form : Form) (is : IsForm form) (hash : List ℕ → List ℕ) (bytes 
   pub answered : AreBytes bytes → (r : Result Opened MapErr) → Opens hash (file_of form bytes) r →
       Answers form hash bytes r
   answered all (Ok r) o =
-      let s = stands_there hash (file_of form bytes) (is_file form is bytes all) o.0 o.1 o.2 in
-      record {
-        well = subst WellFormed (sym o.3) s.well;
-        stands = subst (λ t. Stands form hash bytes t r.batch) (sym o.3)
-            (subst (Stands form hash bytes _) (sym o.4) (spelled_as_read form is hash bytes all _ _ s.stands));
-      }
+      let s = stands_there hash (file_of form bytes) (is_file form is bytes all) o.0 o.2 o.3 in (
+        o.1,
+        record {
+          well = subst WellFormed (sym o.4) s.well;
+          layers = subst (HasLayers form.version) (sym o.4) s.layers;
+          stands = subst (λ t. Stands form hash bytes t r.batch) (sym o.4)
+              (subst (Stands form hash bytes _) (sym o.5) (spelled_as_read form is hash bytes all _ _ s.stands));
+        },
+      )
   answered all (Err (errors.Map f)) o = o
   answered all (Err errors.Missing) o = tt
   answered all (Err errors.Fault) o = tt
@@ -78,6 +86,9 @@ pub cells_are_bytes : (xs : List ℕ) → ((i : ℕ) → Fits w8 (get_or xs i 0)
 cells_are_bytes xs fits = λ k d within.
     let low : get_or xs k 0 < 256 = omega (arith, fits k) in
     subst (λ b. b < 256) (get_or_default xs k 0 d within) low
+
+pub low_are_bytes : (xs : List ℕ) → ((i : ℕ) → get_or xs i 0 < 256) → AreBytes xs
+low_are_bytes xs low = λ k d within. subst (λ b. b < 256) (get_or_default xs k 0 d within) (low k)
 
 -- ---- what is told of the file's bytes
 
@@ -132,9 +143,9 @@ module _ (form : Form) (is : IsForm form) (hash : List ℕ → List ℕ) (sized 
       record {
         are = all;
         answers = a;
-        fault = λ f e. ok_fault (mapfault hash (file_of form bytes)) f (law.none m.tree m.batch a) e;
-        map = λ t b k. let one =
-            law.only m.tree m.batch a t b k in inl (λ i. Ok (record { tree = one.0 i; batch = one.1 i }));
+        fault = λ f e. ok_fault (mapfault hash (file_of form bytes)) f (law.none m.tree m.batch a.1) e;
+        map = λ t b k. let one = law.only m.tree m.batch a.1 t b k in
+            inl (λ i. Ok (record { tree = one.0 i; version = a.0 i; batch = one.1 i }));
       }
   tells_read bytes all (Err (errors.Map g)) a =
       let law = agrees form is hash sized bytes all in
@@ -186,27 +197,21 @@ module _ (form : Form) (is : IsForm form) (hash : List ℕ → List ℕ) (sized 
   told_failed told name r all f =
       OfFile-or told name _ _ _ _ (λ absent. f) (λ bytes are. tells_failed bytes are r f) all
 
-  pub told_odd : (told : Option Files) (name : List ℕ) (n : ℕ) → OfFile told name ⊤ AreBytes →
-      OfFile told name ⊥ (λ bytes. n ≡ length bytes) → is_odd_size form.size n ≡ true →
+  pub told_odd : (told : Option Files) (name : List ℕ) (n : ℕ) → OfFile told name ⊥ AreBytes →
+      OfFile told name ⊥ (λ bytes. length bytes ≡ n) → is_odd_size form.size n ≡ true →
       OfFile told name (Fails (Err (errors.Map size_fault)))
       (λ bytes. Tells form hash bytes (Err (errors.Map size_fault)))
   told_odd told name n all long odd =
       OfFile-or told name _ _ _ _ (λ absent. absurd absent.1)
-      (λ bytes both. tells_odd bytes both.0 (subst (λ m. is_odd_size form.size m ≡ true) both.1 odd))
+      (λ bytes both. tells_odd bytes both.0 (subst (λ m. is_odd_size form.size m ≡ true) (sym both.1) odd))
       (OfFile-and told name _ _ _ _ all long)
 
-  pub told_answers : (told : Option Files) (name : List ℕ) (r : Result Opened MapErr) → OfFile told name ⊤ AreBytes →
+  pub told_answers : (told : Option Files) (name : List ℕ) (r : Result Opened MapErr) → OfFile told name ⊥ AreBytes →
       OfFile told name ⊥ (λ bytes. Answers form hash bytes r) →
       OfFile told name (Fails r) (λ bytes. Tells form hash bytes r)
   told_answers told name r all a =
       OfFile-or told name _ _ _ _ (λ absent. absurd absent.1) (λ bytes both. tells_read bytes both.0 r both.1)
       (OfFile-and told name _ _ _ _ all a)
-
--- what is known of a file's bytes: where they stand for a map they have no fault, and so on
-pub agrees_of : (form : Form) → IsForm form → (hash : List ℕ → List ℕ) → ((xs : List ℕ) → length (hash xs) ≡ 32) →
-    (told : Option Files) (name : List ℕ) → OfFile told name ⊤ AreBytes → OfFile told name ⊤ (Agrees form hash)
-agrees_of form is hash sized told name all =
-    OfFile-or told name _ _ _ _ (λ absent. tt) (λ bytes are. agrees form is hash sized bytes are) all
 
 pub fails_of : (e : ShelfErr) → Fails (Err (of_shelf e))
 fails_of shelf.Missing = tt
@@ -233,119 +238,145 @@ causes_quiet name before after f same =
 
 -- ---- what was checked of the file's pages
 
-module _ (hash : List ℕ → List ℕ) (name : List ℕ) (lent pages : ℕ) (s : Shelved)
-    (paged : IsPaged first_form pages s.files name) where
+module _ (form : Form) (fits : IsForm form) (hash : List ℕ → List ℕ) (name : List ℕ) (lent pages : ℕ) (s : Shelved)
+    (paged : IsPaged form pages s.files name) where
   answered_err : (bytes : List ℕ) (e : MapErr) → AreBytes bytes →
-      Checks {M = Tree} hash (file_of first_form bytes) (Err e) → Answers first_form hash bytes (Err e)
+      Checks {M = Tree} hash (file_of form bytes) (Err e) → Answers form hash bytes (Err e)
   answered_err bytes (errors.Map f) all c = c
   answered_err bytes errors.Missing all c = tt
   answered_err bytes errors.Fault all c = tt
   answered_err bytes errors.NoMemory all c = tt
 
   answered_ok : (bytes : List ℕ) (c : Checked Tree) → AreBytes bytes →
-      Checks hash (file_of first_form bytes) (Ok c) →
-      MakesTree (λ (m t : Tree). m ≡ t) (option_map child_link c.head.root) c.made (file_of first_form bytes) →
-      Answers first_form hash bytes (Ok (record { tree = c.made; batch = c.head.batch }))
+      Checks hash (file_of form bytes) (Ok c) →
+      MakesTree (λ (m t : Tree). m ≡ t) (option_map child_link c.head.root) c.made (file_of form bytes) →
+      Answers form hash bytes (Ok (record { tree = c.made; version = form.version; batch = c.head.batch }))
   answered_ok bytes c all checks made =
-      answered first_form first_form_is hash bytes all (Ok (record { tree = c.made; batch = c.head.batch }))
-      (checks.0, head_of c.head, checks.1, made, refl)
+      answered form fits hash bytes all (Ok (record { tree = c.made; version = form.version; batch = c.head.batch }))
+      (checks.0, refl, head_of c.head, checks.1, made, refl)
 
   -- of the file that is told
   told_of : (P : List ℕ → Type 0) → ((bytes : List ℕ) → told_bytes s.files name ≡ Some bytes →
-      HasPages first_form pages bytes → P bytes) → OfFile s.files name ⊥ P
+      HasPages form pages bytes → P bytes) → OfFile s.files name ⊥ P
   told_of P go = by_files s.files paged go
     where
-      by_files : (told : Option Files) → IsPaged first_form pages told name →
-          ((bytes : List ℕ) → told_bytes told name ≡ Some bytes → HasPages first_form pages bytes → P bytes) →
+      by_files : (told : Option Files) → IsPaged form pages told name →
+          ((bytes : List ℕ) → told_bytes told name ≡ Some bytes → HasPages form pages bytes → P bytes) →
           OfFile told name ⊥ P
       by_files None has on = tt
       by_files (Some files) has on = at (file files name) has.there has.file_ on
         where
-          at : (o : Option (List ℕ)) → IsSome o → IfSome o (HasPages first_form pages) →
-              ((bytes : List ℕ) → o ≡ Some bytes → HasPages first_form pages bytes → P bytes) → MatchOption o ⊥ P
+          at : (o : Option (List ℕ)) → IsSome o → IfSome o (HasPages form pages) →
+              ((bytes : List ℕ) → o ≡ Some bytes → HasPages form pages bytes → P bytes) → MatchOption o ⊥ P
           at None there has on = absurd (cc)
           at (Some bytes) there has on = on bytes refl has
 
-  pub told_err : (e : MapErr) → ((f : File) → (on_shelf first_form lent pages s name).file ≡ Some f →
-      f.pages ≡ pages → Checks {M = Tree} hash f (Err e)) →
-      OfFile s.files name ⊥ (λ bytes. Answers first_form hash bytes (Err e))
-  told_err e checks = told_of (λ bytes. Answers first_form hash bytes (Err e)) (λ bytes is has.
+  pub told_err : (e : MapErr) → ((f : File) → (on_shelf form lent pages s name).file ≡ Some f →
+      f.version ≡ form.version → f.pages ≡ pages → Checks {M = Tree} hash f (Err e)) →
+      OfFile s.files name ⊥ (λ bytes. Answers form hash bytes (Err e))
+  told_err e checks = told_of (λ bytes. Answers form hash bytes (Err e)) (λ bytes is has.
       answered_err bytes e has.are
-      (checks (file_of first_form bytes) (ap (option_map (file_of first_form)) is) (sym has.count)))
+      (checks (file_of form bytes) (ap (option_map (file_of form)) is) refl (sym has.count)))
 
-  pub told_ok : (c : Checked Tree) → ((f : File) → (on_shelf first_form lent pages s name).file ≡ Some f →
-      f.pages ≡ pages → Checks hash f (Ok c)) → ((f : File) → (on_shelf first_form lent pages s name).file ≡ Some f →
+  pub told_ok : (c : Checked Tree) → ((f : File) → (on_shelf form lent pages s name).file ≡ Some f →
+      f.version ≡ form.version → f.pages ≡ pages → Checks hash f (Ok c)) →
+      ((f : File) → (on_shelf form lent pages s name).file ≡ Some f →
       MakesTree (λ (m t : Tree). m ≡ t) (option_map child_link c.head.root) c.made f) →
-      OfFile s.files name ⊥ (λ bytes. Answers first_form hash bytes (Ok (record
-      { tree = c.made; batch = c.head.batch })))
-  told_ok c checks made = told_of (λ bytes. Answers first_form hash bytes (Ok (record
-      { tree = c.made; batch = c.head.batch }))) (λ bytes is has.
-      let there = ap (option_map (file_of first_form)) is in
-      answered_ok bytes c has.are (checks (file_of first_form bytes) there (sym has.count))
-      (made (file_of first_form bytes) there))
+      OfFile s.files name ⊥ (λ bytes. Answers form hash bytes (Ok (record
+      { tree = c.made; version = form.version; batch = c.head.batch })))
+  told_ok c checks made = told_of (λ bytes. Answers form hash bytes (Ok (record
+      { tree = c.made; version = form.version; batch = c.head.batch }))) (λ bytes is has.
+      let there = ap (option_map (file_of form)) is in
+      answered_ok bytes c has.are (checks (file_of form bytes) there refl (sym has.count))
+      (made (file_of form bytes) there))
 
   -- of the bytes that were read, told or not
   module _ (some : 1 ≤ pages) (few : pages ≤ page_limit) where
-    as_file : (bytes : List ℕ) → length bytes ≡ pages * page_size →
-        pages_of first_form pages bytes ≡ file_of first_form bytes
-    as_file bytes size = same_file first_form pages bytes (omega (arith, size))
-        (are_whole_pages page_size (length bytes) pages (omega arith) size some few)
+    count_of : (bytes : List ℕ) → length bytes ≡ pages * form.size → pages ≡ length bytes / form.size
+    count_of bytes size = sym (ap (λ n. n / form.size) size ∙ mul-div_cancel pages fits.some)
+
+    as_file : (bytes : List ℕ) → length bytes ≡ pages * form.size →
+        pages_of form pages bytes ≡ file_of form bytes
+    as_file bytes size = same_file form pages bytes (count_of bytes size)
+        (are_whole_pages form.size (length bytes) pages fits.some size some few)
 
     pub some_err : (e : MapErr) → ((xs : List ℕ) → length (hash xs) ≡ 32) →
-        Settles {A = Checked Tree} (Err e) (GivesFile (on_shelf first_form lent pages s name)
-        (CheckedWhole hash (λ (m t : Tree). m ≡ t) pages (Err e))) → SomeBytes first_form hash (Err e)
+        Settles {A = Checked Tree} (Err e) (GivesFile (on_shelf form lent pages s name)
+        (CheckedWhole form.version hash (λ (m t : Tree). m ≡ t) pages (Err e))) → SomeBytes form hash (Err e)
     some_err (errors.Map f) sized g = (
       g.bytes,
       g.are,
-      subst (λ h. mapfault hash h ≡ Some f) (as_file g.bytes g.size) (g.so.checks refl),
+      subst (λ h. mapfault hash h ≡ Some f) (as_file g.bytes g.size) (g.so.checks refl refl),
     )
-    some_err errors.Missing sized g = some_failed first_form first_form_is hash sized (Err errors.Missing) tt
-    some_err errors.Fault sized g = some_failed first_form first_form_is hash sized (Err errors.Fault) tt
-    some_err errors.NoMemory sized g = some_failed first_form first_form_is hash sized (Err errors.NoMemory) tt
+    some_err errors.Missing sized g = some_failed form fits hash sized (Err errors.Missing) tt
+    some_err errors.Fault sized g = some_failed form fits hash sized (Err errors.Fault) tt
+    some_err errors.NoMemory sized g = some_failed form fits hash sized (Err errors.NoMemory) tt
 
-    pub some_ok : (c : Checked Tree) → GivesFile (on_shelf first_form lent pages s name)
-        (CheckedWhole hash (λ (m t : Tree). m ≡ t) pages (Ok c)) →
-        SomeBytes first_form hash (Ok (record { tree = c.made; batch = c.head.batch }))
+    pub some_ok : (c : Checked Tree) → GivesFile (on_shelf form lent pages s name)
+        (CheckedWhole form.version hash (λ (m t : Tree). m ≡ t) pages (Ok c)) →
+        SomeBytes form hash (Ok (record { tree = c.made; version = form.version; batch = c.head.batch }))
     some_ok c g =
-        let w = subst (λ h. CheckedWhole hash (λ (m t : Tree). m ≡ t) h.pages (Ok c) h) (as_file g.bytes g.size) g.so in
-        (g.bytes, g.are, answered_ok g.bytes c g.are (w.checks refl) w.made)
+        let w = subst (λ h. CheckedWhole form.version hash (λ (m t : Tree). m ≡ t) h.pages (Ok c) h)
+        (as_file g.bytes g.size) g.so in
+        (g.bytes, g.are, answered_ok g.bytes c g.are (w.checks refl refl) w.made)
 
 -- ---- behind the file's size
 
-pub paged_of : (told : Option Files) (name : List ℕ) (size pages : ℕ) → OfFile told name ⊤ AreBytes →
-    OfFile told name ⊥ (λ bytes. size ≡ length bytes) → is_odd_size page_size size ≡ false → pages ≡ size / page_size →
-    IsPaged first_form pages told name
-paged_of None name size pages all long even count = record { there = tt; file_ = tt }
-paged_of (Some files) name size pages all long even count = at (file files name) refl all long
+pub paged_of : (form : Form) (told : Option Files) (name : List ℕ) (size pages : ℕ) → OfFile told name ⊥ AreBytes →
+    OfFile told name ⊥ (λ bytes. length bytes ≡ size) → is_odd_size form.size size ≡ false → pages ≡ size / form.size →
+    IsPaged form pages told name
+paged_of form None name size pages all long even count = record { there = tt; file_ = tt }
+paged_of form (Some files) name size pages all long even count = at (file files name) refl all long
   where
-    at : (o : Option (List ℕ)) → file files name ≡ o → MatchOption o ⊤ AreBytes →
-        MatchOption o ⊥ (λ bytes. size ≡ length bytes) → IsPaged first_form pages (Some files) name
+    at : (o : Option (List ℕ)) → file files name ≡ o → MatchOption o ⊥ AreBytes →
+        MatchOption o ⊥ (λ bytes. length bytes ≡ size) → IsPaged form pages (Some files) name
     at None e all long = absurd long
     at (Some bytes) e all long = record {
       there = subst (IsSome {T = List ℕ}) (sym e) refl;
-      file_ = subst (λ o. IfSome o (HasPages first_form pages)) (sym e) (record {
+      file_ = subst (λ o. IfSome o (HasPages form pages)) (sym e) (record {
         are = all;
-        even = subst (λ n. is_odd_size page_size n ≡ false) long even;
-        count = count ∙ ap (λ n. n / page_size) long;
+        even = subst (λ n. is_odd_size form.size n ≡ false) (sym long) even;
+        count = count ∙ ap (λ n. n / form.size) (sym long);
       });
     }
 
-pub once_of : (told : Option Files) (name : List ℕ) (before after pages : ℕ) → IsPaged first_form pages told name →
-    after ≤ before + pages → OfFile told name (after ≡ before) (λ bytes. after ≤ before + pages_in bytes)
-once_of None name before after pages paged few = tt
-once_of (Some files) name before after pages paged few = at (file files name) paged.there paged.file_
-  where
-    at : (o : Option (List ℕ)) → IsSome o → IfSome o (HasPages first_form pages) →
-        MatchOption o (after ≡ before) (λ bytes. after ≤ before + pages_in bytes)
-    at None there has = absurd (cc)
-    at (Some bytes) there has = subst (λ n. after ≤ before + n) has.count few
+-- page 0 is the front of the file
+pub first_told : (form : Form) → 0 < form.size → (pages : ℕ) (told : Option Files) (name room first : List ℕ) →
+    1 ≤ pages → form.size ≤ length room → first ≡ take form.size room → AreBytes room →
+    OfFile told name ⊥ (λ bytes. IsFront bytes room) → HasFirst form told name first
+first_told form some pages told name room first there long is are front = record {
+  is = record {
+    size = ap length is ∙ length-take-le form.size room long;
+    are = subst AreBytes (sym is) (All-take (λ b. b < 2 ^ 8) form.size room are);
+  };
+  tells = if_there told name (TellsPage form 0 first) (OfFile-map told name _ _ (λ bytes f count whole low.
+      let all : form.size ≤ length bytes = omega (arith, whole, at_least count form.size low) in
+      is ∙ f.starts form.size long all
+      ∙ ap (λ n. take form.size (drop n bytes)) (let none : 0 ≡ 0 * form.size = omega arith in none)) front);
+}
 
-pub unread : (told : Option Files) (name : List ℕ) (before after : ℕ) → after ≡ before →
-    OfFile told name (after ≡ before) (λ bytes. after ≤ before + pages_in bytes)
-unread None name before after same = tt
-unread (Some files) name before after same = at (file files name)
+pub once_of : (form : Form) (told : Option Files) (name : List ℕ) (before after pages : ℕ) →
+    IsPaged form pages told name → 1 ≤ pages → after + 1 ≤ before + pages →
+    OfFile told name (after ≤ before) (λ bytes. after + 1 ≤ before + max 1 (length bytes / form.size))
+once_of form None name before after pages paged some few = tt
+once_of form (Some files) name before after pages paged some few =
+    at (file files name) paged.there paged.file_
   where
-    at : (o : Option (List ℕ)) → MatchOption o (after ≡ before) (λ bytes. after ≤ before + pages_in bytes)
+    at : (o : Option (List ℕ)) → IsSome o → IfSome o (HasPages form pages) →
+        MatchOption o (after ≤ before) (λ bytes. after + 1 ≤ before + max 1 (length bytes / form.size))
+    at None there has = absurd (cc)
+    at (Some bytes) there has =
+        let more : pages ≤ max 1 (length bytes / form.size) =
+        omega (arith, has.count) in
+        omega (arith, few, more)
+
+pub unread : (form : Form) (told : Option Files) (name : List ℕ) (before after : ℕ) → after ≤ before →
+    OfFile told name (after ≤ before) (λ bytes. after + 1 ≤ before + max 1 (length bytes / form.size))
+unread form None name before after same = tt
+unread form (Some files) name before after same = at (file files name)
+  where
+    at : (o : Option (List ℕ)) →
+        MatchOption o (after ≤ before) (λ bytes. after + 1 ≤ before + max 1 (length bytes / form.size))
     at None = same
     at (Some bytes) = omega (arith, same)
 
@@ -361,38 +392,161 @@ causes_later name a b c r files quiet m = record {
 
 -- ---- the clauses of the call that opens a file
 
-ok_same : (m : Opened) (t : Tree) (b : ℕ) → OrFails (Ok m) (Ok (record { tree = t; batch = b })) →
-    (m.tree ≡ t) × (m.batch ≡ b)
-ok_same m t b (inl e) = let same : m ≡ record { tree = t; batch = b } = of_ok e
+ok_same : (m : Opened) (t : Tree) (v : Version) (b : ℕ) →
+    OrFails (Ok m) (Ok (record { tree = t; version = v; batch = b })) → (m.tree ≡ t) × (m.batch ≡ b)
+ok_same m t v b (inl e) = let same : m ≡ record { tree = t; version = v; batch = b } = of_ok e
     in (ap (λ (x : Opened). x.tree) same, ap (λ (x : Opened). x.batch) same)
   where
-    of_ok : ◌≡◌ {A = Result Opened MapErr} (Ok m) (Ok (record { tree = t; batch = b })) →
-        m ≡ record { tree = t; batch = b }
+    of_ok : ◌≡◌ {A = Result Opened MapErr} (Ok m) (Ok (record { tree = t; version = v; batch = b })) →
+        m ≡ record { tree = t; version = v; batch = b }
     of_ok q = cc
-ok_same m t b (inr f) = absurd f
+ok_same m t v b (inr f) = absurd f
 
-pub stands_of : (form : Form) (hash : List ℕ → List ℕ) (told : Option Files) (name : List ℕ)
+pub only_of : (form : List ℕ → Form) (hash : List ℕ → List ℕ) (told : Option Files) (name : List ℕ)
     (r : Result Opened MapErr) →
-    OfFile told name (Fails r) (λ bytes. Tells form hash bytes r) →
-    IfOk r (λ m. OfFile told name ⊥ (λ bytes. Stands form hash bytes m.tree m.batch))
-stands_of form hash told name (Ok m) tells = OfFile-map told name _ _ (λ bytes t. t.answers.stands) tells
-stands_of form hash told name (Err e) tells = tt
-
-pub only_of : (form : Form) (hash : List ℕ → List ℕ) (told : Option Files) (name : List ℕ)
-    (r : Result Opened MapErr) →
-    OfFile told name (Fails r) (λ bytes. Tells form hash bytes r) →
-    IfOk r (λ m. OfFile told name ⊥ (λ bytes. IsOnlyMap form hash bytes m.tree m.batch))
+    OfFile told name (Fails r) (λ bytes. Tells (form bytes) hash bytes r) →
+    IfOk r (λ m. OfFile told name ⊥ (λ bytes. IsOnlyMap (form bytes) hash bytes m.tree m.batch))
 only_of form hash told name (Ok m) tells =
-    OfFile-map told name _ _ (λ bytes t u c k. ok_same m u c (t.map u c k)) tells
+    OfFile-map told name _ _ (λ bytes t u c k. ok_same m u (form bytes).version c (t.map u c k)) tells
 only_of form hash told name (Err e) tells = tt
 
-pub fault_of : (form : Form) (hash : List ℕ → List ℕ) (told : Option Files) (name : List ℕ)
+pub fault_of : (form : List ℕ → Form) (hash : List ℕ → List ℕ) (told : Option Files) (name : List ℕ)
     (r : Result Opened MapErr) →
-    OfFile told name (Fails r) (λ bytes. Tells form hash bytes r) → (f : MapFault) → r ≡ Err (errors.Map f) →
-    OfFile told name ⊥ (λ bytes. mapfault hash (file_of form bytes) ≡ Some f)
+    OfFile told name (Fails r) (λ bytes. Tells (form bytes) hash bytes r) → (f : MapFault) → r ≡ Err (errors.Map f) →
+    OfFile told name ⊥ (λ bytes. mapfault hash (file_of (form bytes) bytes) ≡ Some f)
 fault_of form hash told name (Ok m) tells f e = absurd (cc)
 fault_of form hash told name (Err (errors.Map g)) tells f e =
     let same : g ≡ f = cc in OfFile-map told name _ _ (λ bytes t. t.answers ∙ ap Some same) tells
 fault_of form hash told name (Err errors.Missing) tells f e = absurd (cc)
 fault_of form hash told name (Err errors.Fault) tells f e = absurd (cc)
 fault_of form hash told name (Err errors.NoMemory) tells f e = absurd (cc)
+
+-- ---- which version a file is read in
+
+pub version_by : (v : Version) → (form_by v).version ≡ v
+version_by One = refl
+version_by Two = refl
+
+pub form_by_is : (v : Version) → IsForm (form_by v)
+form_by_is One = first_form_is
+form_by_is Two = second_form_is
+
+-- the version that stands in front is the file's
+pub told_by : (hash : List ℕ → List ℕ) (told : Option Files) (name room : List ℕ) (v : Version)
+    (r : Result Opened MapErr) → v ≡ version_of room → OfFile told name ⊥ (λ bytes. IsFront bytes room) →
+    OfFile told name (Fails r) (λ bytes. Tells (form_by v) hash bytes r) →
+    OfFile told name (Fails r) (λ bytes. Tells (form_at bytes) hash bytes r)
+told_by hash told name room v r is front tells =
+    OfFile-or told name _ _ _ _ (λ absent. absurd absent.0)
+    (λ bytes both. subst (λ u. Tells (form_by u) hash bytes r) (is ∙ both.0.version) both.1)
+    (OfFile-and told name _ _ _ _ front tells)
+
+-- how often was read, behind the read of the front
+-- a file of a page's size has as many pages as are read of it
+page_is_there : (v : Version) (n a b : ℕ) → page_size ≤ n → a ≤ b + max 1 (n / (form_by v).size) →
+    a ≤ b + min (n / page_size) (max 1 (n / (form_by v).size))
+page_is_there One n a b some few = omega (arith, some, few)
+page_is_there Two n a b some few = omega (arith, some, few)
+
+pub once_by : (told : Option Files) (name room : List ℕ) (size : ℕ) (v : Version) (before mid after : ℕ) →
+    v ≡ version_of room → page_size ≤ size → mid ≤ before + 1 → OfFile told name ⊥ (λ bytes. length bytes ≡ size) →
+    OfFile told name ⊥ (λ bytes. IsFront bytes room) →
+    OfFile told name (after ≤ mid) (λ bytes. after + 1 ≤ mid + max 1 (length bytes / (form_by v).size)) →
+    OfFile told name (after ≡ before) (λ bytes. after ≤ before + pages_in bytes)
+once_by told name room size v before mid after is some one long front few =
+    OfFile-or told name _ _ _ _ (λ absent. absurd absent.0)
+    (λ bytes both. subst (λ u. after ≤ before + min (length bytes / page_size)
+    (max 1 (length bytes / (form_by u).size))) (is ∙ both.1.0.version)
+    (let all : after + 1 ≤ mid + max 1 (length bytes / (form_by v).size) = both.1.1 in
+    page_is_there v (length bytes) after before (subst (λ n. page_size ≤ n) (sym both.0) some)
+    (omega (arith, one, all))))
+    (OfFile-and told name _ _ _ _ long (OfFile-and told name _ _ _ _ front few))
+
+-- a file that is smaller than a page
+pub small_is_odd : (v : Version) (n : ℕ) → n < page_size → is_odd_size (form_by v).size n ≡ true
+small_is_odd v n small = at v (is_odd_size (form_by v).size n) refl
+  where
+    at : (u : Version) (b : Bool) → is_odd_size (form_by u).size n ≡ b → is_odd_size (form_by u).size n ≡ true
+    at u true e = e
+    at One false e =
+        let some : 1 ≤ n / 4096 = (whole_pages_are 4096 n (omega arith) e).some in absurd (omega (arith, small, some))
+    at Two false e =
+        let some : 1 ≤ n / 8192 = (whole_pages_are 8192 n (omega arith) e).some in absurd (omega (arith, small, some))
+
+pub told_small : (hash : List ℕ → List ℕ) → ((xs : List ℕ) → length (hash xs) ≡ 32) → (told : Option Files)
+    (name : List ℕ) (size : ℕ) → OfFile told name ⊤ AreBytes → OfFile told name ⊥ (λ bytes. length bytes ≡ size) →
+    size < page_size → OfFile told name (Fails (Err (errors.Map size_fault)))
+    (λ bytes. Tells (form_at bytes) hash bytes (Err (errors.Map size_fault)))
+told_small hash sized told name size all long small =
+    OfFile-or told name _ _ _ _ (λ absent. absurd absent.1)
+    (λ bytes both. tells_odd (form_at bytes) (form_by_is (version_of bytes)) hash sized bytes both.0
+    (subst (λ m. is_odd_size (form_at bytes).size m ≡ true) (sym both.1) (small_is_odd (version_of bytes) size small)))
+    (OfFile-and told name _ _ _ _ all long)
+
+-- where nothing more was read
+pub once_failed : (told : Option Files) (name : List ℕ) (before after : ℕ) → after ≡ before →
+    OfFile told name (after ≡ before) (λ bytes. after ≤ before + pages_in bytes)
+once_failed None name before after same = tt
+once_failed (Some files) name before after same = at (file files name)
+  where
+    at : (o : Option (List ℕ)) → MatchOption o (after ≡ before) (λ bytes. after ≤ before + pages_in bytes)
+    at None = same
+    at (Some bytes) = omega (arith, same)
+
+pub agrees_at : (hash : List ℕ → List ℕ) → ((xs : List ℕ) → length (hash xs) ≡ 32) →
+    (told : Option Files) (name : List ℕ) → OfFile told name ⊤ AreBytes →
+    OfFile told name ⊤ (λ bytes. Agrees (form_at bytes) hash bytes)
+agrees_at hash sized told name all =
+    OfFile-or told name _ _ _ _ (λ absent. tt)
+    (λ bytes are. agrees (form_at bytes) (form_by_is (version_of bytes)) hash sized bytes are) all
+
+pub stands_of : (hash : List ℕ → List ℕ) (told : Option Files) (name : List ℕ) (r : Result Opened MapErr) →
+    OfFile told name (Fails r) (λ bytes. Tells (form_at bytes) hash bytes r) →
+    IfOk r (λ m. OfFile told name ⊥
+    (λ bytes. (m.version ≡ version_of bytes) × Stands (form_at bytes) hash bytes m.tree m.batch))
+stands_of hash told name (Ok m) tells =
+    OfFile-map told name _ _ (λ bytes t. (t.answers.0 ∙ version_by (version_of bytes), t.answers.1.stands)) tells
+stands_of hash told name (Err e) tells = tt
+
+pub well_of : (hash : List ℕ → List ℕ) (r : Result Opened MapErr) → SomeFile hash r →
+    IfOk r (λ m. WellFormed m.tree × HasLayers m.version m.tree)
+well_of hash (Ok m) s =
+    (s.1.2.1.well, subst (λ (v : Version). HasLayers v m.tree) (sym s.1.2.0) s.1.2.1.layers)
+well_of hash (Err e) s = tt
+
+-- a file that stands for a map in a version is read in that one
+pub stands_version : (v : Version) (hash : List ℕ → List ℕ) (bytes : List ℕ) (t : Tree) (b : ℕ) →
+    Stands (form_by v) hash bytes t b → version_of bytes ≡ v
+unfolding head_bytes
+stands_version One hash bytes t b s =
+    ap (λ (xs : List ℕ). version_of xs) (sym (take-append-drop 4096 bytes)
+    ∙ ap (λ (p : List ℕ). p ++ drop 4096 bytes) s.sealed)
+stands_version Two hash bytes t b s =
+    ap (λ (xs : List ℕ). version_of xs) (sym (take-append-drop 8192 bytes)
+    ∙ ap (λ (p : List ℕ). p ++ drop 8192 bytes) s.sealed)
+
+-- the front of a file of this size
+pub front_of : (told : Option Files) (name : List ℕ) (size : ℕ) (room : List ℕ) →
+    OfFile told name ⊥ (λ bytes. size ≡ length bytes) →
+    OfFile told name ⊥ (λ bytes. length bytes ≡ size → IsFront bytes room) →
+    OfFile told name ⊥ (λ bytes. IsFront bytes room)
+front_of told name size room long front =
+    OfFile-or told name _ _ _ _ (λ absent. absent.0) (λ bytes both. both.1 (sym both.0))
+    (OfFile-and told name _ _ _ _ long front)
+
+pub bytes_there : (told : Option Files) (name : List ℕ) (size : ℕ) → OfFile told name ⊤ AreBytes →
+    OfFile told name ⊥ (λ bytes. size ≡ length bytes) → OfFile told name ⊥ AreBytes
+bytes_there told name size all long =
+    OfFile-or told name _ _ _ _ (λ absent. absent.1) (λ bytes both. both.0) (OfFile-and told name _ _ _ _ all long)
+
+pub size_there : (told : Option Files) (name : List ℕ) (size : ℕ) → OfFile told name ⊥ (λ bytes. size ≡ length bytes) →
+    OfFile told name ⊥ (λ bytes. length bytes ≡ size)
+size_there told name size = OfFile-map told name _ _ (λ bytes e. sym e)
+
+-- the failure of a call, whatever the version
+pub tells_at : (hash : List ℕ → List ℕ) → ((xs : List ℕ) → length (hash xs) ≡ 32) → (told : Option Files)
+    (name : List ℕ) (r : Result Opened MapErr) → OfFile told name ⊤ AreBytes → Fails r →
+    OfFile told name (Fails r) (λ bytes. Tells (form_at bytes) hash bytes r)
+tells_at hash sized told name r all f =
+    OfFile-or told name _ _ _ _ (λ absent. f)
+    (λ bytes are. tells_failed (form_at bytes) (form_by_is (version_of bytes)) hash sized bytes are r f) all

@@ -8,15 +8,17 @@ use Rattle.std.proofs.lemmas.Bool.{eqb-true, eq-eqb, not-false, not_from_true}
 use Rattle.std.proofs.lemmas.List.Elements.{All-from_recursion, recursion_from_All, All-nil}
 use Rattle.std.proofs.lemmas.List.Kept.{AllPairs-cons}
 use Rattle.mr_record.specs.declared.record.Record.{Record}
-use Rattle.mr_record.specs.Record.{IsRecord}
+use Rattle.mr_record.specs.declared.version.Version.{Version}
+use Rattle.mr_record.specs.Version.{told}
+use Rattle.mr_tree.proofs.Told.{count_told}
 use Rattle.mr_tree.specs.Tree.{level, records}
 use Rattle.mr_tree.specs.Digest.{entry, Scheme, by}
-use Rattle.mr_tree.specs.WellFormed.{HasOneLevel, IsFilledRoot, WellFormed}
+use Rattle.mr_tree.specs.WellFormed.{HasOneLevel, IsFilledRoot, WellFormed, HasLayers}
 use Rattle.mr_tree.specs.declared.tree.Tree.{Tree}
 use Rattle.mr_tree.specs.declared.tree.Tree.TheVariants as tree
 use Rattle.mr_tree.specs.declared.tree.Tree.TheViews.{out-Tree}
 use Rattle.mr_tree.specs.declared.tree.Tree.TheFolds.{every-Tree}
-use Rattle.mr_tree.proofs.Equations.{level-Empty, records-Empty, entry_level}
+use Rattle.mr_tree.proofs.Equations.{level-Empty, records-Empty, entry_level, entry_count}
 use Rattle.mr_tree.proofs.Induction.{every-Empty}
 use Rattle.mr_pages.specs.declared.rule.MapRule.{MapRule}
 use Rattle.mr_pages.specs.declared.rule.MapFault.{MapFault}
@@ -30,6 +32,7 @@ use Rattle.mr_pages.proofs.Lists.{nil_left, nil_right, nil_both, not_broken, no_
 use Rattle.mr_pages.proofs.Rules.{IsSound, walk_sound, sound_walk}
 use Rattle.mr_pages.proofs.Chains.{ReadsChain, free_sound, sound_free, all_within}
 use Rattle.mr_pages.proofs.Building.{IsRead, built, place_page, unfolds}
+use Rattle.mr_pages.proofs.PageLaws.{FitsRecord}
 
 -- the pages but page 0, as they are read
 pub record LiesRead (hash : List ℕ → List ℕ) (file : File) (placed : Option Placed) (first_free : ℕ) : Type 0 where
@@ -93,13 +96,13 @@ record WholeBuilt (hash : List ℕ → List ℕ) (file : File) (h : Head) (po : 
   one_level : every-Tree HasOneLevel (whole_tree po)
   shallow : level (whole_tree po) ≤ 7
   filled : IsFilledRoot (out-Tree (whole_tree po))
-  each : All IsRecord (records (whole_tree po))
+  each : All (FitsRecord file.version) (records (whole_tree po))
 
-whole_built : (hash : List ℕ → List ℕ) (file : File) → IsFile file → (h : Head) → IsHead h →
-    (root : Option Link) → h.root ≡ root →
+whole_built : (hash : List ℕ → List ℕ) (file : File) → IsFile file → (h : Head) → IsHead file.version h →
+    (root : Option Link) → h.root ≡ root → h.count ≡ length (all_records (walk file.node root)) →
     AllByRecursion (IsSound (by file.version hash) file.pages) (walk file.node root) →
     WholeBuilt hash file h (placed_at file.node root) (walk file.node root)
-whole_built hash file is h ok None e sound = record {
+whole_built hash file is h ok None e counted sound = record {
   root = e;
   written = tt;
   on = refl;
@@ -107,19 +110,25 @@ whole_built hash file is h ok None e sound = record {
   one_level = every-Empty HasOneLevel tt;
   shallow = omega (arith, level-Empty);
   filled = subst IsFilledRoot (sym tree.outs-Empty) tt;
-  each = subst (All IsRecord) (sym records-Empty) (All-nil IsRecord);
+  each = subst (All (FitsRecord file.version)) (sym records-Empty) (All-nil (FitsRecord file.version));
 }
-whole_built hash file is h ok (Some link) e sound =
+whole_built hash file is h ok (Some link) e counted sound =
     let b = built (by file.version hash) file.node file.pages is.nodes_fit link.entry.level true link refl sound in
-    let low : link.entry.level ≤ 7 = (subst (IsRoot h.count) e ok.root).2.level in
+    let v : Version = file.version in
+    let tree : Tree = tree_of (place file.node link.entry.level link) in
+    let root = subst (IsRoot v h.count) e ok.root in
+    let low : link.entry.level ≤ 7 = root.3.level in
+    let many : (entry (by v hash) tree).count ≡ link.entry.count =
+    entry_count (by v hash) tree ∙ count_told v tree ∙ ap (told v) (ap length b.lists ∙ sym counted) ∙ sym root.2 in
+    let known : entry (by v hash) tree ≡ link.entry = b.known (λ _. many) in
     let same : level (tree_of (place file.node link.entry.level link)) ≡ link.entry.level =
     sym (entry_level (by file.version hash) (tree_of (place file.node link.entry.level link)))
-    ∙ ap (λ (k : Entry). k.level) b.known in
+    ∙ ap (λ (k : Entry). k.level) known in
     record {
       root = e ∙ (λ i. Some (record {
         page = sym (place_page file.node link.entry.level link) i;
         entry =
-            sym b.known i;
+            sym known i;
       }));
       written = b.written;
       on = b.on;
@@ -136,6 +145,7 @@ pub record ReadsWell (hash : List ℕ → List ℕ) (file : File) : Type 0 where
   pub t : Tree
   pub b : ℕ
   pub well : WellFormed t
+  pub layers : HasLayers file.version t
   pub stands : StandsRead hash file t b
 
 pub within_pages : (hash : Scheme) (pages : ℕ) (vs : List Visit) → AllByRecursion (IsSound hash pages) vs →
@@ -146,11 +156,13 @@ within_pages hash pages (v ∷ vs) all = ((all.0.low, all.0.inside), within_page
 -- the tree that its pages spell
 pub record ReadsWellAt (hash : List ℕ → List ℕ) (file : File) (t : Tree) (b : ℕ) : Type 0 where
   pub well : WellFormed t
+  pub layers : HasLayers file.version t
   pub stands : StandsRead hash file t b
 
 -- the tree that its pages spell, node by node
 pub record ReadsAt (hash : List ℕ → List ℕ) (file : File) (h : Head) (po : Option Placed) : Type 0 where
   pub well : WellFormed (whole_tree po)
+  pub layers : HasLayers file.version (whole_tree po)
   pub count : h.count ≡ length (records (whole_tree po))
   pub root : h.root ≡ option_map (link_of (by file.version hash)) po
   pub lies : LiesRead hash file po h.free
@@ -175,7 +187,7 @@ reads_at hash file is h sealed e =
     (within_pages (by file.version hash) file.pages vs w.each) w.apart
     (nil_left (chain_faults file.free file.pages (reached vs) ps) (lost_faults file.pages (reached vs ++ ps)) e2)
     (nil_right (chain_faults file.free file.pages (reached vs) ps) (lost_faults file.pages (reached vs ++ ps)) e2) in
-    let b = whole_built hash file is h ok h.root refl w.each in
+    let b = whole_built hash file is h ok h.root refl count w.each in
     record {
       well = record {
         one_level = b.one_level;
@@ -183,9 +195,10 @@ reads_at hash file is h sealed e =
         filled = b.filled;
         distinct = subst (AllPairs (λ (x y : Record). x.number ≢ y.number)) (sym b.lists)
             (records_apart (all_records vs) (fresh_apart [] (numbers_of (all_records vs)) w.numbers));
-        each = b.each;
+        each = λ k d within. (b.each k d within).0;
         few = omega (arith, ok.count, count, ap length b.lists);
       };
+      layers = λ k d within. (b.each k d within).1;
       count = count ∙ ap length (sym b.lists);
       root = b.root;
       lies = record {
@@ -205,6 +218,7 @@ stands_at hash file is h sealed e =
     let r = reads_at hash file is h sealed e in
     record {
       well = r.well;
+      layers = r.layers;
       stands = record {
         head = h;
         sealed = sealed;
@@ -249,7 +263,14 @@ stands_without_fault hash file is e = at file.head refl (none_left (faults hash 
         no h = cc
     at (Ok h) same none =
         let s = stands_at hash file is h same (subst (λ o. file_faults hash file o ≡ []) same none) in
-        record { t = whole_tree (placed_at file.node h.root); b = h.batch; well = s.well; stands = s.stands }
+        record {
+          t = whole_tree (placed_at file.node h.root);
+          b = h.batch;
+          well = s.well;
+          layers =
+              s.layers;
+          stands = s.stands;
+        }
 
 -- ---- the file stands for a tree: no fault, and no other tree
 

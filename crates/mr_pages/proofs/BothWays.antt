@@ -36,7 +36,7 @@ node_written layout page level true n fits s t =
 node_written layout page level false n fits s t = absurd cc
 
 pub node_found : (layout : Layout) (page : List ℕ) (level : ℕ) (shown : Bool) (n : view.Node) (m : Node) →
-    node_limit ≤ layout.size → Shows shown n (of_level level (node_in layout page)) →
+    node_limit layout.version ≤ layout.size → Shows shown n (of_level level (node_in layout page)) →
     SpellsNode (form_of layout) level page m → (shown ≡ true) × (page_node n ≡ m)
 node_found layout page level shown n m room s is =
     let there : node_in layout page ≡ Some m = ap (node_in layout) is.is ∙ node_again layout m room is.fits in
@@ -67,7 +67,8 @@ free_found size page o g e below is = e ∙ ap (free_in size) is ∙ free_again 
 -- ---- page 0
 
 pub head_written : (layout : Layout) (pages : ℕ) (page : List ℕ) (r : Result MapHead MapRule) →
-    node_limit ≤ layout.size → IsBytes page → Heads r (head_in layout pages page) → 1 ≤ pages → pages ≤ page_limit
+    node_limit layout.version ≤ layout.size → IsBytes page → Heads r (head_in layout pages page) → 1 ≤ pages →
+    pages ≤ page_limit
     → IfOk r (λ h. SpellsHead (form_of layout) pages page (head_of h))
 head_written layout pages page (Ok h) room fits e some few =
     let p = head_is layout pages page (head_of h) room some few fits (ap result_ok e) in
@@ -75,7 +76,8 @@ head_written layout pages page (Ok h) room fits e some few =
 head_written layout pages page (Err rule) room fits e some few = tt
 
 pub head_found : (layout : Layout) (pages : ℕ) (page : List ℕ) (r : Result MapHead MapRule) (h : Head) →
-    node_limit ≤ layout.size → Heads r (head_in layout pages page) → SpellsHead (form_of layout) pages page h
+    node_limit layout.version ≤ layout.size → Heads r (head_in layout pages page) →
+    SpellsHead (form_of layout) pages page h
     → MatchResult r (λ found. head_of found ≡ h) (λ rule. ⊥)
 head_found layout pages page r h room e is =
     judge r (ap (head_in layout pages) is.is ∙ head_again layout pages h room is.fits.0 is.fits.1) e

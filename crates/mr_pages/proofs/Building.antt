@@ -8,7 +8,6 @@ use Rattle.std.proofs.lemmas.List.{map-append, append-nil}
 use Rattle.std.proofs.lemmas.List.Concat.{flat_map-append}
 use Rattle.std.proofs.lemmas.List.Elements.{All-from_recursion, recursion_from_All, All-append, All-nil}
 use Rattle.mr_record.specs.declared.record.Record.{Record}
-use Rattle.mr_record.specs.Record.{IsRecord}
 use Rattle.mr_tree.specs.Tree.{level, records, first_level}
 use Rattle.mr_tree.specs.Digest.{entry, entry_step, Scheme}
 use Rattle.mr_tree.specs.WellFormed.{HasOneLevel, IsFilled, IsFilledRoot}
@@ -26,6 +25,7 @@ use Rattle.mr_pages.specs.Faults.{Visit, of_level, found, children, records_in, 
 use Rattle.mr_pages.specs.Spelled.{row, place}
 use Rattle.mr_pages.proofs.Lists.{all_append, all_left, all_right, all_weaker}
 use Rattle.mr_pages.proofs.Rules.{IsSound}
+use Rattle.mr_pages.proofs.PageLaws.{FitsRecord}
 
 -- a tree with its pages, as a file's pages are read
 abbrev pub IsRead : Scheme → (ℕ → Option Node) → Placed → Type 0
@@ -111,8 +111,15 @@ level_is hash (Inner ls) = ap (λ ns. first_level ns + 1) (levels_all ls)
 -- a sound node's entry is what is said of it
 said : (hash : Scheme) (at : ℕ → Option Node) (link : Link) (node : Node) → Found at link node →
     (entry_of hash node).digest ≡ link.entry.digest → (entry_of hash node).rect ≡ link.entry.rect →
+    (entry_of hash node).mask ≡ link.entry.mask → (entry_of hash node).count ≡ link.entry.count →
     entry_of hash node ≡ link.entry
-said hash at link node f d r = λ i. record { level = (level_is hash node ∙ f.level) i; rect = r i; digest = d i }
+said hash at link node f d r m c = λ i. record {
+  level = (level_is hash node ∙ f.level) i;
+  rect = r i;
+  mask = m i;
+  count = c i;
+  digest = d i;
+}
 
 -- ---- how full nodes are
 
@@ -172,13 +179,14 @@ vis root link o = record { root = root; link = link; node = o }
 pub record Built (hash : Scheme) (at : ℕ → Option Node) (root : Bool) (link : Link) (P : Placed)
     (vs : List Visit) : Type 0 where
   pub written : IsRead hash at P
-  pub known : entry hash (tree_of P) ≡ link.entry
+  -- the count of the root is told elsewhere
+  pub known : (root ≡ true → (entry hash (tree_of P)).count ≡ link.entry.count) → entry hash (tree_of P) ≡ link.entry
   pub on : pages_of P ≡ reached vs
   pub lists : records (tree_of P) ≡ all_records vs
   pub one_level : every-Tree HasOneLevel (tree_of P)
   pub there : tree_of P ≢ tree.Empty
   pub filled : FilledAs root (tree_of P)
-  pub each : All IsRecord (records (tree_of P))
+  pub each : All (FitsRecord hash.version) (records (tree_of P))
 
 record RowBuilt (hash : Scheme) (at : ℕ → Option Node) (n : ℕ) (ls : List Link) (Ps : Row)
     (vs : List Visit) : Type 0 where
@@ -190,25 +198,25 @@ record RowBuilt (hash : Scheme) (at : ℕ → Option Node) (n : ℕ) (ls : List 
   one_level : AllByRecursion (every-Tree HasOneLevel) (trees_of Ps)
   there : AllByRecursion (λ t. t ≢ tree.Empty) (trees_of Ps)
   filled : AllByRecursion (every-Tree IsFilled) (trees_of Ps)
-  each : All IsRecord (flat_map records (trees_of Ps))
+  each : All (FitsRecord hash.version) (flat_map records (trees_of Ps))
 
 record SaidOf (hash : Scheme) (root : Bool) (link : Link) (node : Node) : Type 0 where
-  known : entry_of hash node ≡ link.entry
+  known : (root ≡ true → (entry_of hash node).count ≡ link.entry.count) → entry_of hash node ≡ link.entry
   full : least root node ≤ size node
-  good : IsNode node
+  good : IsNode hash.version node
 
 built_leaf : (hash : Scheme) (at : ℕ → Option Node) (root : Bool) (link : Link) (rs : List Record) →
     at link.page ≡ Some (Leaf rs) → SaidOf hash root link (Leaf rs) →
     Built hash at root link (placed.Leaf link.page rs) (vis root link (Some (Leaf rs)) ∷ [])
 built_leaf hash at root link rs is s = record {
   written = is;
-  known = entry-Leaf hash rs ∙ s.known;
+  known = λ c. entry-Leaf hash rs ∙ s.known (λ one. sym (ap (λ (e : Entry). e.count) (entry-Leaf hash rs)) ∙ c one);
   on = refl;
   lists = records-Leaf rs ∙ sym (append-nil rs);
   one_level = every-Leaf HasOneLevel rs tt;
   there = leaf_there rs;
   filled = filled_leaf root rs s.full s.good.1;
-  each = subst (All IsRecord) (sym (records-Leaf rs)) s.good.2;
+  each = subst (All (FitsRecord hash.version)) (sym (records-Leaf rs)) s.good.2;
 }
 
 pub length_row : (hash : Scheme) (Ps : Row) → length (trees_of Ps) ≡ length (links_of hash Ps)
@@ -237,9 +245,11 @@ built_inner hash at root n link ls Ps vs is s r =
     let ts = trees_of Ps in
     let size_is : length ts ≡ length ls = length_row hash Ps ∙ ap length r.named in
     let some : 0 < length ts = omega (arith, size_is, s.good.0) in
+    let same : entry hash (tree.Inner ts) ≡ entry_of hash (Inner ls) =
+    sym (entry_inner hash Ps) ∙ ap (λ ks. entry_of hash (Inner ks)) r.named in
     record {
       written = (is ∙ ap (λ ks. Some (Inner ks)) (sym r.named), r.written);
-      known = sym (entry_inner hash Ps) ∙ ap (λ ks. entry_of hash (Inner ks)) r.named ∙ s.known;
+      known = λ c. same ∙ s.known (λ one. sym (ap (λ (e : Entry). e.count) same) ∙ c one);
       on = ap (λ ps. link.page ∷ ps) r.on;
       lists = records-Inner ts ∙ of_images ts ∙ r.lists;
       one_level = every-Inner HasOneLevel ts r.one_level
@@ -247,7 +257,7 @@ built_inner hash at root n link ls Ps vs is s r =
           (one_of n ts r.levels r.there (first_level (map level ts)) (first_is n ts some r.levels)));
       there = inner_there ts;
       filled = filled_inner root ls ts size_is s.full s.good.1 r.filled;
-      each = subst (All IsRecord) (sym (records-Inner ts ∙ of_images ts)) r.each;
+      each = subst (All (FitsRecord hash.version)) (sym (records-Inner ts ∙ of_images ts)) r.each;
     }
 
 built_row : (hash : Scheme) (at : ℕ → Option Node) (pages n : ℕ) →
@@ -266,28 +276,29 @@ built_row hash at pages n one [] levels sound = record {
   there = tt;
   filled = tt;
   each =
-      All-nil IsRecord;
+      All-nil (FitsRecord hash.version);
 }
 built_row hash at pages n one (l ∷ ls) levels sound =
     let b = one l levels.0 (all_left _ (visits at n false l) (flat_map (visits at n false) ls) sound) in
+    let known : entry hash (tree_of (place at n l)) ≡ l.entry = b.known (λ e. absurd cc) in
     let r = built_row hash at pages n one ls levels.1 (all_right _ (visits at n false l)
     (flat_map (visits at n false) ls) sound) in
     record {
       written = (b.written, r.written);
-      named = λ i. record { page = place_page at n l i; entry = b.known i } ∷ r.named i;
+      named = λ i. record { page = place_page at n l i; entry = known i } ∷ r.named i;
       on = (λ i. b.on i ++ r.on i) ∙ sym (map-append (λ (v : Visit). v.link.page) (visits at n false l)
           (flat_map (visits at n false) ls));
       lists = (λ i. b.lists i ++ r.lists i) ∙ sym (flat_map-append (λ (v : Visit). records_in v.node)
           (visits at n false l) (flat_map (visits at n false) ls));
       levels = (
-        sym (entry_level hash (tree_of (place at n l))) ∙ ap (λ (e : Entry). e.level) b.known
+        sym (entry_level hash (tree_of (place at n l))) ∙ ap (λ (e : Entry). e.level) known
             ∙ levels.0,
         r.levels,
       );
       one_level = (b.one_level, r.one_level);
       there = (b.there, r.there);
       filled = (b.filled, r.filled);
-      each = All-append IsRecord _ _ b.each r.each;
+      each = All-append (FitsRecord hash.version) _ _ b.each r.each;
     }
 
 built_zero : (hash : Scheme) (at : ℕ → Option Node) (root : Bool) (link : Link) → link.entry.level ≡ 0 →
@@ -319,14 +330,22 @@ built_suc hash at pages n one root link high below (Inner ls) e f s =
     (subst (λ o. AllByRecursion (IsSound hash pages) (flat_map (visits at n false) (children o))) e below)))
 
 said_of : (hash : Scheme) (at : ℕ → Option Node) (pages : ℕ) →
-    ((p : ℕ) (node : Node) → at p ≡ Some node → IsNode node) →
+    ((p : ℕ) (node : Node) → at p ≡ Some node → IsNode hash.version node) →
     (root : Bool) (link : Link) (s : IsSound hash pages (visit at root link)) → SaidOf hash root link s.node
 said_of hash at pages good root link s =
     let f = what_is_found at link s.node s.is in
-    record { known = said hash at link s.node f s.digest s.rect; full = s.full; good = good link.page s.node f.there }
+    record {
+      known = λ c. said hash at link s.node f s.digest s.rect s.sums.mask (count_of root s.sums.count c);
+      full = s.full;
+      good = good link.page s.node f.there;
+    }
+  where
+    count_of : (root : Bool) {a b : ℕ} → (root ≡ false → a ≡ b) → (root ≡ true → a ≡ b) → a ≡ b
+    count_of true f g = g refl
+    count_of false f g = f refl
 
 pub built : (hash : Scheme) (at : ℕ → Option Node) (pages : ℕ) →
-    ((p : ℕ) (node : Node) → at p ≡ Some node → IsNode node) →
+    ((p : ℕ) (node : Node) → at p ≡ Some node → IsNode hash.version node) →
     (n : ℕ) (root : Bool) (link : Link) → link.entry.level ≡ n →
     AllByRecursion (IsSound hash pages) (visits at n root link) →
     Built hash at root link (place at n link) (visits at n root link)
@@ -368,6 +387,10 @@ unfolds_leaf hash at pages zero root p rs is low filled inside =
           inside = inside.1;
           digest = ap (λ (e : Entry). e.digest) (entry_leaf hash rs);
           rect = ap (λ (e : Entry). e.rect) (entry_leaf hash rs);
+          sums = record {
+            mask = ap (λ (e : Entry). e.mask) (entry_leaf hash rs);
+            count = λ _. ap (λ (e : Entry). e.count) (entry_leaf hash rs);
+          };
           full = leaf_filled root rs filled;
         },
         tt,
@@ -394,6 +417,10 @@ unfolds_inner hash at pages n root p Ps is high filled inside r =
           inside = inside.1;
           digest = ap (λ (e : Entry). e.digest) (entry_inner hash Ps);
           rect = ap (λ (e : Entry). e.rect) (entry_inner hash Ps);
+          sums = record {
+            mask = ap (λ (e : Entry). e.mask) (entry_inner hash Ps);
+            count = λ _. ap (λ (e : Entry). e.count) (entry_inner hash Ps);
+          };
           full = inner_filled root (links_of hash Ps) (trees_of Ps) (length_row hash Ps) filled;
         },
         subst (λ o. AllByRecursion (IsSound hash pages) (flat_map (visits at n false) (children o))) (sym f) r.sound,

@@ -9,6 +9,8 @@ use Rattle.mr_record.specs.declared.record.Record.{Record}
 use Rattle.mr_record.specs.Record.{IsRecord}
 use Rattle.mr_tree.specs.Tree.{level, records, rect, first_level}
 use Rattle.mr_tree.specs.Digest.{preimage, Scheme}
+use Rattle.mr_tree.specs.Limits.{count_limit}
+use Rattle.mr_tree.proofs.Told.{any_layers, may_tell}
 use Rattle.mr_tree.specs.WellFormed.{HasOneLevel, IsFilled}
 use Rattle.mr_tree.specs.declared.tree.Tree.{Tree}
 use Rattle.mr_tree.specs.declared.tree.Tree.TheVariants as tree
@@ -21,6 +23,7 @@ use Rattle.mr_pages.specs.Stands as placed
 use Rattle.mr_pages.specs.Stands.{Placed, Row, no_more, first, tree_of, trees_of, pages_of, all_pages, page_of, link_of, links_of, IsWritten, AreWritten}
 use Rattle.mr_pages.specs.Faults.{least}
 use Rattle.mr_pages.proofs.Lists.{all_left, all_right, all_weaker}
+use Rattle.mr_pages.proofs.PageLaws.{FitsRecord}
 use Rattle.mr_pages.proofs.Building.{FilledAs, leaf_filled, inner_filled, filled_below, below_levels, no_level_zero, length_row, of_images, leaf_few, inner_few}
 
 -- ---- rectangles
@@ -65,23 +68,27 @@ rects_of_records (r ∷ rs) all = (
 
 -- each node fits its page, beside what is known of it there; what is said of the tree fits too, and it has a record
 pub record Fits (hash : Scheme) (on : ℕ → Node → Type 0) (P : Placed) : Type 0 where
-  pub both : IsWritten hash (λ p n. on p n × IsNode n) P
-  pub said : IsLink (link_of hash P)
+  pub both : IsWritten hash (λ p n. on p n × IsNode hash.version n) P
+  pub said : IsLink hash.version (link_of hash P)
   pub some : 0 < length (records (tree_of P))
 
 record RowFits (hash : Scheme) (on : ℕ → Node → Type 0) (n : ℕ) (Ps : Row) : Type 0 where
-  both : AreWritten hash (λ p n. on p n × IsNode n) Ps
-  said : AllByRecursion IsLink (links_of hash Ps)
+  both : AreWritten hash (λ p n. on p n × IsNode hash.version n) Ps
+  said : AllByRecursion (IsLink hash.version) (links_of hash Ps)
   levels : AllByRecursion (λ (l : Link). l.entry.level ≡ n) (links_of hash Ps)
   rects : AllByRecursion HasRect (map rect (trees_of Ps))
   some : AllByRecursion (λ t. 0 < length (records t)) (trees_of Ps)
 
 said_of : (hash : Scheme) → ((xs : List ℕ) → length (hash.of xs) ≡ 32) → (P : Placed) → page_of P < 2 ^ 32 →
-    level (tree_of P) ≤ 7 → HasRect (rect (tree_of P)) → IsLink (link_of hash P)
-said_of hash sized P low shallow there = record {
+    level (tree_of P) ≤ 7 → HasRect (rect (tree_of P)) → 0 < length (records (tree_of P)) →
+    length (records (tree_of P)) ≤ count_limit → AllByRecursion (FitsRecord hash.version) (records (tree_of P)) →
+    IsLink hash.version (link_of hash P)
+said_of hash sized P low shallow there some few each = record {
   page = low;
   level = omega (arith, shallow, entry_level hash (tree_of P));
   rect = subst HasRect (sym (entry_rect hash (tree_of P))) there;
+  told = may_tell hash (tree_of P) some few (any_layers hash.version (records (tree_of P))
+      (λ k d within. (All-from_recursion (FitsRecord hash.version) (records (tree_of P)) each k d within).1));
   digest = ap length (digest_of_preimage hash (tree_of P)) ∙ sized (preimage hash (tree_of P));
 }
 
@@ -103,19 +110,28 @@ module _ (hash : Scheme) (sized : (xs : List ℕ) → length (hash.of xs) ≡ 32
   abbrev IsLow : ℕ → Type 0
   IsLow p = p < 2 ^ 32
 
+  abbrev Fitting : Record → Type 0
+  Fitting = FitsRecord hash.version
+
+  records_of : (rs : List Record) → AllByRecursion Fitting rs → AllByRecursion IsRecord rs
+  records_of [] all = tt
+  records_of (r ∷ rs) all = (all.0.0, records_of rs all.1)
+
   leaf_fits : (root : Bool) (p : ℕ) (rs : List Record) → on p (Leaf rs) → FilledAs root (tree.Leaf rs) →
-      AllByRecursion IsRecord (records (tree.Leaf rs)) → IsLow p → Fits hash on (placed.Leaf p rs)
+      AllByRecursion Fitting (records (tree.Leaf rs)) → IsLow p → Fits hash on (placed.Leaf p rs)
   leaf_fits root p rs is filled each low =
       let full : 1 ≤ length rs = least_one root (leaf_filled root rs filled) in
-      let all : AllByRecursion IsRecord rs = subst (AllByRecursion IsRecord) (records-Leaf rs) each in
+      let all : AllByRecursion Fitting rs = subst (AllByRecursion Fitting) (records-Leaf rs) each in
+      let some : 0 < length (records (tree.Leaf rs)) = omega (arith, full, ap length (records-Leaf rs)) in
       let images : length (map (λ (r : Record). Some r.rect) rs) ≡ length rs =
       images_length (λ (r : Record). Some r.rect) rs in
       record {
-        both = (is, (full, leaf_few root rs filled, All-from_recursion IsRecord rs all));
+        both = (is, (full, leaf_few root rs filled, All-from_recursion Fitting rs all));
         said = said_of hash sized (placed.Leaf p rs) low (omega (arith, level-Leaf rs))
             (subst HasRect (sym (rect-Leaf rs)) (union_there _ (omega (arith, full, images))
-            (rects_of_records rs all)));
-        some = omega (arith, full, ap length (records-Leaf rs));
+            (rects_of_records rs (records_of rs all)))) some
+            (omega (arith, leaf_few root rs filled, ap length (records-Leaf rs))) each;
+        some = some;
       }
     where
       least_one : (b : Bool) → least b (Leaf rs) ≤ length rs → 1 ≤ length rs
@@ -124,15 +140,19 @@ module _ (hash : Scheme) (sized : (xs : List ℕ) → length (hash.of xs) ≡ 32
 
   inner_fits : (root : Bool) (n p : ℕ) (Ps : Row) → on p (Inner (links_of hash Ps)) →
       FilledAs root (tree.Inner (trees_of Ps)) →
-      level (tree.Inner (trees_of Ps)) ≡ suc n → suc n ≤ 7 → IsLow p → RowFits hash on n Ps →
+      level (tree.Inner (trees_of Ps)) ≡ suc n → suc n ≤ 7 → IsLow p →
+      length (records (tree.Inner (trees_of Ps))) ≤ count_limit →
+      AllByRecursion Fitting (records (tree.Inner (trees_of Ps))) → RowFits hash on n Ps →
       Fits hash on (placed.Inner p Ps)
-  inner_fits root n p Ps is filled high shallow low r =
+  inner_fits root n p Ps is filled high shallow low many each r =
       let ts = trees_of Ps in
       let ls = links_of hash Ps in
       let same : length ts ≡ length ls = length_row hash Ps in
       let full : 1 ≤ length ls = least_one root (inner_filled root ls ts same filled) in
       let next : first_level (map (λ (k : Link). k.entry.level) ls) ≡ n = first_link n ls full r.levels in
       let images : length (map rect ts) ≡ length ts = images_length rect ts in
+      let some : 0 < length (records (tree.Inner ts)) = subst (λ rs. 0 < length rs)
+      (sym (records-Inner ts ∙ of_images ts)) (some_records ts (omega (arith, full, same)) r.some) in
       record {
         both = (
           (
@@ -151,9 +171,8 @@ module _ (hash : Scheme) (sized : (xs : List ℕ) → length (hash.of xs) ≡ 32
         );
         said = said_of hash sized (placed.Inner p Ps) low (omega (arith, high, shallow))
             (subst HasRect (sym (rect-Inner ts)) (union_there (map rect ts)
-            (omega (arith, full, same, images)) r.rects));
-        some = subst (λ rs. 0 < length rs) (sym (records-Inner ts ∙ of_images ts))
-            (some_records ts (omega (arith, full, same)) r.some);
+            (omega (arith, full, same, images)) r.rects)) some many each;
+        some = some;
       }
     where
       least_one : (b : Bool) → least b (Inner (links_of hash Ps)) ≤ length (links_of hash Ps) →
@@ -163,30 +182,33 @@ module _ (hash : Scheme) (sized : (xs : List ℕ) → length (hash.of xs) ≡ 32
 
   mutual
     pub fits : (P : Placed) (n : ℕ) (root : Bool) → IsWritten hash on P → every-Tree HasOneLevel (tree_of P) →
-        level (tree_of P) ≡ n → n ≤ 7 → FilledAs root (tree_of P) → AllByRecursion IsRecord (records (tree_of P)) →
-        AllByRecursion IsLow (pages_of P) → Fits hash on P
-    fits (placed.Leaf p rs) n root written levels is shallow filled each low =
+        level (tree_of P) ≡ n → n ≤ 7 → FilledAs root (tree_of P) → length (records (tree_of P)) ≤ count_limit →
+        AllByRecursion Fitting (records (tree_of P)) → AllByRecursion IsLow (pages_of P) → Fits hash on P
+    fits (placed.Leaf p rs) n root written levels is shallow filled many each low =
         leaf_fits root p rs written filled each low.0
-    fits (placed.Inner p Ps) zero root written levels is shallow filled each low =
+    fits (placed.Inner p Ps) zero root written levels is shallow filled many each low =
         absurd (no_level_zero (trees_of Ps) is)
-    fits (placed.Inner p Ps) (suc n) root written levels is shallow filled each low =
-        inner_fits root n p Ps written.0 filled is shallow low.0
+    fits (placed.Inner p Ps) (suc n) root written levels is shallow filled many each low =
+        inner_fits root n p Ps written.0 filled is shallow low.0 many each
         (rows_fit Ps n written.1 (every_child HasOneLevel (trees_of Ps) levels) (below_levels n (trees_of Ps) levels is)
         (omega (arith, shallow)) (filled_below root (trees_of Ps) filled)
-        (subst (AllByRecursion IsRecord) (records-Inner (trees_of Ps) ∙ of_images (trees_of Ps)) each) low.1)
+        (subst (λ rs. length rs ≤ count_limit) (records-Inner (trees_of Ps) ∙ of_images (trees_of Ps)) many)
+        (subst (AllByRecursion Fitting) (records-Inner (trees_of Ps) ∙ of_images (trees_of Ps)) each) low.1)
 
     rows_fit : (Ps : Row) (n : ℕ) → AreWritten hash on Ps → AllByRecursion (every-Tree HasOneLevel) (trees_of Ps) →
         AllByRecursion (λ t. level t ≡ n) (trees_of Ps) → n ≤ 7 → AllByRecursion (every-Tree IsFilled) (trees_of Ps) →
-        AllByRecursion IsRecord (flat_map records (trees_of Ps)) → AllByRecursion IsLow (all_pages Ps) →
+        length (flat_map records (trees_of Ps)) ≤ count_limit →
+        AllByRecursion Fitting (flat_map records (trees_of Ps)) → AllByRecursion IsLow (all_pages Ps) →
         RowFits hash on n Ps
-    rows_fit no_more n written levels is shallow filled each low =
+    rows_fit no_more n written levels is shallow filled many each low =
         record { both = tt; said = tt; levels = tt; rects = tt; some = tt }
-    rows_fit (first P Ps) n written levels is shallow filled each low =
-        let one = fits P n false written.0 levels.0 is.0 shallow filled.0
-        (all_left IsRecord (records (tree_of P)) (flat_map records (trees_of Ps)) each)
+    rows_fit (first P Ps) n written levels is shallow filled many each low =
+        let both = length-append (records (tree_of P)) (flat_map records (trees_of Ps)) in
+        let one = fits P n false written.0 levels.0 is.0 shallow filled.0 (omega (arith, many, both))
+        (all_left Fitting (records (tree_of P)) (flat_map records (trees_of Ps)) each)
         (all_left IsLow (pages_of P) (all_pages Ps) low) in
-        let rest = rows_fit Ps n written.1 levels.1 is.1 shallow filled.1
-        (all_right IsRecord (records (tree_of P)) (flat_map records (trees_of Ps)) each)
+        let rest = rows_fit Ps n written.1 levels.1 is.1 shallow filled.1 (omega (arith, many, both))
+        (all_right Fitting (records (tree_of P)) (flat_map records (trees_of Ps)) each)
         (all_right IsLow (pages_of P) (all_pages Ps) low) in
         record {
           both = (one.both, rest.both);

@@ -1,22 +1,25 @@
 -- Page 0 and free pages are read from the bytes that spell them, and from no others; so the first
 -- version of the format is one whose pages are read as what they spell.
-use Rattle.std.proofs.Common.{◌≡◌, ◌≢◌, ℕ, zero, suc, ◌-◌, ◌^◌, ◌<◌, ◌≤◌, Bool, true, false, cond, eqb, List, ◌∷◌, ◌++◌, length, get_or, take, drop, replicate, Result, Ok, Err, Option, Some, None, refl, sym, ap, subst, ◌∙◌, inl, inr, arith, append_assoc, length-append}
+use Rattle.std.proofs.Common.{◌≡◌, ◌≢◌, ℕ, zero, suc, ◌+◌, ◌-◌, ◌^◌, ◌<◌, ◌≤◌, Bool, true, false, cond, eqb, List, ◌∷◌, ◌++◌, length, get_or, take, drop, replicate, Result, Ok, Err, Option, Some, None, refl, sym, ap, subst, ◌∙◌, inl, inr, arith, append_assoc, length-append}
 use Rattle.std.specs.Prelude.{slice_range, nat_le, ◌&&◌, not, bytes_eq}
 use Rattle.std.specs.Int.{w32, w64, from_be_bytes, to_be_bytes}
 use Rattle.std.specs.Result.{result_ok}
 use Rattle.std.proofs.lemmas.Bool.{le-leb, leb-true, eq-eqb, eqb-true, ne_eqb, cases_Bool, and_parts}
-use Rattle.std.proofs.lemmas.List.{take_at, drop_at, length-take-le, length-drop, length-replicate}
+use Rattle.std.proofs.lemmas.List.{take_at, drop_at, drop-drop, length-take-le, length-drop, length-replicate}
 use Rattle.std.proofs.lemmas.Nat.{from_be_bytes-to_be_bytes_4, from_be_bytes-to_be_bytes_8}
 use Rattle.std.proofs.lemmas.Slice.Eq.{bytes_eq-Decides}
 use Rattle.mr_record.proofs.Encodings.{IsBytes, IsBytes-take, IsBytes-drop, word_below}
 use Rattle.mr_tree.specs.Limits.{count_limit, level_limit}
+use Rattle.mr_tree.proofs.Told.{told_le}
 use Rattle.mr_pages.specs.declared.rule.MapRule.{MapRule}
 use Rattle.mr_pages.specs.declared.rule.MapRule.TheVariants.{Unsealed, Header}
 use Rattle.mr_pages.specs.Page.{Link, Head, IsRoot, IsHead, FitsHead, IsForm, page_limit}
+use Rattle.mr_record.specs.Version.{told}
 use Rattle.mr_record.specs.declared.version.Version.{Version}
+use Rattle.mr_record.specs.declared.version.Version.TheVariants.{One, Two}
 use Rattle.mr_pages.specs.declared.layout.Layout.{Layout}
-use Rattle.mr_pages.specs.PageBytes.{filled, link_bytes, link_size, link_in, node_bytes, node_limit, IsLayout, free_tag, free_page, free_in, root_place, free_place, head_size, seal, seal_place, root_level, root_bytes, head_bytes, head_page, root_in, fields_in, is_root, is_head, is_sealed, head_in, form_of, first_layout, first_form}
-use Rattle.mr_pages.proofs.PageLaws.{from_bytes, quarter_below, chosen, link_again, link_is, level_read, length-link_bytes, length-filled, both_true, node_again, node_is, node_room}
+use Rattle.mr_pages.specs.PageBytes.{filled, root_size, root_link_in, node_bytes, node_limit, IsLayout, free_tag, free_page, free_in, root_place, free_place, head_size, seal, seal_place, root_level, root_bytes, head_bytes, head_page, root_in, fields_in, is_root, is_head, is_sealed, head_in, form_of, first_layout, first_form, second_layout, second_form}
+use Rattle.mr_pages.proofs.PageLaws.{from_bytes, quarter_below, chosen, spelled_root, root_link_again, root_link_is, root_level_read, length-root_link, length-filled, both_true, node_again, node_is, node_room}
 
 same_bytes : (xs ys : List ℕ) → bytes_eq xs ys ≡ true → xs ≡ ys
 same_bytes xs ys t = (bytes_eq-Decides xs ys).0 t
@@ -46,112 +49,134 @@ free_is size page g fits e =
 
 -- ---- the root node on page 0
 
-pub length-root_bytes : (count : ℕ) (root : Option Link) → IsRoot count root → length (root_bytes root) ≡ link_size
+pub length-root_bytes : (v : Version) (count : ℕ) (root : Option Link) → IsRoot v count root →
+    length (root_bytes v root) ≡ root_size v
 unfolding root_bytes
-length-root_bytes count None is = refl
-length-root_bytes count (Some l) is = length-link_bytes l is.2
+length-root_bytes v count None is = length-replicate {A = ℕ} (root_size v) 0
+length-root_bytes v count (Some l) is = length-root_link v l is.3
 
-root_again : (count : ℕ) (root : Option Link) → IsRoot count root →
-    root_in count (root_level root) (root_bytes root) ≡ root
+root_again : (v : Version) (count : ℕ) (root : Option Link) → IsRoot v count root →
+    root_in v count (root_level root) (root_bytes v root) ≡ root
 unfolding root_in root_bytes
-root_again count None is = ap (λ (b : Bool). cond b None (link_in 0 (replicate link_size 0))) (eq-eqb count 0 is)
-root_again count (Some l) is =
-    ap (λ (b : Bool). cond b None (link_in l.entry.level (link_bytes l))) (ne_eqb count 0 (omega arith))
-    ∙ link_again l.entry.level l (record { link = is.2; at = refl })
+root_again v count None is =
+    ap (λ (b : Bool). cond b None (root_link_in v count 0 (replicate (root_size v) 0))) (eq-eqb count 0 is)
+root_again v count (Some l) is =
+    ap (λ (b : Bool). cond b None (root_link_in v count l.entry.level (spelled_root v l)))
+    (ne_eqb count 0 (omega arith))
+    ∙ root_link_again v count l is.3 is.2
 
-pub root_test : (count : ℕ) (root : Option Link) → IsRoot count root → is_root count root ≡ true
-root_test count None is = eq-eqb count 0 is
-root_test count (Some l) is =
+pub root_test : (v : Version) (count : ℕ) (root : Option Link) → IsRoot v count root → is_root count root ≡ true
+root_test v count None is = eq-eqb count 0 is
+root_test v count (Some l) is =
     both_true (not (eqb count 0)) (not (eqb l.page 0) && nat_le l.entry.level level_limit)
     (ap not (ne_eqb count 0 (omega arith)))
     (both_true (not (eqb l.page 0)) (nat_le l.entry.level level_limit) (ap not (ne_eqb l.page 0 is.1))
-    (le-leb l.entry.level level_limit is.2.level))
+    (le-leb l.entry.level level_limit is.3.level))
 
 -- ---- what page 0 says
 
 -- the parts of page 0 behind its first 26 bytes
-tail_root : (R F Z S : List ℕ) → length R ≡ link_size → take link_size (((R ++ F) ++ Z) ++ S) ≡ R
-tail_root R F Z S long = ap (take link_size) (append_assoc (R ++ F) Z S ∙ append_assoc R F (Z ++ S))
-    ∙ take_at R (F ++ (Z ++ S)) link_size long
+tail_root : (n : ℕ) (R F Z S : List ℕ) → length R ≡ n → take n (((R ++ F) ++ Z) ++ S) ≡ R
+tail_root n R F Z S long = ap (take n) (append_assoc (R ++ F) Z S ∙ append_assoc R F (Z ++ S))
+    ∙ take_at R (F ++ (Z ++ S)) n long
 
-tail_free : (R F Z S : List ℕ) → length R ≡ link_size → length F ≡ 4 →
-    take 4 (drop link_size (((R ++ F) ++ Z) ++ S)) ≡ F
-tail_free R F Z S long four =
-    ap (λ (t : List ℕ). take 4 (drop link_size t)) (append_assoc (R ++ F) Z S ∙ append_assoc R F (Z ++ S))
-    ∙ ap (take 4) (drop_at R (F ++ (Z ++ S)) link_size long) ∙ take_at F (Z ++ S) 4 four
+tail_free : (n : ℕ) (R F Z S : List ℕ) → length R ≡ n → length F ≡ 4 →
+    take 4 (drop n (((R ++ F) ++ Z) ++ S)) ≡ F
+tail_free n R F Z S long four =
+    ap (λ (t : List ℕ). take 4 (drop n t)) (append_assoc (R ++ F) Z S ∙ append_assoc R F (Z ++ S))
+    ∙ ap (take 4) (drop_at R (F ++ (Z ++ S)) n long) ∙ take_at F (Z ++ S) 4 four
 
-pub fields_again : (form : Layout) (h : Head) → IsHead h → fields_in (head_page form h) ≡ h
+-- what stands behind a front
+behind : (page : List ℕ) (a b c : ℕ) → slice_range page (a + b) (a + b + c) ≡ take c (drop b (drop a page))
+behind page a b c =
+    let some : a + b + c - (a + b) ≡ c = omega arith in
+    let sum : b + a ≡ a + b = omega arith in
+    ap (λ n. take n (drop (a + b) page)) some
+    ∙ ap (λ n. take c (drop n page)) (sym sum)
+    ∙ ap (take c) (sym (drop-drop b a page ∙ ap (λ n. drop n page) (sym sum)))
+
+pub fields_again : (form : Layout) (h : Head) → IsHead form.version h → fields_in form.version (head_page form h) ≡ h
 unfolding fields_in head_bytes
 fields_again form h is =
-    let R : List ℕ = root_bytes h.root in
+    let v : Version = form.version in
+    let page : List ℕ = head_page form h in
+    let R : List ℕ = root_bytes v h.root in
     let F : List ℕ = to_be_bytes w32 h.free in
-    let Z : List ℕ = replicate (seal_place form.size - length (head_bytes form.version h)) 0 in
-    let long : length R ≡ link_size = length-root_bytes h.count h.root is.root in
-    let batch : from_be_bytes w64 (slice_range (head_page form h) 6 14) ≡ h.batch =
+    let Z : List ℕ = replicate (seal_place form.size - length (head_bytes v h)) 0 in
+    let long : length R ≡ root_size v = length-root_bytes v h.count h.root is.root in
+    let batch : from_be_bytes w64 (slice_range page 6 14) ≡ h.batch =
     from_be_bytes-to_be_bytes_8 h.batch is.batch in
-    let count : from_be_bytes w64 (slice_range (head_page form h) 14 22) ≡ h.count =
+    let count : from_be_bytes w64 (slice_range page 14 22) ≡ h.count =
     from_be_bytes-to_be_bytes_8 h.count (omega (arith, is.count)) in
-    let pages : from_be_bytes w32 (slice_range (head_page form h) 22 root_place) ≡ h.pages =
+    let pages : from_be_bytes w32 (slice_range page 22 root_place) ≡ h.pages =
     from_be_bytes-to_be_bytes_4 h.pages (omega (arith, is.pages.1)) in
-    let raw : slice_range (head_page form h) root_place free_place ≡ R = tail_root R F Z seal long in
-    let free : from_be_bytes w32 (slice_range (head_page form h) free_place head_size) ≡ h.free =
-    ap (from_be_bytes w32) (tail_free R F Z seal long refl) ∙ from_be_bytes-to_be_bytes_4 h.free is.free in
+    let raw : slice_range page root_place (free_place v) ≡ R =
+    behind page root_place 0 (root_size v) ∙ tail_root (root_size v) R F Z seal long in
+    let free : from_be_bytes w32 (slice_range page (free_place v) (head_size v)) ≡ h.free =
+    ap (from_be_bytes w32) (behind page root_place (root_size v) 4 ∙ tail_free (root_size v) R F Z seal long refl)
+    ∙ from_be_bytes-to_be_bytes_4 h.free is.free in
     (λ i. record {
       batch = batch i;
       count = count i;
       pages = pages i;
-      root =
-          root_in (count i) (root_level h.root) (raw i);
+      root = root_in v (count i) (root_level h.root) (raw i);
       free = free i;
     })
     ∙ ap (λ (root : Option Link). let x : Head = record
     { batch = h.batch; count = h.count; pages = h.pages; root = root; free = h.free } in x)
-    (root_again h.count h.root is.root)
+    (root_again v h.count h.root is.root)
 
-length-head_bytes : (version : Version) (h : Head) → IsHead h → length (head_bytes version h) ≡ head_size
+length-head_bytes : (v : Version) (h : Head) → IsHead v h → length (head_bytes v h) ≡ head_size v
 unfolding head_bytes
-length-head_bytes version h is =
-    let R : List ℕ = root_bytes h.root in
-    let long : length R ≡ link_size = length-root_bytes h.count h.root is.root in
-    omega (arith, length-append R (to_be_bytes w32 h.free))
+length-head_bytes v h is =
+    let R : List ℕ = root_bytes v h.root in
+    let long : length R ≡ root_size v = length-root_bytes v h.count h.root is.root in
+    omega (arith, long, length-append R (to_be_bytes w32 h.free))
 
-pub length-head_page : (form : Layout) (h : Head) → node_limit ≤ form.size → IsHead h →
+-- what page 0 says has room before the seal
+head_fits : (form : Layout) → node_limit form.version ≤ form.size → head_size form.version ≤ seal_place form.size
+head_fits form big = omega (arith, big, told_le form.version 8)
+
+pub length-head_page : (form : Layout) (h : Head) → node_limit form.version ≤ form.size → IsHead form.version h →
     length (head_page form h) ≡ form.size
 length-head_page form h big is =
     omega (
       arith,
       length-append (filled (seal_place form.size) (head_bytes form.version h)) seal,
       length-filled (seal_place form.size)
-          (head_bytes form.version h) (omega (arith, length-head_bytes form.version h is)),
+          (head_bytes form.version h) (omega (arith, length-head_bytes form.version h is, head_fits form big)),
+      big,
     )
 
-sealed_again : (form : Layout) (h : Head) → node_limit ≤ form.size → IsHead h →
+sealed_again : (form : Layout) (h : Head) → node_limit form.version ≤ form.size → IsHead form.version h →
     is_sealed form.size (head_page form h) ≡ true
 sealed_again form h big is =
     bytes_same (drop (seal_place form.size) (head_page form h)) seal
     (drop_at (filled (seal_place form.size) (head_bytes form.version h)) seal (seal_place form.size)
     (length-filled (seal_place form.size) (head_bytes form.version h)
-    (omega (arith, length-head_bytes form.version h is))))
+    (omega (arith, length-head_bytes form.version h is, head_fits form big))))
 
-head_test : (pages : ℕ) (h : Head) → IsHead h → h.pages ≡ pages → is_head pages h ≡ true
-head_test pages h is same =
+head_test : (v : Version) (pages : ℕ) (h : Head) → IsHead v h → h.pages ≡ pages → is_head pages h ≡ true
+head_test v pages h is same =
     both_true (nat_le h.count count_limit) (eqb h.pages pages && is_root h.count h.root)
     (le-leb h.count count_limit is.count)
     (both_true (eqb h.pages pages) (is_root h.count h.root) (eq-eqb h.pages pages same)
-    (root_test h.count h.root is.root))
+    (root_test v h.count h.root is.root))
 
 -- page 0 if it passes both tests
 abbrev judged : Bool → Bool → Head → Result Head MapRule
 judged sealed fits h = cond (not sealed) (Err Unsealed) (cond fits (Ok h) (Err Header))
 
-pub head_again : (form : Layout) (pages : ℕ) (h : Head) → node_limit ≤ form.size → IsHead h → h.pages ≡ pages →
+pub head_again : (form : Layout) (pages : ℕ) (h : Head) → node_limit form.version ≤ form.size → IsHead form.version h →
+    h.pages ≡ pages →
     head_in form pages (head_page form h) ≡ Ok h
 head_again form pages h big is same =
     let page : List ℕ = head_page form h in
-    let found : fields_in page ≡ h = fields_again form h is in
+    let found : fields_in form.version page ≡ h = fields_again form h is in
     (λ i. judged (sealed_again form h big is i) (is_head pages (found i) && bytes_eq (head_page form (found i)) page)
     (found i))
-    ∙ ap (λ (b : Bool). judged true b h) (both_true (is_head pages h) (bytes_eq page page) (head_test pages h is same)
+    ∙ ap (λ (b : Bool). judged true b h)
+    (both_true (is_head pages h) (bytes_eq page page) (head_test form.version pages h is same)
     (bytes_same page page refl))
 
 judged_ok : (a b : Bool) (x h : Head) → result_ok (judged a b x) ≡ Some h → (b ≡ true) × (x ≡ h)
@@ -167,43 +192,51 @@ not_zero : (n : ℕ) → not (eqb n 0) ≡ true → n ≢ 0
 not_zero zero e = absurd cc
 not_zero (suc n) e = omega arith
 
-linked : (count level : ℕ) (raw : List ℕ) (o : Option Link) → length raw ≡ link_size → IsBytes raw → 0 < count →
-    link_in level raw ≡ o → is_root count o ≡ true → IsRoot count o
-unfolding link_in
-linked count level raw None long fits some e t = eqb-true count 0 t
-linked count level raw (Some l) long fits some e t =
+linked : (v : Version) (count level : ℕ) (raw : List ℕ) (o : Option Link) → length raw ≡ root_size v → IsBytes raw →
+    0 < count → root_link_in v count level raw ≡ o → is_root count o ≡ true → IsRoot v count o
+linked v count level raw None long fits some e t = eqb-true count 0 t
+linked v count level raw (Some l) long fits some e t =
     let u = and_parts (not (eqb count 0)) (not (eqb l.page 0) && nat_le l.entry.level level_limit) t in
-    let v = and_parts (not (eqb l.page 0)) (nat_le l.entry.level level_limit) u.1 in
-    let at : l.entry.level ≡ level = level_read level raw l e in
-    let low : level ≤ level_limit = subst (λ (n : ℕ). n ≤ level_limit) at (leb-true l.entry.level level_limit v.1) in
-    (some, not_zero l.page v.0, (link_is level raw l low long fits e).0.link)
+    let w = and_parts (not (eqb l.page 0)) (nat_le l.entry.level level_limit) u.1 in
+    let at : l.entry.level ≡ level = root_level_read v count level raw l e in
+    let low : level ≤ level_limit = subst (λ (n : ℕ). n ≤ level_limit) at (leb-true l.entry.level level_limit w.1) in
+    let is = root_link_is v count level raw l low long fits e in
+    (some, not_zero l.page w.0, is.count, is.link)
 
-root_is : (count level : ℕ) (raw : List ℕ) → length raw ≡ link_size → IsBytes raw →
-    is_root count (root_in count level raw) ≡ true → IsRoot count (root_in count level raw)
+root_is : (v : Version) (count level : ℕ) (raw : List ℕ) → length raw ≡ root_size v → IsBytes raw →
+    is_root count (root_in v count level raw) ≡ true → IsRoot v count (root_in v count level raw)
 unfolding root_in
-root_is count level raw long fits t = elim (cases_Bool (eqb count 0)) [
+root_is v count level raw long fits t = elim (cases_Bool (eqb count 0)) [
   | inl none ↦
-      subst (λ (b : Bool). IsRoot count (cond b None (link_in level raw))) (sym none) (eqb-true count 0 none)
+      subst (λ (b : Bool). IsRoot v count (cond b None (root_link_in v count level raw))) (sym none)
+      (eqb-true count 0 none)
   | inr some ↦
-      subst (λ (b : Bool). IsRoot count (cond b None (link_in level raw))) (sym some)
-      (linked count level raw (link_in level raw) long fits (ne_from count some) refl
-      (subst (λ (b : Bool). is_root count (cond b None (link_in level raw)) ≡ true) some t))
+      subst (λ (b : Bool). IsRoot v count (cond b None (root_link_in v count level raw))) (sym some)
+      (linked v count level raw (root_link_in v count level raw) long fits (ne_from count some) refl
+      (subst (λ (b : Bool). is_root count (cond b None (root_link_in v count level raw)) ≡ true) some t))
 ]
 
-pub head_is : (form : Layout) (pages : ℕ) (page : List ℕ) (h : Head) → node_limit ≤ form.size → 1 ≤ pages →
+less_told : (v : Version) → told v 8 ≤ told v 737
+less_told One = omega arith
+less_told Two = omega arith
+
+pub head_is : (form : Layout) (pages : ℕ) (page : List ℕ) (h : Head) → node_limit form.version ≤ form.size → 1 ≤ pages →
     pages ≤ page_limit → IsBytes page
-    → result_ok (head_in form pages page) ≡ Some h → FitsHead pages h × (head_page form h ≡ page)
+    → result_ok (head_in form pages page) ≡ Some h → FitsHead form.version pages h × (head_page form h ≡ page)
 unfolding fields_in
 head_is form pages page h big some few fits e =
-    let found : Head = fields_in page in
+    let v : Version = form.version in
+    let found : Head = fields_in v page in
     let p = judged_ok (is_sealed form.size page) (is_head pages found && bytes_eq (head_page form found) page) found h e
     in
     let t = and_parts (is_head pages found) (bytes_eq (head_page form found) page) p.0 in
     let u = and_parts (nat_le found.count count_limit) (eqb found.pages pages && is_root found.count found.root) t.0 in
-    let v = and_parts (eqb found.pages pages) (is_root found.count found.root) u.1 in
+    let w = and_parts (eqb found.pages pages) (is_root found.count found.root) u.1 in
     let spelled : head_page form found ≡ page = same_bytes (head_page form found) page t.1 in
-    let wide : head_size ≤ length page = omega (
+    let wide : head_size v ≤ length page = omega (
       arith,
+      big,
+      less_told v,
       ap length spelled,
       length-append
           (filled (seal_place form.size) (head_bytes form.version found)) seal,
@@ -213,24 +246,27 @@ head_is form pages page h big some few fits e =
           (seal_place form.size - length (head_bytes form.version found)) 0,
     ) in
     let part = λ (at n : ℕ). IsBytes-take n (drop at page) (IsBytes-drop at page fits) in
-    let same : found.pages ≡ pages = eqb-true found.pages pages v.0 in
-    let is : IsHead found = record {
+    let same : found.pages ≡ pages = eqb-true found.pages pages w.0 in
+    let is : IsHead v found = record {
       batch = word_below (slice_range page 6 14) (part 6 8);
       count = leb-true found.count count_limit u.0;
       pages = (omega arith, omega arith);
-      root = root_is found.count (get_or page 5 0) (slice_range page root_place free_place)
-          (length-take-le link_size (drop root_place page) (omega (arith, length-drop root_place page)))
-          (part root_place link_size) v.1;
-      free = quarter_below (slice_range page free_place head_size) (part free_place 4);
+      root = root_is v found.count (get_or page 5 0) (slice_range page root_place (free_place v))
+          (length-take-le (free_place v - root_place) (drop root_place page)
+          (omega (arith, wide, length-drop root_place page)) ∙ (omega arith))
+          (part root_place (free_place v - root_place)) w.1;
+      free = quarter_below (slice_range page (free_place v) (head_size v))
+          (part (free_place v) (head_size v - free_place v));
     } in
-    subst (λ (x : Head). FitsHead pages x × (head_page form x ≡ page)) p.1 ((is, same), spelled)
+    subst (λ (x : Head). FitsHead v pages x × (head_page form x ≡ page)) p.1 ((is, same), spelled)
 
 -- ---- whole pages
 
 pub form_is : (layout : Layout) → IsLayout layout → IsForm (form_of layout)
 form_is layout is =
     let size : ℕ = layout.size in
-    let room : node_limit ≤ size = is.room in
+    let v : Version = layout.version in
+    let room : node_limit v ≤ size = is.room in
     record {
       some = omega (arith, room);
       heads = λ pages some few. record {
@@ -239,7 +275,7 @@ form_is layout is =
         spelled = λ bytes h all e. head_is layout pages bytes h room some few (from_bytes bytes all) e;
       };
       nodes = record {
-        sized = λ n fit. length-filled size (node_bytes n) (omega (arith, node_room n fit, room));
+        sized = λ n fit. length-filled size (node_bytes v n) (omega (arith, node_room v n fit, room));
         read_again = λ n fit. node_again layout n room fit;
         spelled = λ bytes n all e. node_is layout bytes n (from_bytes bytes all) e;
       };
@@ -257,3 +293,11 @@ first_layout_is = record { room = omega arith; small = omega arith }
 
 pub first_form_is : IsForm first_form
 first_form_is = form_is first_layout first_layout_is
+
+-- ---- the second version
+
+pub second_layout_is : IsLayout second_layout
+second_layout_is = record { room = omega arith; small = omega arith }
+
+pub second_form_is : IsForm second_form
+second_form_is = form_is second_layout second_layout_is

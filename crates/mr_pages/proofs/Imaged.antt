@@ -1,10 +1,11 @@
 -- The pages of a map's file before page 0 is written, and when it was written in part.
-use Rattle.std.proofs.Common.{◌≡◌, ◌≢◌, ℕ, zero, suc, ◌+◌, ◌-◌, ◌*◌, ◌/◌, ◌<◌, ◌≤◌, Bool, true, false, List, [], ◌∷◌, ◌++◌, length, take, drop, replicate, refl, sym, ap, subst, ◌∙◌, arith, append_assoc, length-append, inl, inr}
+use Rattle.std.proofs.Common.{◌≡◌, ◌≢◌, ℕ, suc, ◌+◌, ◌-◌, ◌*◌, ◌/◌, ◌<◌, ◌≤◌, Bool, true, false, List, [], ◌∷◌, ◌++◌, length, take, drop, replicate, refl, sym, ap, subst, ◌∙◌, arith, append_assoc, length-append, inl, inr, ◌⊎◌}
 use Rattle.mr_tree.specs.Digest.{by}
 use Rattle.std.specs.Prelude.{Option, Some, None, option_map, Result, Ok, Err, OnOk, bytes_eq, if◌then◌else◌}
 use Rattle.std.specs.List.{flat_map, AllByRecursion}
 use Rattle.std.proofs.lemmas.Slice.Eq.{bytes_eq-Decides}
-use Rattle.std.proofs.lemmas.List.{append-nil, length-replicate, take_at, drop_at, take-append-le, drop-append-le, drop-drop, drop-replicate}
+use Rattle.std.proofs.lemmas.Bool.{cases_lt}
+use Rattle.std.proofs.lemmas.List.{append-nil, replicate-append-replicate, length-replicate, take_at, drop_at, take-append-le, drop-append-le, drop-drop, drop-replicate}
 use Rattle.std.proofs.lemmas.List.Elements.{recursion_from_All}
 use Rattle.std.proofs.Math.Nat.{mul-div_cancel}
 use Rattle.std.proofs.Math.Seq.{drop-append-add}
@@ -16,24 +17,28 @@ use Rattle.mr_tree.specs.declared.tree.Tree.TheVariants as tree
 use Rattle.mr_tree.specs.declared.tree.Tree.TheViews.{out-Tree}
 use Rattle.mr_tree.specs.declared.tree.Tree.TheFolds.{every-Tree}
 use Rattle.mr_tree.proofs.Induction.{tree_induction, here-Leaf, here-Inner, every_child, every-Empty, every-Leaf, every-Inner}
-use Rattle.mr_outside.specs.Files.{Files, with_file, replaced}
+use Rattle.mr_outside.specs.Files.{Files, with_file, replaced, overwritten}
 use Rattle.mr_outside.specs.Told.{OfFile}
-use Rattle.mr_outside.specs.Writing.{IsChanged}
-use Rattle.mr_outside.proofs.Changes.{OfFile-put}
+use Rattle.mr_outside.specs.Writing.{IsChanged, IsChangedPartly}
+use Rattle.mr_outside.proofs.Changes.{OfFile-put, IsChanged-overwritten}
+use Rattle.mr_record.specs.declared.version.Version.{Version}
+use Rattle.mr_record.specs.declared.version.Version.TheVariants.{One, Two}
 use Rattle.mr_pages.specs.declared.rule.MapRule.TheVariants as rule
 use Rattle.mr_pages.specs.Page.{Form, Head, page_limit}
 use Rattle.mr_pages.specs.declared.layout.Layout.{Layout}
-use Rattle.mr_pages.specs.PageBytes.{form_of, IsLayout, head_in, seal, seal_place}
-use Rattle.mr_pages.specs.File.{page_at, is_odd_size, file_of}
+use Rattle.mr_pages.specs.PageBytes.{page_size, first_layout, layout_by, form_of, first_form, form_by, IsLayout, head_bytes, head_page, head_in, seal, seal_place}
+use Rattle.mr_pages.specs.File.{page_at, is_odd_size, file_of, version_of, form_at}
 use Rattle.mr_pages.specs.Stands.{Stands, Placed, pages_of, whole_pages, link_of}
-use Rattle.mr_pages.specs.Faults.{file_faults, first_of}
+use Rattle.mr_pages.specs.Faults.{file_faults, first_of, mapfault}
 use Rattle.mr_pages.specs.Walking.{child_link}
-use Rattle.mr_pages.specs.Saved.{whole_nodes, numbered, unless_empty, numbered_whole, saved_pages, saved_head, saved_nodes, saved, IsHalfWritten, IsUnsealed, MayStand, Leaves}
+use Rattle.mr_pages.specs.Saved.{whole_nodes, numbered, unless_empty, numbered_whole, saved_pages, saved_head, saved_nodes, saved, IsUnsealed, MayStand, Leaves}
 use Rattle.mr_pages.specs.Putting.{HasEntries, CanBePut, IsPut, IsImage}
+use Rattle.mr_pages.specs.Making.{IsBegun}
 use Rattle.mr_pages.proofs.Agreement.{whole_pages_are}
 use Rattle.mr_pages.proofs.Numbered.{tree_numbered, whole_numbered}
 use Rattle.mr_pages.proofs.SavedStands.{whole_few}
-use Rattle.mr_pages.proofs.Short.{unsealed_if}
+use Rattle.mr_pages.proofs.HeadLaws.{first_layout_is}
+use Rattle.mr_pages.proofs.Short.{unsealed_if, at_least}
 use Rattle.mr_pages.proofs.Answered.{odd_fault}
 
 -- ---- a well-formed tree can be put
@@ -78,7 +83,7 @@ put_room t well there =
 
 -- ---- the image of a map
 
-whole_some : (t : Tree) (P : Placed) → t ≢ tree.Empty → unless_empty (out-Tree t) P ≡ Some P
+pub whole_some : (t : Tree) (P : Placed) → t ≢ tree.Empty → unless_empty (out-Tree t) P ≡ Some P
 whole_some t P = tree_induction (λ u. u ≢ tree.Empty → unless_empty (out-Tree u) P ≡ Some P)
     (λ there. absurd (there refl))
     (λ rs there. ap (λ x. unless_empty x P) (tree.outs-Leaf rs))
@@ -122,12 +127,14 @@ image_some form hash t old pages child there zeros put =
 
 -- ---- page 0 written in part
 
-pub at_least : (n size : ℕ) → 0 < n → size ≤ n * size
-at_least zero size some = absurd (omega (arith, some))
-at_least (suc n) size some = let sum : suc n * size ≡ size + n * size = grind arith in omega (arith, sum)
-
 pub no_seal : (xs : List ℕ) → xs ≡ replicate 4 0 → bytes_eq xs seal ≡ false
 no_seal xs e = ap (λ ys. bytes_eq ys seal) e
+
+-- bytes that are no map in this form
+abbrev IsUnsealedIn : Form → (List ℕ → List ℕ) → (bytes : List ℕ) → Type 0
+IsUnsealedIn form hash bytes =
+    (mapfault hash (file_of form bytes) ≡ Some (record { page = 0; rule = rule.Size }))
+    ⊎ (mapfault hash (file_of form bytes) ≡ Some (record { page = 0; rule = rule.Unsealed }))
 
 module _ (layout : Layout) (fit : IsLayout layout) (hash : List ℕ → List ℕ) where
   abbrev form : Form
@@ -136,12 +143,12 @@ module _ (layout : Layout) (fit : IsLayout layout) (hash : List ℕ → List ℕ
   abbrev size : ℕ
   size = layout.size
 
-  pub first_at : (bytes : List ℕ) → page_at form bytes 0 ≡ take size bytes
+  first_at : (bytes : List ℕ) → page_at form bytes 0 ≡ take size bytes
   first_at bytes = ap (λ n. take size (drop n bytes)) (let none : 0 * size ≡ 0 = omega arith in none)
 
   -- page 0 has no seal: what is read then
-  pub unsealed_page : (bytes page : List ℕ) → is_odd_size size (length bytes) ≡ false →
-      page_at form bytes 0 ≡ page → bytes_eq (drop (seal_place size) page) seal ≡ false → IsUnsealed form hash bytes
+  unsealed_page : (bytes page : List ℕ) → is_odd_size size (length bytes) ≡ false →
+      page_at form bytes 0 ≡ page → bytes_eq (drop (seal_place size) page) seal ≡ false → IsUnsealedIn form hash bytes
   unsealed_page bytes page even here open' =
       let n = length bytes / size in
       inr (
@@ -150,18 +157,18 @@ module _ (layout : Layout) (fit : IsLayout layout) (hash : List ℕ → List ℕ
       ∙ ap (λ o. first_of (file_faults hash (file_of form bytes) o))
       (ap (head_in layout n) here ∙ unsealed_if (bytes_eq (drop (seal_place size) page) seal) _ open'))
 
-  pub by_size : (bytes : List ℕ) →
-      (is_odd_size size (length bytes) ≡ false → IsUnsealed form hash bytes) → IsUnsealed form hash bytes
+  by_size : (bytes : List ℕ) →
+      (is_odd_size size (length bytes) ≡ false → IsUnsealedIn form hash bytes) → IsUnsealedIn form hash bytes
   by_size bytes f = at (is_odd_size size (length bytes)) refl
     where
-      at : (b : Bool) → is_odd_size size (length bytes) ≡ b → IsUnsealed form hash bytes
+      at : (b : Bool) → is_odd_size size (length bytes) ≡ b → IsUnsealedIn form hash bytes
       at true odd = inl (odd_fault form hash bytes odd)
       at false even = f even
 
   -- the front of the pages, while page 0 is zeros
-  pub front_unsealed : (bytes rest nodes : List ℕ) → replicate size 0 ++ nodes ≡ bytes ++ rest →
-      IsUnsealed form hash bytes
-  front_unsealed bytes rest nodes whole = by_size bytes (λ even.
+  front_in : (bytes rest nodes : List ℕ) → replicate size 0 ++ nodes ≡ bytes ++ rest →
+      IsUnsealedIn form hash bytes
+  front_in bytes rest nodes whole = by_size bytes (λ even.
       let w = whole_pages_are size (length bytes) (omega (arith, fit.room)) even in
       let long : size ≤ length bytes = omega (arith, w.whole, at_least (length bytes / size) size w.some) in
       let zeros : List ℕ = replicate size 0 in
@@ -197,24 +204,11 @@ module _ (layout : Layout) (fit : IsLayout layout) (hash : List ℕ → List ℕ
           absurd (differ (sym last ∙ ap (λ k. drop k (front ++ zeros)) end
           ∙ sym (drop-drop 3 (seal_place size) (front ++ zeros)) ∙ ap (drop 3) same))
 
-  -- ---- what may stand
-
-  pub saved_is : (t : Tree) (batch : ℕ) (pages head : List ℕ) (root : Option Child) →
-      IsImage form hash t pages root →
-      head ≡ form.head_page (saved_head form hash t batch) → length head ≡ size →
-      replaced 0 head pages ≡ saved form hash t batch
-  saved_is t batch pages head root image is long =
-      let whole : 0 + length head ≡ size = omega (arith, long) in
-      let behind : drop (0 + length head) pages ≡ saved_nodes form hash t =
-      ap (λ n. drop n pages) whole ∙ ap (drop size) image.bytes
-      ∙ drop_at (replicate size 0) (saved_nodes form hash t) size (length-replicate {A = ℕ} size 0) in
-      (λ i. head ++ behind i) ∙ ap (λ h. h ++ saved_nodes form hash t) is
-
   -- page 0 begins like the head, and goes on with zeros
-  pub part_unsealed : (bytes front pages nodes : List ℕ) → pages ≡ replicate size 0 ++ nodes →
+  part_in : (bytes front pages nodes : List ℕ) → pages ≡ replicate size 0 ++ nodes →
       length front < size →
-      bytes ≡ replaced 0 front pages → IsUnsealed form hash bytes
-  part_unsealed bytes front pages nodes image short is = by_size bytes (λ even.
+      bytes ≡ replaced 0 front pages → IsUnsealedIn form hash bytes
+  part_in bytes front pages nodes image short is = by_size bytes (λ even.
       let zeros : List ℕ = replicate size 0 in
       let left : List ℕ = replicate (size - length front) 0 in
       let none : 0 + length front ≡ length front = omega arith in
@@ -230,22 +224,167 @@ module _ (layout : Layout) (fit : IsLayout layout) (hash : List ℕ → List ℕ
       (first_at bytes ∙ ap (take size) whole ∙ take_at (front ++ left) nodes size long)
       (last_zero front short))
 
-  pub half_stands : (t : Tree) (batch : ℕ) (pages head : List ℕ) (root : Option Child) →
-      IsImage form hash t pages root →
-      head ≡ form.head_page (saved_head form hash t batch) → length head ≡ size →
-      (bytes : List ℕ) → IsHalfWritten head pages bytes → MayStand form hash t batch bytes
-  half_stands t batch pages head root image is long bytes (inl h) =
-      inl (front_unsealed bytes h.0 (saved_nodes form hash t) (sym image.bytes ∙ h.1))
-  half_stands t batch pages head root image is long bytes (inr h) = by_rest h.0 h.1 h.2 h.3
+-- ---- which version they say
+
+-- byte 4 is not there
+short_says : (bytes : List ℕ) → length bytes ≤ 4 → version_of bytes ≡ One
+short_says [] few = refl
+short_says (a ∷ []) few = refl
+short_says (a ∷ b ∷ []) few = refl
+short_says (a ∷ b ∷ c ∷ []) few = refl
+short_says (a ∷ b ∷ c ∷ d ∷ []) few = refl
+short_says (a ∷ b ∷ c ∷ d ∷ e ∷ bytes) few = absurd (omega (arith, few))
+
+-- it stands in front
+front_says : (front rest : List ℕ) → 4 < length front → version_of (front ++ rest) ≡ version_of front
+front_says [] rest more = absurd (omega (arith, more))
+front_says (a ∷ []) rest more = absurd (omega (arith, more))
+front_says (a ∷ b ∷ []) rest more = absurd (omega (arith, more))
+front_says (a ∷ b ∷ c ∷ []) rest more = absurd (omega (arith, more))
+front_says (a ∷ b ∷ c ∷ d ∷ []) rest more = absurd (omega (arith, more))
+front_says (a ∷ b ∷ c ∷ d ∷ e ∷ front) rest more = refl
+
+-- it is one of the zeros behind a shorter front
+zeros_say : (front behind : List ℕ) → length front ≤ 4 →
+    version_of (front ++ drop (length front) (replicate 5 0 ++ behind)) ≡ One
+zeros_say [] behind few = refl
+zeros_say (a ∷ []) behind few = refl
+zeros_say (a ∷ b ∷ []) behind few = refl
+zeros_say (a ∷ b ∷ c ∷ []) behind few = refl
+zeros_say (a ∷ b ∷ c ∷ d ∷ []) behind few = refl
+zeros_say (a ∷ b ∷ c ∷ d ∷ e ∷ front) behind few = absurd (omega (arith, few))
+
+-- so many zeros, and then the others
+more_zeros : (n all : ℕ) (behind : List ℕ) → n ≤ all →
+    replicate all 0 ++ behind ≡ replicate n 0 ++ (replicate (all - n) 0 ++ behind)
+more_zeros n all behind most =
+    let sum : n + (all - n) ≡ all = omega (arith, most) in
+    ap (λ k. replicate k 0 ++ behind) (sym sum)
+    ∙ ap (λ xs. xs ++ behind) (sym (replicate-append-replicate {A = ℕ} n (all - n) 0))
+    ∙ append_assoc (replicate n 0) (replicate (all - n) 0) behind
+
+head_says : (layout : Layout) (h : Head) → version_of (head_page layout h) ≡ layout.version
+unfolding head_bytes
+head_says layout h = at layout.version
+  where
+    at : (v : Version) → version_of (head_page (record layout { version = v }) h) ≡ v
+    at One = refl
+    at Two = refl
+
+-- a front of page 0 with its version in it
+pub head_front_says : (layout : Layout) (h : Head) (front rest : List ℕ) → head_page layout h ≡ front ++ rest →
+    4 < length front → version_of front ≡ layout.version
+head_front_says layout h front rest whole more =
+    sym (front_says front rest more) ∙ ap version_of (sym whole) ∙ head_says layout h
+
+said_in : (hash : List ℕ → List ℕ) (bytes : List ℕ) (f : Form) → form_at bytes ≡ f →
+    IsUnsealedIn f hash bytes → IsUnsealed hash bytes
+said_in hash bytes f same u = subst (λ (g : Form). IsUnsealedIn g hash bytes) (sym same) u
+
+-- the front of the pages, while page 0 is zeros
+pub front_unsealed : (long : ℕ) → page_size ≤ long → (hash : List ℕ → List ℕ) (bytes rest nodes : List ℕ) →
+    replicate long 0 ++ nodes ≡ bytes ++ rest → IsUnsealed hash bytes
+front_unsealed long room hash bytes rest nodes whole =
+    said_in hash bytes first_form (ap form_by says)
+    (front_in first_layout first_layout_is hash bytes rest (replicate (long - page_size) 0 ++ nodes)
+    (sym (more_zeros page_size long nodes room) ∙ whole))
+  where
+    says : version_of bytes ≡ One
+    says = elim (cases_lt 4 (length bytes)) [
+      | inl more ↦
+          sym (front_says bytes rest more)
+          ∙ ap version_of (sym whole ∙ more_zeros 5 long nodes (omega (arith, room)))
+          ∙ zeros_say [] (replicate (long - 5) 0 ++ nodes) (omega arith)
+      | inr few ↦ short_says bytes few
+    ]
+
+module _ (layout : Layout) (by_version : layout ≡ layout_by layout.version) where
+  at_least_a_page : page_size ≤ layout.size
+  at_least_a_page = omega (arith, ap (λ (l : Layout). l.size) by_version, at layout.version)
     where
-      by_rest : (front rest : List ℕ) → head ≡ front ++ rest → bytes ≡ replaced 0 front pages →
-          MayStand form hash t batch bytes
-      by_rest front [] whole put =
-          let same : front ≡ head = sym (append-nil front) ∙ sym whole in
-          inr (put ∙ ap (λ f. replaced 0 f pages) same ∙ saved_is t batch pages head root image is long)
-      by_rest front (r ∷ rest) whole put =
-          inl (part_unsealed bytes front pages (saved_nodes form hash t) image.bytes
-          (omega (arith, long, ap length whole, length-append front (r ∷ rest))) put)
+      at : (v : Version) → page_size ≤ (layout_by v).size
+      at One = omega arith
+      at Two = omega arith
+
+  -- page 0 begins with this front, which has its version if it is so long, and goes on with zeros
+  pub part_unsealed : IsLayout layout → (hash : List ℕ → List ℕ) (bytes front pages nodes : List ℕ) →
+      pages ≡ replicate layout.size 0 ++ nodes → length front < layout.size →
+      (4 < length front → version_of front ≡ layout.version) → bytes ≡ replaced 0 front pages → IsUnsealed hash bytes
+  part_unsealed fit hash bytes front pages nodes image short says is = elim (cases_lt 4 (length front)) [
+    | inl more ↦
+        said_in hash bytes (form_of layout)
+        (ap form_by (ap version_of is ∙ front_says front (drop (0 + length front) pages) more ∙ says more)
+        ∙ ap form_of (sym by_version))
+        (part_in layout fit hash bytes front pages nodes image short is)
+    | inr few ↦
+        let none : 0 + length front ≡ length front = omega arith in
+        let zeros : version_of bytes ≡ One =
+        ap version_of (is ∙ ap (λ n. front ++ drop n pages) none
+        ∙ ap (λ ps. front ++ drop (length front) ps)
+        (image ∙ more_zeros 5 layout.size nodes (omega (arith, at_least_a_page))))
+        ∙ zeros_say front (replicate (layout.size - 5) 0 ++ nodes) few in
+        said_in hash bytes first_form (ap form_by zeros)
+        (part_in first_layout first_layout_is hash bytes front pages
+        (replicate (layout.size - page_size) 0 ++ nodes)
+        (image ∙ more_zeros page_size layout.size nodes at_least_a_page) (omega (arith, few)) is)
+  ]
+
+-- ---- what may stand
+
+module _ (layout : Layout) (fit : IsLayout layout) (by_version : layout ≡ layout_by layout.version)
+    (hash : List ℕ → List ℕ) where
+  pub saved_is : (t : Tree) (batch : ℕ) (pages head : List ℕ) (root : Option Child) →
+      IsImage (form_of layout) hash t pages root →
+      head ≡ head_page layout (saved_head (form_of layout) hash t batch) → length head ≡ layout.size →
+      replaced 0 head pages ≡ saved (form_of layout) hash t batch
+  saved_is t batch pages head root image is long =
+      let whole : 0 + length head ≡ layout.size = omega (arith, long) in
+      let behind : drop (0 + length head) pages ≡ saved_nodes (form_of layout) hash t =
+      ap (λ n. drop n pages) whole ∙ ap (drop layout.size) image.bytes
+      ∙ drop_at (replicate layout.size 0) (saved_nodes (form_of layout) hash t) layout.size
+      (length-replicate {A = ℕ} layout.size 0) in
+      (λ i. head ++ behind i) ∙ ap (λ h. h ++ saved_nodes (form_of layout) hash t) is
+
+  -- page 0 is zeros as far as it is there
+  pub begun_stands : (t : Tree) (batch : ℕ) (bytes : List ℕ) → IsBegun layout.size bytes →
+      MayStand (form_of layout) hash t batch bytes
+  begun_stands t batch bytes b =
+      inl (front_unsealed layout.size (at_least_a_page layout by_version) hash bytes b.1 b.0 b.2)
+
+  pub sealed_stands : (t : Tree) (batch : ℕ) (pages head : List ℕ) (root : Option Child) →
+      IsImage (form_of layout) hash t pages root →
+      head ≡ head_page layout (saved_head (form_of layout) hash t batch) → length head ≡ layout.size →
+      (front rest : List ℕ) → head ≡ front ++ rest → MayStand (form_of layout) hash t batch (replaced 0 front pages)
+  sealed_stands t batch pages head root image is long front [] whole =
+      let same : front ≡ head = sym (append-nil front) ∙ sym whole in
+      inr (ap (λ f. replaced 0 f pages) same ∙ saved_is t batch pages head root image is long)
+  sealed_stands t batch pages head root image is long front (r ∷ rest) whole =
+      inl (part_unsealed layout by_version fit hash (replaced 0 front pages) front pages
+      (saved_nodes (form_of layout) hash t) image.bytes
+      (omega (arith, long, ap length whole, length-append front (r ∷ rest)))
+      (head_front_says layout (saved_head (form_of layout) hash t batch) front (r ∷ rest) (sym is ∙ whole)) refl)
+
+  -- the file of the pages, with page 0 written over them
+  module _ (t : Tree) (batch : ℕ) (pages head : List ℕ) (root : Option Child)
+      (image : IsImage (form_of layout) hash t pages root)
+      (is : head ≡ head_page layout (saved_head (form_of layout) hash t batch)) (long : length head ≡ layout.size)
+      (name : List ℕ) (before between after : Option Files)
+      (put : IsChanged (with_file name) pages before between) where
+    pub seal_leaves : IsChangedPartly (overwritten name 0) head between after →
+        Leaves (MayStand (form_of layout) hash t batch) name before after
+    seal_leaves p =
+        inr (
+          replaced 0 p.front pages,
+          sealed_stands t batch pages head root image is long p.front p.rest p.whole,
+          IsChanged-overwritten name 0 pages p.front before between after put p.changed,
+        )
+
+    pub seal_whole : {A E : Type 0} (r : Result A E) → OnOk r (IsChanged (overwritten name 0) head between after) →
+        OnOk r (IsChanged (with_file name) (saved (form_of layout) hash t batch) before after)
+    seal_whole (Ok a) over =
+        IsChanged-overwritten name 0 pages head before between after put over
+        ∙ ap (λ bs. option_map (with_file name bs) before) (saved_is t batch pages head root image is long)
+    seal_whole (Err e) over = tt
 
 pub leaves_as : (P Q : List ℕ → Type 0) → ((bytes : List ℕ) → P bytes → Q bytes) →
     (name : List ℕ) (before after : Option Files) →
@@ -255,24 +394,26 @@ leaves_as P Q f name before after (inr h) = inr (h.0, f h.0 h.1, h.2)
 
 -- what page 0 is to say
 pub head_is : (form : Form) (hash : List ℕ → List ℕ) (t : Tree) (batch count pages : ℕ) (bytes : List ℕ)
-    (root : Option Child) →
-    0 < form.size → IsImage form hash t bytes root →
-    count ≡ length (records t) → pages ≡ length bytes / form.size →
+    (root : Option Child) → IsImage form hash t bytes root →
+    count ≡ length (records t) → pages ≡ saved_pages t →
     ◌≡◌ {A = Head} (record { batch = batch; count = count; pages = pages; root = option_map child_link root; free = 0 })
     (saved_head form hash t batch)
-head_is form hash t batch count pages bytes root some image many same =
-    let size : pages ≡ saved_pages t =
-    same ∙ ap (λ n. n / form.size) image.size ∙ mul-div_cancel (saved_pages t) some in
-    λ i. record { batch = batch; count = many i; pages = size i; root = image.link i; free = 0 }
+head_is form hash t batch count pages bytes root image many same =
+    λ i. record { batch = batch; count = many i; pages = same i; root = image.link i; free = 0 }
+
+pub pages_count : (form : Form) (hash : List ℕ → List ℕ) (t : Tree) (bytes : List ℕ) (root : Option Child) →
+    0 < form.size → IsImage form hash t bytes root → length bytes / form.size ≡ saved_pages t
+pages_count form hash t bytes root some image =
+    ap (λ n. n / form.size) image.size ∙ mul-div_cancel (saved_pages t) some
 
 pub pages_fit : (form : Form) (hash : List ℕ → List ℕ) (t : Tree) (bytes : List ℕ) (root : Option Child) →
-    WellFormed t →
-    0 < form.size → IsImage form hash t bytes root →
-    length bytes / form.size ≤ page_limit
+    WellFormed t → 0 < form.size → IsImage form hash t bytes root → length bytes / form.size ≤ page_limit
 pages_fit form hash t bytes root well some image =
-    let size : length bytes / form.size ≡ saved_pages t = ap (λ n. n / form.size) image.size
-    ∙ mul-div_cancel (saved_pages t) some in
-    omega (arith, size, whole_few (numbered_whole t) t well (whole_numbered t well.one_level).trees)
+    omega (
+      arith,
+      pages_count form hash t bytes root some image,
+      whole_few (numbered_whole t) t well (whole_numbered t well.one_level).trees,
+    )
 
 -- the file that was made stands for the map
 pub file_stands : {A E : Type 0} (form : Form) (hash : List ℕ → List ℕ) (t : Tree) (batch : ℕ) (name : List ℕ)

@@ -1,7 +1,5 @@
 -- A node that a view shows, and what is judged of it.
 use Rattle.std.proofs.Common.{◌≡◌, ◌+◌, ◌≤◌, List, [], ◌∷◌, map, refl, sym, ap, arith}
-use Rattle.mr_record.specs.declared.version.Version.TheVariants.{One}
-use Rattle.mr_record.specs.declared.version.Version.{Version}
 use Rattle.mr_tree.specs.declared.entry.Entry.{Entry}
 use Rattle.std.specs.Prelude.{Option, Some, None, fold}
 use Rattle.mr_geom.specs.Rectangle.{Rectangle, union, join}
@@ -17,10 +15,6 @@ use Rattle.mr_pages.specs.Walking.{child_link, page_node}
 entries : (cs : List Child) → map (λ (l : Link). l.entry) (map child_link cs) ≡ map view.entry_of cs
 entries [] = refl
 entries (c ∷ cs) = ap (λ es. view.entry_of c ∷ es) (entries cs)
-
--- so far there is one version
-pub only_version : (v : Version) → v ≡ One
-only_version One = refl
 
 -- what is to be said of it
 pub entry_same : (hash : Scheme) (n : view.Node) → view.entry_over hash n ≡ entry_of hash (page_node n)

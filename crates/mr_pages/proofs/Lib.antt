@@ -26,8 +26,11 @@ mod Short
 mod Zeros
 pub mod Filled
 pub mod PageReads
+mod FrontReads
 mod Put
+mod Laying
 pub mod Answered
 mod Written
 mod Fronts
 pub mod Imaged
+mod InPieces

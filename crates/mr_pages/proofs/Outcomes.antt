@@ -2,7 +2,6 @@
 use Rattle.std.proofs.Common.{◌≡◌, ℕ, ◌<◌, true, false, List, [], length, inl, sym, subst, ◌∙◌, ⊎_elim}
 use Rattle.std.specs.Prelude.{Option, Some, Result, Ok, Err, OnOk}
 use Rattle.mr_record.specs.declared.version.Version.{Version}
-use Rattle.mr_record.specs.declared.version.Version.TheVariants.{One}
 use Rattle.mr_tree.specs.Digest.{Scheme, by}
 use Rattle.mr_tree.specs.declared.tree.Tree.{Tree}
 use Rattle.mr_pages.specs.declared.error.MapErr.{MapErr}
@@ -10,28 +9,22 @@ use Rattle.mr_pages.specs.declared.error.MapErr.TheVariants as errors
 use Rattle.mr_pages.specs.declared.seen.Seen.{Seen}
 use Rattle.mr_pages.specs.Page.{Link, Node, Head}
 use Rattle.mr_pages.specs.File.{File}
-use Rattle.mr_pages.specs.Faults.{has, Visit, walk, reached, all_records, numbers_of, chain, mapfault, first_of}
+use Rattle.mr_pages.specs.Faults.{has, Visit, walk, walk_faults, reached, all_records, numbers_of, chain, mapfault, first_of}
 use Rattle.mr_pages.specs.Walking.{Saw, Passed}
 use Rattle.mr_pages.specs.Source.{Sourced, Walks, Visits, WalkedAll, Gives, Settles, Chains, ChecksBehind, AreKept, AllKept}
 use Rattle.mr_pages.proofs.Lists.{all_has}
 use Rattle.mr_pages.proofs.Rules.{walk_sound}
 use Rattle.mr_pages.proofs.AsRead.{within_pages}
 use Rattle.mr_pages.proofs.Stops.{walk_stops, chain_stops}
-use Rattle.mr_pages.proofs.Judged.{only_version}
 
-pub root_visits : (A : Type 0) (v : Version) (hash : List ℕ → List ℕ) (pages : ℕ) (at : ℕ → Option Node)
-    (link : Link) (r : Result A MapErr) (s : Seen) → Walks {A = A} (by One hash) pages at [] true link r s →
-    Visits {A = A} (by v hash) pages at (Some link) r s
-root_visits A v hash pages at link r s w =
-    subst (λ u. Visits {A = A} (by u hash) pages at (Some link) r s) (sym (only_version v)) (same r w)
-  where
-    same : (q : Result A MapErr) → Walks {A = A} (by One hash) pages at [] true link q s →
-        Visits {A = A} (by One hash) pages at (Some link) q s
-    same (Ok t) w = w
-    same (Err (errors.Map f)) w = w
-    same (Err errors.NoMemory) w = tt
-    same (Err errors.Missing) w = tt
-    same (Err errors.Fault) w = tt
+pub root_visits : (A : Type 0) (hash : Scheme) (pages : ℕ) (at : ℕ → Option Node)
+    (link : Link) (r : Result A MapErr) (s : Seen) → Walks {A = A} hash pages at [] true link r s →
+    Visits {A = A} hash pages at (Some link) r s
+root_visits A hash pages at link (Ok t) s w = w
+root_visits A hash pages at link (Err (errors.Map f)) s w = w
+root_visits A hash pages at link (Err errors.NoMemory) s w = tt
+root_visits A hash pages at link (Err errors.Missing) s w = tt
+root_visits A hash pages at link (Err errors.Fault) s w = tt
 
 -- what was reached is kept
 pub kept_all : (A : Type 0) (hash : Scheme) (n : ℕ) (file : File) (root : Option Link) (r : Result A MapErr)
@@ -51,29 +44,29 @@ kept_all A hash n file root (Ok a) old new' keeps none v k = λ page on.
     no h = cc
 
 -- what is told of the file that is told
-pub visits_of : {M : Type 0} (hash : List ℕ → List ℕ) (makes : M → Tree → Type 0) (s : Sourced) (root : Option Link)
+pub visits_of : {M : Type 0} (hash : Scheme) (makes : M → Tree → Type 0) (s : Sourced) (root : Option Link)
     (r : Result M MapErr) (a b : Seen) → Settles r (Gives s a b (WalkedAll hash makes s.pages root r b)) →
-    (f : File) → s.file ≡ Some f → Visits (by f.version hash) s.pages f.node root r b
+    (f : File) → s.file ≡ Some f → Visits hash s.pages f.node root r b
 visits_of hash makes s root (Ok m) a b g f is = (g.so f (inl is)).visits_
 visits_of hash makes s root (Err (errors.Map x)) a b g f is = (g.so f (inl is)).visits_
 visits_of hash makes s root (Err errors.Missing) a b g f is = tt
 visits_of hash makes s root (Err errors.Fault) a b g f is = tt
 visits_of hash makes s root (Err errors.NoMemory) a b g f is = tt
 
-pub same_pages : (hash : Scheme) (m n : ℕ) (vs : List Visit) (s : Seen) → m ≡ n → Passed hash m [] vs s →
-    Passed hash n [] vs s
-same_pages hash m n vs s e p = subst (λ k. Passed hash k [] vs s) e p
+pub same_pages : (was hash : Scheme) (m n : ℕ) (vs : List Visit) (s : Seen) → was ≡ hash → m ≡ n →
+    Passed was m [] vs s → Passed hash n [] vs s
+same_pages was hash m n vs s h e p = subst (λ k. Passed hash k [] vs s) e (subst (λ k. Passed k m [] vs s) h p)
 
 module _ (hash : List ℕ → List ℕ) (file : File) (h : Head) (sealed : file.head ≡ Ok h) where
-  pub visits_stop : {A : Type 0} (r : Result A MapErr) (n : ℕ) (e : MapErr) (s : Seen) → n ≡ file.pages →
-      Visits {A = A} (by file.version hash) n file.node h.root (Err e) s → ChecksBehind {A = A} hash file (Err e)
-  visits_stop r n (errors.Map f) s same v = walk_stops hash file h sealed f
-      (subst (λ k. first_of (Rattle.mr_pages.specs.Faults.walk_faults (by file.version hash) k [] (walk file.node
-      h.root)) ≡ Some f)
-      same v)
-  visits_stop r n errors.NoMemory s same v = tt
-  visits_stop r n errors.Missing s same v = tt
-  visits_stop r n errors.Fault s same v = tt
+  pub visits_stop : {A : Type 0} (r : Result A MapErr) (n : ℕ) (e : MapErr) (s : Seen) (u : Version) →
+      u ≡ file.version → n ≡ file.pages →
+      Visits {A = A} (by u hash) n file.node h.root (Err e) s → ChecksBehind {A = A} hash file (Err e)
+  visits_stop r n (errors.Map f) s u now same v = walk_stops hash file h sealed f
+      (subst (λ k. first_of (walk_faults (by file.version hash) k [] (walk file.node h.root)) ≡ Some f) same
+      (subst (λ w. first_of (walk_faults (by w hash) n [] (walk file.node h.root)) ≡ Some f) now v))
+  visits_stop r n errors.NoMemory s u now same v = tt
+  visits_stop r n errors.Missing s u now same v = tt
+  visits_stop r n errors.Fault s u now same v = tt
 
   pub chain_refused : (A : Type 0) {B : Type 0} (b : Result B MapErr) (n found : ℕ) (e : MapErr) (s r : Seen) →
       n ≡ file.pages →

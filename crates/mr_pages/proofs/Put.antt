@@ -1,5 +1,5 @@
 -- The pages of a tree's nodes, put one behind the other.
-use Rattle.std.proofs.Common.{◌≡◌, ◌≢◌, ℕ, suc, ◌+◌, ◌*◌, ◌<◌, ◌≤◌, List, [], ◌∷◌, ◌++◌, length, map, take, drop, get_or, replicate, ◌/◌, refl, sym, ap, subst, ◌∙◌, arith, append_assoc, length-append}
+use Rattle.std.proofs.Common.{◌≡◌, ◌≢◌, ℕ, suc, ◌+◌, ◌-◌, ◌*◌, ◌<◌, ◌≤◌, List, [], ◌∷◌, ◌++◌, length, map, take, drop, get_or, replicate, ◌/◌, refl, sym, ap, subst, ◌∙◌, arith, append_assoc, length-append}
 use Rattle.mr_tree.specs.Digest.{Scheme, by}
 use Rattle.std.specs.Prelude.{All}
 use Rattle.std.specs.List.{flat_map, AllByRecursion}
@@ -27,7 +27,7 @@ use Rattle.std.proofs.Math.Seq.{take-length}
 use Rattle.mr_pages.proofs.Lists.{all_weaker}
 use Rattle.mr_pages.specs.Saved.{number_row, numbered, nodes_of, all_nodes}
 use Rattle.mr_pages.specs.Walking.{child_link, page_node}
-use Rattle.mr_pages.specs.Putting.{HasEntries, CanBePut, IsPut}
+use Rattle.mr_pages.specs.Putting.{HasEntries, CanBePut, IsPut, some_row, PutSoFar}
 use Rattle.mr_pages.proofs.Building.{entry_leaf, entry_inner, inner_there, length_row}
 use Rattle.mr_pages.proofs.Numbered.{numbered-Leaf, numbered-Inner, tree_numbered}
 
@@ -68,6 +68,9 @@ row_beside n (f ∷ fs) gs =
 
 sum_times : (a b size : ℕ) → (a + b) * size ≡ a * size + b * size
 sum_times a b size = grind arith
+
+added : (a b c : ℕ) → (a + b) + c ≡ a + (b + c)
+added a b c = omega arith
 
 -- ---- a leaf
 
@@ -117,22 +120,10 @@ leaf_put_at {slice = slice} form hash t rs page old now new place child is here 
 
 -- ---- an inner node, child by child
 
--- the first children, with their pages from n on
-abbrev pub some_row : (n : ℕ) → List Tree → ℕ → Row
-some_row n ts i = number_row n (map numbered (take i ts))
-
-pub record PutSoFar (form : Form) (hash : List ℕ → List ℕ) (ts : List Tree) (i page : ℕ) (old now : List ℕ)
-    (links : List Child) : Type 0 where
-  pub pages : now ≡ (old ++ replicate form.size 0) ++ flat_map form.node_page
-      (all_nodes (by form.version hash) (some_row (suc page) ts i))
-  pub links_are : map child_link links ≡ links_of (by form.version hash) (some_row (suc page) ts i)
-  pub size : length now ≡ (suc page + length (all_pages (some_row (suc page) ts i))) * form.size
-
 pub put_none : (form : Form) (hash : List ℕ → List ℕ) (ts : List Tree) (page : ℕ) (old now : List ℕ)
-    (links : List Child) →
-    length old ≡ page * form.size → now ≡ old ++ replicate form.size 0 → links ≡ [] →
+    (links : List Child) → now ≡ old ++ replicate form.size 0 → links ≡ [] →
     PutSoFar form hash ts 0 page old now links
-put_none form hash ts page old now links at put none = record {
+put_none form hash ts page old now links put none = record {
   pages = put ∙ sym (append-nil (old ++ replicate form.size 0));
   links_are = ap (map child_link) none;
   size = omega (
@@ -140,19 +131,19 @@ put_none form hash ts page old now links at put none = record {
     ap length put,
     length-append old (replicate form.size 0),
     length-replicate {A = ℕ} form.size 0,
-    at,
-    sum_times page 1 form.size,
-    ap (λ n. n * form.size) (let one : suc page + 0 ≡ page + 1 = omega arith in one),
   );
 }
 
 -- where the next child begins
 pub next_page : (form : Form) (hash : List ℕ → List ℕ) (ts : List Tree) (i page : ℕ) (old now : List ℕ)
     (links : List Child) → 0 < form.size → PutSoFar form hash ts i page old now links →
-    length now / form.size ≡ suc page + length (all_pages (some_row (suc page) ts i))
+    page + (length now - length old) / form.size ≡ suc page + length (all_pages (some_row (suc page) ts i))
 next_page form hash ts i page old now links some so_far =
-    ap (λ n. n / form.size) so_far.size
-    ∙ mul-div_cancel (suc page + length (all_pages (some_row (suc page) ts i))) some
+    let below = suc (length (all_pages (some_row (suc page) ts i))) in
+    let more : length now - length old ≡ below * form.size = omega (arith, so_far.size) in
+    let many : (length now - length old) / form.size ≡ below =
+    ap (λ n. n / form.size) more ∙ mul-div_cancel below some in
+    omega (arith, many)
 
 -- the zeros that stand for the node's page are there
 pub room_for : (form : Form) (hash : List ℕ → List ℕ) (ts : List Tree) (i page : ℕ) (old now : List ℕ)
@@ -175,7 +166,7 @@ split_row n ts i t within is =
     ap (number_row n) (map_more numbered ts i t within ∙ ap (λ u. map numbered (take i ts) ++ numbered u ∷ []) (sym is))
     ∙ row_beside n (map numbered (take i ts)) (numbered t ∷ [])
 
-one_longer : (n : ℕ) (ts : List Tree) (i : ℕ) (t : Tree) → i < length ts → t ≡ get_or ts i t →
+pub one_longer : (n : ℕ) (ts : List Tree) (i : ℕ) (t : Tree) → i < length ts → t ≡ get_or ts i t →
     length (all_pages (some_row n ts (i + 1)))
     ≡ length (all_pages (some_row n ts i)) + length (pages_of (numbered t (n + length (all_pages (some_row n ts i)))))
 one_longer n ts i t within is =
@@ -198,7 +189,7 @@ no_longer n ts i =
     ∙ pages_beside (number_row n front) back in
     omega (arith, ap length split, length-append (all_pages (number_row n front)) (all_pages back))
 
-inner_pages : (ts : List Tree) (page : ℕ) →
+pub inner_pages : (ts : List Tree) (page : ℕ) →
     length (pages_of (numbered (tree.Inner ts) page)) ≡ suc
     (length (all_pages (number_row (suc page) (map numbered ts))))
 inner_pages ts page = ap (λ f. length (pages_of (f page))) (numbered-Inner ts)
@@ -268,12 +259,13 @@ put_one form hash ts i page next old now more links links' one child within at s
           ∙ sym (links_beside (by form.version hash) R (first P no_more))
           ∙ ap (links_of (by form.version hash)) (sym split);
       size =
-          let before = suc page + length (all_pages R) in
+          let before = suc (length (all_pages R)) in
           let more_pages = length (pages_of P) in
-          let all : before + more_pages ≡ suc page + length (all_pages (some_row n ts (i + 1))) =
+          let all : before + more_pages ≡ suc (length (all_pages (some_row n ts (i + 1)))) =
           omega (arith, one_longer n ts i one within at) in
           put.size ∙ (λ k. so_far.size k + length (pages_of (there k)) * form.size)
-          ∙ sym (sum_times before more_pages form.size) ∙ ap (λ m. m * form.size) all;
+          ∙ added (length old) (before * form.size) (more_pages * form.size)
+          ∙ ap (λ m. length old + m) (sym (sum_times before more_pages form.size) ∙ ap (λ m. m * form.size) all);
     }
 
 -- ---- an inner node, whole
@@ -296,6 +288,11 @@ inner_same xs ys e =
     let opened : ◌≡◌ {A = node.Tree-F Tree} (node.Inner xs) (node.Inner ys) =
     sym (tree.outs-Inner xs) ∙ ap out-Tree e ∙ tree.outs-Inner ys in
     cc
+
+-- the children are the trees that were put
+pub row_trees : (ts : List Tree) (page : ℕ) → placed.tree_of (numbered (tree.Inner ts) page) ≡ tree.Inner ts →
+    trees_of (number_row (suc page) (map numbered ts)) ≡ ts
+row_trees ts page e = inner_same _ ts (sym (ap (λ f. placed.tree_of (f page)) (numbered-Inner ts)) ∙ e)
 
 -- the children of an inner node, once all were put
 pub record AllPut (ts : List Tree) (links : List Child) : Type 0 where
@@ -332,15 +329,10 @@ all_put form hash t ts page old now links is can so_far =
       few = entries;
       high = (omega (arith, level-Inner ts), high);
     }
-  where
-    row_trees : (ts : List Tree) (page : ℕ) → placed.tree_of (numbered (tree.Inner ts) page) ≡ tree.Inner ts →
-        trees_of (number_row (suc page) (map numbered ts)) ≡ ts
-    row_trees ts page e = inner_same _ ts (sym (ap (λ f. placed.tree_of (f page)) (numbered-Inner ts)) ∙ e)
 
 inner_put_at : (form : Form) (hash : List ℕ → List ℕ) (t : Tree) (ts : List Tree) (page : ℕ) (old now new : List ℕ)
     (place : ℕ) (links : List Child) (child : Child) →
     t ≡ tree.Inner ts → CanBePut t → PutSoFar form hash ts (length ts) page old now links →
-    length old ≡ page * form.size →
     length old ≡ place →
     new ≡ (take place now ++ form.node_page (node.Inner (map child_link links))) ++ drop
     (place + form.size) now →
@@ -348,7 +340,7 @@ inner_put_at : (form : Form) (hash : List ℕ → List ℕ) (t : Tree) (ts : Lis
     child_link child ≡ record
     { page = page; entry = entry_of (by form.version hash) (node.Inner (map child_link links)) } →
     IsPut form hash t page old new child
-inner_put_at form hash t ts page old now new place links child is can so_far at here put long said =
+inner_put_at form hash t ts page old now new place links child is can so_far here put long said =
     let R = number_row (suc page) (map numbered ts) in
     let all : some_row (suc page) ts (length ts) ≡ R = ap (λ us. number_row (suc page) (map numbered us))
     (take-length ts) in
@@ -373,11 +365,8 @@ inner_put_at form hash t ts page old now new place links child is can so_far at 
           ∙ append_assoc old mine below
           ∙ ap (λ P. old ++ flat_map form.node_page (nodes_of (by form.version hash) P)) (sym made);
       size =
-          let below_pages = length (all_pages R) in
-          let count : suc page + length (all_pages (some_row (suc page) ts (length ts))) ≡ page + suc below_pages =
-          omega (arith, ap (λ Q. length (all_pages Q)) all) in
-          long ∙ so_far.size ∙ ap (λ n. n * form.size) count ∙ sum_times page (suc below_pages) form.size
-          ∙ (λ i. sym at i + length (pages_of (sym made i)) * form.size);
+          long ∙ so_far.size ∙ ap (λ Q. length old + suc (length (all_pages Q)) * form.size) all
+          ∙ ap (λ P. length old + length (pages_of P) * form.size) (sym made);
       link = said
           ∙ (λ i. record {
             page = page;
@@ -415,7 +404,6 @@ pub inner_put : {shows : view.Node} {slice : List ℕ} (form : Form) (hash : Lis
     (i page : ℕ)
     (old now new : List ℕ) (place : ℕ) (links shown : List Child) (child : Child) →
     t ≡ tree.Inner ts → CanBePut t → PutSoFar form hash ts i page old now links → i ≡ length ts →
-    length old ≡ page * form.size →
     length old ≡ place →
     shown ≡ links → shows ≡ node.Inner shown → slice ≡ now →
     new ≡ (take place slice ++ form.node_page (page_node shows)) ++ drop (place + form.size) slice →
@@ -423,12 +411,12 @@ pub inner_put : {shows : view.Node} {slice : List ℕ} (form : Form) (hash : Lis
     child_link child ≡ record { page = page; entry = entry_of (by form.version hash) (page_node shows) } →
     IsPut form hash t page old new child
 inner_put {shows = shows} {slice = slice} form hash t ts i page old now new place links shown child is can so_far end
-    at here same
+    here same
     shows_is slice_is put long said =
     let node_is : page_node shows ≡ node.Inner (map child_link links) =
     ap page_node shows_is ∙ ap (λ cs. node.Inner (map child_link cs)) same in
     inner_put_at form hash t ts page old now new place links child is can
-    (subst (λ j. PutSoFar form hash ts j page old now links) end so_far) at here
+    (subst (λ j. PutSoFar form hash ts j page old now links) end so_far) here
     (put ∙ (λ k. (take place (slice_is k) ++ form.node_page (node_is k)) ++ drop (place + form.size)
     (slice_is k)))
     (long ∙ ap length slice_is)

@@ -1,10 +1,11 @@
 -- A walk meets no fault just where each node is sound by itself, and no page and no number comes twice.
 use Rattle.std.proofs.Common.{◌≡◌, ◌≢◌, ℕ, ◌<◌, ◌≤◌, Bool, true, false, List, [], ◌∷◌, ◌++◌, refl, sym, ap, subst, ◌∙◌, arith}
 use Rattle.mr_tree.specs.Digest.{Scheme}
+use Rattle.mr_tree.specs.declared.entry.Entry.{Entry}
 use Rattle.std.specs.Prelude.{◌==◌, ◌||◌, not, Option, Some, None, bytes_eq, nat_le}
 use Rattle.std.specs.List.{AllByRecursion}
 use Rattle.std.specs.Ordering.{int_eq}
-use Rattle.std.proofs.lemmas.Bool.{eqb-false, ne_eqb, leb-false, ltb-false, le-ltb, lt-leb, or_parts, or_from, and_parts, and_from, not-false, not_from_true}
+use Rattle.std.proofs.lemmas.Bool.{eqb-true, eqb-false, eq-eqb, ne_eqb, leb-false, ltb-false, le-ltb, lt-leb, or_parts, or_from, and_parts, and_from, not-false, not_from_true}
 use Rattle.std.proofs.lemmas.Bool.Decides.{Decides-int_eq}
 use Rattle.std.proofs.lemmas.Slice.Eq.{bytes_eq-Decides}
 use Rattle.std.proofs.lemmas.List.{map-append, append-nil}
@@ -13,7 +14,7 @@ use Rattle.mr_geom.specs.Rectangle.{Rectangle}
 use Rattle.mr_record.specs.declared.record.Record.{Record}
 use Rattle.mr_pages.specs.Page.{Link, Node, entry_of}
 use Rattle.mr_pages.specs.declared.rule.MapRule.TheVariants as rule
-use Rattle.mr_pages.specs.Faults.{fault_if, has, same_rectangle, same_rect, Visit, records_in, reached, all_records, numbers_of, size, least, node_faults, visit_faults, walk_faults}
+use Rattle.mr_pages.specs.Faults.{fault_if, has, same_rectangle, same_rect, same_sums, Visit, records_in, reached, all_records, numbers_of, size, least, node_faults, visit_faults, walk_faults}
 use Rattle.mr_pages.proofs.Lists.{nil_left, nil_right, nil_both, not_broken, no_fault, Fresh, fresh_append, fresh_left, fresh_right, repeats_fresh, fresh_repeats}
 
 -- ---- rectangles that are there or not
@@ -47,6 +48,32 @@ same_rect_self (Some a) = same_rectangle_self a
 
 -- ---- a visit by itself
 
+-- the mask and, but for the root, the count
+pub record HasSums (root : Bool) (found said : Entry) : Type 0 where
+  pub mask : found.mask ≡ said.mask
+  pub count : root ≡ false → found.count ≡ said.count
+
+counts_are : (root : Bool) (a b : ℕ) → (root || a == b) ≡ true → root ≡ false → a ≡ b
+counts_are true a b e none = absurd cc
+counts_are false a b e none = eqb-true a b e
+
+are_counts : (root : Bool) (a b : ℕ) → (root ≡ false → a ≡ b) → (root || a == b) ≡ true
+are_counts true a b same = refl
+are_counts false a b same = eq-eqb a b (same refl)
+
+pub same_sums_is : (root : Bool) (found said : Entry) → same_sums root found said ≡ true → HasSums root found said
+same_sums_is root found said e =
+    let p = and_parts (found.mask == said.mask) (root || found.count == said.count) e in
+    record {
+      mask = eqb-true found.mask said.mask p.0;
+      count = counts_are root found.count said.count p.1;
+    }
+
+pub is_same_sums : (root : Bool) (found said : Entry) → HasSums root found said → same_sums root found said ≡ true
+is_same_sums root found said s =
+    and_from (found.mask == said.mask) (root || found.count == said.count) (eq-eqb found.mask said.mask s.mask)
+    (are_counts root found.count said.count s.count)
+
 -- a visit breaks no rule that it can break by itself
 pub record IsSound (hash : Scheme) (pages : ℕ) (v : Visit) : Type 0 where
   pub node : Node
@@ -55,11 +82,13 @@ pub record IsSound (hash : Scheme) (pages : ℕ) (v : Visit) : Type 0 where
   pub inside : v.link.page < pages
   pub digest : (entry_of hash node).digest ≡ v.link.entry.digest
   pub rect : (entry_of hash node).rect ≡ v.link.entry.rect
+  pub sums : HasSums v.root (entry_of hash node) v.link.entry
   pub full : least v.root node ≤ size node
 
 pub record NodeIsSound (hash : Scheme) (root : Bool) (link : Link) (node : Node) : Type 0 where
   pub digest : (entry_of hash node).digest ≡ link.entry.digest
   pub rect : (entry_of hash node).rect ≡ link.entry.rect
+  pub sums : HasSums root (entry_of hash node) link.entry
   pub full : least root node ≤ size node
 
 pub node_sound : (hash : Scheme) (root : Bool) (link : Link) (node : Node) →
@@ -67,11 +96,14 @@ pub node_sound : (hash : Scheme) (root : Bool) (link : Link) (node : Node) →
 node_sound hash root link node e =
     let e1 = nil_right (fault_if (not (bytes_eq (entry_of hash node).digest link.entry.digest)) link.page
     (rule.Digest link.entry.digest (entry_of hash node).digest)) _ e in
+    let e2 = nil_right (fault_if (not (same_rect (entry_of hash node).rect link.entry.rect)) link.page
+    rule.Rect) _ e1 in
     record {
       digest = (bytes_eq-Decides _ _).0 (not-false _ (not_broken _ _ _ (nil_left _ _ e)));
       rect = same_rect_is _ _ (not-false _ (not_broken _ _ _ (nil_left _ _ e1)));
+      sums = same_sums_is root (entry_of hash node) link.entry (not-false _ (not_broken _ _ _ (nil_left _ _ e2)));
       full = ltb-false _ _ (not_broken _ _ _ (nil_right
-          (fault_if (not (same_rect (entry_of hash node).rect link.entry.rect)) link.page rule.Rect) _ e1));
+          (fault_if (not (same_sums root (entry_of hash node) link.entry)) link.page rule.Sum) _ e2));
     }
 
 sound_node : (hash : Scheme) (root : Bool) (link : Link) (node : Node) → NodeIsSound hash root link node →
@@ -80,7 +112,8 @@ sound_node hash root link node s =
     nil_both _ _ (no_fault _ _ _ (not_from_true _ ((bytes_eq-Decides _ _).1 s.digest)))
     (nil_both _ _ (no_fault _ _ _ (not_from_true _ (subst (λ r. same_rect (entry_of hash node).rect r ≡ true) s.rect
     (same_rect_self (entry_of hash node).rect))))
-    (no_fault _ _ _ (le-ltb _ _ s.full)))
+    (nil_both _ _ (no_fault _ _ _ (not_from_true _ (is_same_sums root (entry_of hash node) link.entry s.sums)))
+    (no_fault _ _ _ (le-ltb _ _ s.full))))
 
 pub record VisitIsSound (hash : Scheme) (pages : ℕ) (before : List Visit) (v : Visit) : Type 0 where
   pub sound : IsSound hash pages v
@@ -106,6 +139,7 @@ sound_alone hash pages v (Some node) is out e =
       inside = leb-false pages v.link.page parts.1;
       digest = s.digest;
       rect = s.rect;
+      sums = s.sums;
       full = s.full;
     }
 
@@ -131,7 +165,7 @@ sound_visit hash pages before v s =
     (nil_both _ _
     (subst (λ n. node_faults hash v.root v.link n ≡ []) (sym s.sound.is)
     (sound_node hash v.root v.link s.sound.node (record
-    { digest = s.sound.digest; rect = s.sound.rect; full = s.sound.full })))
+    { digest = s.sound.digest; rect = s.sound.rect; sums = s.sound.sums; full = s.sound.full })))
     (no_fault _ _ _ (fresh_repeats _ _ s.numbers))))
 
 -- ---- a walk

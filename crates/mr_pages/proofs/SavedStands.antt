@@ -6,15 +6,17 @@ use Rattle.std.specs.List.{flat_map, AllByRecursion}
 use Rattle.std.proofs.lemmas.List.{append-nil, drop_at, take_at}
 use Rattle.std.proofs.lemmas.List.Concat.{flat_map-append}
 use Rattle.std.proofs.lemmas.List.Elements.{recursion_from_All}
-use Rattle.mr_record.specs.Record.{IsRecord}
+use Rattle.mr_record.specs.Version.{told}
+use Rattle.mr_tree.specs.Limits.{count_limit}
+use Rattle.mr_tree.proofs.Told.{count_told}
 use Rattle.mr_tree.specs.Tree.{level, records}
-use Rattle.mr_tree.specs.WellFormed.{WellFormed, HasOneLevel, IsFilled, IsFilledRoot}
+use Rattle.mr_tree.specs.WellFormed.{WellFormed, HasLayers, HasOneLevel, IsFilled, IsFilledRoot}
 use Rattle.mr_tree.specs.declared.tree.Tree.{Tree}
 use Rattle.mr_tree.specs.declared.tree.Tree.TheVariants as tree
 use Rattle.mr_tree.specs.declared.tree.Tree.TheOpen as node
 use Rattle.mr_tree.specs.declared.tree.Tree.TheViews.{out-Tree}
 use Rattle.mr_tree.specs.declared.tree.Tree.TheFolds.{every-Tree}
-use Rattle.mr_tree.proofs.Equations.{records-Inner, records-Leaf, records-Empty}
+use Rattle.mr_tree.proofs.Equations.{records-Inner, records-Leaf, records-Empty, entry_count}
 use Rattle.mr_tree.proofs.Induction.{here-Leaf, here-Inner, every_child}
 use Rattle.mr_pages.specs.Page.{Node, page_limit, IsNode, IsRoot, IsHead, Form, IsForm}
 use Rattle.mr_pages.specs.File.{page_at}
@@ -25,6 +27,7 @@ use Rattle.mr_pages.proofs.Lists.{all_left, all_weaker}
 use Rattle.mr_pages.proofs.Chains.{all_within}
 use Rattle.mr_pages.proofs.Building.{FilledAs, filled_below, of_images}
 use Rattle.mr_pages.proofs.Fitting.{Fits, fits}
+use Rattle.mr_pages.proofs.PageLaws.{FitsRecord}
 use Rattle.mr_pages.proofs.Numbered.{IsNumbered, AreNumbered, whole_numbered}
 
 -- ---- a tree has at most a fifth as many nodes as records, give or take the root
@@ -108,7 +111,7 @@ module _ (form : Form) (is : IsForm form) (hash : List ℕ → List ℕ) where
 
   mutual
     put_at : (P : Placed) (n : ℕ) (front back bytes : List ℕ) → IsNumbered n P →
-        IsWritten (by form.version hash) (λ p nd. ⊤ × IsNode nd) P →
+        IsWritten (by form.version hash) (λ p nd. ⊤ × IsNode form.version nd) P →
         length front ≡ n * form.size → bytes ≡ front ++ (spelled (nodes_of (by form.version hash) P) ++ back) →
         PutAt bytes P
     put_at (placed.Leaf p rs) n front back bytes at fit before whole =
@@ -138,7 +141,7 @@ module _ (form : Form) (is : IsForm form) (hash : List ℕ → List ℕ) where
         }
 
     row_put_at : (Ps : Row) (n : ℕ) (front back bytes : List ℕ) → AreNumbered n Ps →
-        AreWritten (by form.version hash) (λ p nd. ⊤ × IsNode nd) Ps →
+        AreWritten (by form.version hash) (λ p nd. ⊤ × IsNode form.version nd) Ps →
         length front ≡ n * form.size → bytes ≡ front ++ (spelled (all_nodes (by form.version hash) Ps) ++ back) →
         RowPutAt bytes Ps
     row_put_at no_more n front back bytes at fit before whole = record { written = tt; long = omega arith }
@@ -167,74 +170,83 @@ module _ (form : Form) (is : IsForm form) (hash : List ℕ → List ℕ) where
     written : IfSome po (IsWritten (by form.version hash) (HasNode form bytes))
     long : length (spelled (whole_nodes (by form.version hash) po)) ≡ length (whole_pages po) * form.size
 
-  whole_fits : ((xs : List ℕ) → length (hash xs) ≡ 32) → (t : Tree) → WellFormed t → (P : Placed) → tree_of P ≡ t →
+  whole_fits : ((xs : List ℕ) → length (hash xs) ≡ 32) → (t : Tree) → WellFormed t → HasLayers form.version t →
+      (P : Placed) → tree_of P ≡ t →
       AreAllPages (suc (length (pages_of P))) (pages_of P ++ []) → Fits (by form.version hash) (λ p n. ⊤) P
-  whole_fits sized t well P same all =
+  whole_fits sized t well layers P same all =
       fits (by form.version hash) sized (λ p n. ⊤) P _ true (anywhere (by form.version hash) P)
       (subst (every-Tree HasOneLevel) (sym same) well.one_level) refl
       (subst (λ u. level u ≤ 7) (sym same) well.shallow) (subst (λ u. IsFilledRoot (out-Tree u)) (sym same) well.filled)
-      (recursion_from_All IsRecord (records (tree_of P)) (subst (λ u. All IsRecord (records u)) (sym same) well.each))
+      (subst (λ u. length (records u) ≤ count_limit) (sym same) well.few)
+      (recursion_from_All (FitsRecord form.version) (records (tree_of P))
+      (subst (λ u. All (FitsRecord form.version) (records u)) (sym same)
+      (λ k d within. (well.each k d within, layers k d within))))
       (all_weaker (λ p. (0 < p) × (p < suc (length (pages_of P)))) (λ p. p < 2 ^ 32)
       (λ p h. omega (arith, h.1, whole_few (Some P) t well same)) (pages_of P)
       (all_left (λ p. (0 < p) × (p < suc (length (pages_of P)))) (pages_of P) []
       (all_within (suc (length (pages_of P))) (pages_of P ++ []) all)))
 
   -- what is known of the head, before its page is spelled
-  whole_root : ((xs : List ℕ) → length (hash xs) ≡ 32) → (t : Tree) → WellFormed t →
+  whole_root : ((xs : List ℕ) → length (hash xs) ≡ 32) → (t : Tree) → WellFormed t → HasLayers form.version t →
       (po : Option Placed) → whole_tree po ≡ t →
       AreAllPages (suc (length (whole_pages po))) (whole_pages po ++ []) →
-      IsRoot (length (records t)) (option_map (link_of (by form.version hash)) po)
-  whole_root sized t well None same all = ap (λ u. length (records u)) (sym same) ∙ ap length records-Empty
-  whole_root sized t well (Some P) same all =
-      let f = whole_fits sized t well P same all in
+      IsRoot form.version (length (records t)) (option_map (link_of (by form.version hash)) po)
+  whole_root sized t well layers None same all = ap (λ u. length (records u)) (sym same) ∙ ap length records-Empty
+  whole_root sized t well layers (Some P) same all =
+      let f = whole_fits sized t well layers P same all in
       let low = (all_left (λ p. (0 < p) × (p < suc (length (pages_of P)))) (pages_of P) []
-      (all_within (suc (length (pages_of P))) (pages_of P ++ []) all)) in
-      (omega (arith, f.some, ap (λ u. length (records u)) same), not_first P (suc (length (pages_of P))) low, f.said)
+      (all_within (suc (length (pages_of P))) (pages_of P ++ []) all)) in (
+        omega (arith, f.some, ap (λ u. length (records u)) same),
+        not_first P (suc (length (pages_of P))) low,
+        entry_count (by form.version hash) (tree_of P) ∙ count_told form.version (tree_of P)
+            ∙ ap (told form.version) (ap (λ u. length (records u)) same),
+        f.said,
+      )
     where
       not_first : (P : Placed) (m : ℕ) → AllByRecursion (λ p. (0 < p) × (p < m)) (pages_of P) → page_of P ≢ 0
       not_first (placed.Leaf p rs) m all e = let low : 0 < p = all.0.0 in omega (arith, low, e)
       not_first (placed.Inner p Ps) m all e = let low : 0 < p = all.0.0 in omega (arith, low, e)
 
-  whole_put : ((xs : List ℕ) → length (hash xs) ≡ 32) → (t : Tree) → WellFormed t →
+  whole_put : ((xs : List ℕ) → length (hash xs) ≡ 32) → (t : Tree) → WellFormed t → HasLayers form.version t →
       (head bytes : List ℕ) → length head ≡ form.size →
       (po : Option Placed) → whole_tree po ≡ t → IfSome po (IsNumbered 1) →
       AreAllPages (suc (length (whole_pages po))) (whole_pages po ++ []) →
       bytes ≡ head ++ spelled (whole_nodes (by form.version hash) po) →
       WholePut bytes po
-  whole_put sized t well head bytes long None same at all whole = record { written = tt; long = omega arith }
-  whole_put sized t well head bytes long (Some P) same at all whole =
-      let f = whole_fits sized t well P same all in
+  whole_put sized t well layers head bytes long None same at all whole = record { written = tt; long = omega arith }
+  whole_put sized t well layers head bytes long (Some P) same at all whole =
+      let f = whole_fits sized t well layers P same all in
       let p = put_at P 1 head [] bytes at f.both (long ∙ omega arith)
       (whole ∙ ap (λ bs. head ++ bs) (sym (append-nil (spelled (nodes_of (by form.version hash) P))))) in
       record { written = p.written; long = p.long }
 
   pub saved_head_fits : ((xs : List ℕ) → length (hash xs) ≡ 32) →
-      (t : Tree) (batch : ℕ) → WellFormed t → batch < 2 ^ 64 →
-      IsHead (saved_head form hash t batch)
-  saved_head_fits sized t batch well low =
+      (t : Tree) (batch : ℕ) → WellFormed t → HasLayers form.version t → batch < 2 ^ 64 →
+      IsHead form.version (saved_head form hash t batch)
+  saved_head_fits sized t batch well layers low =
       let w = whole_numbered t well.one_level in
       let po = numbered_whole t in
       record {
         batch = low;
         count = well.few;
         pages = (omega arith, whole_few po t well w.trees);
-        root = whole_root sized t well po w.trees w.all;
+        root = whole_root sized t well layers po w.trees w.all;
         free = omega arith;
       }
 
-  pub saved_stands : ((xs : List ℕ) → length (hash xs) ≡ 32) → (t : Tree) (batch : ℕ) → WellFormed t → batch < 2 ^ 64 →
-      Stands form hash (saved form hash t batch) t batch
-  saved_stands sized t batch well low =
+  pub saved_stands : ((xs : List ℕ) → length (hash xs) ≡ 32) → (t : Tree) (batch : ℕ) → WellFormed t →
+      HasLayers form.version t → batch < 2 ^ 64 → Stands form hash (saved form hash t batch) t batch
+  saved_stands sized t batch well layers low =
       let w = whole_numbered t well.one_level in
       let po = numbered_whole t in
       let head = saved_head form hash t batch in
       let few = whole_few po t well w.trees in
-      let good = saved_head_fits sized t batch well low in
+      let good = saved_head_fits sized t batch well layers low in
       let law = is.heads head.pages (omega arith) few in
       let page = form.head_page head in
       let size = law.sized head (good, refl) in
       let bytes = saved form hash t batch in
-      let p = whole_put sized t well page bytes size po w.trees w.is w.all refl in
+      let p = whole_put sized t well layers page bytes size po w.trees w.is w.all refl in
       record {
         head = head;
         size = length-append page (saved_nodes form hash t)

@@ -1,5 +1,5 @@
 -- Bytes that are no whole page, and pages that have a piece in front and zeros behind it.
-use Rattle.std.proofs.Common.{◌≡◌, ◌≢◌, ℕ, ◌-◌, ◌*◌, ◌<◌, ◌≤◌, ◌^◌, min, Bool, true, false, List, [], ◌∷◌, ◌++◌, length, take, drop, replicate, refl, sym, ap, ◌∙◌, inl, inr, arith, length-drop, length-take-le, take_all}
+use Rattle.std.proofs.Common.{◌≡◌, ◌≢◌, ℕ, zero, suc, ◌+◌, ◌-◌, ◌*◌, ◌<◌, ◌≤◌, ◌^◌, min, Bool, true, false, List, [], ◌∷◌, ◌++◌, length, take, drop, replicate, refl, sym, ap, ◌∙◌, inl, inr, arith, length-drop, length-take-le, take_all}
 use Rattle.std.specs.Prelude.{◌&&◌, Option, Some, None, Result, Err, not, bytes_eq, slice_range, if◌then◌else◌}
 use Rattle.std.specs.Int.{w32, to_be_bytes, from_be_bytes}
 use Rattle.std.proofs.lemmas.Bool.{and_parts, cases_lt}
@@ -10,7 +10,7 @@ use Rattle.mr_pages.specs.declared.layout.Layout.{Layout}
 use Rattle.mr_pages.specs.declared.rule.MapRule.{MapRule}
 use Rattle.mr_pages.specs.declared.rule.MapRule.TheVariants as rule
 use Rattle.mr_pages.specs.Page.{Head}
-use Rattle.mr_pages.specs.PageBytes.{node_limit, filled, are_zeros, head_bytes, head_page, is_sealed, head_size, free_in, free_page, free_tag, seal, seal_place}
+use Rattle.mr_pages.specs.PageBytes.{node_limit, filled, are_zeros, head_bytes, head_page, is_sealed, free_in, free_page, free_tag, seal, seal_place}
 use Rattle.mr_pages.proofs.PageLaws.{both_true, length-filled, filled_is, are_zeros-replicate}
 
 -- ---- what is no whole page is read as nothing
@@ -37,7 +37,7 @@ pub unsealed_if : (b : Bool) (r : Result Head MapRule) → b ≡ false →
     (if not b then Err rule.Unsealed else r) ≡ Err rule.Unsealed
 unsealed_if b r e = ap (λ c. if not c then Err rule.Unsealed else r) e
 
-pub odd_unsealed : (size : ℕ) (page : List ℕ) → node_limit ≤ size → length page ≢ size → is_sealed size page ≡ false
+pub odd_unsealed : (size : ℕ) (page : List ℕ) → 3618 ≤ size → length page ≢ size → is_sealed size page ≡ false
 odd_unsealed size page room odd =
     different (drop (seal_place size) page) seal
     (λ e. odd (omega (arith, e, room, length-drop (seal_place size) page)))
@@ -73,7 +73,7 @@ filled_same page piece room =
     (ap are_zeros (sym behind) ∙ are_zeros-replicate (size - k)))
 
 -- page 0 with its seal is spelled as what stands before the seal
-pub before_seal : (layout : Layout) (h : Head) (page : List ℕ) → node_limit ≤ layout.size →
+pub before_seal : (layout : Layout) (h : Head) (page : List ℕ) → node_limit layout.version ≤ layout.size →
     length (head_bytes layout.version h) ≤ seal_place layout.size → length page ≡ layout.size →
     is_sealed layout.size page ≡ true →
     bytes_eq (filled (seal_place layout.size) (head_bytes layout.version h)) (take (seal_place layout.size) page)
@@ -96,8 +96,9 @@ pub is_filled_by : (page piece front behind : List ℕ) (same zeros : Bool) → 
 is_filled_by page piece front behind same zeros room front_is behind_is test rest =
     (λ i. (test ∙ ap (bytes_eq piece) front_is) i && (rest ∙ ap are_zeros behind_is) i) ∙ filled_same page piece room
 
-pub spelled_by : (layout : Layout) (h : Head) (page body piece : List ℕ) (result : Bool) → node_limit ≤ layout.size →
-    length piece ≤ head_size → length page ≡ layout.size → is_sealed layout.size page ≡ true →
+pub spelled_by : (layout : Layout) (h : Head) (page body piece : List ℕ) (result : Bool) →
+    node_limit layout.version ≤ layout.size →
+    length piece ≤ 90 → length page ≡ layout.size → is_sealed layout.size page ≡ true →
     body ≡ take (seal_place layout.size) page → piece ≡ head_bytes layout.version h →
     result ≡ bytes_eq (filled (length body) piece) body → result ≡ bytes_eq (head_page layout h) page
 spelled_by layout h page body piece result room few long sealed front is e =
@@ -127,3 +128,7 @@ pub start_low : (page size : ℕ) → page < 2 ^ 32 → size ≤ 2 ^ 16 → page
 start_low page size low small =
     let at_most : page * size ≤ 2 ^ 32 * 2 ^ 16 = mul-le page size (2 ^ 32) (2 ^ 16) (omega (arith, low)) small in
     omega (arith, at_most)
+
+pub at_least : (n size : ℕ) → 0 < n → size ≤ n * size
+at_least zero size some = absurd (omega (arith, some))
+at_least (suc n) size some = let sum : suc n * size ≡ size + n * size = grind arith in omega (arith, sum)

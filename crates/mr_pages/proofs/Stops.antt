@@ -86,7 +86,7 @@ module _ (hash : List ℕ → List ℕ) (file : File) (h : Head) (sealed : file.
       found ≡ length (numbers_of (all_records met)) → h.count ≡ found →
       chain_faults file.free file.pages (reached met) followed ≡ [] →
       first_of (lost_faults file.pages (reached met ++ followed)) ≡ None → t ≡ whole_tree (placed_at file.node h.root) →
-      Opens hash file (Ok (record { tree = t; batch = h.batch }))
+      Opens hash file (Ok (record { tree = t; version = file.version; batch = h.batch }))
   opens found t none is same chained lost made =
       let all : head_faults hash file h met ≡ [] =
       nil_both (walk_faults (by file.version hash) file.pages [] met)
@@ -94,7 +94,7 @@ module _ (hash : List ℕ → List ℕ) (file : File) (h : Head) (sealed : file.
       (nil_both count_fault (free_faults file (reached met) followed) (no_count found is same)
       (nil_both (chain_faults file.free file.pages (reached met) followed)
       (lost_faults file.pages (reached met ++ followed)) chained (none_first _ lost))) in
-      (ap (λ o. first_of (file_faults hash file o)) sealed ∙ ap first_of all, h, sealed, made, refl)
+      (ap (λ o. first_of (file_faults hash file o)) sealed ∙ ap first_of all, refl, h, sealed, made, refl)
 
 pub lost_of : (pages n : ℕ) (s : Seen) (r : Option MapFault) → n ≡ pages →
     ((ps ns : List ℕ) → Saw n s ps ns → Loses n ps r) → (ps ns : List ℕ) → Saw pages s ps ns → Loses pages ps r

@@ -5,6 +5,8 @@ use Rattle.std.specs.List.{flat_map, AllByRecursion}
 use Rattle.std.proofs.lemmas.Bool.{OnFalse_at}
 use Rattle.std.proofs.lemmas.List.Elements.{All-nil, recursion_from_All}
 use Rattle.mr_record.specs.declared.record.Record.{Record}
+use Rattle.mr_record.specs.declared.version.Version.{Version}
+use Rattle.mr_tree.proofs.Told.{any_layers, told_counts}
 use Rattle.mr_tree.specs.View as view
 use Rattle.mr_tree.specs.Digest.{Scheme}
 use Rattle.mr_tree.specs.declared.entry.Entry.{Entry}
@@ -28,35 +30,41 @@ use Rattle.mr_pages.specs.Stands.{tree_of}
 use Rattle.mr_pages.specs.Spelled.{row, place}
 use Rattle.mr_pages.proofs.Building.{what_is_found}
 use Rattle.mr_pages.proofs.Judged.{entry_same, level_same}
+use Rattle.mr_pages.proofs.ViewPages.{node_tells}
 use Rattle.mr_pages.proofs.Rules.{node_sound}
 use Rattle.mr_pages.proofs.Walks.{AtInner, at_leaf, refused_by_look, visit_passes, saw_visit, passed_more, refused_below, child_level, split_at, of_links, one_more, map_one_more, trees_of_row}
 
 -- ---- one node
 
-pub shape_of : (n : view.Node) → view.IsView n → IsNode (page_node n) → HasShape n
-shape_of Empty v fits = absurd v
-shape_of (Leaf rs) v fits = record {
+pub shape_of : (s : Version) (n : view.Node) → view.IsView n → IsNode s (page_node n) → view.AreTold s n → HasShape n
+shape_of s Empty v fits told = absurd v
+shape_of s (Leaf rs) v fits told = record {
   some = fits.0;
   brief = v.few;
   few = omega arith;
   low = omega arith;
   alike = All-nil _;
+  layers = any_layers s rs told.layers;
+  counts = All-nil _;
 }
-shape_of (Inner cs) v fits = record {
+shape_of s (Inner cs) v fits told = record {
   some = v.some;
   brief = omega arith;
   few = v.few;
   low = v.low;
   alike = v.alike;
+  layers = All-nil _;
+  counts = told_counts s cs told.children;
 }
 
 pub knows_of : (hash : Scheme) (c : Child) (root : Bool) (n : view.Node) (o : owned_type.Node) →
-    view.IsView n → IsNode (page_node n) × (level_of (page_node n) ≡ c.level) →
-    node_faults hash root (child_link c) (Some (page_node n)) ≡ [] → owned o ≡ n → Knows hash.of c o
+    view.IsView n → IsNode hash.version (page_node n) × (level_of (page_node n) ≡ c.level) →
+    node_faults hash root (child_link c) (Some (page_node n)) ≡ [] → owned o ≡ n → Knows hash c o
 knows_of hash c root n o v fits none is = record {
-  shape = subst HasShape (sym is) (shape_of n v fits.0);
+  shape = subst HasShape (sym is) (shape_of hash.version n v fits.0 (node_tells hash.version n fits.0));
+  told = subst (view.AreTold hash.version) (sym is) (node_tells hash.version n fits.0);
   level = ap view.level_of is ∙ level_same n ∙ fits.1;
-  digest = ap (λ m. hash.of (view.preimage_of m)) is ∙ ap (λ (k : Entry). k.digest) (entry_same hash n)
+  digest = ap (λ m. hash.of (view.preimage_of hash.version m)) is ∙ ap (λ (k : Entry). k.digest) (entry_same hash n)
       ∙ (node_sound hash root (child_link c) (page_node n) none).digest;
 }
 
@@ -181,7 +189,7 @@ inner_at at root link cs is alike =
     below n [] all = tt
     below n (d ∷ ds) all = (let one : d.level + 1 ≡ n = all.0 in omega (arith, one), below n ds all.1)
 
-pub inner_known : (hash : List ℕ → List ℕ) (at : ℕ → Option Node) (root : Bool) (c : Child) (n : owned_type.Node)
+pub inner_known : (hash : Scheme) (at : ℕ → Option Node) (root : Bool) (c : Child) (n : owned_type.Node)
     (cs : List Child) → Knows hash c n → owned n ≡ Inner cs → found at (child_link c) ≡ Some (page_node (owned n)) →
     AtInner at root (child_link c) (map child_link cs)
 inner_known hash at root c n cs k is f =
@@ -290,12 +298,13 @@ goes_none a x = record {
   few = omega arith;
 }
 
-pub along : (A : Type 0) (hash : Scheme) (m n : ℕ) (at : ℕ → Option Node) (before : List Visit) (root : Bool)
-    (link : Link) (r : Result A MapErr) (s s' : Seen) (ps ns : List ℕ) → m ≡ n →
-    (Saw m s ps ns → Walks {A = A} hash m at before root link r s') → Saw n s ps ns →
+pub along : (A : Type 0) (was hash : Scheme) (m n : ℕ) (at : ℕ → Option Node) (before : List Visit) (root : Bool)
+    (link : Link) (r : Result A MapErr) (s s' : Seen) (ps ns : List ℕ) → was ≡ hash → m ≡ n →
+    (Saw m s ps ns → Walks {A = A} was m at before root link r s') → Saw n s ps ns →
     Walks {A = A} hash n at before root link r s'
-along A hash m n at before root link r s s' ps ns e f saw =
-    subst (λ k. Walks {A = A} hash k at before root link r s') e (f (subst (λ k. Saw k s ps ns) (sym e) saw))
+along A was hash m n at before root link r s s' ps ns h e f saw =
+    subst (λ k. Walks {A = A} hash k at before root link r s') e
+    (subst (λ k. Walks {A = A} k m at before root link r s') h (f (subst (λ k. Saw k s ps ns) (sym e) saw)))
 
 pub if_some : {A : Type 0} (o : Option A) (P : A → Type 0) → ((x : A) → o ≡ Some x → P x) → IfSome o P
 if_some None P f = tt

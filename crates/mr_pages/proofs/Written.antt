@@ -1,55 +1,19 @@
 -- A file that is made by one call after another, and what a refused one leaves.
-use Rattle.std.proofs.Common.{◌≡◌, ℕ, List, [], refl, sym, subst, ◌∙◌, append-nil, arith, inl, inr}
-use Rattle.std.specs.Prelude.{Option, Some, None, Result, Ok, Err, OnOk}
+use Rattle.std.proofs.Common.{◌≡◌, ◌≤◌, ◌+◌, ℕ, List, [], ◌++◌, length, take, drop, replicate, refl, sym, ap, subst, ◌∙◌, append-nil, append_assoc, length-append, arith, inl, inr}
+use Rattle.std.specs.Prelude.{Option, Some, None, MatchOption, MatchResult, IsErrAnd, ⊤, Result, Ok, Err, OnOk}
+use Rattle.std.proofs.lemmas.List.{length-drop, length-replicate, length-take-le, take_at}
+use Rattle.std.proofs.lemmas.Result.{err_from_is_err_and}
 use Rattle.mr_outside.specs.Faults.{Rose}
 use Rattle.mr_outside.specs.Files.{Files, file, with_file, grown, replaced, overwritten}
 use Rattle.mr_outside.specs.State.{Shelved}
-use Rattle.mr_outside.specs.Told.{MayMiss}
+use Rattle.mr_outside.specs.Told.{MayMiss, OfFile}
 use Rattle.mr_outside.specs.Causes.{ShelfCauses}
-use Rattle.mr_outside.specs.Writing.{IsChanged, IsChangedPartly}
+use Rattle.mr_outside.specs.Writing.{IsChanged, IsChangedPartly, Writes}
 use Rattle.mr_outside.specs.declared.shelf.ShelfErr.{ShelfErr}
-use Rattle.mr_outside.proofs.Changes.{IsChanged-grown, IsChanged-overwritten, file-with_file}
-use Rattle.mr_pages.specs.Saved.{IsHalfWritten, Leaves, SaveCauses}
-
-module _ (name pages head : List ℕ) (before made : Option Files)
-    (create : IsChanged (with_file name) [] before made) where
-  -- the pages were appended in part
-  pub left_by_append : (after : Option Files) → IsChangedPartly (grown name) pages made after →
-      Leaves (IsHalfWritten head pages) name before after
-  left_by_append after p =
-      inr (p.front, inl (p.rest, p.whole), IsChanged-grown name [] p.front before made after create p.changed)
-
-  pub appended : (after : Option Files) → IsChanged (grown name) pages made after →
-      IsChanged (with_file name) pages before after
-  appended after put = IsChanged-grown name [] pages before made after create put
-
-module _ (name pages head : List ℕ) (before full : Option Files)
-    (put : IsChanged (with_file name) pages before full) where
-  -- all of them were, and nothing more was written
-  pub left_by_sync : (after : Option Files) → after ≡ full → Leaves (IsHalfWritten head pages) name before after
-  left_by_sync after same = inr (pages, inl ([], sym (append-nil pages)), same ∙ put)
-
-  -- page 0 was written in part
-  pub left_by_seal : (after : Option Files) → IsChangedPartly (overwritten name 0) head full after →
-      Leaves (IsHalfWritten head pages) name before after
-  left_by_seal after p =
-      inr (
-        replaced 0 p.front pages,
-        inr (p.front, p.rest, p.whole, refl),
-        IsChanged-overwritten name 0 pages p.front
-            before full after put p.changed,
-      )
-
-  pub sealed : (after : Option Files) → IsChanged (overwritten name 0) head full after →
-      IsChanged (with_file name) (replaced 0 head pages) before after
-  sealed after over = IsChanged-overwritten name 0 pages head before full after put over
-
--- page 0 was written whole
-pub left_by_end : (name pages head : List ℕ) (before after : Option Files) →
-    IsChanged (with_file name) (replaced 0 head pages) before after →
-    Leaves (IsHalfWritten head pages) name before after
-left_by_end name pages head before after put =
-    inr (replaced 0 head pages, inr (head, [], sym (append-nil head), refl), put)
+use Rattle.mr_outside.specs.declared.shelf.ShelfErr.TheVariants as shelf
+use Rattle.mr_outside.proofs.Changes.{IsChanged-grown, IsChanged-overwritten, file-with_file, with_file-same, overwritten-none}
+use Rattle.mr_pages.specs.Saved.{Leaves, SaveCauses}
+use Rattle.mr_pages.specs.Making.{IsBegun, HasMade, GivesUp}
 
 -- ---- causes
 
@@ -78,6 +42,260 @@ causes_there name held before between after result put quiet c = record {
   quiet = subst (λ n. OnOk result (after.faults ≡ n)) quiet c.quiet;
 }
 
+-- a call that began when no fault was counted
+pub causes_from : {A : Type 0} (before between after : Shelved) (result : Result A ShelfErr) →
+    between.faults ≡ before.faults → SaveCauses between after result → SaveCauses before after result
+causes_from before between after result quiet c = record {
+  missing = λ e. subst (λ n. Rose n after.faults) quiet (c.missing e);
+  fault = λ e. subst (λ n. Rose n after.faults) quiet (c.fault e);
+  faults = omega (arith, quiet, c.faults);
+  quiet = subst (λ n. OnOk result (after.faults ≡ n)) quiet c.quiet;
+}
+
+err_same : {A : Type 0} (e f : ShelfErr) → ◌≡◌ {A = Result A ShelfErr} (Err e) (Err f) → e ≡ f
+err_same e f q = cc
+
+-- what was given up
+pub causes_given_up : {A : Type 0} (size : ℕ) (name : List ℕ) (before after : Shelved) (e : ShelfErr) →
+    GivesUp size name before after e → SaveCauses {A = A} before after (Err e)
+causes_given_up {A = A} size name before after e u = record {
+  missing = λ q. u.missing (err_same {A = A} e shelf.Missing q);
+  fault = λ q. u.fault (err_same {A = A} e shelf.Fault q);
+  faults = u.faults;
+  quiet = tt;
+}
+
+-- no memory was left
+pub causes_no_memory : {A : Type 0} (before now : Shelved) → now.faults ≡ before.faults →
+    SaveCauses {A = A} before now (Err shelf.NoMemory)
+causes_no_memory {A = A} before now same = record {
+  missing = λ q. absurd (no (err_same {A = A} shelf.NoMemory shelf.Missing q));
+  fault = λ q. absurd (no_fault (err_same {A = A} shelf.NoMemory shelf.Fault q));
+  faults = omega (arith, same);
+  quiet = tt;
+}
+  where
+    no : ◌≡◌ {A = ShelfErr} shelf.NoMemory shelf.Missing → ⊥
+    no q = cc
+
+    no_fault : ◌≡◌ {A = ShelfErr} shelf.NoMemory shelf.Fault → ⊥
+    no_fault q = cc
+
+-- it is handed on
+pub failed : {A : Type 0} (r : Result A ShelfErr) (e : ShelfErr) (before after : Shelved) → IsErrAnd r (λ f. f ≡ e) →
+    SaveCauses {A = A} before after (Err e) → SaveCauses before after r
+failed {A = A} r e before after is c =
+    let p = err_from_is_err_and r is in
+    subst (λ (q : Result A ShelfErr). SaveCauses before after q) (sym (p.1 ∙ ap Err p.2)) c
+
 pub on_ok : {A E P : Type 0} (r : Result A E) → P → OnOk r P
 on_ok (Ok a) p = p
 on_ok (Err e) p = tt
+
+-- ---- bytes with zeros for page 0
+
+pub begun_all : (size : ℕ) (behind bytes : List ℕ) → bytes ≡ replicate size 0 ++ behind → IsBegun size bytes
+begun_all size behind bytes is = (behind, [], sym is ∙ sym (append-nil bytes))
+
+begun_front : (size : ℕ) (behind bytes front rest : List ℕ) → bytes ≡ replicate size 0 ++ behind →
+    bytes ≡ front ++ rest → IsBegun size front
+begun_front size behind bytes front rest is whole = (behind, rest, sym is ∙ whole)
+
+begun_more : (size : ℕ) (behind held more : List ℕ) → held ≡ replicate size 0 ++ behind → IsBegun size (held ++ more)
+begun_more size behind held more is =
+    begun_all size (behind ++ more) (held ++ more)
+    (ap (λ bs. bs ++ more) is ∙ append_assoc (replicate size 0) behind more)
+
+-- ---- the file is made
+
+-- a call that was refused and left the files as this
+gives_up : {A : Type 0} (size : ℕ) (name : List ℕ) (before after : Shelved) (e : ShelfErr) →
+    Leaves (IsBegun size) name before.files after.files → SaveCauses {A = A} before after (Err e) →
+    after.reads ≡ before.reads → GivesUp size name before after e
+gives_up size name before after e left c reads = record {
+  left = left;
+  missing = λ q. c.missing (ap Err q);
+  fault = λ q. c.fault (ap Err q);
+  faults = c.faults;
+  reads = reads;
+}
+
+-- it is handed on
+pub given_up : {A : Type 0} (r : Result A ShelfErr) (P : A → Type 0) (e : ShelfErr) (size : ℕ) (name : List ℕ)
+    (before after : Shelved) → IsErrAnd r (λ f. f ≡ e) → GivesUp size name before after e →
+    MatchResult r P (GivesUp size name before after)
+given_up r P e size name before after is u =
+    let p = err_from_is_err_and r is in
+    subst (λ q. MatchResult q P (GivesUp size name before after)) (sym (p.1 ∙ ap Err p.2)) u
+
+-- there was no memory before the first call
+pub none_begun : (size : ℕ) (name : List ℕ) (now : Shelved) → GivesUp size name now now shelf.NoMemory
+none_begun size name now =
+    gives_up {A = Unit {0}} size name now now shelf.NoMemory (inl refl) (causes_no_memory now now refl) refl
+
+-- nor was there any between two
+pub no_memory : (size : ℕ) (name held behind : List ℕ) (before now : Shelved) →
+    HasMade name held before now → held ≡ replicate size 0 ++ behind → GivesUp size name before now shelf.NoMemory
+no_memory size name held behind before now made is =
+    gives_up {A = Unit {0}} size name before now shelf.NoMemory
+    (inr (held, begun_all size behind held is, made.files)) (causes_no_memory before now made.faults) made.reads
+
+-- nor behind what had grown
+pub no_memory_more : (size : ℕ) (name held behind more : List ℕ) (before now : Shelved) →
+    HasMade name (held ++ more) before now → held ≡ replicate size 0 ++ behind →
+    GivesUp size name before now shelf.NoMemory
+no_memory_more size name held behind more before now made is =
+    no_memory size name (held ++ more) (behind ++ more) before now made
+    (ap (λ bs. bs ++ more) is ∙ append_assoc (replicate size 0) behind more)
+
+pub not_created : {A : Type 0} (size : ℕ) (name : List ℕ) (before after : Shelved) (e : ShelfErr) →
+    after.files ≡ before.files → (◌≡◌ {A = Result A ShelfErr} (Err e) (Err shelf.Missing) → before.files ≡ None) →
+    ShelfCauses {A = A} name before after (Err e) →
+    after.reads ≡ before.reads → GivesUp size name before after e
+not_created {A = A} size name before after e same never c reads =
+    gives_up {A = A} size name before after e (inl same)
+    (record {
+      missing = λ q. subst (λ o. MayMiss o name before.faults after.faults) (never q) (c.missing q);
+      fault = c.fault;
+      faults = c.faults;
+      quiet = tt;
+    }) reads
+
+module _ (size : ℕ) (name bytes behind : List ℕ) (is : bytes ≡ replicate size 0 ++ behind)
+    (before made : Shelved) (create : IsChanged (with_file name) [] before.files made.files)
+    (quiet : made.faults ≡ before.faults) (reads : made.reads ≡ before.reads) where
+  -- the first bytes were appended in part
+  pub not_begun : {A : Type 0} (after : Shelved) (e : ShelfErr) →
+      Writes {A = A} (grown name) bytes made after (Err e) → ShelfCauses {A = A} name made after (Err e) →
+      GivesUp size name before after e
+  not_begun {A = A} after e w c =
+      gives_up {A = A} size name before after e
+      (inr (
+        w.front.front,
+        begun_front size behind bytes w.front.front w.front.rest is w.front.whole,
+        IsChanged-grown name [] w.front.front before.files made.files after.files create w.front.changed,
+      ))
+      (causes_there name [] before made after (Err e) create quiet c) (w.reads ∙ reads)
+
+  begun : (after : Shelved) → IsChanged (grown name) bytes made.files after.files →
+      after.faults ≡ made.faults → after.reads ≡ made.reads → HasMade name bytes before after
+  begun after put still same = record {
+    files = IsChanged-grown name [] bytes before.files made.files after.files create put;
+    faults = still ∙ quiet;
+    reads = same ∙ reads;
+  }
+
+  pub begun_or_not : {A : Type 0} (after : Shelved) (r : Result A ShelfErr) →
+      Writes {A = A} (grown name) bytes made after r →
+      ShelfCauses {A = A} name made after r →
+      MatchResult r (λ done. HasMade name bytes before after) (GivesUp size name before after)
+  begun_or_not after (Ok done) w c = begun after w.whole c.quiet w.reads
+  begun_or_not after (Err e) w c = not_begun after e w c
+
+module _ (size : ℕ) (name held behind : List ℕ) (is : held ≡ replicate size 0 ++ behind)
+    (before now : Shelved) (made : HasMade name held before now) where
+  -- more bytes were appended in part
+  pub not_grown : {A : Type 0} (more : List ℕ) (after : Shelved) (e : ShelfErr) →
+      Writes {A = A} (grown name) more now after (Err e) → ShelfCauses {A = A} name now after (Err e) →
+      GivesUp size name before after e
+  not_grown {A = A} more after e w c =
+      gives_up {A = A} size name before after e
+      (inr (
+        held ++ w.front.front,
+        begun_more size behind held w.front.front is,
+        IsChanged-grown name held w.front.front before.files now.files after.files made.files w.front.changed,
+      ))
+      (causes_there name held before now after (Err e) made.files made.faults c) (w.reads ∙ made.reads)
+
+  -- bytes behind page 0 were written over in part
+  pub not_put : {A : Type 0} (more : List ℕ) (after : Shelved) (e : ShelfErr) →
+      Writes {A = A} (overwritten name size) more now after (Err e) → ShelfCauses {A = A} name now after (Err e) →
+      GivesUp size name before after e
+  not_put {A = A} more after e w c =
+      let front = w.front.front in
+      let zeros : List ℕ = replicate size 0 in
+      let first : take size held ≡ zeros =
+      ap (take size) is ∙ take_at zeros behind size (length-replicate {A = ℕ} size 0) in
+      gives_up {A = A} size name before after e
+      (inr (
+        replaced size front held,
+        begun_all size (front ++ drop (size + length front) held) (replaced size front held)
+            (ap (λ bs. (bs ++ front) ++ drop (size + length front) held) first
+            ∙ append_assoc zeros front (drop (size + length front) held)),
+        IsChanged-overwritten name size held front before.files now.files after.files made.files w.front.changed,
+      ))
+      (causes_there name held before now after (Err e) made.files made.faults c) (w.reads ∙ made.reads)
+
+pub has_put : (name held more : List ℕ) (at : ℕ) (before now after : Shelved) → HasMade name held before now →
+    IsChanged (overwritten name at) more now.files after.files → after.faults ≡ now.faults → after.reads ≡ now.reads →
+    HasMade name (replaced at more held) before after
+has_put name held more at before now after made put still same = record {
+  files = IsChanged-overwritten name at held more before.files now.files after.files made.files put;
+  faults = still ∙ made.faults;
+  reads = same ∙ made.reads;
+}
+
+pub length_replaced : (n : ℕ) (front held : List ℕ) → n + length front ≤ length held →
+    length (replaced n front held) ≡ length held
+length_replaced n front held room =
+    omega (
+      arith,
+      length-append (take n held ++ front) (drop (n + length front) held),
+      length-append (take n held) front,
+      length-take-le n held (omega (arith, room)),
+      length-drop (n + length front) held,
+      room,
+    )
+
+pub has_grown : (name held more : List ℕ) (before now after : Shelved) → HasMade name held before now →
+    IsChanged (grown name) more now.files after.files → after.faults ≡ now.faults → after.reads ≡ now.reads →
+    HasMade name (held ++ more) before after
+has_grown name held more before now after made put still same = record {
+  files = IsChanged-grown name held more before.files now.files after.files made.files put;
+  faults = still ∙ made.faults;
+  reads = same ∙ made.reads;
+}
+
+-- ---- a file that is there
+
+untouched_at : (found : Option (List ℕ)) (name : List ℕ) (files : Files) (P : List ℕ → Type 0) →
+    file files name ≡ found → MatchOption found ⊥ P → (held : List ℕ) × (with_file name held files ≡ files)
+untouched_at None name files P e p = absurd p
+untouched_at (Some held) name files P e p = (held, with_file-same name held files e)
+
+-- it is as if it had just been made
+pub untouched : (told : Option Files) (name : List ℕ) (P : List ℕ → Type 0) → OfFile told name ⊥ P →
+    (held : List ℕ) × IsChanged (with_file name) held told told
+untouched None name P p = ([], refl)
+untouched (Some files) name P p =
+    let u = untouched_at (file files name) name files P refl p in
+    (u.0, ap Some (sym u.1))
+
+room_at : (found : Option (List ℕ)) (P Q : List ℕ → Type 0) → ((bytes : List ℕ) → P bytes → Q bytes) →
+    MatchOption found ⊥ P → MatchOption found ⊤ Q
+room_at None P Q f p = tt
+room_at (Some bytes) P Q f p = f bytes p
+
+-- there is room in it
+pub room_there : (told now : Option Files) (name : List ℕ) (P Q : List ℕ → Type 0) →
+    ((bytes : List ℕ) → P bytes → Q bytes) → now ≡ told → OfFile told name ⊥ P → OfFile now name ⊤ Q
+room_there told now name P Q f same p = subst (λ o. OfFile o name ⊤ Q) (sym same) (at told p)
+  where
+    at : (told : Option Files) → OfFile told name ⊥ P → OfFile told name ⊤ Q
+    at None p = tt
+    at (Some files) p = room_at (file files name) P Q f p
+
+-- nothing was written over
+pub not_over : (name bytes : List ℕ) (at : ℕ) (before after : Option Files) → after ≡ before →
+    IsChangedPartly (overwritten name at) bytes before after
+not_over name bytes at before after same =
+    record { front = []; rest = bytes; whole = refl; changed = same ∙ none before }
+  where
+    none : (told : Option Files) → IsChanged (overwritten name at) [] told told
+    none None = refl
+    none (Some files) = ap Some (sym (overwritten-none name at files))
+
+pub over_whole : (name bytes : List ℕ) (at : ℕ) (before after : Option Files) →
+    IsChanged (overwritten name at) bytes before after → IsChangedPartly (overwritten name at) bytes before after
+over_whole name bytes at before after put =
+    record { front = bytes; rest = []; whole = sym (append-nil bytes); changed = put }

@@ -7,6 +7,7 @@ use Rattle.mr_geom.specs.Rectangle.{Rectangle}
 use Rattle.mr_record.specs.declared.record.Record.{Record}
 use Rattle.mr_tree.specs.Limits.{leaf_fill, inner_fill, root_leaf_fill, root_inner_fill}
 use Rattle.mr_tree.specs.Digest.{Scheme, by}
+use Rattle.mr_tree.specs.declared.entry.Entry.{Entry}
 use Rattle.mr_tree.specs.declared.tree.Tree.TheOpen.{Empty, Leaf, Inner}
 use Rattle.mr_pages.specs.declared.rule.MapRule.{MapRule}
 use Rattle.mr_pages.specs.declared.rule.MapFault.{MapFault}
@@ -100,6 +101,11 @@ least true _ = root_leaf_fill
 least false (Inner links) = inner_fill
 least false _ = leaf_fill
 
+-- whether a node has the mask that is said of it and, unless it is the root, the count: that of the
+-- root is the head's. Both are 0 in version 1.
+abbrev pub same_sums : (root : Bool) → (found said : Entry) → Bool
+same_sums root found said = found.mask == said.mask && (root || found.count == said.count)
+
 -- the rules that a node breaks against what is said of it
 abbrev pub node_faults : Scheme → (root : Bool) → Link → Option Node → List MapFault
 node_faults s root link None = fault_if true link.page rule.Page
@@ -107,7 +113,8 @@ node_faults s root link (Some node) =
     fault_if (not (bytes_eq (entry_of s node).digest link.entry.digest)) link.page
     (rule.Digest link.entry.digest (entry_of s node).digest)
     ++ (fault_if (not (same_rect (entry_of s node).rect link.entry.rect)) link.page rule.Rect
-    ++ fault_if (nat_lt (size node) (least root node)) link.page rule.Fill)
+    ++ (fault_if (not (same_sums root (entry_of s node) link.entry)) link.page rule.Sum
+    ++ fault_if (nat_lt (size node) (least root node)) link.page rule.Fill))
 
 -- the rules that a visit breaks, in their order, behind these visits in a file of so many pages
 abbrev pub visit_faults : Scheme → ℕ → List Visit → Visit → List MapFault

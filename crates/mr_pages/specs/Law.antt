@@ -1,6 +1,6 @@
 -- What binds the two: a file has no fault just where it stands for a map, and then for that alone.
 use Rattle.std.specs.Prelude.{◌≡◌, ℕ, List, None}
-use Rattle.mr_tree.specs.WellFormed.{WellFormed}
+use Rattle.mr_tree.specs.WellFormed.{WellFormed, HasLayers}
 use Rattle.mr_tree.specs.declared.tree.Tree.{Tree}
 use Rattle.mr_pages.specs.Page.{Form}
 use Rattle.mr_pages.specs.File.{file_of}
@@ -11,6 +11,8 @@ use Rattle.mr_pages.specs.Faults.{mapfault}
 pub record IsMap (form : Form) (hash : List ℕ → List ℕ) (bytes : List ℕ) (t : Tree) (batch : ℕ)
     : Type 0 where
   pub well : WellFormed t
+  -- the layers are those of its version
+  pub layers : HasLayers form.version t
   pub stands : Stands form hash bytes t batch
 
 -- and for no other

@@ -14,3 +14,4 @@ pub mod Judging
 pub mod Opening
 pub mod Source
 pub mod Putting
+pub mod Making

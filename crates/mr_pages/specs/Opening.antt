@@ -1,19 +1,20 @@
 -- What opening a named file answers.
-use Rattle.std.specs.Prelude.{◌≡◌, ⊤, ◌⊎◌, ℕ, ◌/◌, ◌≤◌, List, length, Some, Result, Ok, Err, IsErrOf}
+use Rattle.std.specs.Prelude.{◌≡◌, ⊤, ◌⊎◌, ℕ, ◌/◌, ◌≤◌, max, min, List, length, Some, Result, Ok, Err, IsErrOf}
 use Rattle.mr_tree.specs.declared.tree.Tree.{Tree}
 use Rattle.mr_record.specs.Bytes.{AreBytes}
+use Rattle.mr_record.specs.declared.version.Version.{Version}
 use Rattle.mr_outside.specs.Faults.{Rose}
 use Rattle.mr_outside.specs.State.{Shelved}
 use Rattle.mr_outside.specs.Told.{MayMiss}
 use Rattle.mr_outside.specs.declared.shelf.ShelfErr.{ShelfErr}
 use Rattle.mr_outside.specs.declared.shelf.ShelfErr.TheVariants as shelf
-use Rattle.mr_pages.specs.PageBytes.{page_size}
+use Rattle.mr_pages.specs.PageBytes.{page_size, form_by}
 use Rattle.mr_pages.specs.declared.rule.MapFault.{MapFault}
 use Rattle.mr_pages.specs.declared.opening.Opened.{Opened}
 use Rattle.mr_pages.specs.declared.error.MapErr.{MapErr}
 use Rattle.mr_pages.specs.declared.error.MapErr.TheVariants as errors
 use Rattle.mr_pages.specs.Page.{Form}
-use Rattle.mr_pages.specs.File.{file_of}
+use Rattle.mr_pages.specs.File.{file_of, form_at}
 use Rattle.mr_pages.specs.Faults.{mapfault}
 use Rattle.mr_pages.specs.Law.{IsMap}
 
@@ -23,14 +24,10 @@ of_shelf shelf.Missing = errors.Missing
 of_shelf shelf.Fault = errors.Fault
 of_shelf shelf.NoMemory = errors.NoMemory
 
--- what a call that hands on a tree and a batch answers, as a map that was opened
-abbrev pub opened : Result (Tree × ℕ) MapErr → Result Opened MapErr
-opened (Ok (tree, batch)) = Ok (record { tree = tree; batch = batch })
-opened (Err e) = Err e
-
--- how many pages a file of these bytes has
+-- how many pages a file of these bytes has, or 1 where what was read of it tells that it has none;
+-- and of a file that is smaller than any page nothing is read
 abbrev pub pages_in : List ℕ → ℕ
-pages_in bytes = length bytes / page_size
+pages_in bytes = min (length bytes / page_size) (max 1 (length bytes / (form_at bytes).size))
 
 -- ---- whether something was found out
 
@@ -48,13 +45,18 @@ OrFails result wanted = (result ≡ wanted) ⊎ Fails result
 
 -- what is answered of these bytes: the map that they stand for, or their fault
 abbrev pub Answers : Form → (List ℕ → List ℕ) → List ℕ → Result Opened MapErr → Type 0
-Answers form hash bytes (Ok map) = IsMap form hash bytes map.tree map.batch
+Answers form hash bytes (Ok map) =
+    (map.version ≡ form.version) × IsMap form hash bytes map.tree map.batch
 Answers form hash bytes (Err (errors.Map f)) = mapfault hash (file_of form bytes) ≡ Some f
 Answers form hash bytes (Err _) = ⊤
 
 -- the answer is that of some bytes
 abbrev pub SomeBytes : Form → (List ℕ → List ℕ) → Result Opened MapErr → Type 0
 SomeBytes form hash result = (bytes : List ℕ) × AreBytes bytes × Answers form hash bytes result
+
+-- that of some bytes, read in some version
+abbrev pub SomeFile : (List ℕ → List ℕ) → Result Opened MapErr → Type 0
+SomeFile hash result = (v : Version) × SomeBytes (form_by v) hash result
 
 -- what is answered where the file has these bytes: nothing but their map or their fault, and that
 -- it is, unless the call failed; and its cells are bytes
@@ -65,7 +67,7 @@ pub record Tells (form : Form) (hash : List ℕ → List ℕ) (bytes : List ℕ)
   pub fault : (f : MapFault) → mapfault hash (file_of form bytes) ≡ Some f →
       OrFails result (Err (errors.Map f))
   pub map : (t : Tree) (b : ℕ) → IsMap form hash bytes t b →
-      OrFails result (Ok (record { tree = t; batch = b }))
+      OrFails result (Ok (record { tree = t; version = form.version; batch = b }))
 
 -- ---- why
 

@@ -5,10 +5,12 @@ use Rattle.std.specs.List.{AllByRecursion}
 use Rattle.std.specs.Result.{result_ok}
 use Rattle.mr_geom.specs.Rectangle.{Rectangle, IsOrdered, FitsMap}
 use Rattle.mr_record.specs.Bytes.{AreBytes}
-use Rattle.mr_record.specs.Record.{IsRecord}
+use Rattle.mr_record.specs.Record.{IsRecord, HasLayer}
 use Rattle.mr_record.specs.declared.version.Version.{Version}
+use Rattle.mr_record.specs.Version.{told}
 use Rattle.mr_tree.specs.Limits.{count_limit, level_limit, leaf_limit, inner_limit}
 use Rattle.mr_tree.specs.Tree.{level_step, first_level}
+use Rattle.mr_tree.specs.View.{MayTell}
 use Rattle.mr_tree.specs.Digest.{Scheme, entry_step}
 use Rattle.mr_tree.specs.declared.entry.Entry.{Entry}
 use Rattle.mr_tree.specs.declared.tree.Tree.TheOpen.{Tree-F, Empty, Leaf, Inner}
@@ -56,10 +58,11 @@ pub record HasRect (rect : Option Rectangle) : Type 0 where
   pub ordered : IsOrdered r
   pub coordinates : FitsMap r
 
-pub record IsLink (l : Link) : Type 0 where
+pub record IsLink (v : Version) (l : Link) : Type 0 where
   pub page : l.page < 2 ^ 32
   pub level : l.entry.level ≤ level_limit
   pub rect : HasRect l.entry.rect
+  pub told : MayTell v l.entry.mask l.entry.count
   pub digest : length l.entry.digest ≡ 32
 
 -- the level of the first one
@@ -67,25 +70,27 @@ abbrev pub level_below : List Link → ℕ
 level_below links = first_level (map (λ (l : Link). l.entry.level) links)
 
 -- 1 to 16 records, or 1 to 64 links to nodes of one level
-abbrev pub IsNode : Node → Type 0
-IsNode Empty = ⊥
-IsNode (Leaf records) =
-    (1 ≤ length records) × (length records ≤ leaf_limit) × All IsRecord records
-IsNode (Inner links) =
-    (1 ≤ length links) × (length links ≤ inner_limit) × AllByRecursion IsLink links
+abbrev pub IsNode : Version → Node → Type 0
+IsNode v Empty = ⊥
+IsNode v (Leaf records) =
+    (1 ≤ length records) × (length records ≤ leaf_limit)
+    × All (λ r. IsRecord r × HasLayer v r) records
+IsNode v (Inner links) =
+    (1 ≤ length links) × (length links ≤ inner_limit) × AllByRecursion (IsLink v) links
     × AllByRecursion (λ (l : Link). l.entry.level ≡ level_below links) links
     × (level_below links < level_limit)
 
--- a link to a root, just where there are records
-abbrev pub IsRoot : ℕ → Option Link → Type 0
-IsRoot count None = count ≡ 0
-IsRoot count (Some l) = (0 < count) × (l.page ≢ 0) × IsLink l
+-- a link to a root, just where there are records; what is told of their number is the head's count
+abbrev pub IsRoot : Version → ℕ → Option Link → Type 0
+IsRoot v count None = count ≡ 0
+IsRoot v count (Some l) =
+    (0 < count) × (l.page ≢ 0) × (l.entry.count ≡ told v count) × IsLink v l
 
-pub record IsHead (h : Head) : Type 0 where
+pub record IsHead (v : Version) (h : Head) : Type 0 where
   pub batch : h.batch < 2 ^ 64
   pub count : h.count ≤ count_limit
   pub pages : (1 ≤ h.pages) × (h.pages ≤ page_limit)
-  pub root : IsRoot h.count h.root
+  pub root : IsRoot v h.count h.root
   pub free : h.free < 2 ^ 32
 
 -- ---- the pages of one version of the format
@@ -113,14 +118,14 @@ pub record AreInverse {A : Type 0} (Fits : A → Type 0) (size : ℕ) (spell : A
   pub spelled : (bytes : List ℕ) (a : A) → AreBytes bytes → read bytes ≡ Some a →
       Fits a × (spell a ≡ bytes)
 
-abbrev pub FitsHead : ℕ → Head → Type 0
-FitsHead pages h = IsHead h × (h.pages ≡ pages)
+abbrev pub FitsHead : Version → ℕ → Head → Type 0
+FitsHead v pages h = IsHead v h × (h.pages ≡ pages)
 
 -- reading and spelling pages of this form are inverse to each other
 pub record IsForm (form : Form) : Type 0 where
   pub some : 0 < form.size
   pub heads : (pages : ℕ) → 1 ≤ pages → pages ≤ page_limit →
-      AreInverse (FitsHead pages) form.size form.head_page
+      AreInverse (FitsHead form.version pages) form.size form.head_page
       (λ bytes. result_ok (form.head_in pages bytes))
-  pub nodes : AreInverse IsNode form.size form.node_page form.node_in
+  pub nodes : AreInverse (IsNode form.version) form.size form.node_page form.node_in
   pub frees : AreInverse (λ free. free < 2 ^ 32) form.size form.free_page form.free_in

@@ -1,5 +1,5 @@
 -- How the pages of a tree's nodes are put one behind the other.
-use Rattle.std.specs.Prelude.{◌≡◌, ◌≢◌, ⊤, ℕ, ◌+◌, ◌*◌, ◌≤◌, List, ◌++◌, length, replicate, Option, option_map}
+use Rattle.std.specs.Prelude.{◌≡◌, ◌≢◌, ⊤, ℕ, suc, ◌+◌, ◌*◌, ◌≤◌, List, ◌++◌, length, map, take, replicate, Option, option_map}
 use Rattle.std.specs.List.{flat_map}
 use Rattle.mr_tree.specs.Limits.{level_limit, leaf_limit, inner_limit}
 use Rattle.mr_tree.specs.Tree.{level}
@@ -11,9 +11,9 @@ use Rattle.mr_tree.specs.declared.tree.Tree.TheVariants as tree
 use Rattle.mr_tree.specs.declared.tree.Tree.TheOpen.{Tree-F, Empty, Leaf, Inner}
 use Rattle.mr_tree.specs.declared.tree.Tree.TheFolds.{every-Tree}
 use Rattle.mr_pages.specs.Page.{Form}
-use Rattle.mr_pages.specs.Stands.{pages_of, link_of}
+use Rattle.mr_pages.specs.Stands.{Row, pages_of, all_pages, link_of, links_of}
 use Rattle.mr_pages.specs.Walking.{child_link}
-use Rattle.mr_pages.specs.Saved.{numbered, numbered_whole, nodes_of, saved_nodes, saved_pages}
+use Rattle.mr_pages.specs.Saved.{number_row, numbered, numbered_whole, nodes_of, all_nodes, saved_nodes, saved_pages}
 
 -- as many entries as a page holds, and one at least
 abbrev pub HasEntries : Tree-F Tree → Type 0
@@ -36,6 +36,21 @@ pub record IsPut (form : Form) (hash : List ℕ → List ℕ) (t : Tree) (page :
       ≡ before ++ flat_map form.node_page (nodes_of (by form.version hash) (numbered t page))
   pub size : length after ≡ length before + length (pages_of (numbered t page)) * form.size
   pub link : child_link child ≡ link_of (by form.version hash) (numbered t page)
+
+-- the first children of a node, with their pages from n on
+abbrev pub some_row : (n : ℕ) → List Tree → ℕ → Row
+some_row n ts i = number_row n (map numbered (take i ts))
+
+-- the pages of the nodes below the first children were put behind the zeros for their node's page,
+-- which stands behind the others, and this is said of them
+pub record PutSoFar (form : Form) (hash : List ℕ → List ℕ) (ts : List Tree) (i page : ℕ)
+    (before now : List ℕ) (links : List Child) : Type 0 where
+  pub pages : now ≡ (before ++ replicate form.size 0) ++ flat_map form.node_page
+      (all_nodes (by form.version hash) (some_row (suc page) ts i))
+  pub links_are : map child_link links
+      ≡ links_of (by form.version hash) (some_row (suc page) ts i)
+  pub size : length now
+      ≡ length before + suc (length (all_pages (some_row (suc page) ts i))) * form.size
 
 -- the pages of a map's file while page 0 is zeros, and what is said of the root
 pub record IsImage (form : Form) (hash : List ℕ → List ℕ) (t : Tree) (pages : List ℕ)

@@ -1,7 +1,7 @@
 -- The names of the rules of a map file, as they are printed.
 use Rattle.std.specs.Prelude.{ℕ, List, codes}
 use Rattle.mr_pages.specs.declared.rule.MapRule.{MapRule}
-use Rattle.mr_pages.specs.declared.rule.MapRule.TheVariants.{Size, Unsealed, Header, Page, Outside, Twice, Digest, Rect, Fill, Number, Count, Free, Changed}
+use Rattle.mr_pages.specs.declared.rule.MapRule.TheVariants.{Size, Unsealed, Header, Page, Outside, Twice, Digest, Rect, Sum, Fill, Number, Count, Free, Changed}
 
 abbrev pub map_rule_name : MapRule → List ℕ
 map_rule_name Size = codes "Size"
@@ -12,6 +12,7 @@ map_rule_name Outside = codes "Outside"
 map_rule_name Twice = codes "Twice"
 map_rule_name (Digest held found) = codes "Digest"
 map_rule_name Rect = codes "Rect"
+map_rule_name Sum = codes "Sum"
 map_rule_name Fill = codes "Fill"
 map_rule_name Number = codes "Number"
 map_rule_name (Count held found) = codes "Count"

@@ -8,13 +8,13 @@ use Rattle.mr_tree.specs.declared.tree.Tree.TheOpen as node
 use Rattle.mr_tree.specs.declared.tree.Tree.TheViews.{out-Tree}
 use Rattle.mr_tree.specs.declared.tree.Tree.TheFolds.{fold-Tree}
 use Rattle.mr_outside.specs.Faults.{Rose}
-use Rattle.mr_outside.specs.Files.{Files, with_file, replaced}
+use Rattle.mr_outside.specs.Files.{Files, with_file}
 use Rattle.mr_outside.specs.State.{Shelved}
 use Rattle.mr_outside.specs.Writing.{IsChanged}
 use Rattle.mr_outside.specs.declared.shelf.ShelfErr.{ShelfErr}
 use Rattle.mr_outside.specs.declared.shelf.ShelfErr.TheVariants as shelf
 use Rattle.mr_pages.specs.declared.rule.MapRule.TheVariants as rule
-use Rattle.mr_pages.specs.File.{file_of}
+use Rattle.mr_pages.specs.File.{file_of, form_at}
 use Rattle.mr_pages.specs.Faults.{mapfault}
 use Rattle.mr_pages.specs.Page.{Node, Head, Form}
 use Rattle.mr_pages.specs.Stands.{Placed, Row, Leaf, Inner, no_more, first, pages_of, whole_pages, link_of, links_of}
@@ -82,23 +82,18 @@ saved form hash t batch =
 
 -- ---- what stands while it is not saved
 
--- a front of the pages while page 0 is zeros, or all of them with a front of page 0 in its place
-abbrev pub IsHalfWritten : (head pages bytes : List ℕ) → Type 0
-IsHalfWritten head pages bytes =
-    ((rest : List ℕ) × (pages ≡ bytes ++ rest))
-    ⊎ ((front : List ℕ) × (rest : List ℕ) × (head ≡ front ++ rest)
-    × (bytes ≡ replaced 0 front pages))
-
--- such bytes are no map, since they are no whole pages or have no seal
-abbrev pub IsUnsealed : Form → (List ℕ → List ℕ) → (bytes : List ℕ) → Type 0
-IsUnsealed form hash bytes =
-    (mapfault hash (file_of form bytes) ≡ Some (record { page = 0; rule = rule.Size }))
-    ⊎ (mapfault hash (file_of form bytes) ≡ Some (record { page = 0; rule = rule.Unsealed }))
+-- bytes that are no map, whichever version they say: they are no whole pages or have no seal
+abbrev pub IsUnsealed : (List ℕ → List ℕ) → (bytes : List ℕ) → Type 0
+IsUnsealed hash bytes =
+    (mapfault hash (file_of (form_at bytes) bytes)
+    ≡ Some (record { page = 0; rule = rule.Size }))
+    ⊎ (mapfault hash (file_of (form_at bytes) bytes)
+    ≡ Some (record { page = 0; rule = rule.Unsealed }))
 
 -- what a save that is refused may leave: no map yet, or all
 abbrev pub MayStand : Form → (List ℕ → List ℕ) → Tree → (batch : ℕ) → (bytes : List ℕ) → Type 0
 MayStand form hash t batch bytes =
-    IsUnsealed form hash bytes ⊎ (bytes ≡ saved form hash t batch)
+    IsUnsealed hash bytes ⊎ (bytes ≡ saved form hash t batch)
 
 -- the files are as before, or the named one has such bytes and each other is as before
 abbrev pub Leaves : (List ℕ → Type 0) → (name : List ℕ) → (before after : Option Files) → Type 0

@@ -1,6 +1,6 @@
 -- What is known of the pages of a file while they are read one by one, and what a walk over them
 -- leaves.
-use Rattle.std.specs.Prelude.{◌≡◌, ⊤, ◌⊎◌, ℕ, ◌+◌, ◌*◌, ◌/◌, ◌<◌, ◌≤◌, true, not, Bool, List, [], length, All, count_by, slice_index_or, drop, ◌∷◌, ◌++◌, nat_le, ◌||◌, is_none, false, Option, Some, None, option_map, IfSome, IsSome, MatchOption, IfOk, OnOk, Result, Ok, Err, IsErrOf}
+use Rattle.std.specs.Prelude.{◌≡◌, ⊤, ◌⊎◌, ℕ, ◌+◌, ◌*◌, ◌/◌, ◌<◌, ◌≤◌, take, true, not, Bool, List, [], length, All, count_by, slice_index_or, drop, ◌∷◌, ◌++◌, nat_le, ◌||◌, is_none, false, Option, Some, None, option_map, IfSome, IsSome, MatchOption, IfOk, OnOk, Result, Ok, Err, IsErrOf}
 use Rattle.mr_outside.specs.Faults.{Rose}
 use Rattle.mr_outside.specs.Files.{Files, file}
 use Rattle.mr_outside.specs.State.{Shelved}
@@ -18,8 +18,8 @@ use Rattle.mr_pages.specs.declared.rule.MapRule.{MapRule}
 use Rattle.mr_pages.specs.declared.rule.MapRule.TheVariants as rule
 use Rattle.mr_pages.specs.declared.seen.Seen.{Seen}
 use Rattle.mr_pages.specs.Page.{Link, Node, Form, IsHead}
-use Rattle.mr_pages.specs.File.{File, page_at, pages_of, file_of, is_odd_size}
-use Rattle.mr_pages.specs.PageBytes.{page_size, first_form}
+use Rattle.mr_pages.specs.File.{File, page_at, pages_of, file_of, is_odd_size, version_of}
+use Rattle.mr_record.specs.declared.version.Version.{Version}
 use Rattle.mr_pages.specs.Stands.{tree_of, whole_tree}
 use Rattle.mr_pages.specs.Spelled.{place, placed_at}
 use Rattle.mr_pages.specs.Faults.{has, Visit, visits, reached, all_records, numbers_of, node_faults, found, walk_faults, walk, chain, chain_faults, mapfault, first_of}
@@ -74,10 +74,14 @@ pub record IsPaged (form : Form) (pages : ℕ) (told : Option Files) (name : Lis
   pub file_ : IfSome (told_bytes told name) (HasPages form pages)
 
 -- these are the bytes of a page of a file of these bytes, if it is one of so many whole pages
-abbrev pub TellsPage : (page : ℕ) → (p bytes : List ℕ) → Type 0
-TellsPage page p bytes =
-    (pages : ℕ) → length bytes ≡ pages * page_size → page < pages →
-    p ≡ page_at first_form bytes page
+abbrev pub TellsPage : Form → (page : ℕ) → (p bytes : List ℕ) → Type 0
+TellsPage form page p bytes =
+    (pages : ℕ) → length bytes ≡ pages * form.size → page < pages → p ≡ page_at form bytes page
+
+-- these bytes stand in front of a file, as far as it goes
+pub record IsFront (bytes room : List ℕ) : Type 0 where
+  pub version : version_of room ≡ version_of bytes
+  pub starts : (n : ℕ) → n ≤ length room → n ≤ length bytes → take n room ≡ take n bytes
 
 -- ---- what pages are read as, told or not
 
@@ -85,6 +89,11 @@ TellsPage page p bytes =
 pub record IsPage (form : Form) (bytes : List ℕ) : Type 0 where
   pub size : length bytes ≡ form.size
   pub are : AreBytes bytes
+
+-- page 0, as it was read before
+pub record HasFirst (form : Form) (told : Option Files) (name first : List ℕ) : Type 0 where
+  pub is : IsPage form first
+  pub tells : IfSome (told_bytes told name) (TellsPage form 0 first)
 
 -- the file has on this page what these bytes spell
 pub record HasPage (form : Form) (file : File) (page : ℕ) (bytes : List ℕ) : Type 0 where
@@ -120,19 +129,20 @@ pub record ReadsPage {A : Type 0} (before after : Sourced) (result : Result A Sh
     pub one : after.reads ≤ before.reads + 1
 
 -- what page 0 says of a map, told or not
-pub record SaysHead (pages : ℕ) (h : MapHead) : Type 0 where
+pub record SaysHead (v : Version) (pages : ℕ) (h : MapHead) : Type 0 where
   pub count : h.pages ≡ pages
-  pub fits : IsHead (head_of h)
+  pub fits : IsHead v (head_of h)
 
 -- each page that was kept is kept
 abbrev pub Stay : (ℕ → Type 0) → (ℕ → Type 0) → Type 0
 Stay before after = (page : ℕ) → before page → after page
 
 -- a node as it was judged: with the level and the digest of the child
-pub record Knows (hash : List ℕ → List ℕ) (c : Child) (n : owned_type.Node) : Type 0 where
+pub record Knows (s : Scheme) (c : Child) (n : owned_type.Node) : Type 0 where
   pub shape : HasShape (owned n)
+  pub told : view.AreTold s.version (owned n)
   pub level : view.level_of (owned n) ≡ c.level
-  pub digest : hash (view.preimage_of (owned n)) ≡ c.digest
+  pub digest : s.of (view.preimage_of s.version (owned n)) ≡ c.digest
 
 -- the tree with this node on top, over those of its children
 abbrev pub tree_over : owned_type.Node → List Tree → Tree
@@ -148,7 +158,7 @@ AreMade makes _ _ = ⊥
 -- a node that may be kept: its children are in the file, and it is the one on its page
 pub record MayKeep (hash : List ℕ →
     List ℕ) (s : Sourced) (c : Child) (n : owned_type.Node) : Type 0 where
-  pub known : Knows hash c n
+  pub known : Knows (by s.origin.form.version hash) c n
   pub low : 1 ≤ c.id
   pub place : c.id < s.pages
   pub inside : All (λ (d : Child). (1 ≤ d.id) × (d.id < s.pages)) (view.children_in (owned n))
@@ -324,21 +334,24 @@ abbrev pub MakesTree : {M : Type 0} → (M → Tree → Type 0) → Option Link 
 MakesTree makes root m f = makes m (whole_tree (placed_at f.node root))
 
 -- what the walk from a root comes to, and what was made of the nodes
-pub record WalkedAll {M : Type 0} (hash : List ℕ → List ℕ) (makes : M → Tree → Type 0) (pages : ℕ)
+pub record WalkedAll {M : Type 0} (s : Scheme) (makes : M → Tree → Type 0) (pages : ℕ)
     (root : Option Link) (result : Result M MapErr) (new : Seen) (f : File) : Type 0 where
-  pub visits_ : Visits (by f.version hash) pages f.node root result new
+  pub visits_ : Visits s pages f.node root result new
   pub made : IfOk result (λ m. MakesTree makes root m f)
 
 -- what comes of all that is behind page 0, which says this, and what was made of the nodes
-pub record CheckedBehind {M : Type 0} (hash : List ℕ → List ℕ) (makes : M → Tree → Type 0)
-    (pages : ℕ) (h : MapHead) (result : Result M MapErr) (f : File) : Type 0 where
-  pub checks : f.pages ≡ pages → f.head ≡ Ok (head_of h) → ChecksBehind hash f result
+pub record CheckedBehind {M : Type 0} (v : Version) (hash : List ℕ → List ℕ)
+    (makes : M → Tree → Type 0) (pages : ℕ) (h : MapHead) (result : Result M MapErr) (f : File)
+    : Type 0 where
+  pub checks : f.version ≡ v → f.pages ≡ pages → f.head ≡ Ok (head_of h) →
+      ChecksBehind hash f result
   pub made : IfOk result (λ m. MakesTree makes (option_map child_link h.root) m f)
 
 -- what checking a file comes to, and what was made of the nodes
-pub record CheckedWhole {M : Type 0} (hash : List ℕ → List ℕ) (makes : M → Tree → Type 0)
-    (pages : ℕ) (result : Result (Checked M) MapErr) (f : File) : Type 0 where
-  pub checks : f.pages ≡ pages → Checks hash f result
+pub record CheckedWhole {M : Type 0} (v : Version) (hash : List ℕ → List ℕ)
+    (makes : M → Tree → Type 0) (pages : ℕ) (result : Result (Checked M) MapErr) (f : File)
+    : Type 0 where
+  pub checks : f.version ≡ v → f.pages ≡ pages → Checks hash f result
   pub made : IfOk result
       (λ c. MakesTree makes (option_map child_link c.head.root) c.made f)
 

@@ -96,6 +96,7 @@ Loses pages ps r = first_of (lost_faults pages ps) ≡ r
 abbrev pub Opens : (List ℕ → List ℕ) → File → Result Opened MapErr → Type 0
 Opens hash file (Ok map) =
     (mapfault hash file ≡ None)
+    × (map.version ≡ file.version)
     × (h : Head) × (file.head ≡ Ok h)
     × (map.tree ≡ whole_tree (placed_at file.node h.root))
     × (map.batch ≡ h.batch)

@@ -2,6 +2,7 @@
 //! pages.
 
 ghost use Rattle.std.specs.Prelude.{◌≡◌, ◌≤◌, ◌-◌, length, [], Some, IfOk, IfErr, IfSome, OnOk, option_map};
+ghost use Rattle.mr_tree.specs.Digest.{by};
 ghost use Rattle.mr_pages.specs.File.{File};
 ghost use Rattle.mr_pages.specs.Stands.{whole_tree};
 ghost use Rattle.mr_pages.specs.Spelled.{placed_at};
@@ -33,7 +34,8 @@ fn visit_all<P: Source>(
 ) -> Result<P::Made, MapErr>
     requires none { Saw (P.state pages.old).pages seen.old [] [] }
     ensures told { Settles result (Gives (P.state pages.old) seen.old seen.new
-        (WalkedAll P.Hash.of P.makes (P.state pages.old).pages (option_map child_link root.now)
+        (WalkedAll (by (P.state pages.old).origin.form.version P.Hash.of) P.makes
+        (P.state pages.old).pages (option_map child_link root.now)
         result seen.new)) }
     ensures once { IfErr result SaysOnce }
     ensures kept { (file : File) → (P.state pages.old).file ≡ Some file → OnOk result
@@ -52,7 +54,8 @@ fn visit_all<P: Source>(
 // What is behind page 0.
 fn check_behind<P: Source>(alloc: Global, pages: &mut P, head: &MapHead) -> Result<P::Made, MapErr>
     ensures told { Settles result (GivesAll (P.state pages.old)
-        (CheckedBehind P.Hash.of P.makes (P.state pages.old).pages head.now result)) }
+        (CheckedBehind (P.state pages.old).origin.form.version P.Hash.of P.makes
+        (P.state pages.old).pages head.now result)) }
     ensures once { IfErr result SaysOnce }
     ensures kept { (file : File) → (P.state pages.old).file ≡ Some file → OnOk result
         (AllKept file (option_map child_link head.now.root) (P.keeps pages.new)) }
@@ -85,19 +88,23 @@ fn check_behind<P: Source>(alloc: Global, pages: &mut P, head: &MapHead) -> Resu
 pub fn check<P: Source>(alloc: Global, pages: &mut P) -> Result<Checked<P::Made>, MapErr>
     requires { 1 ≤ (P.state pages.old).pages }
     ensures told { (file : File) → (P.state pages.old).file ≡ Some file →
+        file.version ≡ (P.state pages.old).origin.form.version →
         file.pages ≡ (P.state pages.old).pages → Checks P.Hash.of file result }
     ensures made { (file : File) → (P.state pages.old).file ≡ Some file → IfOk result (λ c.
         P.makes c.made (whole_tree (placed_at file.node (option_map child_link c.head.root)))) }
     ensures some { Settles result (GivesFile (P.state pages.old)
-        (CheckedWhole P.Hash.of P.makes (P.state pages.old).pages result)) }
+        (CheckedWhole (P.state pages.old).origin.form.version P.Hash.of P.makes
+        (P.state pages.old).pages result)) }
     ensures once { IfErr result SaysOnce }
     ensures kept { (file : File) → (P.state pages.old).file ≡ Some file → IfOk result (λ c.
         AllKept file (option_map child_link c.head.root) (P.keeps pages.new)) }
-    ensures says { IfOk result (λ c. SaysHead (P.state pages.old).pages c.head) }
+    ensures says { IfOk result (λ c. SaysHead (P.state pages.old).origin.form.version
+        (P.state pages.old).pages c.head) }
     ensures inside { IfOk result (λ c. IfSome c.head.root (IsRootIn (P.state pages.old).pages)) }
-    ensures goes { Goes (P.state pages.old) (P.state pages.new) (P.state pages.old).pages 0 result }
+    ensures goes { Goes (P.state pages.old) (P.state pages.new) ((P.state pages.old).pages - 1) 0
+        result }
 {
-    match pages.head()? {
+    match pages.head() {
         Err(rule) => Err(MapErr::Map(MapFault { page: 0, rule })),
         Ok(head) => {
             let made = check_behind::<P>(alloc, pages, &head)?;

@@ -3,16 +3,16 @@
 ghost use Rattle.std.specs.Prelude.{◌≡◌, ◌/◌, ◌≤◌, ⊤, true, false, List, IfOk, OnOk, MatchOption};
 ghost use Rattle.std.proofs.Props.{props};
 ghost use Rattle.mr_tree.specs.declared.tree.Tree as trees;
-ghost use Rattle.mr_pages.specs.PageBytes.{first_form, IsLayout};
+ghost use Rattle.mr_pages.specs.PageBytes.{form_of, IsLayout};
 ghost use Rattle.mr_pages.specs.File.{is_odd_size};
 ghost use Rattle.mr_pages.specs.Page.{page_limit};
-ghost use Rattle.mr_pages.specs.Source.{AreMade, IsPaged, Stay, on_shelf, tree_over};
+ghost use Rattle.mr_pages.specs.Source.{AreMade, HasFirst, IsPaged, Stay, on_shelf, tree_over};
 
 use crate::head::MapHead;
-use crate::layout::{Layout, PAGE_LIMIT, PAGE_SIZE};
+use crate::layout::{Layout, PAGE_LIMIT, SECOND_SIZE};
 use crate::node::Node;
-use crate::page::{read_free_page, read_head, read_page};
-use crate::reading::{page_bytes, page_into};
+use crate::page::{free_on, head_on, node_on};
+use crate::reading::page_into;
 use crate::rule::MapRule;
 use crate::source::Source;
 use mr_outside::{Items, Shelf, ShelfErr};
@@ -33,25 +33,30 @@ pub fn page_count(layout: Layout, size: u64) -> Option<u32>
     Some((size / page_size) as u32)
 }
 
-/// So many pages of a file on a shelf, each read by itself.
+/// So many pages of a file on a shelf, each read by itself, but for page 0, which was read before.
 #[derive(Drop)]
-pub struct FilePages<'a, 'b, S: Shelf, H: Hashes> {
+pub struct FilePages<'a, 'b, 'c, S: Shelf, H: Hashes> {
     pub shelf: &'a mut S,
     pub name: &'b str,
+    pub first: &'c [u8],
+    pub layout: Layout,
     pub pages: u32,
     pub hash: PhantomData<H>,
     ghost few: { pages ≤ page_limit },
-    ghost paged: { IsPaged first_form pages (S.state shelf.now).files
+    ghost fits: { IsLayout layout },
+    ghost paged: { IsPaged (form_of layout) pages (S.state shelf.now).files
         name.now } by { Prim.hlevel props },
+    ghost headed: { HasFirst (form_of layout) (S.state shelf.now).files name.now
+        first.now } by { Prim.hlevel props },
 }
 
-impl<S: Shelf, H: Hashes> Source for FilePages<'_, '_, S, H> {
+impl<S: Shelf, H: Hashes> Source for FilePages<'_, '_, '_, S, H> {
     type Hash = H;
 
     type Made = Tree;
 
-    ghost state = { λ s. on_shelf first_form s.shelf.ghost_name s.pages (S.state s.shelf.now)
-        s.name.now };
+    ghost state = { λ s. on_shelf (form_of s.layout) s.shelf.ghost_name s.pages
+        (S.state s.shelf.now) s.name.now };
 
     ghost keeps = { λ s page. ⊤ };
 
@@ -61,25 +66,30 @@ impl<S: Shelf, H: Hashes> Source for FilePages<'_, '_, S, H> {
         self.pages
     }
 
-    fn head(&mut self) -> Result<Result<MapHead, MapRule>, ShelfErr> {
-        let page = page_bytes(self.shelf, self.name, 0)?;
-        Ok(read_head(&page, self.pages))
+    fn layout(&self) -> Layout {
+        self.layout
+    }
+
+    fn head(&self) -> Result<MapHead, MapRule> {
+        head_on(self.layout, self.first, self.pages)
     }
 
     fn node(
         &mut self,
         page: u32,
         level: u8,
-        bytes: &mut [u8; PAGE_SIZE],
+        bytes: &mut [u8],
         into: &mut NodeView,
     ) -> Result<bool, ShelfErr> {
-        page_into(self.shelf, self.name, page, bytes)?;
-        Ok(read_page(bytes, level, into))
+        page_into(self.shelf, self.name, self.layout, page, bytes)?;
+        Ok(node_on(self.layout, bytes, level, into))
     }
 
     fn free(&mut self, page: u32) -> Result<Option<u32>, ShelfErr> {
-        let bytes = page_bytes(self.shelf, self.name, page)?;
-        Ok(read_free_page(&bytes))
+        let mut room = [0; SECOND_SIZE];
+        let (bytes, _) = room.split_at_mut(self.layout.size);
+        page_into(self.shelf, self.name, self.layout, page, bytes)?;
+        Ok(free_on(self.layout, bytes))
     }
 
     fn none(&self) -> Tree {
@@ -87,9 +97,9 @@ impl<S: Shelf, H: Hashes> Source for FilePages<'_, '_, S, H> {
     }
 
     fn make(&mut self, _child: &Child, node: Node, below: Vec<Tree>) -> Result<Tree, AllocError>
-        ensures same { on_shelf first_form self.new.shelf.ghost_name self.new.pages
+        ensures same { on_shelf (form_of self.new.layout) self.new.shelf.ghost_name self.new.pages
             (S.state self.new.shelf.now) self.new.name.now
-            ≡ on_shelf first_form self.old.shelf.ghost_name self.old.pages
+            ≡ on_shelf (form_of self.old.layout) self.old.shelf.ghost_name self.old.pages
             (S.state self.old.shelf.now) self.old.name.now }
         ensures made { IfOk result (λ made. (ts : List trees.Tree) →
             AreMade (λ one t. one ≡ t) below.items ts → made ≡ tree_over node ts) }

@@ -1,43 +1,57 @@
 //! The judge of one node.
 
-ghost use Rattle.std.specs.Prelude.{◌≡◌, Some, IfSome};
-ghost use Rattle.mr_record.specs.declared.version.Version.TheVariants.{One};
+ghost use Rattle.std.specs.Prelude.{◌≡◌, Some, IfSome, All};
+ghost use Rattle.mr_tree.specs.View.{HasCount, children_in};
 ghost use Rattle.mr_tree.specs.Digest.{by};
 ghost use Rattle.mr_pages.specs.Page.{entry_of};
-ghost use Rattle.mr_pages.specs.PageBytes.{first_form};
-ghost use Rattle.mr_pages.specs.Faults.{same_rect, least as fewest};
+ghost use Rattle.mr_pages.specs.PageBytes.{form_of};
+ghost use Rattle.mr_pages.specs.Faults.{same_rect, same_sums, least as fewest};
 ghost use Rattle.mr_pages.specs.Walking.{child_link, page_node};
 ghost use Rattle.mr_pages.specs.Judging.{Fills, Judges};
 ghost use Rattle.mr_pages.specs.Source.{IsOfOneRead};
 
 use crate::MapRule;
-use crate::layout::PAGE_SIZE;
+use crate::layout::Layout;
 use crate::page::digest_on;
 use mr_geom::Rect;
-use mr_tree::{Child, Entry, Hashes, INNER_FILL, LEAF_FILL, NodeView, ROOT_FILL};
+use mr_record::Version;
+use mr_tree::{
+    Child, Entry, Hashes, INNER_FILL, LEAF_FILL, NodeView, ROOT_FILL, as_told, layers_of,
+};
 
 /// What is to be said of the node that a view shows.
-pub fn entry_on<H: Hashes>(view: &NodeView) -> Entry
-    ensures { result ≡ entry_of (by One H.of) (page_node view.now) }
+pub fn entry_on<H: Hashes>(version: Version, view: &NodeView) -> Entry
+    requires { All HasCount (children_in view.now) }
+    ensures { result ≡ entry_of (by version H.of) (page_node view.now) }
 {
-    view.entry::<H>()
+    view.entry::<H>(version)
 }
 
-// The same of a node that stands on a page.
-fn entry_from<H: Hashes>(page: &[u8; PAGE_SIZE], view: &NodeView) -> Entry
-    requires { page.now ≡ first_form.node_page (page_node view.now) }
-    ensures { result ≡ entry_of (by One H.of) (page_node view.now) }
+// The same of a node that stands on a page of this layout.
+fn entry_from<H: Hashes>(layout: Layout, page: &[u8], view: &NodeView) -> Entry
+    requires page { page.now ≡ (form_of layout).node_page (page_node view.now) }
+    requires counts { All HasCount (children_in view.now) }
+    ensures { result ≡ entry_of (by layout.version H.of) (page_node view.now) }
 {
     if view.level() == 0 {
-        let _records = view.records();
+        let records = view.records();
         Entry {
             level: 0,
             rect: view.rect(),
-            digest: digest_on::<H>(page, view),
+            mask: layers_of(layout.version, records),
+            count: as_told(layout.version, records.len() as u64),
+            digest: digest_on::<H>(layout, page, view),
         }
     } else {
-        entry_on::<H>(view)
+        entry_on::<H>(layout.version, view)
     }
+}
+
+/// Whether the mask is the one that is said and, of a node that is not the root, the count.
+pub fn has_sums(found: &Entry, said: &Child, root: bool) -> bool
+    ensures { result ≡ same_sums root found.now (child_link said.now).entry }
+{
+    found.mask == said.mask && (root || found.count == said.count)
 }
 
 /// Whether a rectangle is the one that is said.
@@ -74,16 +88,19 @@ pub fn is_full(view: &NodeView, root: bool) -> bool
 
 /// The first rule that the node on a page breaks against what is said of it.
 pub fn judge<H: Hashes>(
-    page: &[u8; PAGE_SIZE],
+    layout: Layout,
+    page: &[u8],
     view: &NodeView,
     child: &Child,
     root: bool,
 ) -> Option<MapRule>
-    requires { page.now ≡ first_form.node_page (page_node view.now) }
-    ensures told { Judges (by One H.of) root (child_link child.now) (page_node view.now) result }
+    requires page { page.now ≡ (form_of layout).node_page (page_node view.now) }
+    requires counts { All HasCount (children_in view.now) }
+    ensures told { Judges (by layout.version H.of) root (child_link child.now)
+        (page_node view.now) result }
     ensures once { IfSome result IsOfOneRead }
 {
-    let found = entry_from::<H>(page, view);
+    let found = entry_from::<H>(layout, page, view);
     if found.digest.as_slice() != child.digest.as_slice() {
         return Some(MapRule::Digest {
             held: child.digest,
@@ -92,6 +109,9 @@ pub fn judge<H: Hashes>(
     }
     if !is_said(found.rect, child.rect) {
         return Some(MapRule::Rect);
+    }
+    if !has_sums(&found, child, root) {
+        return Some(MapRule::Sum);
     }
     if !is_full(view, root) {
         return Some(MapRule::Fill);

@@ -8,6 +8,7 @@ mod file_pages;
 mod head;
 mod judging;
 mod layout;
+mod making;
 mod node;
 mod numbers;
 mod opening;
@@ -25,18 +26,19 @@ pub use checking::{Checked, check};
 pub use error::MapErr;
 pub use file_pages::page_count;
 pub use head::MapHead;
-pub use judging::{is_full, is_said};
-pub use layout::{FIRST, Layout, PAGE_LIMIT, PAGE_SIZE};
+pub use judging::{has_sums, is_full, is_said};
+pub use layout::{FIRST, Layout, PAGE_LIMIT, PAGE_SIZE, SECOND, SECOND_SIZE};
 pub use node::Node;
 pub use numbers::Numbers;
 pub use opening::{Opened, open_plain};
 pub use page::{
-    digest_on, level_of_root, read_free_page, read_head, read_page, write_free_page,
-    write_head_page, write_page,
+    digest_on, free_on, head_on, level_of_root, node_on, put_free, put_head, put_node,
+    read_free_page, read_head, read_head2, read_page, read_page2, write_free_page, write_head_page,
+    write_head2_page, write_page, write_page2,
 };
 pub use putting::child_on;
-pub use reading::{page_bytes, page_into, read_filled};
+pub use reading::{page_into, read_filled, read_front};
 pub use rule::{MapFault, MapRule};
-pub use saving::save_plain;
+pub use saving::{save_plain, save2_plain};
 pub use seen::Seen;
 pub use source::Source;

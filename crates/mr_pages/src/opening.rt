@@ -1,24 +1,28 @@
 //! Opening a map.
 
-ghost use Rattle.std.specs.Prelude.{◌≡◌, ◌≤◌, ◌+◌, ⊤, ℕ, List, Some, Err, IfOk};
+ghost use Rattle.std.specs.Prelude.{◌≡◌, ◌≤◌, ◌+◌, ◌/◌, ⊤, ℕ, List, length, max, Some, Err, IfOk};
 ghost use Rattle.mr_outside.specs.Told.{OfFile};
 ghost use Rattle.mr_record.specs.Bytes.{AreBytes};
-ghost use Rattle.mr_pages.specs.PageBytes.{first_form};
-ghost use Rattle.mr_tree.specs.WellFormed.{WellFormed};
+ghost use Rattle.mr_record.specs.declared.version.Version as versions;
+ghost use Rattle.mr_pages.specs.PageBytes.{form_of, form_by, IsLayout};
+ghost use Rattle.mr_tree.specs.WellFormed.{WellFormed, HasLayers};
+ghost use Rattle.mr_tree.specs.declared.tree.Tree as trees;
 ghost use Rattle.mr_pages.specs.declared.rule.MapFault.{MapFault};
 ghost use Rattle.mr_pages.specs.Page.{page_limit};
-ghost use Rattle.mr_pages.specs.File.{file_of};
+ghost use Rattle.mr_pages.specs.File.{file_of, form_at, version_of};
 ghost use Rattle.mr_pages.specs.Stands.{Stands};
 ghost use Rattle.mr_pages.specs.Faults.{mapfault};
 ghost use Rattle.mr_pages.specs.Law.{IsOnlyMap, Agrees};
-ghost use Rattle.mr_pages.specs.Opening.{opened, pages_in, Fails, Answers, SomeBytes, Tells, MapCauses};
-ghost use Rattle.mr_pages.specs.Source.{IsPaged};
+ghost use Rattle.mr_pages.specs.Opening.{pages_in, Fails, Answers, SomeBytes, SomeFile, Tells, MapCauses};
+ghost use Rattle.mr_pages.specs.Source.{HasFirst, IsFront, IsPaged};
 
 use crate::checking::{Checked, check};
 use crate::file_pages::{FilePages, page_count};
-use crate::layout::FIRST;
+use crate::layout::{Layout, PAGE_SIZE, SECOND_SIZE};
+use crate::reading::read_front;
 use crate::{MapErr, MapFault, MapRule};
 use mr_outside::Shelf;
+use mr_record::Version;
 use mr_tree::{Hash32, Hashes, Tree};
 use std::alloc::Global;
 use std::marker::PhantomData;
@@ -27,6 +31,7 @@ use std::marker::PhantomData;
 #[derive(Drop)]
 pub struct Opened {
     pub tree: Tree,
+    pub version: Version,
     pub batch: u64,
 }
 
@@ -36,36 +41,76 @@ const SIZE_FAULT: MapErr = MapErr::Map(MapFault {
     rule: MapRule::Size,
 });
 
-// The map that so many pages of a file stand for, or their first fault.
-fn open_pages<'a, 'b, H: Hashes, S: Shelf>(
+// The map that so many pages of a file stand for, or their first fault. Page 0 was read before.
+fn open_pages<'a, 'b, 'c, H: Hashes, S: Shelf>(
     alloc: Global,
+    layout: Layout,
     shelf: &'a mut S,
     name: &'b str,
+    first: &'c [u8],
     pages: u32,
 ) -> Result<Opened, MapErr>
-    requires paged { IsPaged first_form pages (S.state shelf.old).files name.now }
+    requires layout { IsLayout layout }
+    requires paged { IsPaged (form_of layout) pages (S.state shelf.old).files name.now }
+    requires first { HasFirst (form_of layout) (S.state shelf.old).files name.now first.now }
     requires some { 1 ≤ pages }
     requires few { pages ≤ page_limit }
     ensures told { OfFile (S.state shelf.old).files name.now ⊥
-        (λ bytes. Answers first_form H.of bytes result) }
-    ensures some { SomeBytes first_form H.of result }
+        (λ bytes. Answers (form_of layout) H.of bytes result) }
+    ensures some { SomeBytes (form_of layout) H.of result }
     ensures causes { MapCauses name.now (S.state shelf.old) (S.state shelf.new) result }
     ensures files { (S.state shelf.new).files ≡ (S.state shelf.old).files }
     ensures reads { (S.state shelf.old).reads ≤ (S.state shelf.new).reads }
-    ensures once { (S.state shelf.new).reads ≤ (S.state shelf.old).reads + pages }
+    ensures once { (S.state shelf.new).reads + 1 ≤ (S.state shelf.old).reads + pages }
 {
-    let mut source = FilePages::<'a, 'b, S, H> {
+    let mut source = FilePages::<'a, 'b, 'c, S, H> {
         shelf,
         name,
+        first,
+        layout,
         pages,
         hash: PhantomData,
     };
-    let checked = check::<FilePages<'a, 'b, S, H>>(alloc, &mut source)?;
+    let checked = check::<FilePages<'a, 'b, 'c, S, H>>(alloc, &mut source)?;
     let Checked { head, made } = checked;
     Ok(Opened {
         tree: made,
+        version: layout.version,
         batch: head.batch,
     })
+}
+
+// The map in a file of this size, whose front was read into the room.
+fn open_front<H: Hashes, S: Shelf>(
+    alloc: Global,
+    version: Version,
+    shelf: &mut S,
+    name: &str,
+    room: &[u8; SECOND_SIZE],
+    size: u64,
+) -> Result<Opened, MapErr>
+    requires size { OfFile (S.state shelf.old).files name.now ⊥ (λ file. length file ≡ size) }
+    requires told { OfFile (S.state shelf.old).files name.now ⊥ (λ file. IsFront file room.now) }
+    requires are { OfFile (S.state shelf.old).files name.now ⊥ AreBytes }
+    ensures told { OfFile (S.state shelf.old).files name.now (Fails result)
+        (λ bytes. Tells (form_by version) H.of bytes result) }
+    ensures some { SomeBytes (form_by version) H.of result }
+    ensures causes { MapCauses name.now (S.state shelf.old) (S.state shelf.new) result }
+    ensures files { (S.state shelf.new).files ≡ (S.state shelf.old).files }
+    ensures reads { (S.state shelf.old).reads ≤ (S.state shelf.new).reads }
+    ensures once { OfFile (S.state shelf.old).files name.now
+        ((S.state shelf.new).reads ≤ (S.state shelf.old).reads)
+        (λ bytes. (S.state shelf.new).reads + 1
+        ≤ (S.state shelf.old).reads + max 1 (length bytes / (form_by version).size)) }
+{
+    let layout = Layout::by(version);
+    match page_count(layout, size) {
+        None => Err(SIZE_FAULT),
+        Some(pages) => {
+            let (first, _) = room.split_at(layout.size);
+            open_pages::<H, S>(alloc, layout, shelf, name, first, pages)
+        }
+    }
 }
 
 // What `open_plain` does.
@@ -75,10 +120,12 @@ fn open_named<H: Hashes, S: Shelf>(
     name: &str,
 ) -> Result<Opened, MapErr>
     ensures told { OfFile (S.state shelf.old).files name.now (Fails result)
-        (λ bytes. Tells first_form H.of bytes result) }
-    ensures some { SomeBytes first_form H.of result }
-    ensures law { (bytes : List ℕ) → AreBytes bytes → Agrees first_form H.of bytes }
-    ensures agrees { OfFile (S.state shelf.old).files name.now ⊤ (Agrees first_form H.of) }
+        (λ bytes. Tells (form_at bytes) H.of bytes result) }
+    ensures some { SomeFile H.of result }
+    ensures law { (v : versions.Version) (bytes : List ℕ) → AreBytes bytes →
+        Agrees (form_by v) H.of bytes }
+    ensures agrees { OfFile (S.state shelf.old).files name.now ⊤
+        (λ bytes. Agrees (form_at bytes) H.of bytes) }
     ensures causes { MapCauses name.now (S.state shelf.old) (S.state shelf.new) result }
     ensures files { (S.state shelf.new).files ≡ (S.state shelf.old).files }
     ensures reads { (S.state shelf.old).reads ≤ (S.state shelf.new).reads }
@@ -88,41 +135,52 @@ fn open_named<H: Hashes, S: Shelf>(
         (λ bytes. after ≤ before + pages_in bytes) }
 {
     let size = shelf.size(name)?;
-    match page_count(FIRST, size) {
-        None => Err(SIZE_FAULT),
-        Some(pages) => open_pages::<H, S>(alloc, shelf, name, pages),
+    if size < PAGE_SIZE as u64 {
+        return Err(SIZE_FAULT);
     }
+    let mut room = [0; SECOND_SIZE];
+    let version = read_front(shelf, name, size, &mut room)?;
+    open_front::<H, S>(alloc, version, shelf, name, &room, size)
 }
 
-/// The tree and the batch of the map in a file.
+/// The tree, the version and the batch of the map in a file.
 ///
-/// Each page is read at most once, and nothing of it is kept but its node. The file's length is
-/// what `size` gives, and what a read gives short counts as zeros.
+/// Page 0 is read once, with as much behind it as a page of version 2 takes, and each other page at
+/// most once more; nothing is kept of a page but its node. The file's length is what `size` gives,
+/// and what a read gives short counts as zeros. A file is read in version 2
+/// where its byte 4 is 2, else in version 1; one that is smaller than any page is not read at all.
 pub fn open_plain<H: Hash32, S: Shelf>(
     alloc: Global,
     shelf: &mut S,
     name: &str,
-) -> Result<(Tree, u64), MapErr>
+) -> Result<Opened, MapErr>
     // What is answered: the one map that the file stands for, or the first rule that it breaks.
-    ensures stands { IfOk (opened result) (λ map. OfFile (S.state shelf.old).files name.now ⊥
-        (λ bytes. Stands first_form H.of bytes map.tree map.batch)) }
-    ensures only { IfOk (opened result) (λ map. OfFile (S.state shelf.old).files name.now ⊥
-        (λ bytes. IsOnlyMap first_form H.of bytes map.tree map.batch)) }
+    ensures stands { IfOk result (λ map. OfFile (S.state shelf.old).files name.now ⊥
+        (λ bytes. (map.version ≡ version_of bytes)
+        × Stands (form_at bytes) H.of bytes map.tree map.batch)) }
+    ensures only { IfOk result (λ map. OfFile (S.state shelf.old).files name.now ⊥
+        (λ bytes. IsOnlyMap (form_at bytes) H.of bytes map.tree map.batch)) }
     ensures fault { (f : MapFault) → result ≡ Err (MapErr.Map f) →
         OfFile (S.state shelf.old).files name.now ⊥
-        (λ bytes. mapfault H.of (file_of first_form bytes) ≡ Some f) }
-    ensures exact { OfFile (S.state shelf.old).files name.now (Fails (opened result))
-        (λ bytes. Tells first_form H.of bytes (opened result)) }
+        (λ bytes. mapfault H.of (file_of (form_at bytes) bytes) ≡ Some f) }
+    ensures exact { OfFile (S.state shelf.old).files name.now (Fails result)
+        (λ bytes. Tells (form_at bytes) H.of bytes result) }
 
     // What that is worth: a well-formed tree, of some bytes where no file is told; and bytes have a
-    // map or a fault, and one of them alone.
-    ensures well_formed { IfOk (opened result) (λ map. WellFormed map.tree) }
-    ensures some { SomeBytes first_form H.of (opened result) }
-    ensures law { (bytes : List ℕ) → AreBytes bytes → Agrees first_form H.of bytes }
-    ensures agrees { OfFile (S.state shelf.old).files name.now ⊤ (Agrees first_form H.of) }
+    // map or a fault, and one of them alone; and a file that stands for a map in a version is read
+    // in that one.
+    ensures well_formed { IfOk result
+        (λ map. WellFormed map.tree × HasLayers map.version map.tree) }
+    ensures some { SomeFile H.of result }
+    ensures law { (v : versions.Version) (bytes : List ℕ) → AreBytes bytes →
+        Agrees (form_by v) H.of bytes }
+    ensures agrees { OfFile (S.state shelf.old).files name.now ⊤
+        (λ bytes. Agrees (form_at bytes) H.of bytes) }
+    ensures version { (v : versions.Version) (bytes : List ℕ) (t : trees.Tree) (b : ℕ) →
+        Stands (form_by v) H.of bytes t b → version_of bytes ≡ v }
 
     // Why it is refused, and what stands afterwards.
-    ensures causes { MapCauses name.now (S.state shelf.old) (S.state shelf.new) (opened result) }
+    ensures causes { MapCauses name.now (S.state shelf.old) (S.state shelf.new) result }
     ensures files { (S.state shelf.new).files ≡ (S.state shelf.old).files }
     ensures reads { (S.state shelf.old).reads ≤ (S.state shelf.new).reads }
     ensures once { let before = (S.state shelf.old).reads in
@@ -130,6 +188,5 @@ pub fn open_plain<H: Hash32, S: Shelf>(
         OfFile (S.state shelf.old).files name.now (after ≡ before)
         (λ bytes. after ≤ before + pages_in bytes) }
 {
-    let map = open_named::<H, S>(alloc, shelf, name)?;
-    Ok((map.tree, map.batch))
+    open_named::<H, S>(alloc, shelf, name)
 }

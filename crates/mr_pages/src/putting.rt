@@ -1,8 +1,11 @@
 //! The pages of a tree's nodes, one behind the other.
 
-ghost use Rattle.std.specs.Prelude.{◌≡◌, ◌+◌, ◌*◌, ◌≤◌, ◌++◌, length, take, drop, replicate, IfOk, OnOk};
+ghost use Rattle.std.specs.Prelude.{◌≡◌, ◌+◌, ◌≤◌, ◌++◌, length, take, drop, replicate, All, IfOk, OnOk};
 ghost use Rattle.mr_tree.specs.Digest.{by};
-ghost use Rattle.mr_tree.specs.View.{size};
+ghost use Rattle.mr_tree.specs.Limits.{count_limit};
+ghost use Rattle.mr_tree.specs.Tree.{records};
+ghost use Rattle.mr_tree.specs.WellFormed.{HasLayers};
+ghost use Rattle.mr_tree.specs.View.{HasCount, AreTold, children_in, size};
 ghost use Rattle.mr_pages.specs.Page.{page_limit, entry_of};
 ghost use Rattle.mr_pages.specs.PageBytes.{node_page, form_of, IsLayout};
 ghost use Rattle.mr_pages.specs.Stands.{pages_of};
@@ -18,19 +21,22 @@ use std::alloc::{AllocError, Global};
 
 /// What is said of the node that a view shows, where it stands on this page.
 pub fn child_on<H: Hashes>(layout: Layout, view: &NodeView, page: u32) -> Child
-    requires { 1 ≤ size view.now }
+    requires some { 1 ≤ size view.now }
+    requires counts { All HasCount (children_in view.now) }
     ensures { child_link result ≡ record {
       page = page;
       entry = entry_of (by layout.version H.of) (page_node view.now);
     } }
 {
-    let entry = entry_on::<H>(view);
+    let entry = entry_on::<H>(layout.version, view);
     let digest = entry.digest;
     match entry.rect {
         Some(rect) => Child {
             id: page,
             level: entry.level,
             rect,
+            mask: entry.mask,
+            count: entry.count,
             digest,
         },
         None => unreachable!(),
@@ -50,6 +56,7 @@ fn add_page(layout: Layout, pages: &mut Vec<u8>) -> Result<(), AllocError>
 fn put_page(layout: Layout, view: &NodeView, at: usize, pages: &mut [u8])
     requires layout { IsLayout layout }
     requires some { 1 ≤ size view.now }
+    requires told { AreTold layout.version view.now }
     requires room { at + layout.size ≤ length pages.old }
     ensures { pages.new ≡ (take at pages.old ++ node_page layout (page_node view.now))
         ++ drop (at + layout.size) pages.old }
@@ -69,7 +76,8 @@ pub fn put_tree<H: Hashes>(
 ) -> Result<Child, AllocError>
     requires layout { IsLayout layout }
     requires can { CanBePut tree.now }
-    requires at { length pages.old.items ≡ page * layout.size }
+    requires layers { HasLayers layout.version tree.now }
+    requires few { length (records tree.now) ≤ count_limit }
     requires room { page + length (pages_of (numbered tree.now page)) ≤ page_limit }
     ensures { IfOk result (λ child.
         IsPut (form_of layout) H.of tree.now page pages.old.items pages.new.items child) }
@@ -86,8 +94,8 @@ pub fn put_tree<H: Hashes>(
         Tree::Inner(children) => {
             let mut links = Vec::new(alloc);
             for child in children.as_slice() {
-                let next = (pages.len() / layout.size) as u32;
-                let link = put_tree::<H>(alloc, layout, child, next, view, pages)?;
+                let before = ((pages.len() - at) / layout.size) as u32;
+                let link = put_tree::<H>(alloc, layout, child, page + before, view, pages)?;
                 links.push(link)?;
             }
             view.set_inner(links[0].level + 1, &links);

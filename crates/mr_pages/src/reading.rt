@@ -3,55 +3,74 @@
 ghost use Rattle.std.specs.Prelude.{◌≡◌, ◌+◌, ◌-◌, ◌≤◌, length, take, drop, replicate, IfOk, OnOk};
 ghost use Rattle.mr_outside.specs.Told.{OfFile};
 ghost use Rattle.mr_outside.specs.Causes.{ShelfCauses, CountsRead};
-ghost use Rattle.mr_pages.specs.PageBytes.{page_size, first_form};
-ghost use Rattle.mr_pages.specs.Source.{IsPage, TellsPage};
+ghost use Rattle.mr_pages.specs.PageBytes.{form_of, IsLayout};
+ghost use Rattle.mr_pages.specs.File.{version_of};
+ghost use Rattle.mr_pages.specs.Source.{IsPage, IsFront, TellsPage};
 
-use crate::layout::PAGE_SIZE;
+use crate::layout::{Layout, SECOND_SIZE};
 use crate::page::fill_up;
 use mr_outside::{Shelf, ShelfErr};
+use mr_record::Version;
 
 /// Reads the bytes of a page to where they are wanted. What the read gives short counts as zeros.
 pub fn page_into<S: Shelf>(
     shelf: &mut S,
     name: &str,
+    layout: Layout,
     page: u32,
-    into: &mut [u8; PAGE_SIZE],
+    into: &mut [u8],
 ) -> Result<(), ShelfErr>
+    requires layout { IsLayout layout }
+    requires size { length into.old ≡ layout.size }
     ensures told { OnOk result (OfFile (S.state shelf.old).files name.now ⊥
-        (TellsPage page into.new)) }
-    ensures is { OnOk result (IsPage first_form into.new) }
+        (TellsPage (form_of layout) page into.new)) }
+    ensures is { OnOk result (IsPage (form_of layout) into.new) }
     ensures causes { ShelfCauses name.now (S.state shelf.old) (S.state shelf.new) result }
     ensures files { (S.state shelf.new).files ≡ (S.state shelf.old).files }
     ensures reads { CountsRead (S.state shelf.old) (S.state shelf.new) result }
 {
-    read_filled(shelf, name, page as u64 * PAGE_SIZE as u64, into)?;
-    is_page(into);
+    read_filled(shelf, name, page as u64 * layout.size as u64, into)?;
+    is_page(layout, into);
     Ok(())
 }
 
-/// The bytes of a page. What the read gives short counts as zeros.
-pub fn page_bytes<S: Shelf>(
+// What the type tells of its values.
+fn is_page(layout: Layout, _bytes: &[u8])
+    requires { length _bytes.now ≡ layout.size }
+    ensures { IsPage (form_of layout) _bytes.now }
+{}
+
+/// Which version a file of this size is of, by what stands in its front, which is read at once and
+/// left in the room: as much of it as a page of either version takes.
+pub fn read_front<S: Shelf>(
     shelf: &mut S,
     name: &str,
-    page: u32,
-) -> Result<[u8; PAGE_SIZE], ShelfErr>
-    ensures told { IfOk result (λ p. OfFile (S.state shelf.old).files name.now ⊥
-        (TellsPage page p)) }
-    ensures is { IfOk result (IsPage first_form) }
+    size: u64,
+    room: &mut [u8; SECOND_SIZE],
+) -> Result<Version, ShelfErr>
+    ensures version { IfOk result (λ v. v ≡ version_of room.new) }
+    ensures told { OnOk result (OfFile (S.state shelf.old).files name.now ⊥
+        (λ file. length file ≡ size → IsFront file room.new)) }
     ensures causes { ShelfCauses name.now (S.state shelf.old) (S.state shelf.new) result }
     ensures files { (S.state shelf.new).files ≡ (S.state shelf.old).files }
     ensures reads { CountsRead (S.state shelf.old) (S.state shelf.new) result }
 {
-    let mut bytes = [0; PAGE_SIZE];
-    page_into(shelf, name, page, &mut bytes)?;
-    Ok(bytes)
+    let (front, behind) = room.split_at_mut(size.min(SECOND_SIZE as u64) as usize);
+    read_filled(shelf, name, 0, front)?;
+    behind.fill(0);
+    Ok(version_in(room))
 }
 
-// What the type tells of its values.
-fn is_page(_bytes: &[u8])
-    requires { length _bytes.now ≡ page_size }
-    ensures { IsPage first_form _bytes.now }
-{}
+// The version that byte 4 tells.
+fn version_in(front: &[u8; SECOND_SIZE]) -> Version
+    ensures { result ≡ version_of front.now }
+{
+    if front[4] == 2 {
+        Version::Two
+    } else {
+        Version::One
+    }
+}
 
 /// Reads from a place of the file on, and answers how many bytes came. What a read gives short
 /// counts as zeros.

@@ -22,6 +22,9 @@ pub enum MapRule {
     Digest { held: [u8; 32], found: [u8; 32] },
     /// The node has another rectangle than the one that is said of it.
     Rect,
+    /// The node has another mask than the one that is said of it or, where it is not the root,
+    /// another count.
+    Sum,
     /// The node has too few entries.
     Fill,
     /// A record of the node has a number that was met before.
@@ -48,6 +51,7 @@ impl MapRule {
             MapRule::Twice => "Twice",
             MapRule::Digest { .. } => "Digest",
             MapRule::Rect => "Rect",
+            MapRule::Sum => "Sum",
             MapRule::Fill => "Fill",
             MapRule::Number => "Number",
             MapRule::Count { .. } => "Count",

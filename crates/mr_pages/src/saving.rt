@@ -1,85 +1,52 @@
 //! Saving a map.
 
-ghost use Rattle.std.specs.Prelude.{◌≡◌, ◌≤◌, length, replicate, option_map, IfOk, OnOk};
+ghost use Rattle.std.specs.Prelude.{◌≡◌, ◌≤◌, length, option_map, IfOk, OnOk};
 ghost use Rattle.mr_outside.specs.Told.{OfFile};
-ghost use Rattle.mr_tree.specs.WellFormed.{WellFormed};
-ghost use Rattle.mr_pages.specs.PageBytes.{form_of, first_form, root_level, IsLayout};
+ghost use Rattle.mr_tree.specs.WellFormed.{WellFormed, HasLayers};
+ghost use Rattle.mr_record.specs.declared.version.Version.TheVariants.{One};
+ghost use Rattle.mr_pages.specs.PageBytes.{form_of, first_form, second_form, layout_by, root_level, IsLayout};
 ghost use Rattle.mr_pages.specs.Stands.{Stands};
 ghost use Rattle.mr_pages.specs.Walking.{child_link, head_of};
-ghost use Rattle.mr_pages.specs.Putting.{IsImage};
-ghost use Rattle.mr_outside.specs.Files.{with_file, replaced};
-ghost use Rattle.mr_outside.specs.Writing.{IsChanged};
-ghost use Rattle.mr_pages.specs.Saved.{saved, IsHalfWritten, MayStand, Leaves, SaveCauses};
+ghost use Rattle.mr_outside.specs.Files.{with_file, overwritten};
+ghost use Rattle.mr_outside.specs.Writing.{IsChanged, IsChangedPartly};
+ghost use Rattle.mr_pages.specs.Saved.{saved, MayStand, Leaves, SaveCauses};
 
 use crate::head::MapHead;
-use crate::layout::{FIRST, Layout};
+use crate::layout::{FIRST, Layout, SECOND};
+use crate::making::{make_nodes, zeros};
 use crate::page::{level_of_root, put_head};
-use crate::putting::put_tree;
 use mr_outside::{Shelf, ShelfErr};
-use mr_tree::{Child, Hash32, Hashes, NodeView, Tree, count_of};
-use std::alloc::{AllocError, Global};
+use mr_tree::{Hash32, Hashes, Tree, count_of};
+use std::alloc::Global;
 
-// Makes a file of these pages, the first of which is written last, between two syncs.
-fn write_pages<S: Shelf>(
-    shelf: &mut S,
-    name: &str,
-    pages: &[u8],
-    head: &[u8],
-) -> Result<(), ShelfErr>
-    requires { length head.now ≤ length pages.now }
-    ensures whole { OnOk result (IsChanged (with_file name.now) (replaced 0 head.now pages.now)
+// Writes page 0 over the zeros that stand there, between two syncs.
+fn seal<S: Shelf>(shelf: &mut S, name: &str, head: &[u8]) -> Result<(), ShelfErr>
+    requires { OfFile (S.state shelf.old).files name.now ⊥
+        (λ held. length head.now ≤ length held) }
+    ensures whole { OnOk result (IsChanged (overwritten name.now 0) head.now
         (S.state shelf.old).files (S.state shelf.new).files) }
-    ensures left { Leaves (IsHalfWritten head.now pages.now) name.now
+    ensures front { IsChangedPartly (overwritten name.now 0) head.now
         (S.state shelf.old).files (S.state shelf.new).files }
     ensures causes { SaveCauses (S.state shelf.old) (S.state shelf.new) result }
     ensures reads { (S.state shelf.new).reads ≡ (S.state shelf.old).reads }
 {
-    shelf.create(name)?;
-    shelf.append(name, pages)?;
     shelf.sync(name)?;
     shelf.write_at(name, 0, head)?;
     shelf.sync(name)
 }
 
-// The pages of a map, the first one left out as zeros, and what page 0 is to say of the root.
-fn image<H: Hashes>(
-    alloc: Global,
-    layout: Layout,
-    tree: &Tree,
-) -> Result<(Vec<u8>, Option<Child>), AllocError>
-    requires layout { IsLayout layout }
-    requires well { WellFormed tree.now }
-    ensures { IfOk result (λ r. IsImage (form_of layout) H.of tree.now r.0.items r.1) }
-{
-    let mut pages = zeros(alloc, layout.size)?;
-    match tree {
-        Tree::Empty => Ok((pages, None)),
-        _ => {
-            let root = put_tree::<H>(alloc, layout, tree, 1, &mut NodeView::new(), &mut pages)?;
-            Ok((pages, Some(root)))
-        }
-    }
-}
-
-fn zeros(alloc: Global, size: usize) -> Result<Vec<u8>, AllocError>
-    ensures { IfOk result (λ v. v.items ≡ replicate size 0) }
-{
-    vec![in alloc; 0u8; size]
-}
-
-// Page 0 of a map.
-fn first_page(alloc: Global, layout: Layout, head: &MapHead) -> Result<Vec<u8>, AllocError>
+// Puts page 0 of a map in the place of as many bytes.
+fn put_first(layout: Layout, head: &MapHead, page: &mut Vec<u8>)
     requires layout { IsLayout layout }
     requires level { head.now.level ≡ root_level (option_map child_link head.now.root) }
-    ensures page { IfOk result (λ v. v.items ≡ (form_of layout).head_page (head_of head.now)) }
-    ensures size { IfOk result (λ v. length v.items ≡ layout.size) }
+    requires size { length page.old.items ≡ layout.size }
+    ensures page { page.new.items ≡ (form_of layout).head_page (head_of head.now) }
+    ensures size { length page.new.items ≡ layout.size }
 {
-    let mut page = zeros(alloc, layout.size)?;
     put_head(layout, head, page.as_mut_slice());
-    Ok(page)
 }
 
-// What `save_plain` does, in pages of this layout.
+// What `save_plain` does, in pages of the layout of a version.
 fn save_named<H: Hashes, S: Shelf>(
     alloc: Global,
     layout: Layout,
@@ -89,7 +56,9 @@ fn save_named<H: Hashes, S: Shelf>(
     batch: u64,
 ) -> Result<(), ShelfErr>
     requires layout { IsLayout layout }
+    requires by_version { layout ≡ layout_by layout.version }
     requires well { WellFormed tree.now }
+    requires layers { HasLayers layout.version tree.now }
     ensures whole { OnOk result (IsChanged (with_file name.now)
         (saved (form_of layout) H.of tree.now batch)
         (S.state shelf.old).files (S.state shelf.new).files) }
@@ -100,17 +69,18 @@ fn save_named<H: Hashes, S: Shelf>(
     ensures causes { SaveCauses (S.state shelf.old) (S.state shelf.new) result }
     ensures reads { (S.state shelf.new).reads ≡ (S.state shelf.old).reads }
 {
-    let (pages, root) = image::<H>(alloc, layout, tree)?;
+    let mut first = zeros(alloc, layout.size)?;
+    let (root, pages) = make_nodes::<H, S>(alloc, layout, shelf, name, tree)?;
     let head = MapHead {
         level: level_of_root(&root),
         batch,
         count: count_of(tree),
-        pages: (pages.len() / layout.size) as u32,
+        pages,
         root,
         free: 0,
     };
-    let first = first_page(alloc, layout, &head)?;
-    write_pages(shelf, name, &pages, &first)
+    put_first(layout, &head, &mut first);
+    seal(shelf, name, &first)
 }
 
 /// Makes a file that stands for the map with this tree at this batch.
@@ -124,7 +94,8 @@ pub fn save_plain<H: Hash32, S: Shelf>(
     tree: &Tree,
     batch: u64,
 ) -> Result<(), ShelfErr>
-    requires { WellFormed tree.now }
+    requires well { WellFormed tree.now }
+    requires layers { HasLayers One tree.now }
     ensures stands { OnOk result (OfFile (S.state shelf.new).files name.now ⊥
         (λ bytes. Stands first_form H.of bytes tree.now batch)) }
     ensures whole { OnOk result (IsChanged (with_file name.now)
@@ -136,4 +107,26 @@ pub fn save_plain<H: Hash32, S: Shelf>(
     ensures reads { (S.state shelf.new).reads ≡ (S.state shelf.old).reads }
 {
     save_named::<H, S>(alloc, FIRST, shelf, name, tree, batch)
+}
+
+/// The same in version 2.
+pub fn save2_plain<H: Hash32, S: Shelf>(
+    alloc: Global,
+    shelf: &mut S,
+    name: &str,
+    tree: &Tree,
+    batch: u64,
+) -> Result<(), ShelfErr>
+    requires { WellFormed tree.now }
+    ensures stands { OnOk result (OfFile (S.state shelf.new).files name.now ⊥
+        (λ bytes. Stands second_form H.of bytes tree.now batch)) }
+    ensures whole { OnOk result (IsChanged (with_file name.now)
+        (saved second_form H.of tree.now batch)
+        (S.state shelf.old).files (S.state shelf.new).files) }
+    ensures left { Leaves (MayStand second_form H.of tree.now batch) name.now
+        (S.state shelf.old).files (S.state shelf.new).files }
+    ensures causes { SaveCauses (S.state shelf.old) (S.state shelf.new) result }
+    ensures reads { (S.state shelf.new).reads ≡ (S.state shelf.old).reads }
+{
+    save_named::<H, S>(alloc, SECOND, shelf, name, tree, batch)
 }

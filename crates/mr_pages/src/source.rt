@@ -1,16 +1,16 @@
 //! The pages of a file, as a walk over them sees them.
 
-ghost use Rattle.std.specs.Prelude.{◌≡◌, ◌<◌, ◌≤◌, ℕ, List, IfOk, IfErr, OnOk, true};
+ghost use Rattle.std.specs.Prelude.{◌≡◌, ◌<◌, ◌≤◌, ℕ, List, length, IfOk, IfErr, OnOk, true};
 ghost use Rattle.mr_tree.specs.declared.tree.Tree as trees;
 ghost use Rattle.mr_tree.specs.declared.tree.Tree.TheVariants as tree;
 ghost use Rattle.mr_pages.specs.Faults.{of_level};
 ghost use Rattle.mr_pages.specs.Page.{IsNode, level_of};
-ghost use Rattle.mr_pages.specs.PageBytes.{first_form};
+ghost use Rattle.mr_pages.specs.PageBytes.{form_of, IsLayout};
 ghost use Rattle.mr_pages.specs.Source.{Sourced, GivesPage, GivesHead, ReadsPage, IsOfOneRead, SaysHead, MayKeep, Stay, AreMade, tree_over};
 ghost use Rattle.mr_pages.specs.Walking.{page_node, Shows, Heads};
 
 use crate::head::MapHead;
-use crate::layout::PAGE_SIZE;
+use crate::layout::Layout;
 use crate::node::Node;
 use crate::rule::MapRule;
 use mr_outside::ShelfErr;
@@ -40,31 +40,37 @@ pub trait Source {
     fn count(&self) -> u32
         ensures { result ≡ (state self.now).pages };
 
-    /// Page 0, or the first rule that it breaks.
-    fn head(&mut self) -> Result<Result<MapHead, MapRule>, ShelfErr>
-        requires { 1 ≤ (state self.old).pages }
-        ensures shows { IfOk result (λ r. GivesHead (state self.old) (λ f. Heads r f.head)) }
-        ensures once { IfOk result (λ r. IfErr r IsOfOneRead) }
-        ensures says { IfOk result (λ r. IfOk r (SaysHead (state self.old).pages)) }
-        ensures reads { ReadsPage (state self.old) (state self.new) result }
-        ensures stay { Stay (keeps self.old) (keeps self.new) };
+    /// How its pages are laid out.
+    fn layout(&self) -> Layout
+        ensures form { form_of result ≡ (state self.now).origin.form }
+        ensures fits { IsLayout result };
+
+    /// Page 0, which was read before, or the first rule that it breaks.
+    fn head(&self) -> Result<MapHead, MapRule>
+        requires { 1 ≤ (state self.now).pages }
+        ensures shows { GivesHead (state self.now) (λ f. Heads result f.head) }
+        ensures once { IfErr result IsOfOneRead }
+        ensures says { IfOk result
+            (SaysHead (state self.now).origin.form.version (state self.now).pages) };
 
     /// Shows the node of this level that the page spells, and answers whether it spells one. Where
-    /// it does, the page's bytes are in `bytes`.
+    /// it does, the page's bytes are in `bytes`, which has room for them and for nothing else.
     fn node(
         &mut self,
         page: u32,
         level: u8,
-        bytes: &mut [u8; PAGE_SIZE],
+        bytes: &mut [u8],
         into: &mut NodeView,
     ) -> Result<bool, ShelfErr>
-        requires { page < (state self.old).pages }
+        requires within { page < (state self.old).pages }
+        requires size { length bytes.old ≡ (state self.old).origin.form.size }
         ensures shows { IfOk result (λ shown. GivesPage (state self.old) page
             (λ f. Shows shown into.new (of_level level (f.node page)))) }
         ensures spelled { IfOk result (λ shown. shown ≡ true →
-            IsNode (page_node into.new) × (level_of (page_node into.new) ≡ level)) }
+            IsNode (state self.old).origin.form.version (page_node into.new)
+            × (level_of (page_node into.new) ≡ level)) }
         ensures on { IfOk result (λ shown. shown ≡ true →
-            bytes.new ≡ first_form.node_page (page_node into.new)) }
+            bytes.new ≡ (state self.old).origin.form.node_page (page_node into.new)) }
         ensures reads { ReadsPage (state self.old) (state self.new) result }
         ensures stay { Stay (keeps self.old) (keeps self.new) };
 

@@ -1,13 +1,12 @@
 //! The walk over the nodes of a file, page by page.
 
 ghost use Rattle.std.specs.Prelude.{◌≡◌, ◌≤◌, ◌<◌, length, OnOk, IfOk, IfErr};
-ghost use Rattle.mr_record.specs.declared.version.Version.TheVariants.{One};
 ghost use Rattle.mr_tree.specs.Digest.{by};
 ghost use Rattle.mr_pages.specs.Source.{Goes, Stay, AreKept, Gives, GivesPage, Knows, Looks, Settles, Walked, SaysOnce, left};
 ghost use Rattle.mr_pages.specs.Walking.{child_link};
 
 use crate::judging::judge;
-use crate::layout::PAGE_SIZE;
+use crate::layout::SECOND_SIZE;
 use crate::node::Node;
 use crate::seen::Seen;
 use crate::source::Source;
@@ -26,20 +25,24 @@ fn look<P: Source>(
 ) -> Result<Node, MapErr>
     requires { child.now.id < (P.state pages.old).pages }
     ensures told { Settles result (GivesPage (P.state pages.old) child.now.id
-        (λ f. Looks (by One P.Hash.of) f.node root (child_link child.now) result)) }
-    ensures known { IfOk result (Knows P.Hash.of child.now) }
+        (λ f. Looks (by (P.state pages.old).origin.form.version P.Hash.of) f.node root
+        (child_link child.now) result)) }
+    ensures known { IfOk result
+        (Knows (by (P.state pages.old).origin.form.version P.Hash.of) child.now) }
     ensures once { IfErr result SaysOnce }
     ensures goes { Goes (P.state pages.old) (P.state pages.new) 1 0 result }
     ensures stay { Stay (P.keeps pages.old) (P.keeps pages.new) }
 {
-    let mut bytes = [0; PAGE_SIZE];
-    if !pages.node(child.id, child.level, &mut bytes, view)? {
+    let layout = pages.layout();
+    let mut room = [0; SECOND_SIZE];
+    let (bytes, _) = room.split_at_mut(layout.size);
+    if !pages.node(child.id, child.level, bytes, view)? {
         return Err(MapErr::Map(MapFault {
             page: child.id,
             rule: MapRule::Page,
         }));
     }
-    if let Some(rule) = judge::<P::Hash>(&bytes, view, child, root) {
+    if let Some(rule) = judge::<P::Hash>(layout, bytes, view, child, root) {
         return Err(MapErr::Map(MapFault {
             page: child.id,
             rule,
@@ -61,8 +64,8 @@ pub fn visit<P: Source>(
 ) -> Result<P::Made, MapErr>
     requires { length seen.old.reached.items ≡ (P.state pages.old).pages }
     ensures told { Settles result (Gives (P.state pages.old) seen.old seen.new
-        (Walked (by One P.Hash.of) P.makes (P.state pages.old).pages seen.old root child.now result
-        seen.new)) }
+        (Walked (by (P.state pages.old).origin.form.version P.Hash.of) P.makes
+        (P.state pages.old).pages seen.old root child.now result seen.new)) }
     ensures once { IfErr result SaysOnce }
     ensures inside { OnOk result
         ((1 ≤ child.now.id) × (child.now.id < (P.state pages.old).pages)) }

@@ -4,12 +4,13 @@ use Rattle.std.specs.Prelude.{bytes_eq, codes, decimal, false, true}
 use Rattle.std.proofs.lemmas.Slice.Eq.{bytes_eq-Decides}
 use Rattle.hex.specs.Hex.{encode_lower}
 use Rattle.mr_record.specs.Decimal.{u64_of}
+use Rattle.mr_record.specs.declared.version.Version.TheVariants.{One, Two}
 use Rattle.mr_record.proofs.Decimals.{u64_of-decimal}
 use Rattle.mr_query.specs.Word.{IsQuery, query_of, word_of}
 use Rattle.mr_query.specs.declared.query.Query.{Query}
 use Rattle.mr_query.specs.declared.query.QueryFault.{QueryFault}
 use Rattle.mr_query.proofs.Words.{query_read}
-use Rattle.mr_plan.specs.Say.{say_root, say_build, say_list, say_apply, say_prove, say_check, say_audit, say_serve, say_check_all, say_make, say_demo}
+use Rattle.mr_plan.specs.Say.{say_root, say_build, say_list, say_upgrade, say_apply, say_prove, say_check, say_audit, say_serve, say_check_all, say_make, say_demo}
 use Rattle.mr_plan.specs.Spelling.{IsSpelled, AsksAs, IsAsked, IsBetween, digest_of_word}
 use Rattle.mr_plan.specs.Words.{IsDigest, Spells}
 use Rattle.mr_plan.specs.declared.words.Command.{Command}
@@ -70,7 +71,10 @@ ask_same : (words : List (List ℕ)) (a b : Command) → Spells words a → Spel
     → AsksAs (Some a) (Some b)
 ask_same words (commands.Root a) (commands.Root b) spells_a spells_b =
     let e = sym spells_a.spelled ∙ spells_b.spelled in
-    λ hash. ap (say_root hash) (second _ _ _ _ e)
+    λ hash. ap (say_root One hash) (second _ _ _ _ e)
+ask_same words (commands.Root2 a) (commands.Root2 b) spells_a spells_b =
+    let e = sym spells_a.spelled ∙ spells_b.spelled in
+    λ hash. ap (say_root Two hash) (second _ _ _ _ e)
 ask_same words (commands.Check root_a query_a proof_a) (commands.Check root_b query_b proof_b)
     spells_a spells_b =
     let e = sym spells_a.spelled ∙ spells_b.spelled in
@@ -120,7 +124,17 @@ ask_same words (commands.Build map_a records_a) (commands.Build map_b records_b)
     let e = sym spells_a.spelled ∙ spells_b.spelled in
     let maps : map_a.now ≡ map_b.now = second_of_two _ _ _ _ _ _ e in
     let records : records_a.now ≡ records_b.now = third_of_two _ _ _ _ _ _ e in
-    λ hash i. say_build hash (maps i) (records i)
+    λ hash i. say_build One hash (maps i) (records i)
+ask_same words (commands.Build2 map_a records_a) (commands.Build2 map_b records_b) spells_a spells_b =
+    let e = sym spells_a.spelled ∙ spells_b.spelled in
+    let maps : map_a.now ≡ map_b.now = second_of_two _ _ _ _ _ _ e in
+    let records : records_a.now ≡ records_b.now = third_of_two _ _ _ _ _ _ e in
+    λ hash i. say_build Two hash (maps i) (records i)
+ask_same words (commands.Upgrade old_a new_a) (commands.Upgrade old_b new_b) spells_a spells_b =
+    let e = sym spells_a.spelled ∙ spells_b.spelled in
+    let olds : old_a.now ≡ old_b.now = second_of_two _ _ _ _ _ _ e in
+    let news : new_a.now ≡ new_b.now = third_of_two _ _ _ _ _ _ e in
+    λ hash i. say_upgrade hash (olds i) (news i)
 ask_same words (commands.List a) (commands.List b) spells_a spells_b =
     let e = sym spells_a.spelled ∙ spells_b.spelled in
     λ hash. ap (say_list hash) (second _ _ _ _ e)
@@ -160,6 +174,13 @@ no_name name none (commands.Root records) spells =
     absurd (omega (arith, ap length same, named, none))
 no_name name none command spells = absurd (other_key _ _ _ _ refl spells.spelled)
 
+pub no_root2 : (name : List ℕ) → length name ≡ 0 → IsSpelled (codes "root2" ∷ name ∷ []) None
+no_root2 name none (commands.Root2 records) spells =
+    let same : name ≡ records.now = second _ _ _ _ spells.spelled in
+    let named = spells.each.1.0 in
+    absurd (omega (arith, ap length same, named, none))
+no_root2 name none command spells = absurd (other_key _ _ _ _ refl spells.spelled)
+
 pub no_list : (name : List ℕ) → length name ≡ 0 → IsSpelled (codes "list" ∷ name ∷ []) None
 no_list name none (commands.List map) spells =
     let same : name ≡ map.now = second _ _ _ _ spells.spelled in
@@ -178,23 +199,50 @@ no_build map records none (commands.Build m r) spells =
     (λ same. spells.apart.0.0 (sym maps ∙ same ∙ texts)))
 no_build map records none command spells = absurd (other_key _ _ _ _ refl spells.spelled)
 
--- a name of a command that has two words
-pub not_two : (name a : List ℕ) → (name ≡ codes "root" → ⊥) → (name ≡ codes "list" → ⊥)
-    → IsSpelled (name ∷ a ∷ []) None
-not_two name a not_root not_list (commands.Root records) spells = let same : name ≡ codes "root" = cc in absurd
-    (not_root same)
-not_two name a not_root not_list (commands.List map) spells = let same : name ≡ codes "list" = cc in absurd
-    (not_list same)
-not_two name a not_root not_list command spells = let long = ap length spells.spelled in absurd
-    (omega (arith, long))
+pub no_build2 : (map records : List ℕ) → (0 < length map → 0 < length records → map ≢ records → ⊥)
+    → IsSpelled (codes "build2" ∷ map ∷ records ∷ []) None
+no_build2 map records none (commands.Build2 m r) spells =
+    let maps : map ≡ m.now = second_of_two _ _ _ _ _ _ spells.spelled in
+    let texts : records ≡ r.now = third_of_two _ _ _ _ _ _ spells.spelled in
+    absurd (none (subst (λ n. 0 < length n) (sym maps) spells.each.1.0)
+    (subst (λ n. 0 < length n) (sym texts) spells.each.1.1.0)
+    (λ same. spells.apart.0.0 (sym maps ∙ same ∙ texts)))
+no_build2 map records none command spells = absurd (other_key _ _ _ _ refl spells.spelled)
 
-pub not_three : (name a b : List ℕ) → (name ≡ codes "build" → ⊥) → (name ≡ codes "demo" → ⊥)
-    → IsSpelled (name ∷ a ∷ b ∷ []) None
-not_three name a b not_build not_demo (commands.Build map records) spells =
+-- where it names the two files of a map and of the new one, they have names, which differ
+pub no_upgrade : (old new : List ℕ) → (0 < length old → 0 < length new → old ≢ new → ⊥)
+    → IsSpelled (codes "upgrade" ∷ old ∷ new ∷ []) None
+no_upgrade old new none (commands.Upgrade o n) spells =
+    let olds : old ≡ o.now = second_of_two _ _ _ _ _ _ spells.spelled in
+    let news : new ≡ n.now = third_of_two _ _ _ _ _ _ spells.spelled in
+    absurd (none (subst (λ n. 0 < length n) (sym olds) spells.each.1.0)
+    (subst (λ n. 0 < length n) (sym news) spells.each.1.1.0)
+    (λ same. spells.apart.0.0 (sym olds ∙ same ∙ news)))
+no_upgrade old new none command spells = absurd (other_key _ _ _ _ refl spells.spelled)
+
+-- a name of a command that has two words
+pub not_two : (name a : List ℕ) → (name ≡ codes "root" → ⊥) → (name ≡ codes "root2" → ⊥)
+    → (name ≡ codes "list" → ⊥) → IsSpelled (name ∷ a ∷ []) None
+not_two name a not_root not_root2 not_list (commands.Root records) spells =
+    let same : name ≡ codes "root" = cc in absurd (not_root same)
+not_two name a not_root not_root2 not_list (commands.Root2 records) spells =
+    let same : name ≡ codes "root2" = cc in absurd (not_root2 same)
+not_two name a not_root not_root2 not_list (commands.List map) spells =
+    let same : name ≡ codes "list" = cc in absurd (not_list same)
+not_two name a not_root not_root2 not_list command spells =
+    let long = ap length spells.spelled in absurd (omega (arith, long))
+
+pub not_three : (name a b : List ℕ) → (name ≡ codes "build" → ⊥) → (name ≡ codes "build2" → ⊥)
+    → (name ≡ codes "upgrade" → ⊥) → (name ≡ codes "demo" → ⊥) → IsSpelled (name ∷ a ∷ b ∷ []) None
+not_three name a b not_build not_build2 not_upgrade not_demo (commands.Build map records) spells =
     let same : name ≡ codes "build" = cc in absurd (not_build same)
-not_three name a b not_build not_demo (commands.Demo count seed) spells =
+not_three name a b not_build not_build2 not_upgrade not_demo (commands.Build2 map records) spells =
+    let same : name ≡ codes "build2" = cc in absurd (not_build2 same)
+not_three name a b not_build not_build2 not_upgrade not_demo (commands.Upgrade old new) spells =
+    let same : name ≡ codes "upgrade" = cc in absurd (not_upgrade same)
+not_three name a b not_build not_build2 not_upgrade not_demo (commands.Demo count seed) spells =
     let same : name ≡ codes "demo" = cc in absurd (not_demo same)
-not_three name a b not_build not_demo command spells =
+not_three name a b not_build not_build2 not_upgrade not_demo command spells =
     let long = ap length spells.spelled in absurd (omega (arith, long))
 
 pub not_four : (name a b c : List ℕ) → (name ≡ codes "apply" → ⊥) → (name ≡ codes "prove" → ⊥)
@@ -346,8 +394,11 @@ no_check_all root script bundle none command spells = absurd (other_key _ _ _ _ 
 pub no_length : (words : List (List ℕ)) → (length words ≡ 2 → ⊥) → (length words ≡ 3 → ⊥) → (length words ≡ 4 → ⊥)
     → IsSpelled words None
 no_length words not_2 not_3 not_4 (commands.Root records) spells = not_2 (ap length spells.spelled)
+no_length words not_2 not_3 not_4 (commands.Root2 records) spells = not_2 (ap length spells.spelled)
 no_length words not_2 not_3 not_4 (commands.List map) spells = not_2 (ap length spells.spelled)
 no_length words not_2 not_3 not_4 (commands.Build map records) spells = not_3 (ap length spells.spelled)
+no_length words not_2 not_3 not_4 (commands.Build2 map records) spells = not_3 (ap length spells.spelled)
+no_length words not_2 not_3 not_4 (commands.Upgrade old new) spells = not_3 (ap length spells.spelled)
 no_length words not_2 not_3 not_4 (commands.Apply old batch new) spells = not_4 (ap length spells.spelled)
 no_length words not_2 not_3 not_4 (commands.Prove map asked proof) spells = not_4
     (ap length spells.spelled)

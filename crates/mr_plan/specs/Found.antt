@@ -1,11 +1,12 @@
 -- What is found in the bytes of a file that is read as a map.
 use Rattle.std.specs.Prelude.{◌≡◌, ℕ, List, [], ◌∷◌, ◌++◌, Some, Result, Ok, Err, codes, decimal}
 use Rattle.hex.specs.Hex.{encode_lower}
+use Rattle.mr_record.specs.declared.version.Version.{Version}
 use Rattle.mr_tree.specs.declared.nodes.NodesErr.{NodesErr}
 use Rattle.mr_tree.specs.declared.nodes.NodesErr.TheVariants as nodes
 use Rattle.mr_pages.specs.declared.error.MapErr.{MapErr}
 use Rattle.mr_pages.specs.declared.error.MapErr.TheVariants as errors
-use Rattle.mr_pages.specs.PageBytes.{first_form}
+use Rattle.mr_pages.specs.PageBytes.{form_by}
 use Rattle.mr_pages.specs.File.{file_of}
 use Rattle.mr_pages.specs.Faults.{mapfault}
 use Rattle.mr_pages.specs.Law.{IsMap}
@@ -19,10 +20,12 @@ use Rattle.mr_pages.specs.declared.opening.Opened.{Opened}
 abbrev pub Found : Type 0
 Found = Result Opened MapFault
 
--- the bytes stand for this map; or they stand for none, and this is their fault
-abbrev pub Shows : (List ℕ → List ℕ) → List ℕ → Found → Type 0
-Shows hash bytes (Ok map) = IsMap first_form hash bytes map.tree map.batch
-Shows hash bytes (Err fault) = mapfault hash (file_of first_form bytes) ≡ Some fault
+-- read in this version, the bytes stand for this map; or they stand for none, and this is their
+-- fault
+abbrev pub Shows : Version → (List ℕ → List ℕ) → List ℕ → Found → Type 0
+Shows v hash bytes (Ok map) =
+    (map.version ≡ v) × IsMap (form_by v) hash bytes map.tree map.batch
+Shows v hash bytes (Err fault) = mapfault hash (file_of (form_by v) bytes) ≡ Some fault
 
 -- why a node was not fetched, as what it says of the map's file
 abbrev pub as_map_error : NodesErr → MapErr

@@ -1,7 +1,9 @@
 -- What is printed of a bundle: the verdict on each part, how many there are of each kind, and where
 -- it is broken.
-use Rattle.std.specs.Prelude.{◌≡◌, ℕ, zero, suc, ◌+◌, ◌-◌, ◌==◌, ◌&&◌, if◌then◌else◌, Bool, true, false, is_none, List, [], ◌∷◌, ◌++◌, length, count_by, Option, Some, None, codes, decimal}
+use Rattle.std.specs.Prelude.{◌≡◌, ℕ, zero, suc, ◌+◌, ◌-◌, ◌==◌, ◌&&◌, ⊤, if◌then◌else◌, All, Bool, true, false, is_none, List, [], ◌∷◌, ◌++◌, length, count_by, Option, Some, None, codes, decimal}
+use Rattle.mr_record.specs.Record.{HasLayer}
 use Rattle.mr_record.specs.RecordText.{text_of}
+use Rattle.mr_record.specs.declared.version.Version.TheVariants.{One}
 use Rattle.mr_bundle.specs.declared.verdict.Verdict.{Verdict}
 use Rattle.mr_bundle.specs.declared.verdict.Verdict.TheVariants as verdicts
 use Rattle.mr_plan.specs.Refusal.{refused_line}
@@ -12,7 +14,7 @@ use Rattle.mr_plan.specs.declared.status.Status.TheVariants.{Done, Refused}
 -- on a proof that is refused
 unfoldable pub verdict_text : (query : ℕ) → Verdict → List ℕ
 verdict_text query (verdicts.Accepted answer) = codes "query " ++ decimal query ++ codes " ok "
-    ++ decimal (length answer) ++ 10 ∷ text_of answer
+    ++ decimal (length answer) ++ 10 ∷ text_of One answer
 verdict_text query (verdicts.Refused fault) =
     codes "query " ++ decimal query ++ codes " " ++ refused_line fault
 
@@ -52,6 +54,11 @@ is_accepted (verdicts.Refused fault) = false
 -- the verdict is an answer
 abbrev pub IsAccepted : Verdict → Type 0
 IsAccepted v = is_accepted v ≡ true
+
+-- the records of its answer have the layer of the first version, whose lines do not spell it
+abbrev pub IsPlain : Verdict → Type 0
+IsPlain (verdicts.Accepted answer) = All (HasLayer One) answer
+IsPlain (verdicts.Refused fault) = ⊤
 
 -- how many verdicts are so
 abbrev pub accepted_count : List Verdict → ℕ

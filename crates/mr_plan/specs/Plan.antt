@@ -4,6 +4,7 @@
 use Rattle.std.specs.Prelude.{◌≡◌, ◌⊎◌, ℕ, List, Option, Some, None, IfSome}
 use Rattle.mr_outside.specs.Files.{Files, file}
 use Rattle.mr_record.specs.Bytes.{AreBytes}
+use Rattle.mr_record.specs.declared.version.Version.{Version}
 use Rattle.mr_query.specs.declared.query.Query.{Query}
 use Rattle.mr_plan.specs.Found.{Found, Shows}
 use Rattle.mr_plan.specs.Outcome.{Outcome}
@@ -14,13 +15,13 @@ abbrev pub Input : Type 0
 Input = Option (List ℕ)
 
 -- it has come to an outcome; or it reads a file and goes on by what that holds; or it goes on by
--- the map that bytes stand for, or by their fault; or it reads a map page by page, some of them
--- again, and over files that are told goes on as the plan says; or it reads a proof in pieces, up
--- to a fault that stays, and goes on as the plan says
+-- the map that bytes, read in a version, stand for, or by their fault; or it reads a map page by
+-- page, some of them again, and over files that are told goes on as the plan says; or it reads a
+-- proof in pieces, up to a fault that stays, and goes on as the plan says
 pub data Plan : Type 0 where
   comes : Outcome → Plan
   reads : (name : List ℕ) → (Input → Plan) → Plan
-  opens : (hash : List ℕ → List ℕ) (bytes : List ℕ) → (Found → Plan) → Plan
+  opens : (version : Version) (hash : List ℕ → List ℕ) (bytes : List ℕ) → (Found → Plan) → Plan
   rereads : Rereading → Plan → Plan
   judges : (hash : List ℕ → List ℕ) (root : List ℕ) (query : Query) (proof : List ℕ) → Plan → Plan
 
@@ -35,7 +36,7 @@ abbrev pub Leads : Plan → Option Files → Outcome → Type 0
 Leads (comes said) told outcome = outcome ≡ said
 Leads (reads name next) told outcome = (input : Input) × IsInput told name input
     × Leads (next input) told outcome
-Leads (opens hash bytes next) told outcome = (found : Found) × Shows hash bytes found
+Leads (opens v hash bytes next) told outcome = (found : Found) × Shows v hash bytes found
     × Leads (next found) told outcome
 Leads (rereads reading next) None outcome = MaySay reading outcome
 Leads (rereads reading next) (Some files) outcome = Leads next (Some files) outcome
@@ -45,8 +46,8 @@ Leads (judges hash root query proof next) told outcome = Leads next told outcome
 abbrev pub IsOutcomeOver : Plan → Files → Outcome → Type 0
 IsOutcomeOver (comes said) files outcome = outcome ≡ said
 IsOutcomeOver (reads name next) files outcome = IsOutcomeOver (next (file files name)) files outcome
-IsOutcomeOver (opens hash bytes next) files outcome =
-    (found : Found) → Shows hash bytes found → IsOutcomeOver (next found) files outcome
+IsOutcomeOver (opens v hash bytes next) files outcome =
+    (found : Found) → Shows v hash bytes found → IsOutcomeOver (next found) files outcome
 IsOutcomeOver (rereads reading next) files outcome = IsOutcomeOver next files outcome
 IsOutcomeOver (judges hash root query proof next) files outcome = IsOutcomeOver next files outcome
 
@@ -60,7 +61,7 @@ abbrev pub LacksInput : Plan → Option Files → Type 0
 LacksInput (comes said) told = ⊥
 LacksInput (reads name next) told = IsAbsent told name
     ⊎ ((input : Input) × IsInput told name input × LacksInput (next input) told)
-LacksInput (opens hash bytes next) told = (found : Found) × Shows hash bytes found
+LacksInput (opens v hash bytes next) told = (found : Found) × Shows v hash bytes found
     × LacksInput (next found) told
 LacksInput (rereads reading next) told = LacksInput next told
 LacksInput (judges hash root query proof next) told = LacksInput next told

@@ -74,12 +74,12 @@ pub record IsFinding (hash : List ℕ → List ℕ) (query : Query) (finding : F
 -- some text has this first fault as a batch
 abbrev pub IsBadText : Outcome → Type 0
 IsBadText said = (text : List ℕ) × AreBytes text × ((fault : TextFault)
-    × (batch_of_text text ≡ Err fault) × (said ≡ ends BadText (bad_text_line fault)))
+    × (batch_of_text One text ≡ Err fault) × (said ≡ ends BadText (bad_text_line fault)))
 
 -- the batch of some text may not be applied to some records at some batch, for this cause
 abbrev pub IsBadBatch : Outcome → Type 0
 IsBadBatch said = (text : List ℕ) × AreBytes text × ((batch : Changes)
-    × (batch_of_text text ≡ Ok batch) × ((rs : List Record) × (held : ℕ) × ((fault : BatchFault)
+    × (batch_of_text One text ≡ Ok batch) × ((rs : List Record) × (held : ℕ) × ((fault : BatchFault)
     × (batch_fault rs held batch ≡ Some fault) × (said ≡ ends BadBatch (bad_batch_line fault)))))
 
 -- the root digest of some batch, count and root node that a map may have
@@ -109,7 +109,8 @@ MaySay (auditing hash map query proof) said = IsRefused hash map said ⊎ (said 
     ⊎ ((finding : Finding) × IsFinding hash query finding × (said ≡ say_finding finding))
 MaySay (serving hash map script bundle) said = IsRefused hash map said
     ⊎ (said ≡ says_missing script)
-    ⊎ ((held : Opened) × ∥ WellFormed held.tree ∥₁ × (text : List ℕ) × AreBytes text
+    ⊎ ((held : Opened) × (held.version ≡ One) × ∥ WellFormed held.tree ∥₁ × (text : List ℕ)
+    × AreBytes text
     × (said ≡ say_serve_of hash bundle held (queries_of_text text)))
 MaySay (applying hash old batch new) said = IsRefused hash old said ⊎ (said ≡ says_missing batch)
     ⊎ IsBadText said ⊎ IsBadBatch said ⊎ IsSomeRoot hash new said

@@ -3,7 +3,9 @@ use Rattle.std.specs.Prelude.{ℕ, List, [], ◌∷◌, Option, Some, None, Resu
 use Rattle.mr_record.specs.declared.record.Record.{Record}
 use Rattle.mr_record.specs.declared.text_fault.TextFault.{TextFault}
 use Rattle.mr_record.specs.RecordText.{records_of_text, text_of}
-use Rattle.mr_tree.specs.Digest.{root}
+use Rattle.mr_record.specs.declared.version.Version.{Version}
+use Rattle.mr_record.specs.declared.version.Version.TheVariants.{One, Two}
+use Rattle.mr_tree.specs.Digest.{by, root}
 use Rattle.mr_tree.specs.Tree.{records}
 use Rattle.mr_tree.specs.declared.tree.Tree.{Tree}
 use Rattle.mr_pack.specs.Pack.{pack}
@@ -22,7 +24,7 @@ use Rattle.mr_proof.specs.Honest as honest
 use Rattle.mr_proof.specs.Reading.{verdict}
 use Rattle.mr_clash.specs.Finding.{found}
 use Rattle.mr_plan.specs.Demo.{demo_lines}
-use Rattle.mr_plan.specs.First.{first}
+use Rattle.mr_plan.specs.First.{first, first_pages}
 use Rattle.mr_plan.specs.Found.{Found, bad_map_line}
 use Rattle.mr_plan.specs.Lines.{digest_line, bad_words_line, bad_text_line, bad_batch_line, made_line}
 use Rattle.mr_plan.specs.Outcome.{Outcome, File, map_of, changed}
@@ -32,7 +34,7 @@ pub use Rattle.mr_plan.specs.Saying.{ends, prints, says_missing, say_text, say_w
 pub use Rattle.mr_plan.specs.Saying.{say_finding, say_bundle, held_in}
 pub use Rattle.mr_plan.specs.Saying.{say_serve_of, say_verdicts, say_parts_of}
 use Rattle.mr_plan.specs.Refusal.{refused_line}
-use Rattle.mr_pages.specs.Opening.{pages_in}
+use Rattle.mr_pages.specs.File.{version_of}
 use Rattle.mr_pages.specs.declared.opening.Opened.{Opened}
 use Rattle.mr_plan.specs.declared.status.Status.TheVariants.{Done, BadWords, Refused, BadText, BadMap, BadBatch}
 use Rattle.mr_plan.specs.declared.words.Command.{Command}
@@ -52,50 +54,74 @@ abbrev pub given_map : (Opened → Plan) → Found → Plan
 given_map next (Ok map) = next map
 given_map next (Err fault) = comes (ends BadMap (bad_map_line fault))
 
--- a file that has to be there and to stand for a map is read
-abbrev pub needs_map : (List ℕ → List ℕ) → List ℕ → (Opened → Plan) → Plan
-needs_map hash name next = needs name (λ bytes. opens hash bytes (given_map next))
+-- a file that has to be there and to stand for a map, read in a version that goes by its bytes, is
+-- read
+abbrev pub needs_map_in : (List ℕ → Version) → (List ℕ → List ℕ) → List ℕ → (Opened → Plan) → Plan
+needs_map_in version hash name next =
+    needs name (λ bytes. opens (version bytes) hash bytes (given_map next))
 
--- the same, where what follows goes by the number of the file's pages besides
+-- the first version, whatever the bytes
+abbrev pub always_first : List ℕ → Version
+always_first bytes = One
+
+-- a map of the first version
+abbrev pub needs_map : (List ℕ → List ℕ) → List ℕ → (Opened → Plan) → Plan
+needs_map hash name next = needs_map_in always_first hash name next
+
+-- a map of either version
+abbrev pub needs_any_map : (List ℕ → List ℕ) → List ℕ → (Opened → Plan) → Plan
+needs_any_map hash name next = needs_map_in version_of hash name next
+
+-- a map of the first version, where what follows goes by the number of the file's pages besides
 abbrev pub needs_sized_map : (List ℕ → List ℕ) → List ℕ → ((pages : ℕ) → Opened → Plan) → Plan
 needs_sized_map hash name next =
-    needs name (λ bytes. opens hash bytes (given_map (next (pages_in bytes))))
+    needs name (λ bytes. opens One hash bytes (given_map (next (first_pages bytes))))
 
 -- the root of the tree of the records of a text at batch 0, or the text's first fault
-abbrev pub say_root_of : (List ℕ → List ℕ) → Result (List Record) TextFault → Outcome
-say_root_of hash (Err fault) = ends BadText (bad_text_line fault)
-say_root_of hash (Ok records) = prints (digest_line (root (first hash) (pack records) 0))
+abbrev pub say_root_of : Version → (List ℕ → List ℕ) → Result (List Record) TextFault → Outcome
+say_root_of v hash (Err fault) = ends BadText (bad_text_line fault)
+say_root_of v hash (Ok records) = prints (digest_line (root (by v hash) (pack records) 0))
 
--- `root RECORDS`: the root of the records of a file
-abbrev pub say_root : (List ℕ → List ℕ) → List ℕ → Plan
-say_root hash records = needs records (λ text. comes (say_root_of hash (records_of_text text)))
+-- `root RECORDS`, in version 2 `root2 RECORDS`: the root of the records of a file
+abbrev pub say_root : Version → (List ℕ → List ℕ) → List ℕ → Plan
+say_root v hash records =
+    needs records (λ text. comes (say_root_of v hash (records_of_text v text)))
 
--- the map of a tree at a batch in a file, laid out with its nodes in preorder and no free page, and
--- its root
-abbrev pub say_map : (List ℕ → List ℕ) → List ℕ → Tree → ℕ → Outcome
-say_map hash map tree batch = record {
+-- the map of a tree at a batch in a file of this version, laid out with its nodes in preorder and
+-- no free page, and its root
+abbrev pub say_map : Version → (List ℕ → List ℕ) → List ℕ → Tree → ℕ → Outcome
+say_map v hash map tree batch = record {
   status = Done;
-  printed = digest_line (root (first hash) tree batch);
-  written = File map (map_of hash tree batch);
+  printed = digest_line (root (by v hash) tree batch);
+  written = File map (map_of v hash tree batch);
 }
 
 -- the map of the records of a text at batch 0 in a file, and its root; or the text's first fault
-abbrev pub say_build_of : (List ℕ → List ℕ) → List ℕ → Result (List Record) TextFault → Outcome
-say_build_of hash map (Err fault) = ends BadText (bad_text_line fault)
-say_build_of hash map (Ok records) = say_map hash map (pack records) 0
+abbrev pub say_build_of : Version → (List ℕ → List ℕ) → List ℕ
+    → Result (List Record) TextFault → Outcome
+say_build_of v hash map (Err fault) = ends BadText (bad_text_line fault)
+say_build_of v hash map (Ok records) = say_map v hash map (pack records) 0
 
--- `build MAP RECORDS`: the map of the records of a file
-abbrev pub say_build : (List ℕ → List ℕ) → List ℕ → List ℕ → Plan
-say_build hash map records =
-    needs records (λ text. comes (say_build_of hash map (records_of_text text)))
+-- `build MAP RECORDS`, in version 2 `build2 MAP RECORDS`: the map of the records of a file
+abbrev pub say_build : Version → (List ℕ → List ℕ) → List ℕ → List ℕ → Plan
+say_build v hash map records =
+    needs records (λ text. comes (say_build_of v hash map (records_of_text v text)))
 
--- the records of a map in rising number, a line for each
-abbrev pub say_list_of : Tree → Outcome
-say_list_of tree = prints (text_of (by_number (records tree)))
+-- the records of a map in rising number, a line of the map's version for each
+abbrev pub say_list_of : Opened → Outcome
+say_list_of map = prints (text_of map.version (by_number (records map.tree)))
 
 -- `list MAP`: the records of the map in a file
 abbrev pub say_list : (List ℕ → List ℕ) → List ℕ → Plan
-say_list hash name = needs_map hash name (λ map. comes (say_list_of map.tree))
+say_list hash name = needs_any_map hash name (λ map. comes (say_list_of map))
+
+-- the tree and the batch of a map, in a file of version 2
+abbrev pub say_upgrade_of : (List ℕ → List ℕ) → List ℕ → Opened → Outcome
+say_upgrade_of hash new map = say_map Two hash new map.tree map.batch
+
+-- `upgrade OLD NEW`: the map in a file, of either version, written to another one in version 2
+abbrev pub say_upgrade : (List ℕ → List ℕ) → (old new : List ℕ) → Plan
+say_upgrade hash old new = needs_any_map hash old (λ map. comes (say_upgrade_of hash new map))
 
 -- the map of the tree after a batch in a file, at the batch's number, and its root. The file is
 -- made by changes from one of so many pages.
@@ -128,7 +154,7 @@ say_apply_of hash new pages map (Ok batch) = say_batch hash new pages map batch
 -- what is said of the batch in a file
 abbrev pub say_change : (List ℕ → List ℕ) → (batch new : List ℕ) → (pages : ℕ) → Opened → Plan
 say_change hash batch new pages map =
-    needs batch (λ text. comes (say_apply_of hash new pages map (batch_of_text text)))
+    needs batch (λ text. comes (say_apply_of hash new pages map (batch_of_text One text)))
 
 -- `apply OLD BATCH NEW`: the map after the batch in a file, written to another one
 abbrev pub say_apply : (List ℕ → List ℕ) → (old batch new : List ℕ) → Plan
@@ -147,7 +173,7 @@ say_prove hash name query proof = rereads (proving hash name query proof)
 
 -- the answer that a proof proves, a line for each record, or its fault
 abbrev pub say_verdict : Result (List Record) Fault → Outcome
-say_verdict (Ok answer) = prints (text_of answer)
+say_verdict (Ok answer) = prints (text_of One answer)
 say_verdict (Err fault) = ends Refused (refused_line fault)
 
 -- what is said of the bytes of a proof
@@ -198,7 +224,7 @@ say_check_all hash root script bundle = needs script
 -- the text of generated records in a file, and how many they are
 unfoldable pub say_make_of : (count seed : ℕ) → List ℕ → Outcome
 say_make_of count seed records =
-    say_text (made_line count) records (text_of (generated count seed))
+    say_text (made_line count) records (text_of One (generated count seed))
 
 -- `make N SEED RECORDS`: the text of generated records, written to a file
 abbrev pub say_make : (count seed : ℕ) → List ℕ → Plan
@@ -211,8 +237,11 @@ say_demo hash count seed = comes (prints (demo_lines hash count seed))
 -- what is said where words spell a command, and where they spell none
 abbrev pub say : (List ℕ → List ℕ) → Option Command → Plan
 say hash None = comes (ends BadWords bad_words_line)
-say hash (Some (commands.Root records)) = say_root hash records.now
-say hash (Some (commands.Build map records)) = say_build hash map.now records.now
+say hash (Some (commands.Root records)) = say_root One hash records.now
+say hash (Some (commands.Root2 records)) = say_root Two hash records.now
+say hash (Some (commands.Build map records)) = say_build One hash map.now records.now
+say hash (Some (commands.Build2 map records)) = say_build Two hash map.now records.now
+say hash (Some (commands.Upgrade old new)) = say_upgrade hash old.now new.now
 say hash (Some (commands.List map)) = say_list hash map.now
 say hash (Some (commands.Apply old batch new)) = say_apply hash old.now batch.now new.now
 say hash (Some (commands.Prove map query proof)) = say_prove hash map.now query proof.now

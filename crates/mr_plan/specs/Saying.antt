@@ -1,7 +1,9 @@
 -- Outcomes, by what they say.
 use Rattle.std.specs.Prelude.{ℕ, List, ◌++◌, length, Option, Result, Ok, Err}
 use Rattle.mr_record.specs.RecordText.{text_of}
+use Rattle.mr_record.specs.declared.version.Version.TheVariants.{One}
 use Rattle.mr_record.specs.declared.text_fault.TextFault.{TextFault}
+use Rattle.mr_tree.specs.Digest.{by}
 use Rattle.mr_tree.specs.Snapshot.{tree_of}
 use Rattle.mr_tree.specs.declared.nodes.Top.{Top}
 use Rattle.mr_tree.specs.declared.stored.Stored.{Stored}
@@ -13,7 +15,6 @@ use Rattle.mr_bundle.specs.Verdicts.{verdicts}
 use Rattle.mr_bundle.specs.declared.verdict.Verdict.{Verdict}
 use Rattle.mr_clash.specs.declared.finding.Finding.{Finding}
 use Rattle.mr_clash.specs.declared.finding.Finding.TheVariants as findings
-use Rattle.mr_plan.specs.First.{first}
 use Rattle.mr_plan.specs.Judged.{bundle_text, bundle_status}
 use Rattle.mr_plan.specs.Lines.{bad_text_line, missing_line, proof_line, served_line, sound_line, collision_lines}
 use Rattle.mr_plan.specs.Outcome.{Outcome, Nothing, File}
@@ -50,7 +51,7 @@ say_written proof bytes = say_text (proof_line (length bytes)) proof bytes
 -- answer, a line for each record; or the two strings
 abbrev pub say_finding : Finding → Outcome
 say_finding (findings.Refused fault) = ends Refused (refused_line fault)
-say_finding (findings.Sound answer) = prints (sound_line ++ text_of answer)
+say_finding (findings.Sound answer) = prints (sound_line ++ text_of One answer)
 say_finding (findings.Collision owned shown) = ends Collision (collision_lines owned shown)
 
 -- a bundle in a file, how many queries it is for, and its length
@@ -59,14 +60,15 @@ say_bundle name queries bytes = say_text (served_line queries (length bytes)) na
 
 -- the map that is in memory, by its nodes and its head
 abbrev pub held_in : List Stored → Top → Opened
-held_in nodes top = record { tree = tree_of nodes top; batch = top.batch }
+held_in nodes top = record
+    { tree = tree_of nodes top; version = top.version; batch = top.batch }
 
 -- the bundle for the queries of a script on a map in a file, or the script's first fault
 unfoldable pub say_serve_of : (List ℕ → List ℕ) → List ℕ → Opened → Result (List Query) TextFault
     → Outcome
 say_serve_of hash name map (Err fault) = ends BadText (bad_text_line fault)
 say_serve_of hash name map (Ok queries) =
-    say_bundle name (length queries) (bundle (first hash) map.tree map.batch queries)
+    say_bundle name (length queries) (bundle (by map.version hash) map.tree map.batch queries)
 
 -- the verdicts on the parts of a bundle that are whole, for so many queries
 abbrev pub say_verdicts : (queries : ℕ) → List Verdict → (broken : Option ℕ) → Outcome

@@ -52,8 +52,13 @@ seed_word seed = number 0 (2 ^ 64 - 1) seed
 -- the words of each command
 abbrev pub words_of : Command → List Word
 words_of (commands.Root records) = key (codes "root") ∷ file records.now ∷ []
+words_of (commands.Root2 records) = key (codes "root2") ∷ file records.now ∷ []
 words_of (commands.Build map records) =
     key (codes "build") ∷ file map.now ∷ file records.now ∷ []
+words_of (commands.Build2 map records) =
+    key (codes "build2") ∷ file map.now ∷ file records.now ∷ []
+words_of (commands.Upgrade old new) =
+    key (codes "upgrade") ∷ file old.now ∷ file new.now ∷ []
 words_of (commands.List map) = key (codes "list") ∷ file map.now ∷ []
 words_of (commands.Apply old batch new) =
     key (codes "apply") ∷ file old.now ∷ file batch.now ∷ file new.now ∷ []

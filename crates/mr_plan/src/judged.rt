@@ -1,9 +1,11 @@
 //! What is printed of a bundle.
 
-ghost use Rattle.std.specs.Prelude.{◌≡◌, ◌+◌, ◌≤◌, ◌<◌, ◌^◌, ◌++◌, ◌∷◌, [], length, codes, decimal, OnOk, IfOk};
+ghost use Rattle.std.specs.Prelude.{◌≡◌, ◌+◌, ◌≤◌, ◌<◌, ◌^◌, ◌++◌, ◌∷◌, [], All, length, codes, decimal, OnOk, IfOk};
 ghost use Rattle.std.specs.String.{string_bytes};
+ghost use Rattle.mr_record.specs.Record.{HasLayer};
+ghost use Rattle.mr_record.specs.declared.version.Version.TheVariants.{One};
 ghost use Rattle.mr_bundle.specs.declared.verdict.Verdict.TheVariants as verdicts;
-ghost use Rattle.mr_plan.specs.Judged.{verdict_text, verdict_lines, missing_part_line, missing_lines, summary_line as line_of_summary, broken_line, broken_text, accepted_count, bundle_text, bundle_status, is_accepted as accepts};
+ghost use Rattle.mr_plan.specs.Judged.{IsPlain, verdict_text, verdict_lines, missing_part_line, missing_lines, summary_line as line_of_summary, broken_line, broken_text, accepted_count, bundle_text, bundle_status, is_accepted as accepts};
 
 use crate::Status;
 use crate::lines::refused_line;
@@ -30,6 +32,7 @@ fn put_answer(
     query: usize,
     answer: &[Record],
 ) -> Result<(), AllocError>
+    requires { All (HasLayer One) answer.now }
     ensures { OnOk result (out.new.bytes.items ≡ out.old.bytes.items
         ++ verdict_text query (verdicts.Accepted answer.now)) }
 {
@@ -64,6 +67,7 @@ fn put_verdict(
     query: usize,
     verdict: &Verdict,
 ) -> Result<(), AllocError>
+    requires { IsPlain verdict.now }
     ensures { OnOk result (out.new.bytes.items ≡ out.old.bytes.items
         ++ verdict_text query verdict.now) }
 {
@@ -75,6 +79,7 @@ fn put_verdict(
 
 // Puts the verdicts, in the order of their queries.
 fn put_verdicts(alloc: Global, out: &mut Text, list: &[Verdict]) -> Result<(), AllocError>
+    requires { All IsPlain list.now }
     ensures { OnOk result (out.new.bytes.items ≡ out.old.bytes.items
         ++ verdict_lines 1 list.now) }
 {
@@ -192,6 +197,7 @@ pub fn judged_text(
     accepted: usize,
     broken: Option<usize>,
 ) -> Result<Text, AllocError>
+    requires plain { All IsPlain list.now }
     requires few { length list.now ≤ queries }
     requires room { queries + 1 < 2 ^ 64 }
     requires accepted { accepted ≡ accepted_count list.now }

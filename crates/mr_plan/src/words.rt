@@ -20,11 +20,19 @@ const DEMO_LIMIT: u64 = 1 << 16;
 pub enum Command<'a> {
     /// Print the root digest of the records of a file.
     Root(&'a str),
+    /// The same in version 2.
+    Root2(&'a str),
     /// Write a map of the records of the second file to the first one, and print its root digest.
     /// The nodes are laid out in preorder from page 1 on, and no page is free.
     Build(&'a str, &'a str),
-    /// Print the records of the map in a file, in rising number.
+    /// The same in version 2.
+    Build2(&'a str, &'a str),
+    /// Print the records of the map in a file, in rising number, in lines of the map's version.
     List(&'a str),
+    /// Write the map in the first file, of either version, to the second one in version 2, and
+    /// print its root digest. The nodes are laid out in preorder from page 1 on, and no page is
+    /// free.
+    Upgrade(&'a str, &'a str),
     /// Apply the batch in the second file to the map in the first one, write the map after it to
     /// the third one, and print its root digest. The new file is as long as the old one at least.
     Apply(&'a str, &'a str, &'a str),
@@ -62,6 +70,17 @@ fn root_words(name: &str) -> Option<Command<'_>>
     }
 }
 
+// The command `root2` on a file.
+fn root2_words(name: &str) -> Option<Command<'_>>
+    ensures { IsSpelled (codes "root2" ∷ name.now ∷ []) result }
+{
+    if name.is_empty() {
+        None
+    } else {
+        Some(Command::Root2(name))
+    }
+}
+
 // The command `list` on a file.
 fn list_words(name: &str) -> Option<Command<'_>>
     ensures { IsSpelled (codes "list" ∷ name.now ∷ []) result }
@@ -81,6 +100,28 @@ fn build_words<'a>(map: &'a str, records: &'a str) -> Option<Command<'a>>
         None
     } else {
         Some(Command::Build(map, records))
+    }
+}
+
+// The command `build2` on two files.
+fn build2_words<'a>(map: &'a str, records: &'a str) -> Option<Command<'a>>
+    ensures { IsSpelled (codes "build2" ∷ map.now ∷ records.now ∷ []) result }
+{
+    if map.is_empty() || records.is_empty() || map == records {
+        None
+    } else {
+        Some(Command::Build2(map, records))
+    }
+}
+
+// The command `upgrade` on two files.
+fn upgrade_words<'a>(old: &'a str, new: &'a str) -> Option<Command<'a>>
+    ensures { IsSpelled (codes "upgrade" ∷ old.now ∷ new.now ∷ []) result }
+{
+    if old.is_empty() || new.is_empty() || old == new {
+        None
+    } else {
+        Some(Command::Upgrade(old, new))
     }
 }
 
@@ -222,6 +263,7 @@ fn two_words<'a>(name: &str, a: &'a str) -> Option<Command<'a>>
 {
     match name {
         "root" => root_words(a),
+        "root2" => root2_words(a),
         "list" => list_words(a),
         _ => None,
     }
@@ -233,6 +275,8 @@ fn three_words<'a>(name: &str, a: &'a str, b: &'a str) -> Option<Command<'a>>
 {
     match name {
         "build" => build_words(a, b),
+        "build2" => build2_words(a, b),
+        "upgrade" => upgrade_words(a, b),
         "demo" => demo_words(a, b),
         _ => None,
     }

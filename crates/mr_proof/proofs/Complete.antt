@@ -1,21 +1,20 @@
 -- The honest proof is accepted, with the answer of a scan of the tree.
-use Rattle.std.proofs.Common.{◌≡◌, ℕ, ◌+◌, ◌-◌, ◌<◌, ◌≤◌, ◌^◌, Bool, true, false, eqb, List, [], ◌∷◌, ◌++◌, map, length, Option, Some, None, refl, sym, ap, subst, ◌∙◌, inl, inr, arith}
+use Rattle.std.proofs.Common.{◌≡◌, ℕ, ◌+◌, ◌-◌, ◌<◌, ◌≤◌, ◌^◌, true, false, eqb, List, [], ◌∷◌, ◌++◌, map, length, Option, Some, None, refl, sym, ap, subst, ◌∙◌, inl, inr, arith}
 use Rattle.std.specs.Prelude.{IfSome, filter}
 use Rattle.std.specs.List.{AllByRecursion}
 use Rattle.std.specs.Int.{w64, to_be_bytes}
 use Rattle.std.proofs.lemmas.List.{length-append}
 use Rattle.std.proofs.lemmas.Bool.{cases_Bool}
 use Rattle.std.proofs.lemmas.List.Elements.{All-from_recursion, recursion_from_All}
-use Rattle.mr_record.specs.Record.{IsRecord}
+use Rattle.mr_record.specs.Record.{IsRecord, HasLayer}
 use Rattle.mr_record.specs.declared.record.Record.{Record}
 use Rattle.mr_tree.specs.Tree.{level, records}
 use Rattle.mr_tree.specs.Digest.{Scheme, entry_step, digest, root, root_preimage}
 use Rattle.mr_tree.specs.declared.entry.Entry.{Entry}
 use Rattle.mr_record.specs.declared.version.Version.{Version}
-use Rattle.mr_record.specs.declared.version.Version.TheVariants.{One}
 use Rattle.mr_tree.specs.Digest as digests
 use Rattle.mr_tree.specs.Slim.{IsSlim, IsSlimNode}
-use Rattle.mr_tree.specs.WellFormed.{WellFormed, HasOneLevel}
+use Rattle.mr_tree.specs.WellFormed.{WellFormed, HasLayers, HasOneLevel}
 use Rattle.mr_tree.specs.declared.tree.Tree.{Tree}
 use Rattle.mr_tree.specs.declared.tree.Tree.TheVariants as tree
 use Rattle.mr_tree.specs.declared.tree.Tree.TheOpen as node
@@ -30,13 +29,16 @@ use Rattle.mr_proof.specs.declared.way.Way.{Way}
 use Rattle.mr_proof.specs.declared.head.Kind.{Kind}
 use Rattle.mr_proof.specs.declared.head.Kind.TheVariants as kind
 use Rattle.mr_proof.specs.declared.shown.Shown.{Shown}
+use Rattle.mr_proof.specs.Fields.{version}
 use Rattle.mr_proof.specs.Cut as cut
 use Rattle.mr_proof.specs.Cut.{Cut, Cuts, Pruned, Leaf, Inner, no_more, first, count_of, entry, entries, CutOf, CutsOf}
-use Rattle.mr_proof.specs.Spelling.{version_of, FitsCut, FitCuts, FitsShown, FitsLeaf, FitsInner, FitsHead, FitsPart, head_bytes, cut_bytes, part_bytes, radius_bytes, level_bytes, opened_records, IsSpelled}
-use Rattle.mr_proof.specs.Tight.{Seen, opens_at, Question, radius_by, IsLawful, question, IsTight, IsTightCut}
-use Rattle.mr_proof.specs.Accepted.{root_bytes, root_found, Shows}
+use Rattle.mr_proof.specs.Spelling.{FitsCut, FitCuts, FitsShown, FitsLeaf, FitsInner, FitsHead, FitsPart, head_bytes, cut_bytes, part_bytes, radius_bytes, level_bytes, opened_records}
+use Rattle.mr_proof.specs.Tight.{Seen, opens_at, Question, radius_by, IsLawful, question, IsTight}
+use Rattle.mr_proof.specs.Accepted.{root_bytes, Shows}
 use Rattle.mr_proof.specs.Honest.{ways_of, honest_cut, honest_head, honest_part, honest_said, proof_for, proof}
 use Rattle.mr_proof.specs.Halves.{AcceptsHonestProof, IsHonestProof, AcceptsHonest}
+use Rattle.mr_proof.proofs.Plain.{no_mask, no_count}
+use Rattle.mr_proof.proofs.PlainTrees.{IsPlainTree, IsPlainNode, plain_tree}
 use Rattle.mr_proof.proofs.Full.{IsFull, IsFullNode, there_tree, some_record, not_full_empty, empty_or_full}
 use Rattle.mr_proof.proofs.HonestCut.{meets, known_out, honest_cuts, honest_missed, pruned_shown, honest_met, honest_good, some_part, no_part}
 use Rattle.mr_proof.proofs.KeptRecords.{narrow_misses, kept}
@@ -73,27 +75,29 @@ inner_entry s ts t c =
     sym (ap (digests.entry s) c ∙ known_out s (tree.Inner ts) (node.Inner ts) (tree.outs-Inner ts))
 
 mutual
-  pub entry_cut : (s : Scheme) (v : ℕ) (P : Cut) (t : Tree) → CutOf s P t → every-Tree HasOneLevel t
-      → level t ≡ v → entry s v P ≡ digests.entry s t
-  entry_cut s v (Pruned x) t c even e = λ i. record {
+  pub entry_cut : (s : Scheme) → s.version ≡ version → (v : ℕ) (P : Cut) (t : Tree) → CutOf s P t
+      → every-Tree HasOneLevel t → level t ≡ v → entry s v P ≡ digests.entry s t
+  entry_cut s one v (Pruned x) t c even e = λ i. record {
     level = (sym e ∙ sym (entry_level s t)) i;
     rect = (c.0 ∙ sym (entry_rect s t)) i;
+    mask = sym (no_mask s one t) i;
+    count = sym (no_count s one t) i;
     digest = c.1 i;
   }
-  entry_cut s v (Leaf rs) t c even e = leaf_entry s rs t c
-  entry_cut s v (Inner cuts) t c even e =
+  entry_cut s one v (Leaf rs) t c even e = leaf_entry s rs t c
+  entry_cut s one v (Inner cuts) t c even e =
       let evens = subst (every-Tree HasOneLevel) c.1 even in
-      ap (λ (es : List Entry). entry_step s (node.Inner es)) (entry_cuts s (v - 1) cuts c.0 c.2
+      ap (λ (es : List Entry). entry_step s (node.Inner es)) (entry_cuts s one (v - 1) cuts c.0 c.2
       (every_child HasOneLevel c.0 evens) (below_levels v c.0 evens (ap level (sym c.1) ∙ e)))
       ∙ inner_entry s c.0 t c.1
 
-  pub entry_cuts : (s : Scheme) (v : ℕ) (Ps : Cuts) (ts : List Tree) → CutsOf s Ps ts → Even ts
-      → Levels v ts → entries s v Ps ≡ map (digests.entry s) ts
-  entry_cuts s v no_more ts c even e = sym (ap (map (digests.entry s)) c)
-  entry_cuts s v (first P Ps) ts c even e =
+  pub entry_cuts : (s : Scheme) → s.version ≡ version → (v : ℕ) (Ps : Cuts) (ts : List Tree) → CutsOf s Ps ts
+      → Even ts → Levels v ts → entries s v Ps ≡ map (digests.entry s) ts
+  entry_cuts s one v no_more ts c even e = sym (ap (map (digests.entry s)) c)
+  entry_cuts s one v (first P Ps) ts c even e =
       let evens = subst Even c.2 even in
       let es = subst (Levels v) c.2 e in
-      (λ i. entry_cut s v P c.0 c.3 evens.0 es.0 i ∷ entry_cuts s v Ps c.1 c.4 evens.1 es.1 i)
+      (λ i. entry_cut s one v P c.0 c.3 evens.0 es.0 i ∷ entry_cuts s one v Ps c.1 c.4 evens.1 es.1 i)
       ∙ sym (ap (map (digests.entry s)) c.2)
 
 -- ---- the honest cut has each value in its range
@@ -114,7 +118,7 @@ missed_fits s way h v t full slim f =
     subst (FitsCut v) (sym is) fine
 
 abbrev Fit : Scheme → (Seen → Way) → Tree → Type 0
-Fit s way t = IsFull t → IsSlim t → every-Tree HasOneLevel t → (v : ℕ) → level t ≡ v
+Fit s way t = IsFull t → IsPlainTree t → IsSlim t → every-Tree HasOneLevel t → (v : ℕ) → level t ≡ v
     → FitsCut v (honest_cut s way t)
 
 count_cuts : (s : Scheme) (way : Seen → Way) (ts : List Tree)
@@ -123,50 +127,54 @@ count_cuts s way [] = refl
 count_cuts s way (t ∷ ts) = let rest = count_cuts s way ts in omega arith
 
 all_fit : (s : Scheme) (way : Seen → Way) (ts : List Tree) → AllByRecursion (Fit s way) ts
-    → AllByRecursion IsFull ts → AllByRecursion IsSlim ts → Even ts → (v : ℕ) → Levels v ts
-    → FitCuts v (honest_cuts s way ts)
-all_fit s way [] all full slim even v e = tt
-all_fit s way (t ∷ ts) all full slim even v e =
-    (all.0 full.0 slim.0 even.0 v e.0, all_fit s way ts all.1 full.1 slim.1 even.1 v e.1)
+    → AllByRecursion IsFull ts → AllByRecursion IsPlainTree ts → AllByRecursion IsSlim ts → Even ts → (v : ℕ)
+    → Levels v ts → FitCuts v (honest_cuts s way ts)
+all_fit s way [] all full plain slim even v e = tt
+all_fit s way (t ∷ ts) all full plain slim even v e = (
+  all.0 full.0 plain.0 slim.0 even.0 v e.0,
+  all_fit s way ts all.1 full.1 plain.1 slim.1 even.1 v e.1,
+)
 
 leaf_fits : (s : Scheme) (way : Seen → Way) (rs : List Record) → IsFull (tree.Leaf rs)
-    → IsSlim (tree.Leaf rs) → (v : ℕ) → level (tree.Leaf rs) ≡ v → meets way (tree.Leaf rs) ≡ true
+    → IsPlainTree (tree.Leaf rs) → IsSlim (tree.Leaf rs) → (v : ℕ) → level (tree.Leaf rs) ≡ v
+    → meets way (tree.Leaf rs) ≡ true
     → FitsCut v (honest_cut s way (tree.Leaf rs))
-leaf_fits s way rs full slim v e m =
+leaf_fits s way rs full plain slim v e m =
     let own = here-Leaf IsFullNode rs full in
     let fine : FitsLeaf v rs = record {
       at_leaf = sym e ∙ level-Leaf rs;
       some = own.0;
       few = here-Leaf IsSlimNode rs slim;
       each = All-from_recursion IsRecord rs own.1;
+      layers = All-from_recursion (HasLayer version) rs (here-Leaf IsPlainNode rs plain);
     } in
     subst (FitsCut v) (sym (honest_met s way (tree.Leaf rs) (node.Leaf rs) (tree.outs-Leaf rs) m)) fine
 
 inner_fits : (s : Scheme) (way : Seen → Way) (ts : List Tree) → AllByRecursion (Fit s way) ts
-    → IsFull (tree.Inner ts) → IsSlim (tree.Inner ts) → every-Tree HasOneLevel (tree.Inner ts) → (v : ℕ)
-    → level (tree.Inner ts) ≡ v → meets way (tree.Inner ts) ≡ true
+    → IsFull (tree.Inner ts) → IsPlainTree (tree.Inner ts) → IsSlim (tree.Inner ts)
+    → every-Tree HasOneLevel (tree.Inner ts) → (v : ℕ) → level (tree.Inner ts) ≡ v → meets way (tree.Inner ts) ≡ true
     → FitsCut v (honest_cut s way (tree.Inner ts))
-inner_fits s way ts all full slim even v e m =
+inner_fits s way ts all full plain slim even v e m =
     let some = here-Inner IsFullNode ts full in
     let few = (here-Inner IsSlimNode ts slim).0 in
     let count = count_cuts s way ts in
     let up = level-Inner ts in
     let fine : FitsInner v (count_of (honest_cuts s way ts)) =
     record { above = omega arith; some = omega arith; few = omega arith } in
-    let below = all_fit s way ts all (every_child IsFullNode ts full) (every_child IsSlimNode ts slim)
-    (every_child HasOneLevel ts even) (v - 1) (below_levels v ts even e) in
+    let below = all_fit s way ts all (every_child IsFullNode ts full) (every_child IsPlainNode ts plain)
+    (every_child IsSlimNode ts slim) (every_child HasOneLevel ts even) (v - 1) (below_levels v ts even e) in
     subst (FitsCut v) (sym (honest_met s way (tree.Inner ts) (node.Inner ts) (tree.outs-Inner ts) m))
     (fine, below)
 
 honest_fits : (s : Scheme) (way : Seen → Way) → IsSized s.of → (t : Tree) → Fit s way t
 honest_fits s way h = tree_induction (Fit s way)
-    (λ full slim even v e. absurd (not_full_empty full))
-    (λ rs full slim even v e. elim (cases_Bool (meets way (tree.Leaf rs))) [
-      | inl m ↦ leaf_fits s way rs full slim v e m
+    (λ full plain slim even v e. absurd (not_full_empty full))
+    (λ rs full plain slim even v e. elim (cases_Bool (meets way (tree.Leaf rs))) [
+      | inl m ↦ leaf_fits s way rs full plain slim v e m
       | inr f ↦ missed_fits s way h v (tree.Leaf rs) full slim f
     ])
-    (λ ts all full slim even v e. elim (cases_Bool (meets way (tree.Inner ts))) [
-      | inl m ↦ inner_fits s way ts all full slim even v e m
+    (λ ts all full plain slim even v e. elim (cases_Bool (meets way (tree.Inner ts))) [
+      | inl m ↦ inner_fits s way ts all full plain slim even v e m
       | inr f ↦ missed_fits s way h v (tree.Inner ts) full slim f
     ])
 
@@ -201,40 +209,36 @@ head_short a t b =
 
 -- ---- the root that the honest proof is for
 
--- so far there is one version
-one_version : (v w : Version) → v ≡ w
-one_version One One = refl
-
-pub root_same : (s : Scheme) (a : Question) (t : Tree) (b : ℕ) (P : Option Cut) → WellFormed t
-    → FitsPart (honest_head a t b) P → IfSome P (λ C. CutOf s C t)
+pub root_same : (s : Scheme) → s.version ≡ version → (a : Question) (t : Tree) (b : ℕ) (P : Option Cut)
+    → WellFormed t → FitsPart (honest_head a t b) P → IfSome P (λ C. CutOf s C t)
     → digests.root_bytes s t b ≡ root_bytes s.of (honest_head a t b) P
-root_same s a t b None well fit c =
-    let own = one_version s.version (version_of (honest_head a t b)) in
-    λ i. root_preimage (own i) b (fit i) (digests.entry s t)
-root_same s a t b (Some P) well fit c =
-    let own : entry s (level t) P ≡ digests.entry s t = entry_cut s (level t) P t c well.one_level refl in
+root_same s one a t b None well fit c = λ i. root_preimage (one i) b (fit i) (digests.entry s t)
+root_same s one a t b (Some P) well fit c =
+    let own : entry s (level t) P ≡ digests.entry s t = entry_cut s one (level t) P t c well.one_level refl in
     (λ i. root_preimage s.version b (length (records t)) (record {
       level = entry_level s t i;
       rect = (sym (ap (λ (e : Entry). e.rect) own) ∙ entry-rect s (level t) P) i;
+      mask = no_mask s one t i;
+      count = no_count s one t i;
       digest = (sym (ap (λ (e : Entry). e.digest) own)) i;
-    })) ∙ sym (root_by s (honest_head a t b) P (one_version (version_of (honest_head a t b)) s.version))
+    })) ∙ sym (root_by s (honest_head a t b) P (sym one))
 
 -- ---- the honest proof
 
 -- what is shown of the honest proof, whose cut this is
 record OwnCut (s : Scheme) (t : Tree) (b : ℕ) (a : Question) (P : Option Cut) : Type 0 where
   same : honest_part s a t ≡ P
-  spelled : IsSpelled (honest_head a t b) P (proof_for s a t b)
   tight : IsTight a (honest_head a t b) P
   cut : IfSome P (λ C. CutOf s C t)
-  held : root_found s.of (honest_head a t b) P ≡ root s t b
   opened : filter (λ (r : Record). opens_at (ways_of a t) r.rect) (records t)
       ≡ filter (λ (r : Record). opens_at (ways_of a t) r.rect) (opened_records P)
   short : length (proof_for s a t b) < 2 ^ 30
+  -- where the records are of the version of proofs
+  fits : IsPlainTree t → FitsPart (honest_head a t b) P
 
 filled_own : (s : Scheme) → IsSized s.of → (t : Tree) (b : ℕ) (a : Question) → IsLawful a → WellFormed t
-    → IsFull t → b < 2 ^ 64 → OwnCut s t b a (Some (honest_cut s (ways_of a t) t))
-filled_own s h t b a law well full low =
+    → IsFull t → OwnCut s t b a (Some (honest_cut s (ways_of a t) t))
+filled_own s h t b a law well full =
     let way = ways_of a t in
     let head = honest_head a t b in
     let P = honest_cut s way t in
@@ -242,103 +246,119 @@ filled_own s h t b a law well full low =
     let some = some_record t full in
     let same = some_part s a t some in
     let few = well.few in
-    let fits = honest_fits s way h t full (slim_tree t well) well.one_level (level t) refl in
-    let whole = ap (λ (o : Option Cut). head_bytes head ++ part_bytes o) same in
     let front = head_short a t b in
-    let behind = cut_short s (level t) P t full fits good.cut in
+    let behind = cut_short s h.long P t full good.cut in
     let size : length (proof_for s a t b) ≡ length (head_bytes head) + length (cut_bytes P) =
-    ap length whole ∙ length-append (head_bytes head) (cut_bytes P) in
-    let shallow : FitsHead head = record {
-      batch = low;
-      count = few;
-      radius = radius_fits a (records t) law well.each;
-      level = well.shallow;
-      empty = λ z. absurd (omega arith);
-    } in
+    ap length (ap (λ (o : Option Cut). head_bytes head ++ part_bytes o) same)
+    ∙ length-append (head_bytes head) (cut_bytes P) in
     let all = sym (kept s way (narrow_misses way (law.narrow (radius_by a.around (records t)))) P t full good.cut
     good.tight) in
     record {
       same = same;
-      spelled = record { head = shallow; part = (some, fits); whole = whole; short = omega arith };
       tight = record { parts = good.tight; radius = same_radius a law (records t) (cut.records P) all };
       cut = good.cut;
-      held = ap s.of (sym (root_same s a t b (Some P) well (some, fits) good.cut));
       opened = all;
       short = omega arith;
+      fits = λ plain. (some, honest_fits s way h t full plain (slim_tree t well) well.one_level (level t) refl);
     }
 
-empty_own : (s : Scheme) (t : Tree) (b : ℕ) (a : Question) → IsLawful a → WellFormed t → t ≡ tree.Empty
-    → b < 2 ^ 64 → OwnCut s t b a None
-empty_own s t b a law well e low =
+empty_own : (s : Scheme) (t : Tree) (b : ℕ) (a : Question) → IsLawful a → t ≡ tree.Empty → OwnCut s t b a None
+empty_own s t b a law e =
     let head = honest_head a t b in
     let none : records t ≡ [] = ap records e ∙ records-Empty in
     let zero : length (records t) ≡ 0 = ap length none in
-    let flat : level t ≡ 0 = ap level e ∙ level-Empty in
     let same = no_part s a t zero in
-    let whole = ap (λ (o : Option Cut). head_bytes head ++ part_bytes o) same in
     let front = head_short a t b in
     let size : length (proof_for s a t b) ≡ length (head_bytes head) + 0 =
-    ap length whole ∙ length-append (head_bytes head) [] in
-    let fits : FitsHead head = record {
-      batch = low;
-      count = omega arith;
-      radius = radius_fits a (records t) law well.each;
-      level = omega arith;
-      empty = λ z. flat;
-    } in
+    ap length (ap (λ (o : Option Cut). head_bytes head ++ part_bytes o) same) ∙ length-append (head_bytes head) [] in
     record {
       same = same;
-      spelled = record { head = fits; part = zero; whole = whole; short = omega arith };
       tight = record { parts = tt; radius = ap (radius_by a.around) none };
       cut = tt;
-      held = ap s.of (sym (root_same s a t b None well zero tt));
       opened = ap (filter (λ (r : Record). opens_at (ways_of a t) r.rect)) none;
       short = omega arith;
+      fits = λ plain. zero;
     }
 
 own_part : (s : Scheme) → IsSized s.of → (t : Tree) (b : ℕ) (a : Question) → IsLawful a → WellFormed t
-    → b < 2 ^ 64 → (P : Option Cut) × OwnCut s t b a P
-own_part s h t b a law well low = elim (empty_or_full t well) [
-  | inl e ↦ (None, empty_own s t b a law well e low)
-  | inr full ↦ (Some (honest_cut s (ways_of a t) t), filled_own s h t b a law well full low)
+    → (P : Option Cut) × OwnCut s t b a P
+own_part s h t b a law well = elim (empty_or_full t well) [
+  | inl e ↦ (None, empty_own s t b a law e)
+  | inr full ↦ (Some (honest_cut s (ways_of a t) t), filled_own s h t b a law well full)
 ]
 
 own_cut : (s : Scheme) → IsSized s.of → (t : Tree) (b : ℕ) (a : Question) → IsLawful a → WellFormed t
-    → b < 2 ^ 64 → OwnCut s t b a (honest_part s a t)
-own_cut s h t b a law well low =
-    let p = own_part s h t b a law well low in
+    → OwnCut s t b a (honest_part s a t)
+own_cut s h t b a law well =
+    let p = own_part s h t b a law well in
     subst (OwnCut s t b a) (sym p.1.same) p.1
 
-pub honest_stands : (s : Scheme) → IsSized s.of → (a : Question) → IsLawful a → (t : Tree) (b : ℕ)
-    → WellFormed t → b < 2 ^ 64 → IsHonestProof s t b a
-honest_stands s h a law t b well low =
-    let p = own_cut s h t b a law well low in
-    record { spelled = p.spelled; tight = p.tight; cut = p.cut; held = p.held; short = p.short }
+-- the honest proof of every map is short, also of one of another version
+pub honest_short : (s : Scheme) → IsSized s.of → (a : Question) → IsLawful a → (t : Tree) (b : ℕ) → WellFormed t
+    → length (proof_for s a t b) < 2 ^ 30
+honest_short s h a law t b well = (own_cut s h t b a law well).short
+
+-- the level of a tree without records
+empty_level : (t : Tree) → WellFormed t → length (records t) ≡ 0 → level t ≡ 0
+empty_level t well none = elim (empty_or_full t well) [
+  | inl e ↦ ap level e ∙ level-Empty
+  | inr full ↦ let some = some_record t full in absurd (omega arith)
+]
+
+-- of a map of the version of proofs
+pub honest_stands : (s : Scheme) → s.version ≡ version → IsSized s.of → (a : Question) → IsLawful a → (t : Tree)
+    (b : ℕ) → WellFormed t → HasLayers version t → b < 2 ^ 64 → IsHonestProof s t b a
+honest_stands s one h a law t b well layers low =
+    let p = own_cut s h t b a law well in
+    let part = p.fits (plain_tree t layers) in
+    let few = p.short in
+    let head : FitsHead (honest_head a t b) = record {
+      batch = low;
+      count = well.few;
+      radius = radius_fits a (records t) law well.each;
+      level = well.shallow;
+      empty = empty_level t well;
+    } in
+    record {
+      spelled = record { head = head; part = part; whole = refl; short = omega arith };
+      tight = p.tight;
+      cut = p.cut;
+      held = ap s.of (sym (root_same s one a t b (honest_part s a t) well part p.cut));
+      short = p.short;
+    }
 
 -- the honest proof shows its head and cut
-honest_shows : (s : Scheme) → IsSized s.of → (t : Tree) (b : ℕ) (a : Question) → IsLawful a → WellFormed t
-    → b < 2 ^ 64 → Shows s.of (root s t b) a (proof_for s a t b) (honest_said s a t b)
-honest_shows s h t b a law well low =
-    let p = own_cut s h t b a law well low in
+honest_shows : (s : Scheme) → s.version ≡ version → IsSized s.of → (t : Tree) (b : ℕ) (a : Question) → IsLawful a
+    → WellFormed t → HasLayers version t → b < 2 ^ 64
+    → Shows s.of (root s t b) a (proof_for s a t b) (honest_said s a t b)
+honest_shows s one h t b a law well layers low =
+    let p = honest_stands s one h a law t b well layers low in
     record { spelled = p.spelled; kind = refl; tight = p.tight; held = p.held }
 
-pub accepts_own : (s : Scheme) → IsSized s.of → (a : Question) → IsLawful a → AcceptsHonestProof s a
-accepts_own s h a law = λ t b well low. checked_from s.of (root s t b) a (proof_for s a t b) (honest_said s a t b) law
-    (honest_shows s h t b a law well low)
+-- of the version of proofs
+plain_of : (s : Scheme) (t : Tree) → s.version ≡ version → HasLayers s.version t → HasLayers version t
+plain_of s t one layers = subst (λ (v : Version). HasLayers v t) one layers
+
+pub accepts_own : (s : Scheme) → s.version ≡ version → IsSized s.of → (a : Question) → IsLawful a
+    → AcceptsHonestProof s a
+accepts_own s one h a law = λ t b well layers low.
+    checked_from s.of (root s t b) a (proof_for s a t b) (honest_said s a t b) law
+    (honest_shows s one h t b a law well (plain_of s t one layers) low)
 
 -- ---- of queries
 
 -- the honest proof has the answer of a scan
-pub honest_scan : (s : Scheme) → IsSized s.of → (t : Tree) (b : ℕ) (q : Query) → IsQuery q → WellFormed t
-    → b < 2 ^ 64 → scan (records t) q ≡ scan (opened_records (honest_part s (question q) t)) q
-honest_scan s h t b q is well low =
-    let p = own_cut s h t b (question q) (is_lawful q is) well low in
+pub honest_scan : (s : Scheme) → IsSized s.of → (t : Tree) (q : Query) → IsQuery q → WellFormed t
+    → scan (records t) q ≡ scan (opened_records (honest_part s (question q) t)) q
+honest_scan s h t q is well =
+    let p = own_cut s h t 0 (question q) (is_lawful q is) well in
     same_answer q (records t) (opened_records (honest_part s (question q) t)) is p.opened
 
-pub accepts_honest : (s : Scheme) → IsSized s.of → (q : Query) → IsQuery q → AcceptsHonest s q
-accepts_honest s h q is = λ t b well low. verdict_from s.of (root s t b) q (proof s t b q) (scan (records t) q) is
-    (record {
+pub accepts_honest : (s : Scheme) → s.version ≡ version → IsSized s.of → (q : Query) → IsQuery q → AcceptsHonest s q
+accepts_honest s one h q is = λ t b well layers low.
+    let plain = plain_of s t one layers in
+    verdict_from s.of (root s t b) q (proof s t b q) (scan (records t) q) is (record {
       said = honest_said s (question q) t b;
-      shows = honest_shows s h t b (question q) (is_lawful q is) well low;
-      scanned = honest_scan s h t b q is well low;
+      shows = honest_shows s one h t b (question q) (is_lawful q is) well plain low;
+      scanned = honest_scan s h t q is well;
     })

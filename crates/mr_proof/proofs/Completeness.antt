@@ -8,7 +8,7 @@ use Rattle.std.proofs.lemmas.List.{append-nil, length-append, take_at, drop_at}
 use Rattle.std.proofs.lemmas.List.Concat.{flat_map-cons}
 use Rattle.std.proofs.lemmas.List.Elements.{recursion_from_All}
 use Rattle.mr_geom.specs.Rectangle.{Rectangle}
-use Rattle.mr_record.specs.Record.{IsRecord, record_bytes, rectangle_bytes}
+use Rattle.mr_record.specs.Record.{IsRecord, HasLayer, record_bytes, rectangle_bytes}
 use Rattle.mr_record.specs.Version.{version_byte}
 use Rattle.mr_record.specs.declared.record.Record.{Record}
 use Rattle.mr_query.specs.Word.{IsQuery}
@@ -37,6 +37,7 @@ use Rattle.mr_proof.specs.Layout.{Stand, start, behind, field_at}
 use Rattle.mr_proof.specs.Refused.{has_other_radius}
 use Rattle.mr_proof.specs.Reading.{walk, ending, checked, verdict}
 use Rattle.mr_proof.proofs.Laws.{radius_stands, is_lawful}
+use Rattle.mr_proof.proofs.Plain.{IsPlain, are_plain}
 use Rattle.mr_proof.proofs.Values.{bytes_same, word_long, wide_long, rectangle_long, tail}
 use Rattle.mr_proof.proofs.FieldValues.{number_value, batch_value, count_value, level_value, length_value, leaf_count_value, inner_count_value, rect_value, payload_value, digest_value, tag_value, magic_value, version_value, kind_value, flag_value, radius_value}
 
@@ -104,19 +105,21 @@ payload_again heeds e next s (b ∷ p) rest parts within =
     (payload_value (length (b ∷ p)) (b ∷ p)) parts within)
 
 record_again : {A B : Type 0} (heeds : Bool) (e : A → Stand → Result B Fault) (next : Record → Grammar A) (s : Stand)
-    (r : Record) (rest : List ℕ) → IsRecord r → s.rest ≡ record_bytes r ++ rest
-    → s.at + length (record_bytes r) ≤ place_limit
-    → Comes heeds e (one_record next) (next r) s (record_bytes r) rest
+    (r : Record) (rest : List ℕ) → IsRecord r → HasLayer version r → s.rest ≡ record_bytes version r ++ rest
+    → s.at + length (record_bytes version r) ≤ place_limit
+    → Comes heeds e (one_record next) (next r) s (record_bytes version r) rest
 unfolding record_bytes
-record_again heeds e next s r rest fine parts within =
+record_again heeds e next s r rest fine low parts within =
     let number = to_be_bytes w64 r.number in
     let place = rectangle_bytes r.rect in
     let tail = length r.payload ∷ r.payload in
-    let one : s.rest ≡ number ++ (place ++ (tail ++ rest)) = parts ∙ append_assoc (number ++ place) tail rest
-    ∙ append_assoc number place (tail ++ rest) in
-    let size : length ((number ++ place) ++ tail) ≡ 8 + 16 + (1 + length r.payload) = omega (
+    let one : s.rest ≡ number ++ (place ++ (tail ++ rest)) = parts
+    ∙ ap (λ (x : List ℕ). (x ++ tail) ++ rest) (append-nil (number ++ place))
+    ∙ append_assoc (number ++ place) tail rest ∙ append_assoc number place (tail ++ rest) in
+    let size : length (((number ++ place) ++ []) ++ tail) ≡ 8 + 16 + (1 + length r.payload) = omega (
       arith,
-      length-append (number ++ place) tail,
+      length-append ((number ++ place) ++ []) tail,
+      length-append (number ++ place) [],
       length-append number place,
       word_long r.number,
       rectangle_long r.rect,
@@ -126,54 +129,59 @@ record_again heeds e next s r rest fine parts within =
     let few = fine.payload in
     let n = reads_again heeds e want.Number number_in
     (λ n. reads want.Rect (λ x. reads want.Length
-    (λ l. payload (number_in l) (λ p. next (record { number = n; rect = rect_in x; payload = p }))))) s number
-    (place ++ (tail ++ rest)) (field.Num r.number) (word_long r.number) (number_value r.number fine.number) one
+    (λ l. payload (number_in l) (λ p. next (record { number = n; rect = rect_in x; layer = 0; payload = p }))))) s
+    number (place ++ (tail ++ rest)) (field.Num r.number) (word_long r.number) (number_value r.number fine.number) one
     (omega arith) in
     let a = n.place in
     let x = reads_again heeds e want.Rect rect_in
     (λ x. reads want.Length (λ l. payload (number_in l)
-    (λ p. next (record { number = r.number; rect = x; payload = p })))) n.end place (tail ++ rest)
+    (λ p. next (record { number = r.number; rect = x; layer = 0; payload = p })))) n.end place (tail ++ rest)
     (field.Rect r.rect) (rectangle_long r.rect) (rect_value r.rect fine.ordered fine.coordinates) n.left
     (omega arith) in
     let b = x.place in
     let l = reads_again heeds e want.Length number_in
-    (λ l. payload l (λ p. next (record { number = r.number; rect = r.rect; payload = p }))) x.end
+    (λ l. payload l (λ p. next (record { number = r.number; rect = r.rect; layer = 0; payload = p }))) x.end
     (length r.payload ∷ []) (r.payload ++ rest) (field.Num (length r.payload)) refl
     (length_value (length r.payload) few) x.left (omega arith) in
     let c = l.place in
-    let p = payload_again heeds e (λ p. next (record { number = r.number; rect = r.rect; payload = p })) l.end r.payload
+    let p = payload_again heeds e
+    (λ p. next (record { number = r.number; rect = r.rect; layer = 0; payload = p })) l.end r.payload
     rest l.left (omega arith) in
     let d = p.place in
-    record { end = p.end; left = p.left; place = omega arith; same = n.same ∙ x.same ∙ l.same ∙ p.same }
+    let flat : 0 ≡ r.layer = omega (arith, low) in
+    let is : Record → Type 0 = λ (x : Record). Comes heeds e (one_record next) (next x) s (record_bytes version r) rest
+    in
+    subst is (λ i. record { number = r.number; rect = r.rect; layer = flat i; payload = r.payload })
+    (record { end = p.end; left = p.left; place = omega arith; same = n.same ∙ x.same ∙ l.same ∙ p.same })
 
 records_again : {A B : Type 0} (heeds : Bool) (e : A → Stand → Result B Fault) (way : Seen → Way)
     (next : List Record → Grammar A)
-    (s : Stand) (rs : List Record) (rest : List ℕ) → AllByRecursion IsRecord rs
-    → s.rest ≡ flat_map record_bytes rs ++ rest → s.at + length (flat_map record_bytes rs) ≤ place_limit
-    → Comes heeds e (some_records way (length rs) next) (next rs) s (flat_map record_bytes rs) rest
+    (s : Stand) (rs : List Record) (rest : List ℕ) → AllByRecursion IsPlain rs
+    → s.rest ≡ flat_map (record_bytes version) rs ++ rest
+    → s.at + length (flat_map (record_bytes version) rs) ≤ place_limit
+    → Comes heeds e (some_records way (length rs) next) (next rs) s (flat_map (record_bytes version) rs) rest
 records_again heeds e way next s [] rest fine parts within = comes_none heeds e (next []) s rest parts
 records_again heeds e way next s (r ∷ rs) rest fine parts within =
-    let whole : flat_map record_bytes (r ∷ rs) ≡ record_bytes r ++ flat_map record_bytes rs = flat_map-cons record_bytes
-    r rs in
-    let size : length (flat_map record_bytes (r ∷ rs)) ≡ length (record_bytes r) + length
-    (flat_map record_bytes rs) = ap length whole ∙ length-append (record_bytes r) (flat_map record_bytes rs) in
-    let regrouped : s.rest ≡ record_bytes r ++ (flat_map record_bytes rs ++ rest) = parts
-    ∙ ap (λ (x : List ℕ). x ++ rest) whole ∙ append_assoc (record_bytes r) (flat_map record_bytes rs) rest in
+    let text = record_bytes version in
+    let whole : flat_map text (r ∷ rs) ≡ text r ++ flat_map text rs = flat_map-cons text r rs in
+    let size : length (flat_map text (r ∷ rs)) ≡ length (text r) + length (flat_map text rs) =
+    ap length whole ∙ length-append (text r) (flat_map text rs) in
+    let regrouped : s.rest ≡ text r ++ (flat_map text rs ++ rest) = parts
+    ∙ ap (λ (x : List ℕ). x ++ rest) whole ∙ append_assoc (text r) (flat_map text rs) rest in
     let one = record_again heeds e (λ r. notes (opens r (keeps_at way r.rect))
     (some_records way (length rs) (λ rs. next (r ∷ rs)))) s r
-    (flat_map record_bytes rs ++ rest) fine.0 regrouped (omega arith) in
+    (flat_map text rs ++ rest) fine.0.0 fine.0.1 regrouped (omega arith) in
     let a = one.place in
     let behind_one = records_again heeds e way (λ rs. next (r ∷ rs)) one.end rs rest fine.1 one.left (omega arith) in
     let others : Comes heeds e (notes (opens r (keeps_at way r.rect))
     (some_records way (length rs) (λ rs. next (r ∷ rs))))
-    (next (r ∷ rs)) one.end (flat_map record_bytes rs) rest = record
+    (next (r ∷ rs)) one.end (flat_map text rs) rest = record
     { end = behind_one.end; left = behind_one.left; place = behind_one.place; same = behind_one.same } in
     comes_as heeds e (some_records way (length (r ∷ rs)) next) (next (r ∷ rs)) s
-    (record_bytes r ++ flat_map record_bytes rs) (flat_map record_bytes (r ∷ rs)) rest (sym whole)
+    (text r ++ flat_map text rs) (flat_map text (r ∷ rs)) rest (sym whole)
     (comes_both heeds e (some_records way (length (r ∷ rs)) next)
     (notes (opens r (keeps_at way r.rect)) (some_records way (length rs) (λ rs. next (r ∷ rs)))) (next (r ∷ rs))
-    s (record_bytes r)
-    (flat_map record_bytes rs) rest one others)
+    s (text r) (flat_map text rs) rest one others)
 
 -- ---- items
 
@@ -194,14 +202,15 @@ leaf_again : {A B : Type 0} (heeds : Bool) (e : A → Stand → Result B Fault) 
     → s.rest ≡ tail (Leaf rs) ++ rest → s.at + length (tail (Leaf rs)) ≤ place_limit
     → Comes heeds e (leaf way next) (next (Leaf rs)) s (tail (Leaf rs)) rest
 leaf_again heeds e way next s rs rest fine tight parts within =
-    let text = flat_map record_bytes rs in
+    let text = flat_map (record_bytes version) rs in
     let n = reads_again heeds e want.LeafCount number_in
     (λ n. some_records way n (λ rs. opened way (Leaf rs) next)) s
     (length rs ∷ []) (text ++ rest) (field.Num (length rs)) refl
     (leaf_count_value (length rs) fine.some fine.few) parts (omega arith) in
     let a = n.place in
     let all = records_again heeds e way (λ rs. opened way (Leaf rs) next) n.end rs rest
-    (recursion_from_All IsRecord rs fine.each) n.left (omega arith) in
+    (are_plain rs (recursion_from_All IsRecord rs fine.each)
+    (recursion_from_All (HasLayer version) rs fine.layers)) n.left (omega arith) in
     let b = all.place in
     let met = note_again heeds e rule.Needless (opens_seen way (seen (Leaf rs)))
     (next (Leaf rs)) all.end rest tight all.left in

@@ -261,8 +261,9 @@ sized_record m next h = (
     λ r. (
       omega arith,
       λ l.
-          sized_payload (number_in l) (λ p. next (record { number = number_in n; rect = rect_in r; payload = p }))
-          (λ p. h (record { number = number_in n; rect = rect_in r; payload = p })),
+          sized_payload (number_in l)
+          (λ p. next (record { number = number_in n; rect = rect_in r; layer = 0; payload = p }))
+          (λ p. h (record { number = number_in n; rect = rect_in r; layer = 0; payload = p })),
     ),
   ),
 )

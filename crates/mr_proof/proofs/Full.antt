@@ -124,11 +124,11 @@ some_record = tree_induction (λ t. IsFull t → 1 ≤ length (records t))
 
 -- ---- of well-formed trees
 
-first_half : (P : Record → Type 0) (xs ys : List Record) → AllByRecursion P (xs ++ ys) → AllByRecursion P xs
+pub first_half : (P : Record → Type 0) (xs ys : List Record) → AllByRecursion P (xs ++ ys) → AllByRecursion P xs
 first_half P [] ys all = tt
 first_half P (x ∷ xs) ys all = (all.0, first_half P xs ys all.1)
 
-second_half : (P : Record → Type 0) (xs ys : List Record) → AllByRecursion P (xs ++ ys) → AllByRecursion P ys
+pub second_half : (P : Record → Type 0) (xs ys : List Record) → AllByRecursion P (xs ++ ys) → AllByRecursion P ys
 second_half P [] ys all = all
 second_half P (x ∷ xs) ys all = second_half P xs ys all.1
 

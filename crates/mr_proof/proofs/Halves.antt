@@ -10,7 +10,7 @@ use Rattle.mr_proof.specs.Refused.{IsRefused}
 use Rattle.mr_proof.specs.Reading.{verdict}
 use Rattle.mr_proof.specs.Halves.{ShowsJust, AcceptsJust, OneHalf}
 use Rattle.mr_record.proofs.Encodings.{IsBytes}
-use Rattle.mr_proof.proofs.FirstFault.{faults_just, refuses_just}
+use Rattle.mr_proof.proofs.FirstFault.{refuses_just}
 use Rattle.mr_proof.proofs.Soundness.{shows_from, proves_from}
 use Rattle.mr_proof.proofs.Completeness.{checked_from, verdict_from}
 

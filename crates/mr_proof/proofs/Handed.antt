@@ -173,8 +173,9 @@ module _ {A : Type 0} (Q : A → List Record → Type 0) where
   ends_record : (before : List Record) (next : Record → Grammar A) → ((r : Record) → Ends Q before (next r))
       → Ends Q before (one_record next)
   ends_record before next h = λ n r l.
-      ends_payload before (number_in l) (λ p. next (record { number = number_in n; rect = rect_in r; payload = p }))
-      (λ p. h (record { number = number_in n; rect = rect_in r; payload = p }))
+      ends_payload before (number_in l)
+      (λ p. next (record { number = number_in n; rect = rect_in r; layer = 0; payload = p }))
+      (λ p. h (record { number = number_in n; rect = rect_in r; layer = 0; payload = p }))
 
   ends_records : (before : List Record) (way : Seen → Way) (n : ℕ) (next : List Record → Grammar A)
       → ((rs : List Record) → Ends Q (before ++ out way rs) (next rs)) → Ends Q before (some_records way n next)

@@ -1,5 +1,6 @@
 pub mod Forms
 pub mod Values
+pub mod Plain
 pub mod Wide
 pub mod FirstFault
 pub mod FieldsTaken
@@ -13,6 +14,7 @@ pub mod Longer
 pub mod Handed
 pub mod Preimages
 pub mod Full
+pub mod PlainTrees
 pub mod HonestCut
 pub mod KeptRecords
 pub mod Laws

@@ -20,9 +20,9 @@ same_bytes x y e = cc
 pub digest_of_preimage : (s : Scheme) (v : ℕ) (P : Cut) (x : List ℕ) → preimage s v P ≡ Some x
     → digest s v P ≡ s.of x
 digest_of_preimage s v (Pruned part) x e = absurd cc
-digest_of_preimage s v (Leaf rs) x e = ap s.of (same_bytes (node_preimage (node.Leaf rs)) x e)
+digest_of_preimage s v (Leaf rs) x e = ap s.of (same_bytes (node_preimage s.version (node.Leaf rs)) x e)
 digest_of_preimage s v (Inner Ps) x e =
-    ap s.of (same_bytes (node_preimage (node.Inner (entries s (v - 1) Ps))) x e)
+    ap s.of (same_bytes (node_preimage s.version (node.Inner (entries s (v - 1) Ps))) x e)
 
 mutual
   -- what the parent knows has the rectangle of the cut
@@ -37,8 +37,18 @@ mutual
   entries-rects s v (first P Ps) = λ i. entry-rect s v P i ∷ entries-rects s v Ps i
 
 -- the root preimage of a head in the scheme's version and of a cut
-pub root_by : (s : Scheme) (h : Head) (P : Cut) → version_of h ≡ s.version → root_bytes s.of h (Some P)
-    ≡ root_preimage s.version h.batch h.count (record { level = h.level; rect = rect P; digest = digest s h.level P })
-root_by s h P v =
-    λ i. root_preimage (v i) h.batch h.count (record
-    { level = h.level; rect = rect P; digest = digest (by (v i) s.of) h.level P })
+pub root_by : (s : Scheme) (h : Head) (P : Cut) → version_of h ≡ s.version
+    → root_bytes s.of h (Some P) ≡ root_preimage s.version h.batch h.count (record {
+      level = h.level;
+      rect = rect P;
+      mask = 0;
+      count = 0;
+      digest = digest s h.level P;
+    })
+root_by s h P v = λ i. root_preimage (v i) h.batch h.count (record {
+  level = h.level;
+  rect = rect P;
+  mask = 0;
+  count = 0;
+  digest = digest (by (v i) s.of) h.level P;
+})

@@ -1,16 +1,18 @@
 -- Without two preimages that differ, a cut with the tree's rectangle and digest is a cut of the tree; else
 -- the first two are a collision.
-use Rattle.std.proofs.Common.{◌≡◌, ℕ, ◌-◌, ◌≤◌, List, [], ◌∷◌, ◌++◌, map, length, refl, sym, ap, subst, ◌∙◌, inl, inr, arith}
+use Rattle.std.proofs.Common.{◌≡◌, ℕ, ◌+◌, ◌-◌, ◌*◌, ◌≤◌, List, [], ◌∷◌, ◌++◌, map, length, refl, sym, ap, subst, ◌∙◌, inl, inr, arith}
 use Rattle.std.specs.Prelude.{Option, Some, None, bytes_eq}
 use Rattle.std.specs.List.{flat_map, AllByRecursion}
 use Rattle.std.proofs.lemmas.Bool.{cases_Bool, false≢true}
 use Rattle.std.proofs.lemmas.List.{nil_from_length, length-map, length-append}
 use Rattle.std.proofs.lemmas.List.Elements.{recursion_from_All}
 use Rattle.mr_geom.specs.Rectangle.{Rectangle}
-use Rattle.mr_record.specs.Record.{IsRecord, record_bytes, rectangle_bytes}
+use Rattle.mr_record.specs.Record.{IsRecord, HasLayer, record_bytes, rectangle_bytes}
+use Rattle.mr_record.specs.declared.version.Version.{Version}
+use Rattle.mr_record.specs.Version.{told}
 use Rattle.mr_record.specs.declared.record.Record.{Record}
 use Rattle.mr_record.proofs.RecordFields.{length-rectangle_bytes}
-use Rattle.mr_tree.specs.Digest.{Scheme, entry_bytes, rect_bytes, node_preimage, level_over}
+use Rattle.mr_tree.specs.Digest.{Scheme, entry_bytes, rect_bytes, word_bytes, node_preimage, level_over}
 use Rattle.mr_tree.specs.Digest as digests
 use Rattle.mr_tree.specs.declared.entry.Entry.{Entry}
 use Rattle.mr_tree.specs.declared.tree.Tree.{Tree}
@@ -19,12 +21,16 @@ use Rattle.mr_tree.specs.declared.tree.Tree.TheOpen as node
 use Rattle.mr_tree.specs.declared.tree.Tree.TheOpen.{Tree-F}
 use Rattle.mr_tree.specs.declared.tree.Tree.TheFolds.{map-Tree}
 use Rattle.mr_tree.proofs.Equations.{entry_rect, digest_of_preimage}
+use Rattle.mr_tree.proofs.RootLengths.{length-word_bytes}
 use Rattle.mr_tree.proofs.Induction.{tree_induction, here-Leaf, every_child}
 use Rattle.mr_proof.specs.Cut.{Cut, Cuts, Pruned, Leaf, Inner, no_more, first, count_of, entry, entries, CutOf, CutsOf}
+use Rattle.mr_proof.specs.Fields.{version}
 use Rattle.mr_proof.specs.Spelling.{FitsCut, FitCuts}
 use Rattle.mr_proof.specs.Clash.{Pair, differ, or_else, children, children_in, node_clash, children_clash, NoneAnd}
+use Rattle.mr_proof.proofs.Plain.{any_layers}
 use Rattle.mr_proof.proofs.Values.{same_bytes, bytes_same}
 use Rattle.mr_proof.proofs.Spellings.{fronts, cons_parts, same_rectangle, same_records}
+use Rattle.mr_proof.proofs.PlainTrees.{IsPlainTree, IsPlainNode}
 use Rattle.mr_proof.proofs.Full.{IsFull, IsFullNode, IsThere, there_union, there_records, there_tree, not_full_empty}
 
 -- ---- no pair, or a collision
@@ -68,18 +74,40 @@ pub record SameFront (e f : Entry) (x y : List ℕ) : Type 0 where
   pub here : SameEntry e f
   pub rest : x ≡ y
 
-pub entry_front : (e f : Entry) (x y : List ℕ) → IsNamed e → IsNamed f → entry_bytes e ++ x ≡ entry_bytes f ++ y
-    → SameFront e f x y
-entry_front e f x y p q is =
-    let re = rect_long e.rect p.there in
-    let rf = rect_long f.rect q.there in
-    let le = p.long in
-    let lf = q.long in
-    let whole = fronts (entry_bytes e) (entry_bytes f) x y
-    (omega (arith, length-append (rect_bytes e.rect) e.digest, length-append (rect_bytes f.rect) f.digest)) is in
-    let parts = fronts (rect_bytes e.rect) (rect_bytes f.rect) e.digest f.digest (re ∙ sym rf) whole.front in
+-- what stands behind the rectangle, and behind the mask
+abbrev counted : Version → Entry → List ℕ
+counted v e = word_bytes v e.count ++ e.digest
+
+abbrev masked : Version → Entry → List ℕ
+masked v e = word_bytes v e.mask ++ counted v e
+
+words_long : (v : Version) (m n : ℕ) → length (word_bytes v m) ≡ length (word_bytes v n)
+words_long v m n = length-word_bytes v m ∙ sym (length-word_bytes v n)
+
+named_long : (v : Version) (e : Entry) → IsNamed e → length (entry_bytes v e) ≡ 48 + 2 * told v 8
+named_long v e p = omega (
+  arith,
+  length-append (rect_bytes e.rect) (masked v e),
+  length-append (word_bytes v e.mask) (counted v e),
+  length-append (word_bytes v e.count) e.digest,
+  length-word_bytes v e.mask,
+  length-word_bytes v e.count,
+  rect_long e.rect p.there,
+  p.long,
+)
+
+pub entry_front : (v : Version) (e f : Entry) (x y : List ℕ) → IsNamed e → IsNamed f
+    → entry_bytes v e ++ x ≡ entry_bytes v f ++ y → SameFront e f x y
+entry_front v e f x y p q is =
+    let whole = fronts (entry_bytes v e) (entry_bytes v f) x y (named_long v e p ∙ sym (named_long v f q)) is in
+    let parts = fronts (rect_bytes e.rect) (rect_bytes f.rect) (masked v e) (masked v f)
+    (rect_long e.rect p.there ∙ sym (rect_long f.rect q.there)) whole.front in
+    let masks = fronts (word_bytes v e.mask) (word_bytes v f.mask) (counted v e) (counted v f)
+    (words_long v e.mask f.mask) parts.rest in
+    let counts = fronts (word_bytes v e.count) (word_bytes v f.count) e.digest f.digest
+    (words_long v e.count f.count) masks.rest in
     record {
-      here = record { rect = same_rect e.rect f.rect p.there q.there parts.front; digest = parts.rest };
+      here = record { rect = same_rect e.rect f.rect p.there q.there parts.front; digest = counts.rest };
       rest = whole.rest;
     }
 
@@ -119,14 +147,14 @@ mutual
 -- ---- one node
 
 pub preimage-Leaf : (s : Scheme) (rs : List Record)
-    → digests.preimage s (tree.Leaf rs) ≡ 0x4c ∷ length rs ∷ flat_map record_bytes rs
+    → digests.preimage s (tree.Leaf rs) ≡ 0x4c ∷ length rs ∷ flat_map (record_bytes s.version) rs
 preimage-Leaf s rs =
-    ap (λ (x : Tree-F Tree). node_preimage (map-Tree Tree Entry (digests.entry s) x)) (tree.outs-Leaf rs)
+    ap (λ (x : Tree-F Tree). node_preimage s.version (map-Tree Tree Entry (digests.entry s) x)) (tree.outs-Leaf rs)
 
 pub preimage-Inner : (s : Scheme) (ts : List Tree)
-    → digests.preimage s (tree.Inner ts) ≡ node_preimage (node.Inner (map (digests.entry s) ts))
+    → digests.preimage s (tree.Inner ts) ≡ node_preimage s.version (node.Inner (map (digests.entry s) ts))
 preimage-Inner s ts =
-    ap (λ (x : Tree-F Tree). node_preimage (map-Tree Tree Entry (digests.entry s) x)) (tree.outs-Inner ts)
+    ap (λ (x : Tree-F Tree). node_preimage s.version (map-Tree Tree Entry (digests.entry s) x)) (tree.outs-Inner ts)
 
 record Counted (n m : ℕ) (x y : List ℕ) : Type 0 where
   count : n ≡ m
@@ -141,48 +169,57 @@ third_on a b c d n m x y e = record { count = cc; rest = cc }
 other_letter : (x y : List ℕ) → (0x4c ∷ x) ≡ (0x4e ∷ y) → ⊥
 other_letter x y e = let h = (cons_parts 0x4c 0x4e x y e).0 in omega arith
 
-leaf_same : (s : Scheme) (rs : List Record) → AllByRecursion IsRecord rs → (t : Tree) → IsFull t
-    → digests.preimage s t ≡ 0x4c ∷ length rs ∷ flat_map record_bytes rs → t ≡ tree.Leaf rs
-leaf_same s rs each =
-    tree_induction (λ t. IsFull t → digests.preimage s t ≡ 0x4c ∷ length rs ∷ flat_map record_bytes rs
-    → t ≡ tree.Leaf rs)
-    (λ full e. absurd (not_full_empty full))
-    (λ ss full e.
-    let c = second_on 0x4c 0x4c (length ss) (length rs) (flat_map record_bytes ss) (flat_map record_bytes rs)
+leaf_same : (s : Scheme) (rs : List Record) → AllByRecursion IsRecord rs → AllByRecursion (HasLayer version) rs
+    → (t : Tree) → IsFull t → IsPlainTree t
+    → digests.preimage s t ≡ 0x4c ∷ length rs ∷ flat_map (record_bytes s.version) rs → t ≡ tree.Leaf rs
+leaf_same s rs each layers =
+    let v = s.version in
+    tree_induction (λ t. IsFull t → IsPlainTree t
+    → digests.preimage s t ≡ 0x4c ∷ length rs ∷ flat_map (record_bytes s.version) rs → t ≡ tree.Leaf rs)
+    (λ full plain e. absurd (not_full_empty full))
+    (λ ss full plain e.
+    let own = here-Leaf IsFullNode ss full in
+    let low = here-Leaf IsPlainNode ss plain in
+    let c = second_on 0x4c 0x4c (length ss) (length rs) (flat_map (record_bytes v) ss) (flat_map (record_bytes v) rs)
     (sym (preimage-Leaf s ss) ∙ e) in
-    ap tree.Leaf (same_records ss rs (here-Leaf IsFullNode ss full).1 each c.count c.rest))
-    (λ ts below full e. absurd (other_letter _ _ (sym e ∙ preimage-Inner s ts)))
+    ap tree.Leaf (same_records v ss rs own.1 (any_layers v ss low) each (any_layers v rs layers) c.count c.rest))
+    (λ ts below full plain e. absurd (other_letter _ _ (sym e ∙ preimage-Inner s ts)))
 
 -- an inner node with these entries
 record InnerWith (s : Scheme) (es : List Entry) (t : Tree) : Type 0 where
   is : t ≡ tree.Inner (children t)
   full : AllByRecursion IsFull (children t)
+  plain : AllByRecursion IsPlainTree (children t)
   count : length (children t) ≡ length es
-  bytes : flat_map entry_bytes (map (digests.entry s) (children t)) ≡ flat_map entry_bytes es
+  bytes : flat_map (entry_bytes s.version) (map (digests.entry s) (children t)) ≡ flat_map (entry_bytes s.version) es
 
-inner_with : (s : Scheme) (es : List Entry) (ts : List Tree) → IsFull (tree.Inner ts)
-    → length ts ≡ length es → flat_map entry_bytes (map (digests.entry s) ts) ≡ flat_map entry_bytes es
+inner_with : (s : Scheme) (es : List Entry) (ts : List Tree) → IsFull (tree.Inner ts) → IsPlainTree (tree.Inner ts)
+    → length ts ≡ length es
+    → flat_map (entry_bytes s.version) (map (digests.entry s) ts) ≡ flat_map (entry_bytes s.version) es
     → InnerWith s es (tree.Inner ts)
-inner_with s es ts full count bytes =
+inner_with s es ts full plain count bytes =
     let same : children (tree.Inner ts) ≡ ts = ap children_in (tree.outs-Inner ts) in
     record {
       is = ap tree.Inner (sym same);
       full = subst (AllByRecursion IsFull) (sym same) (every_child IsFullNode ts full);
+      plain = subst (AllByRecursion IsPlainTree) (sym same) (every_child IsPlainNode ts plain);
       count = ap length same ∙ count;
-      bytes = ap (λ (us : List Tree). flat_map entry_bytes (map (digests.entry s) us)) same ∙ bytes;
+      bytes = ap (λ (us : List Tree). flat_map (entry_bytes s.version) (map (digests.entry s) us)) same ∙ bytes;
     }
 
-inner_same : (s : Scheme) (es : List Entry) (t : Tree) → IsFull t
-    → digests.preimage s t ≡ node_preimage (node.Inner es) → InnerWith s es t
+inner_same : (s : Scheme) (es : List Entry) (t : Tree) → IsFull t → IsPlainTree t
+    → digests.preimage s t ≡ node_preimage s.version (node.Inner es) → InnerWith s es t
 inner_same s es =
-    tree_induction (λ t. IsFull t → digests.preimage s t ≡ node_preimage (node.Inner es) → InnerWith s es t)
-    (λ full e. absurd (not_full_empty full))
-    (λ ss full e. absurd (other_letter _ _ (sym (preimage-Leaf s ss) ∙ e)))
-    (λ ts below full e.
+    tree_induction
+    (λ t. IsFull t → IsPlainTree t → digests.preimage s t ≡ node_preimage s.version (node.Inner es)
+    → InnerWith s es t)
+    (λ full plain e. absurd (not_full_empty full))
+    (λ ss full plain e. absurd (other_letter _ _ (sym (preimage-Leaf s ss) ∙ e)))
+    (λ ts below full plain e.
     let own = map (digests.entry s) ts in
-    let c = third_on 0x4e 0x4e (level_over own) (level_over es) (length own) (length es) (flat_map entry_bytes own)
-    (flat_map entry_bytes es) (sym (preimage-Inner s ts) ∙ e) in
-    inner_with s es ts full (sym (length-map ts (digests.entry s)) ∙ c.count) c.rest)
+    let c = third_on 0x4e 0x4e (level_over own) (level_over es) (length own) (length es)
+    (flat_map (entry_bytes s.version) own) (flat_map (entry_bytes s.version) es) (sym (preimage-Inner s ts) ∙ e) in
+    inner_with s es ts full plain (sym (length-map ts (digests.entry s)) ∙ c.count) c.rest)
 
 -- ---- all nodes
 
@@ -191,40 +228,43 @@ same_hash : (s : Scheme) (t : Tree) (x : List ℕ) → digests.digest s t ≡ s.
 same_hash s t x e = sym (digest_of_preimage s t) ∙ e
 
 abbrev below : Scheme → ℕ → Cuts → List ℕ
-below s v cuts = node_preimage (node.Inner (entries s (v - 1) cuts))
+below s v cuts = node_preimage s.version (node.Inner (entries s (v - 1) cuts))
 
 mutual
   pub cut_or_clash : (s : Scheme) → ((m : List ℕ) → length (s.of m) ≡ 32) → (v : ℕ) (t : Tree) (P : Cut)
-      → IsFull t → FitsCut v P → SameEntry (digests.entry s t) (entry s v P)
+      → IsFull t → IsPlainTree t → FitsCut v P → SameEntry (digests.entry s t) (entry s v P)
       → NoneAnd s.of (node_clash s v t P) (CutOf s P t)
-  cut_or_clash s sized v t (Pruned x) full fit e = (sym e.rect ∙ entry_rect s t, sym e.digest)
-  cut_or_clash s sized v t (Leaf rs) full fit e =
+  cut_or_clash s sized v t (Pruned x) full plain fit e = (sym e.rect ∙ entry_rect s t, sym e.digest)
+  cut_or_clash s sized v t (Leaf rs) full plain fit e =
       let x = digests.preimage s t in
-      let y = node_preimage (node.Leaf rs) in
+      let y = node_preimage s.version (node.Leaf rs) in
       none_more s.of (differ x (Some y)) (x ≡ y) (t ≡ tree.Leaf rs)
       (none_differ s.of x y (same_hash s t y e.digest))
-      (leaf_same s rs (recursion_from_All IsRecord rs fit.each) t full)
-  cut_or_clash s sized v t (Inner cuts) full fit e =
+      (leaf_same s rs (recursion_from_All IsRecord rs fit.each) (recursion_from_All (HasLayer version) rs fit.layers)
+      t full plain)
+  cut_or_clash s sized v t (Inner cuts) full plain fit e =
       let x = digests.preimage s t in
       let y = below s v cuts in
       none_both s.of (differ x (Some y)) (children_clash s (v - 1) (children t) cuts) (x ≡ y)
       (CutOf s (Inner cuts) t) (none_differ s.of x y (same_hash s t y e.digest)) (λ same.
-      let n = inner_same s (entries s (v - 1) cuts) t full same in
+      let n = inner_same s (entries s (v - 1) cuts) t full plain same in
       none_more s.of (children_clash s (v - 1) (children t) cuts) (CutsOf s cuts (children t))
       (CutOf s (Inner cuts) t)
-      (cuts_or_clash s sized (v - 1) (children t) cuts n.full fit.1 n.count n.bytes)
+      (cuts_or_clash s sized (v - 1) (children t) cuts n.full n.plain fit.1 n.count n.bytes)
       (λ all. (children t, n.is, all)))
 
   pub cuts_or_clash : (s : Scheme) → ((m : List ℕ) → length (s.of m) ≡ 32) → (v : ℕ) (ts : List Tree)
-      (Ps : Cuts) → AllByRecursion IsFull ts → FitCuts v Ps → length ts ≡ length (entries s v Ps)
-      → flat_map entry_bytes (map (digests.entry s) ts) ≡ flat_map entry_bytes (entries s v Ps)
+      (Ps : Cuts) → AllByRecursion IsFull ts → AllByRecursion IsPlainTree ts → FitCuts v Ps
+      → length ts ≡ length (entries s v Ps)
+      → flat_map (entry_bytes s.version) (map (digests.entry s) ts) ≡ flat_map (entry_bytes s.version) (entries s v Ps)
       → NoneAnd s.of (children_clash s v ts Ps) (CutsOf s Ps ts)
-  cuts_or_clash s sized v ts no_more full fit long e = nil_from_length ts long
-  cuts_or_clash s sized v [] (first P Ps) full fit long e = absurd (omega arith)
-  cuts_or_clash s sized v (t ∷ ts) (first P Ps) full fit long e =
-      let c = entry_front (digests.entry s t) (entry s v P) (flat_map entry_bytes (map (digests.entry s) ts))
-      (flat_map entry_bytes (entries s v Ps)) (named_tree s sized t full.0) (named_cut s sized v P fit.0) e in
+  cuts_or_clash s sized v ts no_more full plain fit long e = nil_from_length ts long
+  cuts_or_clash s sized v [] (first P Ps) full plain fit long e = absurd (omega arith)
+  cuts_or_clash s sized v (t ∷ ts) (first P Ps) full plain fit long e =
+      let c = entry_front s.version (digests.entry s t) (entry s v P)
+      (flat_map (entry_bytes s.version) (map (digests.entry s) ts)) (flat_map (entry_bytes s.version) (entries s v Ps))
+      (named_tree s sized t full.0) (named_cut s sized v P fit.0) e in
       none_both s.of (node_clash s v t P) (children_clash s v ts Ps) (CutOf s P t)
-      (CutsOf s (first P Ps) (t ∷ ts)) (cut_or_clash s sized v t P full.0 fit.0 c.here) (λ one.
+      (CutsOf s (first P Ps) (t ∷ ts)) (cut_or_clash s sized v t P full.0 plain.0 fit.0 c.here) (λ one.
       none_more s.of (children_clash s v ts Ps) (CutsOf s Ps ts) (CutsOf s (first P Ps) (t ∷ ts))
-      (cuts_or_clash s sized v ts Ps full.1 fit.1 (omega arith) c.rest) (λ all. (t, ts, refl, one, all)))
+      (cuts_or_clash s sized v ts Ps full.1 plain.1 fit.1 (omega arith) c.rest) (λ all. (t, ts, refl, one, all)))

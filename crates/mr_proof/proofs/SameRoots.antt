@@ -1,22 +1,23 @@
 -- Two roots with one preimage are of one version, batch, count, level, rectangle and digest.
-use Rattle.std.proofs.Common.{◌≡◌, ℕ, ◌<◌, ◌≤◌, ◌^◌, List, ◌∷◌, ◌++◌, length, refl, sym, ◌∙◌, arith, append_assoc}
+use Rattle.std.proofs.Common.{◌≡◌, ℕ, ◌<◌, ◌≤◌, ◌^◌, List, ◌∷◌, ◌++◌, length, eqb, refl, sym, ap, ◌∙◌, inl, inr, arith, append_assoc}
 use Rattle.std.specs.Int.{w64, to_be_bytes}
-use Rattle.std.proofs.lemmas.Bool.{ne_eqb}
-use Rattle.mr_tree.specs.Digest.{entry_bytes, rect_bytes, root_preimage, root_tag, empty_tag}
+use Rattle.std.proofs.lemmas.Bool.{cases_Bool, ne_eqb}
+use Rattle.mr_tree.specs.Digest.{rect_bytes, word_bytes, root_entry_bytes, root_preimage, root_tag, empty_tag}
 use Rattle.mr_tree.specs.declared.entry.Entry.{Entry}
 use Rattle.mr_record.specs.Version.{version_byte}
 use Rattle.mr_record.specs.declared.version.Version.{Version}
-use Rattle.mr_record.specs.declared.version.Version.TheVariants.{One}
+use Rattle.mr_record.specs.declared.version.Version.TheVariants.{One, Two}
+use Rattle.mr_tree.proofs.RootLengths.{length-word_bytes}
 use Rattle.mr_proof.proofs.Full.{IsThere}
 use Rattle.mr_proof.proofs.Spellings.{fronts, cons_parts, same_word}
 use Rattle.mr_proof.proofs.SameNodes.{SameEntry, same_rect, rect_long}
 
 -- the bytes behind the tag and the version
-tail_of : ℕ → ℕ → Entry → List ℕ
-tail_of b c e = to_be_bytes w64 b ++ to_be_bytes w64 c ++ e.level ∷ entry_bytes e
+tail_of : Version → ℕ → ℕ → Entry → List ℕ
+tail_of v b c e = to_be_bytes w64 b ++ to_be_bytes w64 c ++ e.level ∷ root_entry_bytes v e
 
 filled_root : (v : Version) (b c : ℕ) (e : Entry) → 1 ≤ c
-    → root_preimage v b c e ≡ root_tag ∷ version_byte v ∷ tail_of b c e
+    → root_preimage v b c e ≡ root_tag ∷ version_byte v ∷ tail_of v b c e
 unfolding tail_of
 filled_root v b c e some = rw (ne_eqb c 0 (λ z. omega arith)) refl
 
@@ -30,6 +31,9 @@ pub record SameRoot (v w : Version) (b c d k : ℕ) (e f : Entry) : Type 0 where
 -- of two versions with one byte
 same_version : (v w : Version) → version_byte v ≡ version_byte w → v ≡ w
 same_version One One e = refl
+same_version One Two e = absurd (omega (arith, e))
+same_version Two One e = absurd (omega (arith, e))
+same_version Two Two e = refl
 
 behind_two : (l m v w : ℕ) (x y : List ℕ) → l ∷ v ∷ x ≡ m ∷ w ∷ y → (v ≡ w) × (x ≡ y)
 behind_two l m v w x y e = (cc, cc)
@@ -50,20 +54,26 @@ parts a b c d m n x y p q e =
     let l = cons_parts m n x y g.rest in
     record { batch = f.front; count = g.front; level = l.0; rest = l.1 }
 
-tails : (v w : Version) (b c d k : ℕ) (e f : Entry) → v ≡ w → b < 2 ^ 64 → c < 2 ^ 64 → d < 2 ^ 64 → k < 2 ^ 64
-    → IsThere e.rect → IsThere f.rect → tail_of b c e ≡ tail_of d k f → SameRoot v w b c d k e f
+-- what stands behind the rectangle
+abbrev masked : Version → Entry → List ℕ
+masked v e = word_bytes v e.mask ++ e.digest
+
+tails : (v : Version) (b c d k : ℕ) (e f : Entry) → b < 2 ^ 64 → c < 2 ^ 64 → d < 2 ^ 64 → k < 2 ^ 64
+    → IsThere e.rect → IsThere f.rect → tail_of v b c e ≡ tail_of v d k f → SameRoot v v b c d k e f
 unfolding tail_of
-tails v w b c d k e f one bl cl dl kl p q is =
+tails v b c d k e f bl cl dl kl p q is =
     let x = parts (to_be_bytes w64 b) (to_be_bytes w64 d) (to_be_bytes w64 c) (to_be_bytes w64 k) e.level f.level
-    (entry_bytes e) (entry_bytes f) refl refl is in
-    let y = fronts (rect_bytes e.rect) (rect_bytes f.rect) e.digest f.digest
+    (root_entry_bytes v e) (root_entry_bytes v f) refl refl is in
+    let y = fronts (rect_bytes e.rect) (rect_bytes f.rect) (masked v e) (masked v f)
     (rect_long e.rect p ∙ sym (rect_long f.rect q)) x.rest in
+    let z = fronts (word_bytes v e.mask) (word_bytes v f.mask) e.digest f.digest
+    (length-word_bytes v e.mask ∙ sym (length-word_bytes v f.mask)) y.rest in
     record {
-      version = one;
+      version = refl;
       batch = same_word b d bl dl x.batch;
       count = same_word c k cl kl x.count;
       level = x.level;
-      same = record { rect = same_rect e.rect f.rect p q y.front; digest = y.rest };
+      same = record { rect = same_rect e.rect f.rect p q y.front; digest = z.rest };
     }
 
 -- of maps with records
@@ -71,9 +81,11 @@ pub same_root : (v w : Version) (b c d k : ℕ) (e f : Entry) → b < 2 ^ 64 →
     → 1 ≤ c → 1 ≤ k → IsThere e.rect → IsThere f.rect → root_preimage v b c e ≡ root_preimage w d k f
     → SameRoot v w b c d k e f
 same_root v w b c d k e f bl cl dl kl some few p q is =
-    let behind = behind_two root_tag root_tag (version_byte v) (version_byte w) (tail_of b c e) (tail_of d k f)
+    let behind = behind_two root_tag root_tag (version_byte v) (version_byte w) (tail_of v b c e) (tail_of w d k f)
     (sym (filled_root v b c e some) ∙ is ∙ filled_root w d k f few) in
-    tails v w b c d k e f (same_version v w behind.0) bl cl dl kl p q behind.1
+    let one = same_version v w behind.0 in
+    let x = tails v b c d k e f bl cl dl kl p q (behind.1 ∙ ap (λ (u : Version). tail_of u d k f) (sym one)) in
+    record { version = one; batch = x.batch; count = x.count; level = x.level; same = x.same }
 
 letters : (x y : List ℕ) → (0x45 ∷ x) ≡ (0x52 ∷ y) → ⊥
 letters x y e = let h = (cons_parts 0x45 0x52 x y e).0 in omega arith
@@ -82,10 +94,29 @@ letters x y e = let h = (cons_parts 0x45 0x52 x y e).0 in omega arith
 pub empty_filled : (v w : Version) (b d k : ℕ) (e f : Entry) → 1 ≤ k
     → root_preimage v b 0 e ≡ root_preimage w d k f → ⊥
 empty_filled v w b d k e f some is =
-    letters (version_byte v ∷ to_be_bytes w64 b) (version_byte w ∷ tail_of d k f) (is ∙ filled_root w d k f some)
+    letters (version_byte v ∷ to_be_bytes w64 b) (version_byte w ∷ tail_of w d k f) (is ∙ filled_root w d k f some)
 
 pub same_empty : (v w : Version) (b d : ℕ) (e f : Entry) → b < 2 ^ 64 → d < 2 ^ 64
     → root_preimage v b 0 e ≡ root_preimage w d 0 f → b ≡ d
 same_empty v w b d e f p q is =
     same_word b d p q (behind_two empty_tag empty_tag (version_byte v) (version_byte w) (to_be_bytes w64 b)
     (to_be_bytes w64 d) is).1
+
+-- ---- whether there are records or not
+
+front : (v : Version) (b c : ℕ) (e : Entry)
+    → (tag : ℕ) × (rest : List ℕ) × (root_preimage v b c e ≡ tag ∷ version_byte v ∷ rest)
+front v b c e = elim (cases_Bool (eqb c 0)) [
+  | inl t ↦ (empty_tag, to_be_bytes w64 b, rw t refl)
+  | inr f ↦ (
+    root_tag,
+    to_be_bytes w64 b ++ to_be_bytes w64 c ++ e.level ∷ root_entry_bytes v e,
+    rw f refl,
+  )
+]
+
+pub one_version : (v w : Version) (b c d k : ℕ) (e f : Entry) → root_preimage v b c e ≡ root_preimage w d k f → v ≡ w
+one_version v w b c d k e f is =
+    let x = front v b c e in
+    let y = front w d k f in
+    same_version v w (behind_two x.0 y.0 (version_byte v) (version_byte w) x.1 y.1 (sym x.2 ∙ is ∙ y.2)).0

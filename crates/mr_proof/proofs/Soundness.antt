@@ -9,7 +9,7 @@ use Rattle.std.proofs.lemmas.List.Concat.{flat_map-cons}
 use Rattle.std.proofs.lemmas.List.Elements.{All-from_recursion}
 use Rattle.mr_geom.specs.Rectangle.{Rectangle, IsOrdered, FitsMap}
 use Rattle.mr_record.specs.Bytes.{AreBytes}
-use Rattle.mr_record.specs.Record.{IsRecord, record_bytes, rectangle_bytes}
+use Rattle.mr_record.specs.Record.{IsRecord, HasLayer, record_bytes, rectangle_bytes}
 use Rattle.mr_record.specs.Version.{version_byte}
 use Rattle.mr_record.specs.declared.record.Record.{Record}
 use Rattle.mr_query.specs.Word.{IsQuery}
@@ -36,6 +36,7 @@ use Rattle.mr_proof.specs.Refused.{has_other_radius}
 use Rattle.mr_proof.specs.Reading.{past, walk, ending, checked, verdict}
 use Rattle.mr_record.proofs.Encodings.{IsBytes, AreBytes-from}
 use Rattle.mr_proof.proofs.Laws.{right_radius, is_lawful}
+use Rattle.mr_proof.proofs.Plain.{IsPlain, are_records, have_layers}
 use Rattle.mr_proof.proofs.Values.{same_bytes, same_value, tail}
 use Rattle.mr_proof.proofs.FieldsTaken.{Took, took_none, took_both, took_as, Taken, behind_step, take_reads, length_meant, level_meant, flag_meant, leaf_count_meant, inner_count_meant, number_meant, batch_meant, count_meant, radius_meant, rect_meant, payload_meant, digest_meant, tag_meant, magic_meant, version_meant, kind_meant}
 
@@ -60,40 +61,57 @@ take_payload heeds e n next s a fits within is = elim (cases_Bool (eqb n 0)) [
 ]
 
 take_record : {A B : Type 0} (heeds : Bool) (e : A → Stand → Result B Fault) (next : Record → Grammar A) (s : Stand)
-    (a : B) → IsBytes s.rest → walk heeds e (one_record next) s ≡ Ok a → Taken heeds e record_bytes IsRecord next s a
+    (a : B) → IsBytes s.rest → walk heeds e (one_record next) s ≡ Ok a → Taken heeds e (record_bytes version) IsPlain
+    next s a
 unfolding record_bytes
 take_record heeds e next s a fits is =
     let n = take_reads heeds e want.Number number_in (to_be_bytes w64) (λ n. n < 2 ^ 64) number_meant
     (λ n. reads want.Rect (λ r. reads want.Length
-    (λ l. payload (number_in l) (λ p. next (record { number = n; rect = rect_in r; payload = p }))))) s a fits is in
+    (λ l. payload (number_in l) (λ p. next (record { number = n; rect = rect_in r; layer = 0; payload = p }))))) s a
+    fits is in
     let r = take_reads heeds e want.Rect rect_in rectangle_bytes (λ r. IsOrdered r × FitsMap r) rect_meant
     (λ r. reads want.Length (λ l. payload (number_in l)
-    (λ p. next (record { number = n.value; rect = r; payload = p })))) n.end a n.took.fits n.rest in
+    (λ p. next (record { number = n.value; rect = r; layer = 0; payload = p })))) n.end a n.took.fits n.rest in
     let l = take_reads heeds e want.Length number_in (λ l. l ∷ []) (λ l. l ≤ 200) length_meant
-    (λ l. payload l (λ p. next (record { number = n.value; rect = r.value; payload = p }))) r.end a r.took.fits
-    r.rest in
-    let p = take_payload heeds e l.value (λ p. next (record { number = n.value; rect = r.value; payload = p })) l.end a
+    (λ l. payload l (λ p. next (record { number = n.value; rect = r.value; layer = 0; payload = p }))) r.end a
+    r.took.fits r.rest in
+    let p = take_payload heeds e l.value
+    (λ p. next (record { number = n.value; rect = r.value; layer = 0; payload = p })) l.end a
     l.took.fits l.took.within l.rest in
+    let front = to_be_bytes w64 n.value ++ rectangle_bytes r.value in
     let few : length p.value ≤ 200 = let long = p.good.0 in let le = l.good in omega arith in
     let tail : Took (length p.value ∷ p.value) r.end p.end = took_both (length p.value ∷ []) p.value r.end l.end p.end
     (took_as (l.value ∷ []) (length p.value ∷ []) r.end l.end (ap (λ (k : ℕ). k ∷ []) (sym p.good.0)) l.took) p.took
     in
     record {
-      value = record { number = n.value; rect = r.value; payload = p.value };
+      value = record { number = n.value; rect = r.value; layer = 0; payload = p.value };
       end = p.end;
-      good = record { number = n.good; ordered = r.good.0; coordinates = r.good.1; payload = few; bytes = p.good.1 };
-      took = took_both (to_be_bytes w64 n.value ++ rectangle_bytes r.value) (length p.value ∷ p.value) s r.end p.end
-          (took_both (to_be_bytes w64 n.value) (rectangle_bytes r.value) s n.end r.end n.took r.took) tail;
+      good = (
+        record {
+          number = n.good;
+          ordered = r.good.0;
+          coordinates = r.good.1;
+          layer = omega arith;
+          payload = few;
+          bytes = p.good.1;
+        },
+        omega arith,
+      );
+      took = took_as (front ++ (length p.value ∷ p.value)) ((front ++ []) ++ (length p.value ∷ p.value)) s p.end
+          (ap (λ (x : List ℕ). x ++ (length p.value ∷ p.value)) (sym (append-nil front)))
+          (took_both front (length p.value ∷ p.value) s r.end p.end
+          (took_both (to_be_bytes w64 n.value) (rectangle_bytes r.value) s n.end r.end n.took r.took) tail);
       rest = p.rest;
     }
 
 take_records : {A B : Type 0} (heeds : Bool) (e : A → Stand → Result B Fault) (way : Seen → Way) (n : ℕ)
     (next : List Record → Grammar A)
     (s : Stand) (a : B) → IsBytes s.rest → s.at ≤ place_limit → walk heeds e (some_records way n next) s ≡ Ok a
-    → Taken heeds e (flat_map record_bytes) (λ rs. (length rs ≡ n) × AllByRecursion IsRecord rs) next s a
+    → Taken heeds e (flat_map (record_bytes version)) (λ rs. (length rs ≡ n) × AllByRecursion IsPlain rs) next s a
 take_records heeds e way zero next s a fits within is = record
     { value = []; end = s; good = (refl, tt); took = took_none s fits within; rest = is }
 take_records heeds e way (suc n) next s a fits within is =
+    let text = record_bytes version in
     let r = take_record heeds e (λ r. notes (opens r (keeps_at way r.rect))
     (some_records way n (λ rs. next (r ∷ rs)))) s a fits is in
     let rs = take_records heeds e way n (λ rs. next (r.value ∷ rs)) r.end a r.took.fits r.took.within r.rest in
@@ -101,9 +119,9 @@ take_records heeds e way (suc n) next s a fits within is =
       value = r.value ∷ rs.value;
       end = rs.end;
       good = (ap suc rs.good.0, (r.good, rs.good.1));
-      took = took_as (record_bytes r.value ++ flat_map record_bytes rs.value)
-          (flat_map record_bytes (r.value ∷ rs.value)) s rs.end (sym (flat_map-cons record_bytes r.value rs.value))
-          (took_both (record_bytes r.value) (flat_map record_bytes rs.value) s r.end rs.end r.took rs.took);
+      took = took_as (text r.value ++ flat_map text rs.value) (flat_map text (r.value ∷ rs.value)) s rs.end
+          (sym (flat_map-cons text r.value rs.value))
+          (took_both (text r.value) (flat_map text rs.value) s r.end rs.end r.took rs.took);
       rest = rs.rest;
     }
 
@@ -149,13 +167,14 @@ take_leaf heeds e way next s a fits within is =
       some = omega arith;
       few = omega
           arith;
-      each = All-from_recursion IsRecord rs.value rs.good.1;
+      each = All-from_recursion IsRecord rs.value (are_records rs.value rs.good.1);
+      layers = All-from_recursion (HasLayer version) rs.value (have_layers rs.value rs.good.1);
     } in (
       Leaf rs.value,
       rs.end,
       (fine, met.0),
       refl,
-      took_both (length rs.value ∷ []) (flat_map record_bytes rs.value) s n.end rs.end
+      took_both (length rs.value ∷ []) (flat_map (record_bytes version) rs.value) s n.end rs.end
           (took_as (n.value ∷ []) (length rs.value ∷ []) s n.end (ap (λ (k : ℕ). k ∷ []) (sym rs.good.0)) n.took)
           rs.took,
       met.1,

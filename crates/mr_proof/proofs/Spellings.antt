@@ -5,7 +5,8 @@ use Rattle.std.specs.Int.{w64, to_be_bytes, from_be_bytes}
 use Rattle.std.proofs.lemmas.List.{take_at, drop_at}
 use Rattle.std.proofs.lemmas.Nat.{from_be_bytes-to_be_bytes_8}
 use Rattle.mr_geom.specs.Rectangle.{Rectangle, FitsMap}
-use Rattle.mr_record.specs.Record.{IsRecord, record_bytes, rectangle_bytes, sides_of}
+use Rattle.mr_record.specs.Record.{IsRecord, HasLayer, record_bytes, rectangle_bytes, sides_of}
+use Rattle.mr_record.specs.declared.version.Version.{Version}
 use Rattle.mr_record.specs.RecordField.{record_in}
 use Rattle.mr_record.specs.declared.record.Record.{Record}
 use Rattle.mr_record.specs.declared.record_fault.RecordFault.{RecordFault}
@@ -44,23 +45,25 @@ pub record SameRecord (r s : Record) (x y : List ℕ) : Type 0 where
   pub one : r ≡ s
   pub rest : x ≡ y
 
-pub same_record : (r s : Record) (x y : List ℕ) → IsRecord r → IsRecord s → record_bytes r ++ x ≡ record_bytes s ++ y
-    → SameRecord r s x y
-same_record r s x y fit fine e =
-    let both : (r, length (record_bytes r)) ≡ (s, length (record_bytes s)) =
-    same_read (r, length (record_bytes r)) (s, length (record_bytes s))
-    (sym (record_again r x fit) ∙ ap record_in e ∙ record_again s y fine) in
-    record {
-      one = ap (λ (p : Record × ℕ). p.0) both;
-      rest = (fronts (record_bytes r) (record_bytes s) x y (ap (λ (p : Record × ℕ). p.1) both) e).rest;
-    }
+module _ (v : Version) where
+  pub same_record : (r s : Record) (x y : List ℕ) → IsRecord r → HasLayer v r → IsRecord s → HasLayer v s
+      → record_bytes v r ++ x ≡ record_bytes v s ++ y → SameRecord r s x y
+  same_record r s x y fit low fine flat e =
+      let both : (r, length (record_bytes v r)) ≡ (s, length (record_bytes v s)) =
+      same_read (r, length (record_bytes v r)) (s, length (record_bytes v s))
+      (sym (record_again v r x fit low) ∙ ap (record_in v) e ∙ record_again v s y fine flat) in
+      record {
+        one = ap (λ (p : Record × ℕ). p.0) both;
+        rest = (fronts (record_bytes v r) (record_bytes v s) x y (ap (λ (p : Record × ℕ). p.1) both) e).rest;
+      }
 
-pub same_records : (rs ss : List Record) → AllByRecursion IsRecord rs → AllByRecursion IsRecord ss
-    → length rs ≡ length ss → flat_map record_bytes rs ≡ flat_map record_bytes ss → rs ≡ ss
-same_records [] [] p q long e = refl
-same_records [] (s ∷ ss) p q long e = absurd (omega arith)
-same_records (r ∷ rs) [] p q long e = absurd (omega arith)
-same_records (r ∷ rs) (s ∷ ss) p q long e =
-    let here = same_record r s (flat_map record_bytes rs) (flat_map record_bytes ss) p.0 q.0 e in
-    let rest = same_records rs ss p.1 q.1 (omega arith) here.rest in
-    λ i. here.one i ∷ rest i
+  pub same_records : (rs ss : List Record) → AllByRecursion IsRecord rs → AllByRecursion (HasLayer v) rs
+      → AllByRecursion IsRecord ss → AllByRecursion (HasLayer v) ss → length rs ≡ length ss
+      → flat_map (record_bytes v) rs ≡ flat_map (record_bytes v) ss → rs ≡ ss
+  same_records [] [] p k q l long e = refl
+  same_records [] (s ∷ ss) p k q l long e = absurd (omega arith)
+  same_records (r ∷ rs) [] p k q l long e = absurd (omega arith)
+  same_records (r ∷ rs) (s ∷ ss) p k q l long e =
+      let here = same_record r s (flat_map (record_bytes v) rs) (flat_map (record_bytes v) ss) p.0 k.0 q.0 l.0 e in
+      let rest = same_records rs ss p.1 k.1 q.1 l.1 (omega arith) here.rest in
+      λ i. here.one i ∷ rest i

@@ -6,7 +6,9 @@ use Rattle.mr_tree.specs.Tree.{level, records}
 use Rattle.mr_tree.specs.Digest.{Scheme, by, root, root_preimage}
 use Rattle.mr_tree.specs.declared.entry.Entry.{Entry}
 use Rattle.mr_tree.specs.Digest as digests
-use Rattle.mr_tree.specs.WellFormed.{WellFormed}
+use Rattle.mr_tree.specs.WellFormed.{WellFormed, HasLayers}
+use Rattle.mr_record.specs.declared.version.Version.{Version}
+use Rattle.mr_proof.specs.Fields.{version}
 use Rattle.mr_tree.specs.declared.tree.Tree.{Tree}
 use Rattle.mr_tree.specs.declared.tree.Tree.TheVariants as tree
 use Rattle.mr_tree.proofs.Equations.{entry_level, records-Empty, level-Empty}
@@ -27,6 +29,7 @@ use Rattle.mr_proof.specs.Halves.{IsQueried}
 use Rattle.mr_proof.specs.Reading.{kind_in, verdict}
 use Rattle.mr_proof.specs.Clash.{Pair, differ, node_clash, part_clash, pair_clash, if_said, clash_of, clash, IsCollision, NoneAnd}
 use Rattle.mr_proof.specs.Headline.{MatchesHonest, MatchesHonestOrCollides, AcceptedMatchesHonest, IsHonest, Headline, AcceptedIsHonest, OthersFail}
+use Rattle.mr_proof.proofs.PlainTrees.{IsPlainTree, plain_tree}
 use Rattle.mr_proof.proofs.Full.{IsFull, IsThere, some_record, empty_or_full}
 use Rattle.mr_proof.proofs.KeptRecords.{narrow_misses, kept}
 use Rattle.mr_proof.proofs.Laws.{is_lawful, same_radius}
@@ -38,7 +41,7 @@ use Rattle.mr_proof.proofs.PreimageBytes.{IsSized}
 use Rattle.mr_proof.proofs.Complete.{honest_scan}
 use Rattle.mr_proof.proofs.UniqueCut.{is_honest}
 use Rattle.mr_proof.proofs.SameNodes.{SameEntry, named_tree, named_cut, cut_or_clash, none_differ, none_both, none_more}
-use Rattle.mr_proof.proofs.SameRoots.{same_root, same_empty, empty_filled}
+use Rattle.mr_proof.proofs.SameRoots.{same_root, same_empty, empty_filled, one_version}
 
 -- ---- heads
 
@@ -63,7 +66,7 @@ empty_own : (s : Scheme) (a : Question) (t : Tree) (b : ℕ) (h : Head) (bytes h
 empty_own s a t b h bytes held e low p same =
     let none : records t ≡ [] = ap records e ∙ records-Empty in
     let zero : length (records t) ≡ 0 = ap length none in
-    let nothing : Entry = record { level = 0; rect = None; digest = [] } in
+    let nothing : Entry = record { level = 0; rect = None; mask = 0; count = 0; digest = [] } in
     let batch : b ≡ h.batch = same_empty s.version (version_of h) b h.batch (digests.entry s t)
     nothing low p.spelled.head.batch
     (sym (ap (λ (n : ℕ). root_preimage s.version b n (digests.entry s t)) zero) ∙ same) in
@@ -90,29 +93,39 @@ filled_own s a law t b h P bytes held full p batch count flat c =
     own_by s a t b h (Some P) bytes p.spelled head
     (ap (λ (C : Cut). Some C) own ∙ sym (some_part s a t (some_record t full)))
 
+-- what a root preimage says of the root node of a cut
+abbrev entry_said : Scheme → Head → Cut → Entry
+entry_said s h P = record {
+  level = h.level;
+  rect = cut.rect P;
+  mask = 0;
+  count = 0;
+  digest = cut.digest (by (version_of h) s.of) h.level P;
+}
+
 by_part : (s : Scheme) → ((m : List ℕ) → length (s.of m) ≡ 32) → (a : Question) → IsLawful a → (t : Tree)
     (b : ℕ) (h : Head) (P : Option Cut) (bytes held : List ℕ) → WellFormed t
-    → (t ≡ tree.Empty) ⊎ IsFull t → b < 2 ^ 64 → Shows s.of held a bytes (said h P)
+    → (t ≡ tree.Empty) ⊎ IsFull t → IsPlainTree t → b < 2 ^ 64 → Shows s.of held a bytes (said h P)
     → digests.root_bytes s t b ≡ root_bytes s.of h P
     → NoneAnd s.of (part_clash s h.level t P) (MatchesHonest s t b a bytes (said h P))
-by_part s sized a law t b h None bytes held well (inl e) low p same =
+by_part s sized a law t b h None bytes held well (inl e) plain low p same =
     empty_own s a t b h bytes held e low p same
-by_part s sized a law t b h None bytes held well (inr full) low p same =
+by_part s sized a law t b h None bytes held well (inr full) plain low p same =
     absurd (empty_filled (version_of h) s.version h.batch b (length (records t))
-    (record { level = 0; rect = None; digest = [] }) (digests.entry s t) (some_record t full) (sym same))
-by_part s sized a law t b h (Some P) bytes held well (inl e) low p same =
+    (record { level = 0; rect = None; mask = 0; count = 0; digest = [] }) (digests.entry s t) (some_record t full)
+    (sym same))
+by_part s sized a law t b h (Some P) bytes held well (inl e) plain low p same =
     let zero : length (records t) ≡ 0 = ap (λ (t : Tree). length (records t)) e ∙ ap length records-Empty in
     absurd (empty_filled s.version (version_of h) b h.batch h.count (digests.entry s t)
-    (record { level = h.level; rect = cut.rect P; digest = cut.digest (by (version_of h) s.of) h.level P })
+    (entry_said s h P)
     p.spelled.part.0 (sym (ap (λ (n : ℕ). root_preimage s.version b n (digests.entry s t)) zero) ∙ same))
-by_part s sized a law t b h (Some P) bytes held well (inr full) low p same =
+by_part s sized a law t b h (Some P) bytes held well (inr full) plain low p same =
     let few = well.few in
     let less = p.spelled.head.count in
     let fit = p.spelled.part.1 in
     let there = subst IsThere (entry-rect s h.level P) (named_cut s sized h.level P fit).there in
     let r = same_root s.version (version_of h) b (length (records t)) h.batch h.count (digests.entry s t)
-    (record { level = h.level; rect = cut.rect P; digest = cut.digest (by (version_of h) s.of) h.level P }) low
-    (omega arith)
+    (entry_said s h P) low (omega arith)
     p.spelled.head.batch (omega arith) (some_record t full) p.spelled.part.0 (named_tree s sized t full).there there
     same in
     let e : SameEntry (digests.entry s t) (cut.entry s h.level P) =
@@ -122,26 +135,38 @@ by_part s sized a law t b h (Some P) bytes held well (inr full) low p same =
           ∙ sym (ap (λ v. cut.digest (by v s.of) h.level P) r.version);
     } in
     none_more s.of (node_clash s h.level t P) (CutOf s P t) (MatchesHonest s t b a bytes (said h (Some P)))
-    (cut_or_clash s sized h.level t P full fit e)
+    (cut_or_clash s sized h.level t P full plain fit e)
     (filled_own s a law t b h P bytes held full p r.batch r.count (sym (entry_level s t) ∙ r.level))
+
+-- with one root, the map is of the version of proofs
+pub version_said : (s : Scheme) (t : Tree) (b : ℕ) (h : Head) (P : Option Cut)
+    → digests.root_bytes s t b ≡ root_bytes s.of h P → s.version ≡ version
+version_said s t b h None same =
+    one_version s.version version b (length (records t)) h.batch 0 (digests.entry s t)
+    (record { level = 0; rect = None; mask = 0; count = 0; digest = [] }) same
+version_said s t b h (Some P) same =
+    one_version s.version version b (length (records t)) h.batch h.count (digests.entry s t) (entry_said s h P) same
 
 -- what bytes are worth that show what is asked
 pub shown_is_own : (s : Scheme) → ((m : List ℕ) → length (s.of m) ≡ 32) → (a : Question) → IsLawful a
-    → (t : Tree) (b : ℕ) (bytes : List ℕ) (x : Said) → WellFormed t → b < 2 ^ 64
+    → (t : Tree) (b : ℕ) (bytes : List ℕ) (x : Said) → WellFormed t → HasLayers s.version t → b < 2 ^ 64
     → Shows s.of (root s t b) a bytes x → MatchesHonestOrCollides s t b a bytes x
-shown_is_own s sized a law t b bytes x well low p =
+shown_is_own s sized a law t b bytes x well layers low p =
     subst (λ o. NoneAnd s.of (if_said o (pair_clash s t b)) (MatchesHonest s t b a bytes x))
     (sym (pair_found_of a.kind x.head x.part bytes p.kind p.spelled))
     (none_both s.of (differ (digests.root_bytes s t b) (Some (root_bytes s.of x.head x.part)))
     (part_clash s x.head.level t x.part) (digests.root_bytes s t b ≡ root_bytes s.of x.head x.part)
     (MatchesHonest s t b a bytes x)
     (none_differ s.of (digests.root_bytes s t b) (root_bytes s.of x.head x.part) (sym p.held))
-    (by_part s sized a law t b x.head x.part bytes (root s t b) well (empty_or_full t well) low p))
+    (λ same.
+    let plain = subst (λ (v : Version). HasLayers v t) (version_said s t b x.head x.part same) layers in
+    by_part s sized a law t b x.head x.part bytes (root s t b) well (empty_or_full t well) (plain_tree t plain) low p
+    same))
 
 pub accepted_matches_honest : (s : Scheme) → ((m : List ℕ) → length (s.of m) ≡ 32) → (a : Question) → IsLawful a
     → (bytes : List ℕ) → IsBytes bytes → AcceptedMatchesHonest s a bytes
-accepted_matches_honest s sized a law bytes fits = λ t b x well low e.
-    shown_is_own s sized a law t b bytes x well low (shows_from s.of (root s t b) a bytes x law fits e)
+accepted_matches_honest s sized a law bytes fits = λ t b x well layers low e.
+    shown_is_own s sized a law t b bytes x well layers low (shows_from s.of (root s t b) a bytes x law fits e)
 
 -- ---- for queries
 
@@ -150,24 +175,24 @@ queried (Window w) = tt
 queried (Nearest p k) = tt
 
 pub headline : (s : Scheme) → IsSized s.of → (q : Query) (bytes : List ℕ) → IsQuery q → Headline s q bytes
-headline s h q bytes is = λ t b answer well low p.
+headline s h q bytes is = λ t b answer well layers low p.
     let of : IsQueried p.said.head.kind = subst IsQueried (sym p.shows.kind) (queried q) in
     let kind : kind_in bytes ≡ kind_of q =
     kind_spelled p.said.head p.said.part bytes of p.shows.spelled ∙ p.shows.kind in
-    let worth = shown_is_own s h.long (question q) (is_lawful q is) t b bytes p.said well low p.shows in
+    let worth = shown_is_own s h.long (question q) (is_lawful q is) t b bytes p.said well layers low p.shows in
     none_more s.of (clash s t b bytes) (MatchesHonest s t b (question q) bytes p.said) (IsHonest s t b q bytes answer)
     (subst (λ (k : Kind). NoneAnd s.of (clash_of k s t b bytes) (MatchesHonest s t b (question q) bytes p.said))
     (sym kind) worth)
     (λ own. record {
       complete = p.scanned ∙ ap (λ (x : Said). scan (opened_records x.part) q) own.same
-          ∙ sym (honest_scan s h t b q is well low);
+          ∙ sym (honest_scan s h t q is well);
       own = own.own;
     })
 
 pub accepted_headline : (s : Scheme) → IsSized s.of → (q : Query) (bytes : List ℕ)
     → IsQuery q → IsBytes bytes → AcceptedIsHonest s q bytes
-accepted_headline s h q bytes is fits = λ t b answer well low e.
-    headline s h q bytes is t b answer well low (proves_from s.of (root s t b) q bytes answer is fits e)
+accepted_headline s h q bytes is fits = λ t b answer well layers low e.
+    headline s h q bytes is t b answer well layers low (proves_from s.of (root s t b) q bytes answer is fits e)
 
 abbrev Fails : Scheme → (Option Pair) → Result (List Record) Fault → Type 0
 Fails s c r = ((f : Fault) × (r ≡ Err f)) ⊎ ((p : Pair) × (c ≡ Some p) × IsCollision s.of p)
@@ -178,17 +203,17 @@ fails_so s None r K k not = absurd (not k)
 fails_so s (Some p) r K k not = inr (p, refl, k)
 
 others : (s : Scheme) → IsSized s.of → (q : Query) (bytes : List ℕ)
-    → IsQuery q → IsBytes bytes → (t : Tree) (b : ℕ) → WellFormed t → b < 2 ^ 64 → bytes ≢ proof s t b q
-    → (r : Result (List Record) Fault) → verdict s.of (root s t b) q bytes ≡ r
+    → IsQuery q → IsBytes bytes → (t : Tree) (b : ℕ) → WellFormed t → HasLayers s.version t → b < 2 ^ 64
+    → bytes ≢ proof s t b q → (r : Result (List Record) Fault) → verdict s.of (root s t b) q bytes ≡ r
     → Fails s (clash s t b bytes) r
-others s h q bytes is fits t b well low other (Err f) e = inl (f, refl)
-others s h q bytes is fits t b well low other (Ok answer) e =
+others s h q bytes is fits t b well layers low other (Err f) e = inl (f, refl)
+others s h q bytes is fits t b well layers low other (Ok answer) e =
     fails_so s (clash s t b bytes) (Ok answer) (IsHonest s t b q bytes answer)
-    (headline s h q bytes is t b answer well low
+    (headline s h q bytes is t b answer well layers low
     (proves_from s.of (root s t b) q bytes answer is fits e))
     (λ own. other own.own)
 
 pub others_fail : (s : Scheme) → IsSized s.of → (q : Query) (bytes : List ℕ)
     → IsQuery q → IsBytes bytes → OthersFail s q bytes
-others_fail s h q bytes is fits = λ t b well low other.
-    others s h q bytes is fits t b well low other (verdict s.of (root s t b) q bytes) refl
+others_fail s h q bytes is fits = λ t b well layers low other.
+    others s h q bytes is fits t b well layers low other (verdict s.of (root s t b) q bytes) refl

@@ -16,10 +16,16 @@ use Rattle.mr_proof.specs.Tight.{Question, question, IsTight}
 -- cut the map is empty.
 abbrev pub root_bytes : (List ℕ → List ℕ) → Head → Option Cut → List ℕ
 root_bytes hash h None =
-    root_preimage (version_of h) h.batch 0 (record { level = 0; rect = None; digest = [] })
+    root_preimage (version_of h) h.batch 0 (record
+    { level = 0; rect = None; mask = 0; count = 0; digest = [] })
 root_bytes hash h (Some P) =
-    root_preimage (version_of h) h.batch h.count (record
-    { level = h.level; rect = rect P; digest = digest (by (version_of h) hash) h.level P })
+    root_preimage (version_of h) h.batch h.count (record {
+      level = h.level;
+      rect = rect P;
+      mask = 0;
+      count = 0;
+      digest = digest (by (version_of h) hash) h.level P;
+    })
 
 -- the root digest of that map
 abbrev pub root_found : (List ℕ → List ℕ) → Head → Option Cut → List ℕ

@@ -33,10 +33,11 @@ shown_with e r = record { rect = r; digest = e.digest }
 abbrev pub shown_of : Entry → Option Shown
 shown_of e = option_map (shown_with e) e.rect
 
--- the entry of a part of this level, by what is shown of it
+-- the entry of a part of this level, by what is shown of it; the version of proofs tells of no
+-- layers and no counts
 abbrev pub entry_shown : (level : ℕ) → Shown → Entry
 entry_shown level part = record
-    { level = level; rect = Some part.rect; digest = part.digest }
+    { level = level; rect = Some part.rect; mask = 0; count = 0; digest = part.digest }
 
 abbrev pub pruned_if : Option Shown → Cut
 pruned_if None = Leaf []
@@ -87,8 +88,9 @@ digest s level P = (entry s level P).digest
 -- the bytes that the digest of an opened node is of; of a pruned part they are not known
 abbrev pub preimage : Scheme → ℕ → Cut → Option (List ℕ)
 preimage s level (Pruned part) = None
-preimage s level (Leaf records) = Some (node_preimage (node.Leaf records))
-preimage s level (Inner cuts) = Some (node_preimage (node.Inner (entries s (level - 1) cuts)))
+preimage s level (Leaf records) = Some (node_preimage s.version (node.Leaf records))
+preimage s level (Inner cuts) =
+    Some (node_preimage s.version (node.Inner (entries s (level - 1) cuts)))
 
 abbrev mutual
   -- the opened records, left to right

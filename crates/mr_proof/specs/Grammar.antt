@@ -39,7 +39,7 @@ abbrev pub one_record : {A : Type 0} → (Record → Grammar A) → Grammar A
 one_record next =
     reads want.Number (λ n. reads want.Rect
     (λ r. reads want.Length (λ l. payload (number_in l) (λ p.
-    next (record { number = number_in n; rect = rect_in r; payload = p })))))
+    next (record { number = number_in n; rect = rect_in r; layer = 0; payload = p })))))
 
 -- n records of a leaf
 abbrev pub some_records : {A : Type 0} → (Seen → Way) → ℕ → (List Record → Grammar A) → Grammar A

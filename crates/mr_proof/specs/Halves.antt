@@ -3,7 +3,7 @@ use Rattle.std.specs.Prelude.{◌≡◌, ◌⊎◌, ◌↔◌, ℕ, ◌^◌, ◌
 use Rattle.mr_record.specs.declared.record.Record.{Record}
 use Rattle.mr_tree.specs.Tree.{records}
 use Rattle.mr_tree.specs.Digest.{Scheme, root}
-use Rattle.mr_tree.specs.WellFormed.{WellFormed}
+use Rattle.mr_tree.specs.WellFormed.{WellFormed, HasLayers}
 use Rattle.mr_tree.specs.declared.tree.Tree.{Tree}
 use Rattle.mr_query.specs.declared.query.Query.{Query}
 use Rattle.mr_query.specs.Scan.{scan}
@@ -58,10 +58,10 @@ StaysRefused hash root a bytes =
     (f : Fault) (more : List ℕ) → IsSettled f.rule → IsRefused hash root a bytes f
     → IsRefused hash root a (bytes ++ more) f
 
--- the honest proof of every map is accepted, as that of its head and cut
+-- the honest proof of every map of the scheme's version is accepted, as that of its head and cut
 abbrev pub AcceptsHonestProof : Scheme → Question → Type 0
 AcceptsHonestProof s a =
-    (t : Tree) (batch : ℕ) → WellFormed t → batch < 2 ^ 64
+    (t : Tree) (batch : ℕ) → WellFormed t → HasLayers s.version t → batch < 2 ^ 64
     → checked s.of (root s t batch) a (proof_for s a t batch) ≡ Ok (honest_said s a t batch)
 
 -- it spells its head and its cut, which is a tight cut of the tree, with the map's root digest; and
@@ -112,8 +112,9 @@ FindsPair bytes =
     (h : Head) (P : Option Cut) → (IsQueried h.kind × IsSpelled h P bytes)
     ↔ (pair_in bytes ≡ Some (said h P))
 
--- the honest proof of every map is accepted, with the answer of a scan of the map's records
+-- the honest proof of every map of the scheme's version is accepted, with the answer of a scan of
+-- the map's records
 abbrev pub AcceptsHonest : Scheme → Query → Type 0
 AcceptsHonest s q =
-    (t : Tree) (batch : ℕ) → WellFormed t → batch < 2 ^ 64
+    (t : Tree) (batch : ℕ) → WellFormed t → HasLayers s.version t → batch < 2 ^ 64
     → verdict s.of (root s t batch) q (proof s t batch q) ≡ Ok (scan (records t) q)

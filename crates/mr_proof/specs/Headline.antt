@@ -4,14 +4,14 @@ use Rattle.std.specs.Prelude.{◌≡◌, ◌≢◌, ◌⊎◌, ℕ, ◌^◌, ◌
 use Rattle.mr_record.specs.declared.record.Record.{Record}
 use Rattle.mr_tree.specs.Tree.{records}
 use Rattle.mr_tree.specs.Digest.{Scheme, root}
-use Rattle.mr_tree.specs.WellFormed.{WellFormed}
+use Rattle.mr_tree.specs.WellFormed.{WellFormed, HasLayers}
 use Rattle.mr_tree.specs.declared.tree.Tree.{Tree}
 use Rattle.mr_query.specs.declared.query.Query.{Query}
 use Rattle.mr_query.specs.Scan.{scan}
 use Rattle.mr_proof.specs.declared.rule.Fault.{Fault}
 use Rattle.mr_proof.specs.Spelling.{Said}
 use Rattle.mr_proof.specs.Tight.{Question}
-use Rattle.mr_proof.specs.Accepted.{Shows, Proves}
+use Rattle.mr_proof.specs.Accepted.{Proves}
 use Rattle.mr_proof.specs.Honest.{honest_said, proof_for, proof}
 use Rattle.mr_proof.specs.Reading.{checked, verdict}
 use Rattle.mr_proof.specs.Clash.{Pair, clash_of, clash, IsCollision, NoneAnd}
@@ -28,16 +28,17 @@ abbrev pub MatchesHonestOrCollides : Scheme → Tree → (batch : ℕ) → Quest
 MatchesHonestOrCollides s t batch a bytes x =
     NoneAnd s.of (clash_of a.kind s t batch bytes) (MatchesHonest s t batch a bytes x)
 
--- What bytes are worth that are accepted against the root digest of a map, whatever the map.
+-- What bytes are worth that are accepted against the root digest of a map of the scheme's version,
+-- whatever the map.
 abbrev pub AcceptedMatchesHonest : Scheme → Question → List ℕ → Type 0
 AcceptedMatchesHonest s a bytes =
-    (t : Tree) (batch : ℕ) (x : Said) → WellFormed t → batch < 2 ^ 64
+    (t : Tree) (batch : ℕ) (x : Said) → WellFormed t → HasLayers s.version t → batch < 2 ^ 64
     → checked s.of (root s t batch) a bytes ≡ Ok x → MatchesHonestOrCollides s t batch a bytes x
 
 -- The honest proof shows no pair.
 abbrev pub HonestProofIsQuiet : Scheme → Question → Type 0
 HonestProofIsQuiet s a =
-    (t : Tree) (batch : ℕ) → WellFormed t → batch < 2 ^ 64
+    (t : Tree) (batch : ℕ) → WellFormed t → HasLayers s.version t → batch < 2 ^ 64
     → clash_of a.kind s t batch (proof_for s a t batch) ≡ None
 
 -- ---- of queries
@@ -55,29 +56,32 @@ abbrev pub IsHonestOrCollides : Scheme → Tree → (batch : ℕ) → Query → 
 IsHonestOrCollides s t batch q bytes answer =
     NoneAnd s.of (clash s t batch bytes) (IsHonest s t batch q bytes answer)
 
--- What bytes are worth that prove an answer against the root digest of a map, whatever the map.
+-- What bytes are worth that prove an answer against the root digest of a map of the scheme's
+-- version, whatever the map.
 abbrev pub Headline : Scheme → Query → List ℕ → Type 0
 Headline s q bytes =
-    (t : Tree) (batch : ℕ) (answer : List Record) → WellFormed t → batch < 2 ^ 64
+    (t : Tree) (batch : ℕ) (answer : List Record) → WellFormed t → HasLayers s.version t
+    → batch < 2 ^ 64
     → Proves s.of (root s t batch) q bytes answer
     → IsHonestOrCollides s t batch q bytes answer
 
 -- The same by the verdict: what an accepted proof is worth.
 abbrev pub AcceptedIsHonest : Scheme → Query → List ℕ → Type 0
 AcceptedIsHonest s q bytes =
-    (t : Tree) (batch : ℕ) (answer : List Record) → WellFormed t → batch < 2 ^ 64
+    (t : Tree) (batch : ℕ) (answer : List Record) → WellFormed t → HasLayers s.version t
+    → batch < 2 ^ 64
     → verdict s.of (root s t batch) q bytes ≡ Ok answer
     → IsHonestOrCollides s t batch q bytes answer
 
 -- Bytes other than the honest proof are refused, or show a collision.
 abbrev pub OthersFail : Scheme → Query → List ℕ → Type 0
 OthersFail s q bytes =
-    (t : Tree) (batch : ℕ) → WellFormed t → batch < 2 ^ 64 → bytes ≢ proof s t batch q
-    → ((f : Fault) × (verdict s.of (root s t batch) q bytes ≡ Err f))
+    (t : Tree) (batch : ℕ) → WellFormed t → HasLayers s.version t → batch < 2 ^ 64
+    → bytes ≢ proof s t batch q → ((f : Fault) × (verdict s.of (root s t batch) q bytes ≡ Err f))
     ⊎ ((p : Pair) × (clash s t batch bytes ≡ Some p) × IsCollision s.of p)
 
 -- The honest proof shows no pair.
 abbrev pub HonestIsQuiet : Scheme → Query → Type 0
 HonestIsQuiet s q =
-    (t : Tree) (batch : ℕ) → WellFormed t → batch < 2 ^ 64
+    (t : Tree) (batch : ℕ) → WellFormed t → HasLayers s.version t → batch < 2 ^ 64
     → clash s t batch (proof s t batch q) ≡ None

@@ -4,7 +4,7 @@ use Rattle.std.specs.List.{flat_map}
 use Rattle.std.specs.Int.{w64, w128, to_be_bytes}
 use Rattle.mr_geom.specs.Rectangle.{IsOrdered, FitsMap}
 use Rattle.mr_record.specs.Bytes.{AreBytes}
-use Rattle.mr_record.specs.Record.{IsRecord, record_bytes}
+use Rattle.mr_record.specs.Record.{IsRecord, HasLayer, record_bytes}
 use Rattle.mr_record.specs.Version.{version_byte}
 use Rattle.mr_record.specs.declared.version.Version.{Version}
 use Rattle.mr_tree.specs.Digest.{entry_bytes}
@@ -21,12 +21,12 @@ use Rattle.mr_proof.specs.Cut.{Cut, Cuts, Pruned, Leaf, Inner, no_more, first, e
 
 -- those of the part's entry, which do not tell its level
 abbrev pub shown_bytes : Shown → List ℕ
-shown_bytes part = entry_bytes (entry_shown 0 part)
+shown_bytes part = entry_bytes version (entry_shown 0 part)
 
 abbrev mutual
   pub cut_bytes : Cut → List ℕ
   cut_bytes (Pruned part) = pruned_tag ∷ shown_bytes part
-  cut_bytes (Leaf records) = leaf_tag ∷ length records ∷ flat_map record_bytes records
+  cut_bytes (Leaf records) = leaf_tag ∷ length records ∷ flat_map (record_bytes version) records
   cut_bytes (Inner cuts) = inner_tag ∷ count_of cuts ∷ cuts_bytes cuts
 
   pub cuts_bytes : Cuts → List ℕ
@@ -44,6 +44,7 @@ pub record FitsLeaf (level : ℕ) (records : List Record) : Type 0 where
   pub some : 1 ≤ length records
   pub few : length records ≤ leaf_limit
   pub each : All IsRecord records
+  pub layers : All (HasLayer version) records
 
 pub record FitsInner (level count : ℕ) : Type 0 where
   pub above : 1 ≤ level

@@ -22,6 +22,8 @@ impl Shown {
         Entry {
             level,
             rect: Some(self.rect),
+            mask: 0,
+            count: 0,
             digest: self.digest,
         }
     }

@@ -1,12 +1,14 @@
 //! The writers of a proof's pieces, each with one write to the sink.
 
-ghost use Rattle.std.specs.Prelude.{◌≡◌, ◌+◌, ◌*◌, ◌<◌, ◌≤◌, ◌++◌, length, OnOk};
+ghost use Rattle.std.specs.Prelude.{◌≡◌, ◌+◌, ◌*◌, ◌<◌, ◌≤◌, ◌++◌, length, All, OnOk};
 ghost use Rattle.std.specs.List.{flat_map};
 ghost use Rattle.mr_outside.specs.Causes.{SinkCauses};
 ghost use Rattle.mr_outside.specs.Told.{Takes, TakesFront};
-ghost use Rattle.mr_record.specs.Record.{record_bytes};
+ghost use Rattle.mr_record.specs.Record.{HasLayer, record_bytes};
+ghost use Rattle.mr_record.specs.declared.version.Version.TheVariants.{Two};
 ghost use Rattle.mr_tree.specs.View.{entry_of};
 ghost use Rattle.mr_proof.specs.Limits.{count_limit, level_limit};
+ghost use Rattle.mr_proof.specs.Fields.{version};
 ghost use Rattle.mr_proof.specs.Cut.{Leaf, pruned_cut};
 ghost use Rattle.mr_proof.specs.Spelling.{cut_bytes, radius_bytes, level_bytes, head_bytes, FitsRadius};
 ghost use Rattle.mr_proof.specs.Items.{item_bytes, FitsItem};
@@ -91,23 +93,25 @@ fn pruned(child: &Child) -> Buffer<PRUNED_LIMIT>
 {
     let mut bytes = Buffer::new();
     bytes.put(b"P");
-    let entry = child.entry().encoded();
+    let entry = child.entry().encoded(VERSION);
     bytes.put(entry.as_slice());
     bytes
 }
 
 fn put_records(bytes: &mut Buffer<LEAF_BYTES>, records: &[Record])
-    requires { length bytes.old + 225 * length records.now ≤ 3602 }
-    ensures { bytes.new ≡ bytes.old ++ flat_map record_bytes records.now }
+    requires room { length bytes.old + 226 * length records.now ≤ 3618 }
+    requires layers { All (HasLayer Two) records.now }
+    ensures { bytes.new ≡ bytes.old ++ flat_map (record_bytes version) records.now }
 {
     for one in records {
-        let record = encoded(one);
+        let record = encoded(VERSION, one);
         bytes.put(record.as_slice());
     }
 }
 
 fn leaf(records: &[Record]) -> Buffer<LEAF_BYTES>
-    requires { length records.now ≤ leaf_limit }
+    requires few { length records.now ≤ leaf_limit }
+    requires layers { All (HasLayer Two) records.now }
     ensures { result ≡ cut_bytes (Leaf records.now) }
 {
     let mut bytes = Buffer::new();

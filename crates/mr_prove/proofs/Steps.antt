@@ -1,6 +1,6 @@
 -- Steps of the walk: what was written and how often was fetched, so far and in all.
 use Rattle.std.proofs.Common.{◌≡◌, ℕ, ◌+◌, ◌<◌, ◌≤◌, true, false, List, [], ◌∷◌, ◌++◌, length, take, drop, get_or, append_assoc, take-append-drop, sym, ap, subst, ◌∙◌, arith}
-use Rattle.std.specs.Prelude.{Bool, IsSome, Result, Ok, Err, OnErr}
+use Rattle.std.specs.Prelude.{IsSome, Result, Ok, Err, OnErr}
 use Rattle.std.proofs.Math.Seq.{take-length}
 use Rattle.std.specs.List.{flat_map, sum_by}
 use Rattle.std.proofs.lemmas.List.{take_more, drop_more, flat_map_more}
@@ -17,7 +17,7 @@ use Rattle.mr_tree.specs.declared.child.Child.{Child}
 use Rattle.mr_proof.specs.Cut.{pruned_cut}
 use Rattle.mr_proof.specs.Spelling.{cut_bytes}
 use Rattle.mr_proof.specs.declared.way.Way.{Way}
-use Rattle.mr_proof.specs.Tight.{Seen, seen_at, opens_at}
+use Rattle.mr_proof.specs.Tight.{Seen, opens_at}
 use Rattle.mr_prove.specs.Parts.{node_bytes, part_at, opened_at, parts_of, opened_in}
 use Rattle.mr_prove.proofs.Pieces.{missed_at, met_at, opened_met_at, opened_one_at}
 

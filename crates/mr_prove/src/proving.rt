@@ -2,7 +2,7 @@
 
 ghost use Rattle.std.specs.Prelude.{◌≡◌, ◌+◌, ◌*◌, ◌≤◌, None, OnOk, OnErr, IfErr, IfSome, IsSome};
 ghost use Rattle.mr_outside.specs.Told.{Takes, TakesFront};
-ghost use Rattle.mr_record.specs.declared.version.Version.{Version};
+ghost use Rattle.mr_record.specs.declared.version.Version.TheVariants.{One};
 ghost use Rattle.mr_tree.specs.Digest.{by};
 ghost use Rattle.mr_tree.specs.Nodes.{TellsRefusal};
 ghost use Rattle.mr_query.specs.Word.{IsAskable};
@@ -160,8 +160,8 @@ pub fn prove_window<N: Nodes, W: Sink>(
 
 /// Writes the proof of the answer to the query: that of the cut which opens just the nodes that the
 /// query's region meets. Where the tree is told, the bytes are `proof` of it, which a client
-/// accepts with the answer of a scan, and no more nodes are fetched than the cut opens, or twice as
-/// many for nearest records.
+/// accepts with the answer of a scan where the map is of version 1, and no more nodes are fetched
+/// than the cut opens, or twice as many for nearest records.
 ///
 /// The radius of nearest records is found first, by a search that keeps the nodes it has met and as
 /// many distances as records are asked for. Then the nodes are walked depth first, as
@@ -187,7 +187,7 @@ pub fn prove<N: Nodes, W: Sink>(
         (W.state out.old) (W.state out.new) result }
     ensures refused { IfErr result (IsHandedOn (N.refusal nodes.new)) }
     ensures answered { TellsRefusal of_nodes (N.refusal nodes.old) (N.refusal nodes.new) result }
-    ensures accepted { (v : Version) → AcceptsHonest (by v N.Hash.of) q.now }
+    ensures accepted { AcceptsHonest (by One N.Hash.of) q.now }
 {
     honest_is_accepted::<N::Hash>(q);
     match q {

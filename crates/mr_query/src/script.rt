@@ -33,15 +33,15 @@ impl LineReader for ReadsQueries {
     ghost use Rattle.std.specs.Prelude.{⊤};
     ghost use Rattle.mr_query.specs.Script.{query_lines};
 
-    ghost reader = { query_lines };
+    ghost reader = { λ r. query_lines };
 
     ghost keeps = { λ r earlier. ⊤ };
 
-    fn limit() -> usize {
+    fn limit(&self) -> usize {
         SCRIPT_LIMIT
     }
 
-    fn first() -> u8 {
+    fn first(&self) -> u8 {
         1
     }
 

@@ -1,6 +1,7 @@
 -- What a call that reads a text of lines answers.
 use Rattle.std.specs.Prelude.{◌≡◌, ℕ, List, Result, Ok, Err, ⊤}
 use Rattle.std.specs.Global.{Vec}
+use Rattle.mr_record.specs.declared.version.Version.{Version}
 use Rattle.mr_record.specs.declared.text_fault.TextFault.{TextFault}
 use Rattle.mr_record.specs.declared.text_fault.TextErr.{TextErr}
 use Rattle.mr_record.specs.declared.text_fault.TextErr.TheVariants.{Text, NoMemory}
@@ -20,10 +21,11 @@ Answers (Err e) meant = Refuses e meant
 
 -- The lines before the fault's line are the lines of records that one text may hold, and behind
 -- those records the fault's line breaks the fault's rule first.
-abbrev pub IsFirstFault : List ℕ → TextFault → Type 0
-IsFirstFault text fault = IsFirstFaultBy record_lines IsRecordList (lines_of text) fault
+abbrev pub IsFirstFault : Version → List ℕ → TextFault → Type 0
+IsFirstFault v text fault =
+    IsFirstFaultBy (record_lines v) (IsRecordList v) (lines_of text) fault
 
 -- the refusal is the first fault of the text, or memory ran out
-abbrev pub IsRefusal : List ℕ → TextErr → Type 0
-IsRefusal text (Text fault) = IsFirstFault text fault
-IsRefusal text NoMemory = ⊤
+abbrev pub IsRefusal : Version → List ℕ → TextErr → Type 0
+IsRefusal v text (Text fault) = IsFirstFault v text fault
+IsRefusal v text NoMemory = ⊤

@@ -19,13 +19,16 @@ mod version;
 pub use bytes::{rect_bytes, rect_of_bytes, u32_of_bytes, u64_of_bytes, u128_of_bytes};
 pub use cutting::cut;
 pub use decimal::{read_i32, read_u64};
-pub use encoding::{RECORD_LIMIT, encoded, read_record, write_record};
-pub use line::read_line;
+pub use encoding::{
+    RECORD_LIMIT, encoded, read_record, read_record_of, read_record2, write_record,
+    write_record_of, write_record2,
+};
+pub use line::{read_line, read_line_of, read_line2};
 pub use payload::{PAYLOAD_LIMIT, Payload};
-pub use print::{put_coordinate, put_number, write_line, write_lines};
+pub use print::{put_coordinate, put_number, write_line, write_line_of, write_line2, write_lines};
 pub use reader::{LineReader, first_line, read_values};
-pub use record::{Record, are_records, is_record};
+pub use record::{LAYER_LIMIT, Record, are_records, is_record};
 pub use record_fault::{RecordFault, RecordRule};
-pub use text::read_lines;
+pub use text::{read_lines, read_lines_of, read_lines2};
 pub use text_fault::{TextErr, TextFault, TextRule};
 pub use version::Version;

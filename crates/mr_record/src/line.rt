@@ -1,15 +1,16 @@
 //! One record as a line of text.
 
-ghost use Rattle.std.specs.Prelude.{◌≡◌, ◌∷◌, [], IfOk, MatchResult};
+ghost use Rattle.std.specs.Prelude.{◌≡◌, ◌∷◌, [], IfOk, MatchResult, MatchOption, None, Some, Ok};
 ghost use Rattle.std.specs.List.{list_all};
-ghost use Rattle.mr_record.specs.Record.{IsRecord};
-ghost use Rattle.mr_record.specs.RecordText.{is_lower_digit, hex_bytes, payload_of, rectangle_of_fields, record_of_fields, record_of_line, line_of};
+ghost use Rattle.mr_record.specs.Record.{IsRecord, HasLayer};
+ghost use Rattle.mr_record.specs.declared.version.Version.TheVariants.{One, Two};
+ghost use Rattle.mr_record.specs.RecordText.{is_lower_digit, hex_bytes, payload_of, layer_of, last_of, rectangle_of_fields, record_from, record_of_fields, layered, record_of_line, line_of};
 ghost use Rattle.mr_record.specs.Lines.{fields_of};
 ghost use Rattle.mr_record.specs.declared.record.Record as types;
 ghost use Rattle.mr_record.specs.declared.text_fault.TextRule.TheVariants as rules;
 
 use crate::cutting::cut;
-use crate::{PAYLOAD_LIMIT, Payload, Record, TextRule, read_i32, read_u64};
+use crate::{LAYER_LIMIT, PAYLOAD_LIMIT, Payload, Record, TextRule, Version, read_i32, read_u64};
 use mr_geom::Rect;
 
 fn are_lower_digits(field: &[u8]) -> bool
@@ -57,26 +58,16 @@ fn read_rect(x0: &[u8], y0: &[u8], x1: &[u8], y1: &[u8]) -> Result<Rect, TextRul
     Rect::new(x0, y0, x1, y1).ok_or(TextRule::Order)
 }
 
-#[tactic(auto, unfolding(crate::specs::RecordText::record_of_fields))]
-fn read_fields(
-    number: &[u8],
-    x0: &[u8],
-    y0: &[u8],
-    x1: &[u8],
-    y1: &[u8],
-    payload: &[u8],
-) -> Result<Record, TextRule>
-    ensures { result ≡ record_of_fields
-        (number.now ∷ x0.now ∷ y0.now ∷ x1.now ∷ y1.now ∷ payload.now ∷ []) }
+/// A decimal from 0 to 63.
+#[tactic(auto, unfolding(crate::specs::RecordText::layer_of))]
+fn read_layer(field: &[u8]) -> Option<u8>
+    ensures { result ≡ layer_of field.now }
 {
-    let number = read_u64(number).ok_or(TextRule::Number)?;
-    let rect = read_rect(x0, y0, x1, y1)?;
-    let payload = read_payload(payload).ok_or(TextRule::Payload)?;
-    Ok(Record {
-        number,
-        rect,
-        payload,
-    })
+    let layer = read_u64(field)?;
+    if layer > u64::from(LAYER_LIMIT) {
+        return None;
+    }
+    Some(layer as u8)
 }
 
 // The first field of a line with more than one, and the line behind it.
@@ -91,26 +82,129 @@ fn split_field(line: &[u8]) -> Result<(&[u8], &[u8]), TextRule>
     }
 }
 
-#[tactic(auto, unfolding(crate::specs::RecordText::record_of_fields))]
-fn read_six(line: &[u8]) -> Result<Record, TextRule>
-    ensures { result ≡ record_of_line line.now }
+fn only_field(rest: &[u8]) -> Option<(Option<u8>, &[u8])>
+    ensures { MatchOption result (last_of (fields_of rest.now) One ≡ None)
+        (λ p. last_of (fields_of rest.now) One
+        ≡ Some (record { layer = p.0; payload = p.1.now })) }
+{
+    match split_field(rest) {
+        Ok(_) => None,
+        Err(_) => Some((Some(0), rest)),
+    }
+}
+
+fn two_fields(rest: &[u8]) -> Option<(Option<u8>, &[u8])>
+    ensures { MatchOption result (last_of (fields_of rest.now) Two ≡ None)
+        (λ p. last_of (fields_of rest.now) Two
+        ≡ Some (record { layer = p.0; payload = p.1.now })) }
+{
+    match split_field(rest) {
+        Err(_) => None,
+        Ok((layer, payload)) => match split_field(payload) {
+            Ok(_) => None,
+            Err(_) => Some((read_layer(layer), payload)),
+        },
+    }
+}
+
+/// What stands behind the coordinates: the layer, if it is one, and the payload.
+#[tactic(auto, unfolding(crate::specs::RecordText::last_of))]
+fn split_last(version: Version, rest: &[u8]) -> Option<(Option<u8>, &[u8])>
+    ensures { MatchOption result (last_of (fields_of rest.now) version ≡ None)
+        (λ p. last_of (fields_of rest.now) version
+        ≡ Some (record { layer = p.0; payload = p.1.now })) }
+{
+    match version {
+        Version::One => only_field(rest),
+        Version::Two => two_fields(rest),
+    }
+}
+
+#[tactic(auto, unfolding(crate::specs::RecordText::record_from))]
+fn read_parts(
+    number: &[u8],
+    x0: &[u8],
+    y0: &[u8],
+    x1: &[u8],
+    y1: &[u8],
+    layer: Option<u8>,
+    payload: &[u8],
+) -> Result<(Record, Option<u8>), TextRule>
+    ensures { result ≡ record_from number.now x0.now y0.now x1.now y1.now
+        (Some (record { layer = layer; payload = payload.now })) }
+{
+    let number = read_u64(number).ok_or(TextRule::Number)?;
+    let rect = read_rect(x0, y0, x1, y1)?;
+    let payload = read_payload(payload).ok_or(TextRule::Payload)?;
+    let record = Record {
+        number,
+        rect,
+        layer: 0,
+        payload,
+    };
+    Ok((record, layer))
+}
+
+#[tactic(auto, unfolding(crate::specs::RecordText::record_from, crate::specs::RecordText::last_of))]
+pub(crate) fn read_fields(version: Version, line: &[u8]) -> Result<(Record, Option<u8>), TextRule>
+    ensures { result ≡ record_of_fields version (fields_of line.now) }
 {
     let (number, rest) = split_field(line)?;
     let (x0, rest) = split_field(rest)?;
     let (y0, rest) = split_field(rest)?;
     let (x1, rest) = split_field(rest)?;
-    let (y1, payload) = split_field(rest)?;
-    match split_field(payload) {
-        Ok(_) => Err(TextRule::Form),
-        Err(_) => read_fields(number, x0, y0, x1, y1, payload),
+    let (y1, rest) = split_field(rest)?;
+    match split_last(version, rest) {
+        None => Err(TextRule::Form),
+        Some((layer, payload)) => read_parts(number, x0, y0, x1, y1, layer, payload),
     }
 }
 
-/// Reads one line without its line feed: `number x0 y0 x1 y1 payload`, with single spaces between.
-pub fn read_line(line: &[u8]) -> Result<Record, TextRule>
-    ensures exact { result ≡ record_of_line line.now }
-    ensures written { IfOk result (λ r. IsRecord r × (line.now ≡ line_of r)) }
-    ensures read { (r : types.Record) → IsRecord r → line.now ≡ line_of r → result ≡ Ok r }
+pub(crate) fn with_layer(found: (Record, Option<u8>)) -> Result<Record, TextRule>
+    ensures { result ≡ layered found }
 {
-    read_six(line)
+    let (one, layer) = found;
+    match layer {
+        None => Err(TextRule::Layer),
+        Some(layer) => Ok(Record { layer, ..one }),
+    }
+}
+
+fn read_judged(version: Version, line: &[u8]) -> Result<Record, TextRule>
+    ensures { result ≡ record_of_line version line.now }
+{
+    let found = read_fields(version, line)?;
+    with_layer(found)
+}
+
+/// Reads one line of this version without its line feed: `number x0 y0 x1 y1 payload`, in version 2
+/// `number x0 y0 x1 y1 layer payload`, with single spaces between.
+pub fn read_line_of(version: Version, line: &[u8]) -> Result<Record, TextRule>
+    ensures exact { result ≡ record_of_line version line.now }
+    ensures written { IfOk result
+        (λ r. IsRecord r × HasLayer version r × (line.now ≡ line_of version r)) }
+    ensures read { (r : types.Record) → IsRecord r → HasLayer version r
+        → line.now ≡ line_of version r → result ≡ Ok r }
+{
+    read_judged(version, line)
+}
+
+/// `read_line_of` version 1.
+pub fn read_line(line: &[u8]) -> Result<Record, TextRule>
+    ensures exact { result ≡ record_of_line One line.now }
+    ensures written { IfOk result (λ r. IsRecord r × HasLayer One r × (line.now ≡ line_of One r)) }
+    ensures read { (r : types.Record) → IsRecord r → HasLayer One r → line.now ≡ line_of One r
+        → result ≡ Ok r }
+{
+    read_line_of(Version::One, line)
+}
+
+/// `read_line_of` version 2.
+pub fn read_line2(line: &[u8]) -> Result<Record, TextRule>
+    ensures exact { result ≡ record_of_line Two line.now }
+    ensures written { IfOk result (λ r. IsRecord r × HasLayer Two r × (line.now ≡ line_of Two r)) }
+    ensures read { (r : types.Record) → IsRecord r → HasLayer Two r → line.now ≡ line_of Two r
+        → result ≡ Ok r }
+{
+    read_line_of(Version::Two, line)
 }

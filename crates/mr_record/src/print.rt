@@ -7,11 +7,12 @@ ghost use Rattle.mr_outside.specs.Told.{Takes, TakesFront};
 ghost use Rattle.mr_outside.specs.Causes.{SinkCauses};
 ghost use Rattle.mr_geom.specs.Rectangle.{IsOrdered, FitsMap};
 ghost use Rattle.mr_record.specs.Bytes.{AreBytes};
-ghost use Rattle.mr_record.specs.Record.{IsRecord, payload_limit};
-ghost use Rattle.mr_record.specs.RecordText.{payload_text, line_of, text_of};
+ghost use Rattle.mr_record.specs.Record.{IsRecord, HasLayer, payload_limit};
+ghost use Rattle.mr_record.specs.RecordText.{payload_text, layer_text, line_of, text_of};
+ghost use Rattle.mr_record.specs.declared.version.Version.TheVariants.{One, Two};
 ghost use Rattle.mr_record.specs.Gathered.{Sends};
 
-use crate::{Payload, Record};
+use crate::{Payload, Record, Version};
 use mr_geom::Rect;
 use mr_outside::{Buffer, Sink, SinkErr, write_all};
 
@@ -49,16 +50,25 @@ pub fn put_number<const N: usize>(line: &mut Buffer<N>, number: u64)
     line.put(digits);
 }
 
+// Puts a number below 2^32 in decimal, at most 10 digits.
+fn put_short<const N: usize>(line: &mut Buffer<N>, number: u32)
+    requires { length line.old + 20 ≤ N }
+    ensures put { line.new ≡ line.old ++ decimal number }
+    ensures within { length line.new ≤ length line.old + 10 }
+{
+    put_number(line, u64::from(number));
+}
+
 /// Puts a coordinate in decimal, with a `-` before one that is below 0: at most 11 bytes.
 pub fn put_coordinate<const N: usize>(line: &mut Buffer<N>, coordinate: i32)
     requires { length line.old + 21 ≤ N }
     ensures put { line.new ≡ line.old ++ signed_decimal coordinate }
-    ensures within { length line.new ≤ length line.old + 21 }
+    ensures within { length line.new ≤ length line.old + 11 }
 {
     if coordinate < 0 {
         line.put(b"-");
     }
-    put_number(line, u64::from(coordinate.unsigned_abs()));
+    put_short(line, coordinate.unsigned_abs());
 }
 
 // Puts two lower-case hexadecimal digits for each byte.
@@ -93,7 +103,7 @@ fn put_payload<const N: usize>(line: &mut Buffer<N>, payload: &Payload)
 fn put_coordinate_and_space<const N: usize>(line: &mut Buffer<N>, coordinate: i32)
     requires { length line.old + 22 ≤ N }
     ensures put { line.new ≡ line.old ++ signed_decimal coordinate ++ 32 ∷ [] }
-    ensures within { length line.new ≤ length line.old + 22 }
+    ensures within { length line.new ≤ length line.old + 12 }
 {
     put_coordinate(line, coordinate);
     line.put(b" ");
@@ -105,7 +115,7 @@ fn put_rect<const N: usize>(line: &mut Buffer<N>, rect: &Rect)
     ensures put { line.new ≡ line.old ++ signed_decimal rect.now.x0 ++ 32 ∷ []
         ++ signed_decimal rect.now.y0 ++ 32 ∷ [] ++ signed_decimal rect.now.x1 ++ 32 ∷ []
         ++ signed_decimal rect.now.y1 ++ 32 ∷ [] }
-    ensures within { length line.new ≤ length line.old + 88 }
+    ensures within { length line.new ≤ length line.old + 48 }
     ensures ordered { IsOrdered rect.now }
     ensures fits { FitsMap rect.now }
 {
@@ -116,31 +126,76 @@ fn put_rect<const N: usize>(line: &mut Buffer<N>, rect: &Rect)
     put_coordinate_and_space(line, y1);
 }
 
+// Puts the layer, at most 20 digits, and a space; in version 1 nothing.
+fn put_layer<const N: usize>(line: &mut Buffer<N>, version: Version, layer: u8)
+    requires { length line.old + 21 ≤ N }
+    ensures put { line.new ≡ line.old ++ layer_text version layer }
+    ensures within { length line.new ≤ length line.old + 21 }
+{
+    match version {
+        Version::One => {}
+        Version::Two => {
+            put_number(line, u64::from(layer));
+            line.put(b" ");
+        }
+    }
+}
+
 // Puts the line of the record, with its line feed.
-fn put_line<const N: usize>(line: &mut Buffer<N>, one: &Record)
-    requires { length line.old + 512 ≤ N }
-    ensures put { line.new ≡ line.old ++ (line_of one.now ++ 10 ∷ []) }
+fn put_line<const N: usize>(line: &mut Buffer<N>, version: Version, one: &Record)
+    requires room { length line.old + 512 ≤ N }
+    requires layer { HasLayer Two one.now }
+    ensures put { line.new ≡ line.old ++ (line_of version one.now ++ 10 ∷ []) }
     ensures record { IsRecord one.now }
 {
     put_number(line, one.number);
     line.put(b" ");
     put_rect(line, &one.rect);
+    put_layer(line, version, one.layer);
     put_payload(line, &one.payload);
     line.put(b"\n");
 }
 
-/// Writes one line with its line feed: `number x0 y0 x1 y1 payload`, with single spaces between.
-/// After a refusal some front of the line was taken.
-pub fn write_line<W: Sink>(out: &mut W, one: &Record) -> Result<(), SinkErr>
+/// Writes one line of this version with its line feed. After a refusal some front of the line was
+/// taken.
+pub fn write_line_of<W: Sink>(out: &mut W, version: Version, one: &Record) -> Result<(), SinkErr>
+    requires { HasLayer version one.now }
     ensures record { IsRecord one.now }
-    ensures whole { let line = line_of one.now ++ 10 ∷ [] in
+    ensures whole { let line = line_of version one.now ++ 10 ∷ [] in
         OnOk result (Takes (W.state out.old) (W.state out.new) line) }
-    ensures front { TakesFront (W.state out.old) (W.state out.new) (line_of one.now ++ 10 ∷ []) }
+    ensures front { TakesFront (W.state out.old) (W.state out.new)
+        (line_of version one.now ++ 10 ∷ []) }
     ensures causes { SinkCauses (W.state out.old) (W.state out.new) result }
 {
     let mut line: Buffer<LINE_ROOM> = Buffer::new();
-    put_line(&mut line, one);
+    put_line(&mut line, version, one);
     write_all(out, line.as_slice())
+}
+
+/// `write_line_of` version 1.
+pub fn write_line<W: Sink>(out: &mut W, one: &Record) -> Result<(), SinkErr>
+    requires { HasLayer One one.now }
+    ensures record { IsRecord one.now }
+    ensures whole { let line = line_of One one.now ++ 10 ∷ [] in
+        OnOk result (Takes (W.state out.old) (W.state out.new) line) }
+    ensures front { TakesFront (W.state out.old) (W.state out.new)
+        (line_of One one.now ++ 10 ∷ []) }
+    ensures causes { SinkCauses (W.state out.old) (W.state out.new) result }
+{
+    write_line_of(out, Version::One, one)
+}
+
+/// `write_line_of` version 2.
+pub fn write_line2<W: Sink>(out: &mut W, one: &Record) -> Result<(), SinkErr>
+    requires { HasLayer Two one.now }
+    ensures record { IsRecord one.now }
+    ensures whole { let line = line_of Two one.now ++ 10 ∷ [] in
+        OnOk result (Takes (W.state out.old) (W.state out.new) line) }
+    ensures front { TakesFront (W.state out.old) (W.state out.new)
+        (line_of Two one.now ++ 10 ∷ []) }
+    ensures causes { SinkCauses (W.state out.old) (W.state out.new) result }
+{
+    write_line_of(out, Version::Two, one)
 }
 
 // Gives what was gathered to the sink, where there is no room for one more line behind it.
@@ -158,18 +213,25 @@ fn make_room<W: Sink>(out: &mut W, piece: &mut Buffer<PIECE_LIMIT>) -> Result<()
     Ok(())
 }
 
-/// Writes a line for each record, in their order. Lines are gathered, and the sink is given pieces
-/// of up to 65,536 bytes, each of whole lines. After a refusal some front of the text was taken.
-pub fn write_lines<W: Sink>(out: &mut W, records: &[Record]) -> Result<(), SinkErr>
+/// Writes a line of this version for each record, in their order. Lines are gathered, and the sink
+/// is given pieces of up to 65,536 bytes, each of whole lines. After a refusal some front of the
+/// text was taken.
+pub fn write_lines<W: Sink>(
+    out: &mut W,
+    version: Version,
+    records: &[Record],
+) -> Result<(), SinkErr>
+    requires { All (HasLayer version) records.now }
     ensures records { OnOk result (All IsRecord records.now) }
-    ensures whole { OnOk result (Takes (W.state out.old) (W.state out.new) (text_of records.now)) }
-    ensures front { TakesFront (W.state out.old) (W.state out.new) (text_of records.now) }
+    ensures whole { OnOk result
+        (Takes (W.state out.old) (W.state out.new) (text_of version records.now)) }
+    ensures front { TakesFront (W.state out.old) (W.state out.new) (text_of version records.now) }
     ensures causes { SinkCauses (W.state out.old) (W.state out.new) result }
 {
     let mut piece: Buffer<PIECE_LIMIT> = Buffer::new();
     for one in records {
         make_room(out, &mut piece)?;
-        put_line(&mut piece, one);
+        put_line(&mut piece, version, one);
     }
     write_all(out, piece.as_slice())
 }

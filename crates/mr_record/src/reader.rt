@@ -16,18 +16,18 @@ pub trait LineReader {
     type Value: Drop;
 
     // how the lines spell values
-    ghost reader: { Reader Self.Value };
+    ghost reader: { Self → Reader Self.Value };
 
     // what is kept of the earlier values
     ghost keeps: { Self → List Self.Value → Type 0 };
 
     /// The most lines.
-    fn limit() -> usize
-        ensures { result ≡ reader.limit };
+    fn limit(&self) -> usize
+        ensures { result ≡ (reader self.now).limit };
 
     /// What the first line is counted as.
-    fn first() -> u8
-        ensures { result ≡ reader.first };
+    fn first(&self) -> u8
+        ensures { result ≡ (reader self.now).first };
 
     /// The fewest bytes of a line with its line feed. It tells how much room to make, and nothing
     /// else.
@@ -37,12 +37,13 @@ pub trait LineReader {
     /// The value of a line without its line feed, behind the earlier values.
     fn read(&self, earlier: &[Self::Value], line: &[u8]) -> Result<Self::Value, TextRule>
         requires { keeps self.now earlier.now }
-        ensures { result ≡ reader.read earlier.now line.now };
+        ensures { result ≡ (reader self.now).read earlier.now line.now };
 
     /// Keeps what is to be kept of one value more. It refuses for want of memory alone.
     fn keep(&mut self, earlier: &[Self::Value], one: &Self::Value) -> Result<(), AllocError>
         requires { keeps self.old earlier.now }
-        ensures { OnOk result (keeps self.new (earlier.now ++ one.now ∷ [])) };
+        ensures same { reader self.new ≡ reader self.old }
+        ensures kept { OnOk result (keeps self.new (earlier.now ++ one.now ∷ [])) };
 }
 
 /// The first line of a text that is not empty, without its line feed; whether it has one; and the
@@ -69,10 +70,10 @@ fn read_after<R: LineReader>(
     ended: bool,
 ) -> Result<R::Value, TextRule>
     requires { R.keeps reader.now earlier.now }
-    ensures { result ≡ value_after R.reader earlier.now
+    ensures { result ≡ value_after (R.reader reader.now) earlier.now
         (record { bytes = line.now; ended = ended }) }
 {
-    if earlier.len() >= R::limit() {
+    if earlier.len() >= reader.limit() {
         return Err(TextRule::TooMany);
     }
     if !ended {
@@ -88,6 +89,7 @@ fn add<R: LineReader>(
     one: R::Value,
 ) -> Result<(), TextErr>
     requires { R.keeps reader.old values.old.items }
+    ensures same { R.reader reader.new ≡ R.reader reader.old }
     ensures added { OnOk result (values.new.items ≡ values.old.items ++ one ∷ []) }
     ensures kept { OnOk result (R.keeps reader.new values.new.items) }
     ensures refused { IfErr result (λ e. e ≡ errors.NoMemory) }
@@ -106,15 +108,17 @@ fn take_line<'a, R: LineReader>(
 ) -> Result<&'a [u8], TextErr>
     requires filled { 0 < length text.now }
     requires kept { R.keeps reader.old values.old.items }
+    ensures same { R.reader reader.new ≡ R.reader reader.old }
     ensures kept { OnOk result (R.keeps reader.new values.new.items) }
     ensures shorter { IfOk result (λ rest. length rest.now < length text.now) }
-    ensures goes_on { IfOk result (λ rest. values_after R.reader values.old.items
-        (lines_of text.now) ≡ values_after R.reader values.new.items (lines_of rest.now)) }
-    ensures refused { IfErr result
-        (λ e. Refuses e (values_after R.reader values.old.items (lines_of text.now))) }
+    ensures goes_on { IfOk result (λ rest. values_after (R.reader reader.old) values.old.items
+        (lines_of text.now)
+        ≡ values_after (R.reader reader.old) values.new.items (lines_of rest.now)) }
+    ensures refused { IfErr result (λ e. Refuses e
+        (values_after (R.reader reader.old) values.old.items (lines_of text.now))) }
 {
     let (line, ended, rest) = first_line(text);
-    let number = values.len() as u64 + u64::from(R::first());
+    let number = values.len() as u64 + u64::from(reader.first());
     match read_after(reader, values, line, ended) {
         Err(rule) => Err(TextErr::Text(TextFault { line: number, rule })),
         Ok(one) => {
@@ -125,9 +129,9 @@ fn take_line<'a, R: LineReader>(
 }
 
 // For how many values a text has lines, as far as they may be read.
-fn count<R: LineReader>(text: &[u8]) -> usize {
+fn count<R: LineReader>(reader: &R, text: &[u8]) -> usize {
     let feeds = text.iter().filter(|b| **b == b'\n').count();
-    feeds.min(text.len() / R::shortest()).min(R::limit())
+    feeds.min(text.len() / R::shortest()).min(reader.limit())
 }
 
 /// The values of the lines of a text. The room for them is made once, so that it is not moved.
@@ -137,9 +141,9 @@ pub fn read_values<R: LineReader + Drop>(
     text: &[u8],
 ) -> Result<Vec<R::Value>, TextErr>
     requires { R.keeps reader [] }
-    ensures { Answers result (values_after R.reader [] (lines_of text.now)) }
+    ensures { Answers result (values_after (R.reader reader) [] (lines_of text.now)) }
 {
-    let mut values = Vec::with_capacity(alloc, count::<R>(text))?;
+    let mut values = Vec::with_capacity(alloc, count(&reader, text))?;
     let mut rest = text;
     while !rest.is_empty() {
         rest = take_line(&mut reader, &mut values, rest)?;

@@ -2,18 +2,27 @@
 
 ghost use Rattle.std.specs.Prelude.{◌^◌, ◌<◌, All};
 ghost use Rattle.mr_record.specs.Bytes.{AreBytes};
-ghost use Rattle.mr_record.specs.Record.{IsRecord};
+ghost use Rattle.mr_record.specs.Record.{IsRecord, HasLayer};
+ghost use Rattle.mr_record.specs.declared.version.Version.TheVariants.{Two};
 
 use crate::Payload;
 use mr_geom::Rect;
 
-/// One record of a map: a number, a rectangle in map units and a payload.
+/// The highest layer.
+pub const LAYER_LIMIT: u8 = 63;
+
+/// One record of a map: a number, a rectangle in map units, a layer and a payload.
 #[derive(Clone, Copy)]
 pub struct Record {
     pub number: u64,
     pub rect: Rect,
+    /// From 0 to 63, and 0 in version 1.
+    pub layer: u8,
     pub payload: Payload,
 }
+
+// The layer stands in what the alignment of the number leaves free.
+const _: () = prove!(size_of::<Record>() == 232);
 
 impl Record {
     /// Record 0 at the point (0, 0) without a payload: it fills a place until another is put there.
@@ -22,6 +31,7 @@ impl Record {
             (Some(rect), Some(payload)) => Record {
                 number: 0,
                 rect,
+                layer: 0,
                 payload,
             },
             _ => unreachable!(),
@@ -39,8 +49,10 @@ fn are_bytes(_bytes: &[u8])
     ensures { AreBytes _bytes.now }
 {}
 
-/// Does nothing: it is there for proofs, which learn that each value of the type is a record.
+/// Does nothing: it is there for proofs, which learn that each value of the type with a layer that
+/// there is is a record.
 pub fn is_record(one: &Record)
+    requires { HasLayer Two one.now }
     ensures { IsRecord one.now }
 {
     is_number(one.number);
@@ -50,6 +62,7 @@ pub fn is_record(one: &Record)
 
 /// As `is_record`, for each record of a list.
 pub fn are_records(list: &[Record])
+    requires { All (HasLayer Two) list.now }
     ensures { All IsRecord list.now }
 {
     for one in list {

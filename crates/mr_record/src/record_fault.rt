@@ -9,6 +9,8 @@ pub enum RecordRule {
     BadRect,
     /// The payload's length is above 200.
     BadLength,
+    /// The layer is above 63.
+    BadLayer,
 }
 
 /// The first field of a record that breaks a rule.

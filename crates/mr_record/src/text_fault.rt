@@ -29,6 +29,8 @@ pub enum TextRule {
     Repeat,
     /// The line of a script is no query.
     Query,
+    /// The layer is no canonical decimal from 0 to 63.
+    Layer,
 }
 
 impl TextRule {
@@ -47,6 +49,7 @@ impl TextRule {
             TextRule::Payload => "Payload",
             TextRule::Repeat => "Repeat",
             TextRule::Query => "Query",
+            TextRule::Layer => "Layer",
         }
     }
 }

@@ -3,11 +3,14 @@
 ghost use Rattle.std.specs.Prelude.{◌≡◌};
 ghost use Rattle.mr_record.specs.Version.{version_byte};
 
-/// A version of the formats: of preimages, of pages and of proofs.
+/// A version of the formats: of a record's bytes and line, of preimages, of pages and of proofs.
 #[derive(Clone, Copy, Debug, PartialEq, Eq)]
 pub enum Version {
-    /// The only one so far.
+    /// Each record has layer 0, and nothing is said of layers.
     One,
+    /// A record has a layer from 0 to 63, and what is said of a node has the mask of the layers and
+    /// the count of the records below it.
+    Two,
 }
 
 impl Version {
@@ -17,6 +20,7 @@ impl Version {
     {
         match self {
             Version::One => 1,
+            Version::Two => 2,
         }
     }
 }

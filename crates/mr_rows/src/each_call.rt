@@ -329,6 +329,12 @@ fn names_of(alloc: Global, group: &[&str]) -> Result<Vec<String>, AllocError> {
     Ok(names)
 }
 
+// Whether a command line is one that makes a map.
+fn makes_map(line: &str) -> bool {
+    let (command, _) = line.split_once(' ').unwrap_or((line, ""));
+    matches!(command, "build" | "build2" | "upgrade" | "apply")
+}
+
 // Whether there are so many calls at least.
 fn are_enough(calls: Option<u64>, least: &[i128]) -> bool {
     match (calls, least) {
@@ -372,7 +378,7 @@ pub(crate) fn holds<R: Threads + Files + Sync>(
         status: number(words_of(group, "status")).unwrap_or(-1),
         text,
         name,
-        is_map: line.starts_with("build ") || line.starts_with("apply "),
+        is_map: makes_map(line),
         made,
     };
     let least = numbers(alloc, least)?;

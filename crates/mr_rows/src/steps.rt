@@ -1,11 +1,14 @@
 //! What an item of a row or of a story says, and whether it is so.
 
+ghost use Rattle.std.specs.Prelude.{◌≤◌};
+
 use mr_bench::cuts::agrees;
 use mr_bench::listed::Listed;
 use mr_bench::parts::{number, numbers, small};
 use mr_bench::runs::{digest, file_of, ran};
 use mr_outside::{MemShelf, NoGate};
-use mr_pages::{PAGE_SIZE, open_plain, save_plain};
+use mr_pages::{PAGE_SIZE, SECOND_SIZE, open_plain, save_plain, save2_plain};
+use mr_record::Version;
 use mr_tree::{Hash32, Sha, XorHash};
 use std::alloc::{AllocError, Global};
 use std::thread::Threads;
@@ -145,10 +148,20 @@ fn hashes(alloc: Global, words: &str, shelf: &MemShelf) -> Result<bool, AllocErr
     }
 }
 
+// The size of the pages of a map file.
+fn page_size(bytes: &[u8]) -> usize
+    ensures { 1 ≤ result }
+{
+    match bytes {
+        [_, _, _, _, 2, ..] => SECOND_SIZE,
+        _ => PAGE_SIZE,
+    }
+}
+
 // How many pages begin as free ones do.
 fn free_pages(bytes: &[u8]) -> usize {
     let mut met = 0usize;
-    for page in bytes.chunks(PAGE_SIZE) {
+    for page in bytes.chunks(page_size(bytes)) {
         if page.first() == Some(&b'F') {
             met = met.wrapping_add(1);
         }
@@ -162,24 +175,28 @@ fn has_pages(alloc: Global, words: &str, shelf: &MemShelf) -> Result<bool, Alloc
     let bytes = file_of(alloc, shelf, name)?;
     match numbers(alloc, counts)?.as_slice() {
         [pages, free] => {
-            let as_long = bytes.len() as i128 == pages.wrapping_mul(PAGE_SIZE as i128);
+            let as_long = bytes.len() as i128 == pages.wrapping_mul(page_size(&bytes) as i128);
             Ok(as_long && free_pages(&bytes) as i128 == *free)
         }
         _ => Ok(false),
     }
 }
 
-// Writes the map in a file to another one, by the plain way.
+// Writes the map in a file to another one of its version, by the plain way.
 fn lay_out<H: Hash32>(
     alloc: Global,
     from: &str,
     to: &str,
     shelf: &mut MemShelf,
 ) -> Result<bool, AllocError> {
-    match open_plain::<H, MemShelf>(alloc, shelf, from) {
-        Ok((tree, batch)) => Ok(save_plain::<H, MemShelf>(alloc, shelf, to, &tree, batch).is_ok()),
-        Err(_) => Ok(false),
-    }
+    let Ok(map) = open_plain::<H, MemShelf>(alloc, shelf, from) else {
+        return Ok(false);
+    };
+    let left = match map.version {
+        Version::One => save_plain::<H, MemShelf>(alloc, shelf, to, &map.tree, map.batch),
+        Version::Two => save2_plain::<H, MemShelf>(alloc, shelf, to, &map.tree, map.batch),
+    };
+    Ok(left.is_ok())
 }
 
 fn laid_out(

@@ -1,15 +1,16 @@
 -- Why a copy of a map stops: what is told of a map breaks no rule.
-use Rattle.std.proofs.Common.{◌≡◌, ℕ, zero, suc, ◌<◌, Bool, true, false, List, [], ◌∷◌, ◌++◌, length, map, get_or, take, drop, inl, inr, refl, sym, ap, subst, ◌∙◌, arith}
-use Rattle.std.specs.Prelude.{not, Option, Some, None, IfSome, IsSome, IsSomeAnd, Result, Ok, Err, IfOk, IfErr}
+use Rattle.std.proofs.Common.{◌≡◌, ℕ, zero, suc, ◌<◌, ◌≤◌, Bool, true, false, List, [], ◌∷◌, ◌++◌, length, map, get_or, take, drop, inl, inr, refl, sym, ap, subst, ◌∙◌, arith}
+use Rattle.std.specs.Prelude.{sum, fold, bit_or, not, Option, Some, None, IfSome, IsSome, IsSomeAnd, Result, Ok, Err, IfOk, IfErr}
 use Rattle.std.specs.List.{flat_map, AllByRecursion}
 use Rattle.std.proofs.lemmas.Bool.{ltb-false, le-ltb}
 use Rattle.std.proofs.lemmas.List.{length-map, map-append}
+use Rattle.std.proofs.lemmas.List.Sums.{sum_by-cons}
 use Rattle.std.proofs.lemmas.List.Concat.{flat_map-append}
 use Rattle.std.proofs.lemmas.List.Elements.{recursion_from_All}
 use Rattle.mr_geom.specs.Rectangle.{union_of}
 use Rattle.mr_record.specs.declared.record.Record.{Record}
 use Rattle.mr_record.specs.declared.version.Version.TheVariants.{One}
-use Rattle.mr_tree.specs.Tree.{records}
+use Rattle.mr_tree.specs.Tree.{records, mask_of, layer_bit}
 use Rattle.mr_tree.specs.Digest.{Scheme, by, entry, entry_step}
 use Rattle.mr_tree.specs.declared.entry.Entry.{Entry}
 use Rattle.mr_tree.specs.WellFormed.{IsFilled}
@@ -61,19 +62,65 @@ rect_known scheme (Inner cs) = ap union_of (rects cs)
 level_over : (hash : List ℕ → List ℕ) (n : view.Node) → view.level_of n ≡ (view.entry_over (by One hash) n).level
 level_over hash n = level_known hash n ∙ sym (ap (λ (e : Entry). e.level) (entry_same (by One hash) n))
 
+no_layers : (rs : List Record) → mask_of (map (layer_bit One) rs) ≡ 0
+no_layers [] = refl
+no_layers (r ∷ rs) = no_layers rs
+
+-- what version 1 may tell of a child
+abbrev pub Tells : Child → Type 0
+Tells c = view.MayTell One c.mask c.count
+
+no_masks : (cs : List Child) → AllByRecursion Tells cs →
+    mask_of (map (λ (e : Entry). e.mask) (map view.entry_of cs)) ≡ 0
+no_masks [] all = refl
+no_masks (c ∷ cs) all =
+    let low : c.mask < 1 = all.0.fits in
+    let none : c.mask ≡ 0 = omega (arith, low) in
+    ap (λ m. fold bit_or (bit_or 0 m) (map (λ (e : Entry). e.mask) (map view.entry_of cs))) none ∙ no_masks cs all.1
+
+no_counts : (cs : List Child) → AllByRecursion Tells cs →
+    sum (map (λ (e : Entry). e.count) (map view.entry_of cs)) ≡ 0
+no_counts [] all = refl
+no_counts (c ∷ cs) all =
+    let low : c.count ≤ 0 = all.0.few in
+    let rest = map (λ (e : Entry). e.count) (map view.entry_of cs) in
+    omega (arith, low, no_counts cs all.1, sum_by-cons (λ n. n) c.count rest)
+
+-- version 1 tells nothing of a node's layers and of the number of its records
+record TellsNone (e : Entry) : Type 0 where
+  mask : e.mask ≡ 0
+  count : e.count ≡ 0
+
+none_told : (hash : List ℕ → List ℕ) (n : view.Node) → view.AreTold One n → TellsNone (view.entry_over (by One hash) n)
+none_told hash Empty told = record { mask = refl; count = refl }
+none_told hash (Leaf rs) told = record { mask = no_layers rs; count = refl }
+none_told hash (Inner cs) told =
+    let all = recursion_from_All Tells cs told.children in
+    record { mask = no_masks cs all; count = no_counts cs all }
+
 -- what was judged, and fetched, suits
 pub suits_of : (hash : List ℕ → List ℕ) (s : Standing) (root : Bool) (c : Child) (n m : view.Node) →
-    Shows hash s c n → IsJudged root c n m → Suits hash root c m
-suits_of hash s root c n m shows j = subst (Suits hash root c) (sym j.same) (record {
-  fits = j.fits;
-  some = shows.some;
-  known = λ i. record {
-    level = (sym shows.level ∙ level_over hash n) i;
-    rect = (sym (rect_known (by One hash) n ∙ same_rect_is (view.rect_of n) (Some c.rect) j.rect)) i;
-    digest = sym shows.digest i;
-  };
-  full = ltb-false _ _ (not_true _ j.full);
-})
+    s.version ≡ One → Tells c → Shows hash s c n → IsJudged root c n m → Suits hash root c m
+suits_of hash s root c n m one tells shows j =
+    let told = subst (λ v. view.AreTold v n) one shows.told in
+    let none = none_told hash n told in
+    let low : c.mask < 1 = tells.fits in
+    let few : c.count ≤ 0 = tells.few in
+    let mask : c.mask ≡ 0 = omega (arith, low) in
+    let count : c.count ≡ 0 = omega (arith, few) in
+    subst (Suits hash root c) (sym j.same) (record {
+      fits = j.fits;
+      some = shows.some;
+      told = told;
+      known = λ i. record {
+        level = (sym shows.level ∙ level_over hash n) i;
+        rect = (sym (rect_known (by One hash) n ∙ same_rect_is (view.rect_of n) (Some c.rect) j.rect)) i;
+        mask = (mask ∙ sym none.mask) i;
+        count = (count ∙ sym none.count) i;
+        digest = (sym shows.digest ∙ ap (λ v. hash (view.preimage_of v n)) one) i;
+      };
+      full = ltb-false _ _ (not_true _ j.full);
+    })
 
 -- ---- what is told breaks no rule
 
@@ -198,6 +245,12 @@ pub may_next : (hash : List ℕ → List ℕ) (s s' : Standing) (child d : Child
     Shows hash s child (Inner children) → i < length children → d ≡ get_or children i d → MayFetch hash s' d
 may_next hash s s' child d children i same shows within is =
     subst (λ x. MayFetch hash x d) (sym same) (subst (MayFetch hash s) (sym is) (shows.children i d within))
+
+-- and it is told what version 1 tells
+pub told_next : (hash : List ℕ → List ℕ) (s : Standing) (child d : Child) (children : List Child) (i : ℕ) →
+    s.version ≡ One → Shows hash s child (Inner children) → i < length children → d ≡ get_or children i d → Tells d
+told_next hash s child d children i one shows within is =
+    subst Tells (sym is) ((subst (λ v. view.AreTold v (Inner children)) one shows.told).children i d within)
 
 pub split_list : {A : Type 0} (xs : List A) (i : ℕ) (x : A) → i < length xs → x ≡ get_or xs i x →
     xs ≡ take i xs ++ x ∷ drop (suc i) xs

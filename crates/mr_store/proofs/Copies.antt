@@ -5,9 +5,9 @@ use Rattle.std.specs.List.{flat_map, AllByRecursion}
 use Rattle.std.proofs.lemmas.Bool.{OnFalse_at}
 use Rattle.std.proofs.lemmas.List.{length-map, map-append, append-nil, take_more, flat_map_more}
 use Rattle.std.proofs.lemmas.List.Elements.{All-from_recursion, recursion_from_All, All-append, All-nil}
-use Rattle.mr_record.specs.Record.{IsRecord}
+use Rattle.mr_record.specs.Record.{IsRecord, HasLayer}
 use Rattle.mr_record.specs.declared.record.Record.{Record}
-use Rattle.mr_record.specs.declared.version.Version.TheVariants.{One}
+use Rattle.mr_record.specs.declared.version.Version.TheVariants.{One, Two}
 use Rattle.mr_tree.specs.Limits.{level_limit}
 use Rattle.mr_tree.specs.Tree.{level, records, first_level}
 use Rattle.mr_tree.specs.Digest.{Scheme, by, entry, entry_step}
@@ -27,6 +27,7 @@ use Rattle.mr_tree.specs.declared.tree.Tree.TheFolds.{every-Tree}
 use Rattle.mr_tree.proofs.Equations.{entry_level, records-Leaf, records-Inner}
 use Rattle.mr_tree.proofs.Induction.{every-Leaf, every-Inner}
 use Rattle.mr_tree.proofs.Subtrees.{subtrees-Leaf}
+use Rattle.mr_tree.proofs.Told.{told_counts}
 use Rattle.mr_tree.proofs.Placements.{leaf_placed, inner_placed, placed_on, entries_of, links_more, trees_before}
 use Rattle.mr_pages.specs.Faults.{numbers_of, least}
 use Rattle.mr_pages.specs.Walking.{child_link, Saw, Counts}
@@ -85,12 +86,13 @@ found_here : (scheme : Scheme) (old new : List Stored) (c : Child) (t : Tree) �
 found_here scheme old new c t p = subst (λ u. IsPlaced scheme old new c u (subtrees u)) (sym p.here) p
 
 fine_leaf : (root : Bool) (rs : List Record) → least root (Leaf rs) ≤ length rs → length rs ≤ 16 →
-    All IsRecord rs → IsFine root (tree.Leaf rs)
-fine_leaf root rs full few each = record {
+    All IsRecord rs → All (HasLayer One) rs → IsFine root (tree.Leaf rs)
+fine_leaf root rs full few each layers = record {
   one_level = every-Leaf HasOneLevel rs tt;
   there = leaf_there rs;
   filled = filled_leaf root rs full few;
   each = subst (All IsRecord) (sym (records-Leaf rs)) each;
+  layers = subst (All (HasLayer One)) (sym (records-Leaf rs)) layers;
 }
 
 leaf_put : (hash : List ℕ → List ℕ) (s : Standing) (root : Bool) (child c : Child) (rs : List Record)
@@ -100,12 +102,14 @@ leaf_put : (hash : List ℕ → List ℕ) (s : Standing) (root : Bool) (child c 
     IsCopied hash s root child c old (old ++ Records rs ∷ []) before after
 leaf_put hash s root child c rs old before after linked may shows suits id known met =
     let new = old ++ Records rs ∷ [] in
-    let p = leaf_placed (by One hash) old rs c linked (suits.some, suits.fits.few) id (known ∙ suits.known) in
+    let p = leaf_placed (by One hash) old rs c linked (suits.some, suits.fits.few) suits.told.layers id (known ∙
+    suits.known) in
     record {
       placed = found_here (by One hash) old new c (tree.Leaf rs)
           (subst (IsPlaced (by One hash) old new c (tree.Leaf rs)) (sym (subtrees-Leaf rs)) p);
       known = known;
-      fine = subst (IsFine root) (sym p.here) (fine_leaf root rs suits.full suits.fits.few suits.fits.each);
+      fine = subst (IsFine root) (sym p.here) (fine_leaf root rs suits.full suits.fits.few suits.fits.each
+          suits.told.layers);
       met = subst (Adds before after) (sym (ap records p.here ∙ records-Leaf rs)) met;
       same = λ told. told_leaf s (s.node child.id) rs (some_of (s.node child.id) _ (may.known told)) shows.node
           ∙ ap Some (sym p.here);
@@ -139,9 +143,32 @@ alike_same n (c ∷ cs) (d ∷ ds) e all = (
 same_count : (cs ds : List Child) → map view.entry_of cs ≡ map view.entry_of ds → length cs ≡ length ds
 same_count cs ds e = sym (length-map cs view.entry_of) ∙ ap length e ∙ length-map ds view.entry_of
 
--- entries of which a view showed the same have a node's shape
-shape_same : (cs ds : List Child) → map view.entry_of cs ≡ map view.entry_of ds → IsInner ds → HasShape (Inner cs)
-shape_same cs ds e fits =
+abbrev Tells : Child → Type 0
+Tells c = view.MayTell One c.mask c.count
+
+tells_same : (cs ds : List Child) → map view.entry_of cs ≡ map view.entry_of ds → AllByRecursion Tells ds →
+    AllByRecursion Tells cs
+tells_same [] ds e all = tt
+tells_same (c ∷ cs) [] e all = absurd (no_first (view.entry_of c) (map view.entry_of cs) e)
+tells_same (c ∷ cs) (d ∷ ds) e all = (
+  subst (λ (x : Entry). view.MayTell One x.mask x.count)
+      (sym (first_same (view.entry_of c) (view.entry_of d) (map view.entry_of cs) (map view.entry_of ds) e)) all.0,
+  tells_same cs ds
+      (rest_same (view.entry_of c) (view.entry_of d) (map view.entry_of cs) (map view.entry_of ds) e) all.1,
+)
+
+-- entries of which a view showed the same tell what they told there
+told_same : (cs ds : List Child) → map view.entry_of cs ≡ map view.entry_of ds → view.AreTold One (Inner ds) →
+    view.AreTold One (Inner cs)
+told_same cs ds e told = record {
+  layers = All-nil (HasLayer One);
+  children = All-from_recursion Tells cs (tells_same cs ds e (recursion_from_All Tells ds told.children));
+}
+
+-- and have a node's shape
+shape_same : (cs ds : List Child) → map view.entry_of cs ≡ map view.entry_of ds → IsInner ds →
+    view.AreTold One (Inner cs) → HasShape (Inner cs)
+shape_same cs ds e fits told =
     let count = same_count cs ds e in
     let high : view.level_of (Inner cs) ≡ view.level_of (Inner ds) =
     ap (λ ns. first_level ns + 1) (sym (levels cs) ∙ ap (map (λ (x : Entry). x.level)) e ∙ levels ds) in
@@ -154,6 +181,8 @@ shape_same cs ds e fits =
           (All-from_recursion (λ (c : Child). c.level + 1 ≡ view.level_of (Inner ds)) cs
           (alike_same (view.level_of (Inner ds)) cs ds e
           (recursion_from_All (λ (c : Child). c.level + 1 ≡ view.level_of (Inner ds)) ds fits.alike)));
+      layers = All-nil (HasLayer Two);
+      counts = told_counts One cs told.children;
     }
 
 levels_of : (scheme : Scheme) (n : ℕ) (cs : List Child) (us : List Tree) →
@@ -172,6 +201,11 @@ levels_of scheme n (c ∷ cs) (u ∷ us) e all =
 records_fine : (us : List Tree) → AllByRecursion (IsFine false) us → All IsRecord (flat_map records us)
 records_fine [] fine = All-nil IsRecord
 records_fine (u ∷ us) fine = All-append IsRecord (records u) (flat_map records us) fine.0.each (records_fine us fine.1)
+
+layers_fine : (us : List Tree) → AllByRecursion (IsFine false) us → All (HasLayer One) (flat_map records us)
+layers_fine [] fine = All-nil (HasLayer One)
+layers_fine (u ∷ us) fine =
+    All-append (HasLayer One) (records u) (flat_map records us) fine.0.layers (layers_fine us fine.1)
 
 fine_inner : (scheme : Scheme) (root : Bool) (cs : List Child) (us : List Tree) → IsInner cs →
     map view.entry_of cs ≡ map (entry scheme) us →
@@ -195,6 +229,7 @@ fine_inner scheme root cs us fits known full fine =
       filled = filled_inner root (map child_link cs) us (count ∙ sym links) full (omega (arith, links, fits.few))
           (all_weaker (IsFine false) (every-Tree IsFilled) (λ t f. f.filled) us fine);
       each = subst (All IsRecord) (sym (records-Inner us ∙ of_images us)) (records_fine us fine);
+      layers = subst (All (HasLayer One)) (sym (records-Inner us ∙ of_images us)) (layers_fine us fine);
     }
 
 inner_put : (hash : List ℕ → List ℕ) (s : Standing) (root : Bool) (child c : Child) (children cs : List Child)
@@ -206,7 +241,8 @@ inner_put hash s root child c children cs old mid before after may shows suits a
     let scheme = by One hash in
     let us = trees_in (trees mid) cs in
     let new = mid ++ Children cs ∷ [] in
-    let p = inner_placed scheme mid cs c all.linked (shape_same cs children all.known suits.fits) all.links id
+    let told = told_same cs children all.known suits.told in
+    let p = inner_placed scheme mid cs c all.linked (shape_same cs children all.known suits.fits told) told all.links id
     (known ∙ suits.known ∙ ap (λ es. entry_step scheme (Inner es)) (sym all.known)) in
     record {
       placed = found_here scheme old new c (tree.Inner us)

@@ -56,12 +56,13 @@ some_same x y e = cc
 
 -- a view of a map that is not told
 untold_shows : (hash : List ℕ → List ℕ) (batch pages : ℕ) (c : Child) (n : view.Node) → c.level ≤ level_limit →
-    HasShape n → view.level_of n ≡ c.level → hash (view.preimage_of n) ≡ c.digest → AreInside pages n →
-    Shows hash (untold batch pages) c n
-untold_shows hash batch pages c n low shape level digest inside = record {
+    HasShape n → view.AreTold One n → view.level_of n ≡ c.level → hash (view.preimage_of One n) ≡ c.digest →
+    AreInside pages n → Shows hash (untold batch pages) c n
+untold_shows hash batch pages c n low shape told level digest inside = record {
   some = shape.some;
   level = level;
   digest = digest;
+  told = told;
   children = All-from_recursion (MayFetch hash (untold batch pages)) (view.children_in n)
       (all (view.children_in n) (recursion_from_All _ (view.children_in n) inside)
       (recursion_from_All (λ (d : Child). d.level + 1 ≡ view.level_of n) (view.children_in n) shape.alike));
@@ -103,14 +104,15 @@ module _ (hash : List ℕ → List ℕ) (told : Option Files) (name : List ℕ) 
           IsGood hash h.pages f.kept → (o : Option (List ℕ)) → IfSome o (IsOpen hash h es) →
           MayFetch hash (stands_for h o) c → Shows hash (stands_for h o) c n
       at_bytes c n f within good None op may = subst (Shows hash (untold h.batch h.pages) c) (sym f.node)
-          (untold_shows hash h.batch h.pages c (node_of f.kept.node) may.low good.shape (good.level ∙ f.that.level)
+          (untold_shows hash h.batch h.pages c (node_of f.kept.node) may.low good.shape good.told (good.level ∙
+          f.that.level)
           (good.digest ∙ f.that.digest) good.inside)
       at_bytes c n f within good (Some bytes) op may =
           let on = on_page hash h es bytes op c may in
           subst (Shows hash (stands_for h (Some bytes)) c) (sym f.node)
           (on.shows (node_of f.kept.node)
           (some_same (page_node (node_of f.kept.node)) on.node (sym (op.same (c.id, f.kept) within) ∙ on.there))
-          good.shape may.low)
+          good.shape good.told may.low)
 
   -- ---- where all nodes are kept, nothing is missed
 
@@ -203,10 +205,10 @@ module _ (hash : List ℕ → List ℕ) (told : Option Files) (name : List ℕ) 
         by_bytes : (o : Option (List ℕ)) → IfSome o (IsOpen hash h es) → MayFetch hash (stands_for h o) c →
             IfSome o (TellsAgain {A = A} hash h.pages c (Ok a) n) → Shows hash (stands_for h o) c n
         by_bytes None op may t =
-            untold_shows hash h.batch h.pages c n may.low r.shape r.level r.digest r.inside
+            untold_shows hash h.batch h.pages c n may.low r.shape r.told r.level r.digest r.inside
         by_bytes (Some bytes) op may t =
             let on = on_page hash h es bytes op c may in
-            on.shows n (told_node (Ok a) n bytes op on may.within t) r.shape may.low
+            on.shows n (told_node (Ok a) n bytes op on may.within t) r.shape r.told may.low
 
     -- a file that is told is not missing
     missing : (before after : ℕ) → MayMiss told name before after →
@@ -310,7 +312,8 @@ module _ (hash : List ℕ → List ℕ) (told : Option Files) (name : List ℕ) 
         good_of e k = record {
           shape = subst HasShape (sym k.node) r.shape;
           level = ap view.level_of k.node ∙ r.level ∙ sym k.that.level;
-          digest = ap (λ m. hash (view.preimage_of m)) k.node ∙ r.digest ∙ sym k.that.digest;
+          told = subst (view.AreTold One) (sym k.node) r.told;
+          digest = ap (λ m. hash (view.preimage_of One m)) k.node ∙ r.digest ∙ sym k.that.digest;
           inside = subst (AreInside h.pages) (sym k.node) r.inside;
         }
 

@@ -1,9 +1,11 @@
 -- What an opened map says of itself, and what its file stands for.
-use Rattle.std.proofs.Common.{◌≡◌, ℕ, List, length, refl}
-use Rattle.std.specs.Prelude.{⊤, Option, Some, None, Ok, IfSome, IsSome, MatchOption}
+use Rattle.std.proofs.Common.{◌≡◌, ℕ, ◌≤◌, List, length, refl, arith}
+use Rattle.std.specs.Prelude.{⊤, Option, Some, None, Result, Ok, Err, IfOk, IfSome, IsSome, MatchOption}
 use Rattle.mr_outside.specs.Files.{Files, file}
 use Rattle.mr_outside.specs.Told.{OfFile}
+use Rattle.mr_record.specs.declared.version.Version.TheVariants.{One}
 use Rattle.mr_tree.specs.Nodes.{MayFetch, IsTop}
+use Rattle.mr_tree.specs.View.{MayTell}
 use Rattle.mr_tree.specs.declared.child.Child.{Child}
 use Rattle.mr_tree.specs.declared.tree.Tree.{Tree}
 use Rattle.mr_pages.specs.declared.head.MapHead.{MapHead}
@@ -23,9 +25,21 @@ use Rattle.mr_store.specs.Laws.{opened}
 
 -- ---- the top
 
+-- what version 1 tells of a root
+root_told : (pages : ℕ) (root : Option Child) → IfSome root (IsRootOf pages) →
+    IfSome root (λ c. MayTell One c.mask c.count × (c.count ≡ 0))
+root_told pages None r = tt
+root_told pages (Some c) r = let few : c.count ≤ 0 = r.told.few in (r.told, omega (arith, few))
+
 pub top_is : (hash : List ℕ → List ℕ) (told : Option Files) (name : List ℕ) (h : MapHead) (es : Entries) (cap : ℕ) →
     IsStore hash told name h es cap →
-    IsTop hash (stands_for h (told_bytes told name)) (record { batch = h.batch; count = h.count; root = h.root })
+    IsTop hash (stands_for h (told_bytes told name)) (record {
+      version = One;
+      batch = h.batch;
+      count = h.count;
+      root
+          = h.root;
+    })
 top_is hash told name h es cap s = by_bytes (told_bytes told name) s.open_
   where
     untold_root : (root : Option Child) → IfSome root (IsRootOf h.pages) →
@@ -39,7 +53,7 @@ top_is hash told name h es cap s = by_bytes (told_bytes told name) s.open_
     }
 
     by_bytes : (o : Option (List ℕ)) → IfSome o (IsOpen hash h es) →
-        IsTop hash (stands_for h o) (record { batch = h.batch; count = h.count; root = h.root })
+        IsTop hash (stands_for h o) (record { version = One; batch = h.batch; count = h.count; root = h.root })
     by_bytes None op = record {
       version = refl;
       batch = refl;
@@ -47,6 +61,7 @@ top_is hash told name h es cap s = by_bytes (told_bytes told name) s.open_
       none = s.none;
       root = untold_root h.root s.root;
       count = tt;
+      told = root_told h.pages h.root s.root;
       tree = tt;
     }
     by_bytes (Some bytes) op =
@@ -59,8 +74,20 @@ top_is hash told name h es cap s = by_bytes (told_bytes told name) s.open_
           none = s.none;
           root = r.may;
           count = p.reads.count;
+          told = root_told h.pages h.root s.root;
           tree = r.tree;
         }
+
+-- its version
+pub version_is : (h : MapHead) (o : Option (List ℕ)) → (stands_for h o).version ≡ One
+version_is h None = refl
+version_is h (Some bytes) = refl
+
+-- that of each map that was opened
+pub versions : {P E : Type 0} (r : Result P E) (head : P → MapHead) (bytes : P → Option (List ℕ)) →
+    IfOk r (λ p. (stands_for (head p) (bytes p)).version ≡ One)
+versions (Ok p) head bytes = version_is (head p) (bytes p)
+versions (Err e) head bytes = tt
 
 -- ---- the map
 
@@ -72,6 +99,7 @@ map_of hash h es bytes op =
       refl,
       record {
         well = r.well;
+        layers = r.layers;
         stands = spelled_as_read first_form first_form_is hash bytes op.are (whole_tree (placed h bytes)) h.batch
             (record {
               head = head_of h;
@@ -100,7 +128,7 @@ tells_map_of hash sized told name h es cap s = by_files told s.there s.open_
           m.0,
           m.1,
           tells_read first_form first_form_is hash sized bytes op.are
-              (Ok (record { tree = m.0; batch = h.batch })) m.2,
+              (Ok (record { tree = m.0; version = One; batch = h.batch })) (refl, m.2),
         )
 
     by_files : (o : Option Files) → MatchOption o ⊤ (λ files. IsSome (file files name)) →

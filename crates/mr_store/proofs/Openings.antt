@@ -23,33 +23,35 @@ use Rattle.mr_store.specs.Kept.{Entries, IsGood}
 use Rattle.mr_store.specs.Stored.{told_bytes, stands_for, placed, room, IsOpen, IsRootOf, IsStore}
 use Rattle.mr_store.specs.Paging.{sourced, IsFileOf, IsPaging}
 use Rattle.mr_record.specs.Bytes.{AreBytes}
+use Rattle.mr_record.specs.declared.version.Version.TheVariants.{One}
 use Rattle.mr_outside.specs.Causes.{ShelfCauses}
 use Rattle.mr_outside.specs.declared.shelf.ShelfErr.{ShelfErr}
 use Rattle.mr_outside.specs.declared.shelf.ShelfErr.TheVariants as shelf
 use Rattle.mr_pages.specs.declared.rule.MapRule.TheVariants as rule
 use Rattle.mr_pages.specs.Opening.{of_shelf, Fails, SomeBytes, Tells}
 use Rattle.mr_pages.proofs.Answered.{same_file, some_odd, told_failed, tells_read, odd_fault}
-use Rattle.mr_store.specs.Opening.{HasPages, WasChecked, IsFaultOf, IsOfSome, Refused, TellsMap, IsOpened, IsRefused, OpensMap, RefusesMap}
+use Rattle.mr_store.specs.Opening.{HasPages, WasChecked, IsFaultOf, HasWhy, IsOfSome, Refused, TellsMap, IsOpened, IsRefused, OpensMap, RefusesMap}
 use Rattle.mr_outside.specs.Told.{OfFile, MayMiss}
 use Rattle.mr_outside.specs.Faults.{Rose}
 use Rattle.mr_pages.specs.declared.error.MapErr.{MapErr}
 use Rattle.mr_pages.specs.declared.error.MapErr.TheVariants as errors
 
-none_at : (count : ℕ) (root : Option Child) → IsRoot count (option_map child_link root) → (count ≡ 0) ↔ IsNone root
+none_at : (count : ℕ) (root : Option Child) → IsRoot One count (option_map child_link root) → (count ≡ 0) ↔ IsNone root
 none_at count None r = (λ z. refl, λ n. r)
 none_at count (Some c) r = (λ z. absurd (omega (arith, z, r.0)), λ n. let some : IsNone (Some c) = n in cc)
 
-root_at : (count pages n : ℕ) (root : Option Child) → n ≡ pages → IsRoot count (option_map child_link root) →
+root_at : (count pages n : ℕ) (root : Option Child) → n ≡ pages → IsRoot One count (option_map child_link root) →
     IfSome root (IsRootIn pages) → IfSome root (IsRootOf n)
 root_at count pages n None e r i = tt
 root_at count pages n (Some c) e r i = record {
   positive = i.positive;
   within = omega (arith, i.within, e);
-  low = r.2.level;
+  low = r.3.level;
+  told = r.3.told;
 }
 
-module _ (hash : List ℕ → List ℕ) (told : Option Files) (name : List ℕ) (pages : ℕ) (es : Entries) (cap : ℕ)
-    (s : IsPaging hash told name pages es cap) (h : MapHead)
+module _ (hash : List ℕ → List ℕ) (told : Option Files) (name : List ℕ) (pages : ℕ) (first : List ℕ)
+    (es : Entries) (cap : ℕ) (s : IsPaging hash told name pages first es cap) (h : MapHead)
     (w : WasChecked hash pages (option_map (file_of first_form) (told_bytes told name)) h es) where
   told_open : (bytes : List ℕ) → IsFileOf pages es bytes →
       WasChecked hash pages (Some (file_of first_form bytes)) h es → IsOpen hash h es bytes
@@ -92,6 +94,12 @@ pages_known None pages es has f is = cc
 pages_known (Some bytes) pages es has f is =
     let same : file_of first_form bytes ≡ f = cc in ap (λ (g : File). g.pages) (sym same) ∙ sym has.count
 
+-- and it is read in version 1
+pub version_known : (o : Option (List ℕ)) (f : File) → option_map (file_of first_form) o ≡ Some f → f.version ≡ One
+version_known None f is = cc
+version_known (Some bytes) f is =
+    let same : file_of first_form bytes ≡ f = cc in ap (λ (g : File). g.version) (sym same)
+
 -- ---- what opening answers
 
 pub answers_of : (hash : List ℕ → List ℕ) → ((xs : List ℕ) → length (hash xs) ≡ 32) → (s : Shelved) (name : List ℕ)
@@ -133,20 +141,20 @@ module _ (hash : List ℕ → List ℕ) (pages : ℕ) (s : Shelved) (name : List
       (are_whole_pages page_size (length bytes) pages (omega arith) size some few)
 
   pub some_fault : (e : MapErr) → Settles {A = Checked (Unit {0})} (Err e) (GivesFile (sourced pages s name)
-      (CheckedWhole hash (λ (m : Unit {0}) (t : Tree). ⊤) pages (Err e))) → SomeBytes first_form hash (Err e)
+      (CheckedWhole One hash (λ (m : Unit {0}) (t : Tree). ⊤) pages (Err e))) → SomeBytes first_form hash (Err e)
   some_fault (errors.Map f) g = (
     g.bytes,
     g.are,
-    subst (λ h. mapfault hash h ≡ Some f) (as_file g.bytes g.size) (g.so.checks refl),
+    subst (λ h. mapfault hash h ≡ Some f) (as_file g.bytes g.size) (g.so.checks refl refl),
   )
   some_fault errors.Missing g = fails_some hash errors.Missing tt
   some_fault errors.Fault g = fails_some hash errors.Fault tt
   some_fault errors.NoMemory g = fails_some hash errors.NoMemory tt
 
   pub of_some : (c : Checked (Unit {0})) → GivesFile (sourced pages s name)
-      (CheckedWhole hash (λ (m : Unit {0}) (t : Tree). ⊤) pages (Ok c)) → IsOfSome hash c.head
+      (CheckedWhole One hash (λ (m : Unit {0}) (t : Tree). ⊤) pages (Ok c)) → IsOfSome hash c.head
   of_some c g =
-      let checks = subst (λ h. Checks {M = Unit {0}} hash h (Ok c)) (as_file g.bytes g.size) (g.so.checks refl) in
+      let checks = subst (λ h. Checks {M = Unit {0}} hash h (Ok c)) (as_file g.bytes g.size) (g.so.checks refl refl) in
       record { bytes = g.bytes; are = g.are; fault = checks.0; head = checks.1 }
 
 -- the shelf refused
@@ -260,9 +268,39 @@ of_pages (Some files) name pages P Q h f = here (file files name) h
     here None h = absurd h
     here (Some bytes) h = f bytes h
 
+-- how many reads there were before says nothing of why it was refused
+pub refused_at : (hash : List ℕ → List ℕ) (name : List ℕ) (before middle after : Shelved) (e : MapErr) →
+    middle.files ≡ before.files → middle.faults ≡ before.faults → Refused hash name middle after e →
+    Refused hash name before after e
+refused_at hash name before middle after e files faults r = record {
+  fault = fault_at e (subst (λ s. IsFaultOf hash s name e) same r.fault);
+  some = r.some;
+  why = record {
+    missing = why.missing;
+    failed = why.failed;
+    quiet = why.quiet;
+    once = why.once;
+  };
+}
+  where
+    same : middle ≡ record { files = before.files; faults = before.faults; reads = middle.reads }
+    same i = record { files = files i; faults = faults i; reads = middle.reads }
+
+    why : HasWhy name (record { files = before.files; faults = before.faults; reads = middle.reads }) after e
+    why = subst (λ s. HasWhy name s after e) same r.why
+
+    fault_at : (e : MapErr) →
+        IsFaultOf hash (record { files = before.files; faults = before.faults; reads = middle.reads }) name e →
+        IsFaultOf hash before name e
+    fault_at (errors.Map f) h = h
+    fault_at errors.Missing h = h
+    fault_at errors.Fault h = h
+    fault_at errors.NoMemory h = h
+
 module _ (hash : List ℕ → List ℕ) (name : List ℕ) (pages : ℕ) (before middle : Shelved)
     (files : middle.files ≡ before.files)
-    (faults : middle.faults ≡ before.faults) (reads : middle.reads ≡ before.reads)
+    (faults : middle.faults ≡ before.faults) (more : before.reads ≤ middle.reads)
+    (reads : middle.reads ≤ before.reads + 1)
     (has_pages : OfFile before.files name ⊥ (HasPages pages)) (limit : pages ≤ page_limit) where
   pub opens_from : (n n' : List ℕ) (h : MapHead) (after : Shelved) (f : ℕ) → n ≡ name →
       IsOpened hash n pages middle n' h after f → OpensMap hash name before n' h after f
@@ -276,7 +314,7 @@ module _ (hash : List ℕ → List ℕ) (name : List ℕ) (pages : ℕ) (before 
     pages = of_pages before.files name pages _ ⊥ has_pages (λ bytes p. o.count ∙ p.count);
     files = o.files ∙ files;
     quiet = o.quiet ∙ faults;
-    more = omega (arith, o.more, reads);
+    more = omega (arith, o.more, more);
     few = omega (arith, o.few, reads, o.count);
     reads = of_pages before.files name pages _ ⊥ has_pages
         (λ bytes p. omega (arith, o.few, reads, p.count));
@@ -287,35 +325,19 @@ module _ (hash : List ℕ → List ℕ) (name : List ℕ) (pages : ℕ) (before 
       (n : List ℕ) (after : Shelved) (e : MapErr) → n ≡ name →
       IsRefused hash n pages middle after e → RefusesMap hash name before after e
   refuses_from sized are n after e same r =
-      let s : middle ≡ before = λ i. record { files = files i; faults = faults i; reads = reads i } in
       let refused : Refused hash name before after e =
-      subst (λ m. Refused hash name m after e) s (subst (λ k. Refused hash k middle after e) same r.refused) in
+      refused_at hash name before middle after e files faults
+      (subst (λ k. Refused hash k middle after e) same r.refused) in
       record {
         answers = answers_of hash sized before name e are refused.fault;
         some = refused.some;
         why = refused.why;
         files = r.files ∙ files;
         later = omega (arith, r.later, faults);
-        more = omega (arith, r.more, reads);
+        more = omega (arith, r.more, more);
         few = omega (arith, r.few, reads, limit);
         reads = of_pages before.files name pages _ _ has_pages (λ bytes p. omega (arith, r.few, reads, p.count));
       }
-
--- where nothing was read
-pub none_read : (before after : Shelved) (name : List ℕ) → after.reads ≡ before.reads →
-    OfFile before.files name (after.reads ≡ before.reads)
-    (λ bytes. after.reads ≤ before.reads + length bytes / page_size)
-none_read before after name same = by_files before.files
-  where
-    by_bytes : (o : Option (List ℕ)) →
-        MatchOption o (after.reads ≡ before.reads) (λ bytes. after.reads ≤ before.reads + length bytes / page_size)
-    by_bytes None = same
-    by_bytes (Some bytes) = omega (arith, same)
-
-    by_files : (o : Option Files) →
-        OfFile o name (after.reads ≡ before.reads) (λ bytes. after.reads ≤ before.reads + length bytes / page_size)
-    by_files None = tt
-    by_files (Some files) = by_bytes (file files name)
 
 pub err_is : (a b : MapErr) → a ≡ b → ◌≡◌ {A = Result (Checked (Unit {0})) MapErr} (Err a) (Err b)
 err_is a b e = λ i. Err (e i)

@@ -22,6 +22,7 @@ use Rattle.mr_pages.specs.Walking.{child_link, page_node, Shows}
 use Rattle.mr_record.specs.declared.version.Version.TheVariants.{One}
 use Rattle.mr_tree.specs.Digest.{by}
 use Rattle.mr_pages.proofs.Judged.{level_same}
+use Rattle.mr_pages.proofs.ViewPages.{node_tells}
 use Rattle.mr_pages.proofs.Visits.{shape_of}
 use Rattle.mr_store.specs.Told.{digest_known}
 use Rattle.mr_store.specs.Kept.{AreInside}
@@ -44,15 +45,16 @@ shown_is true n level o m s yes' e = at_level level m n (ap (of_level level) (sy
 shown_is false n level o m s yes' e = cc
 
 pub digest_shown : (hash : List ℕ → List ℕ) (pages : ℕ) (c : Child) (n : view.Node) (m : Node) (found : List ℕ) →
-    page_node n ≡ m → IsSaid hash pages c m → found ≡ hash (view.preimage_of n) → c.digest ≡ found
+    page_node n ≡ m → IsSaid hash pages c m → found ≡ hash (view.preimage_of One n) → c.digest ≡ found
 digest_shown hash pages c n m found e said is =
     sym said.digest ∙ ap (λ k. (entry_of (by One hash) k).digest) (sym e) ∙ sym (digest_known hash n) ∙ sym is
 
 pub read_of : (hash : List ℕ → List ℕ) (pages : ℕ) (c : Child) (n : view.Node) (page found : List ℕ) → view.IsView n →
-    SpellsNode first_form c.level page (page_node n) → found ≡ hash (view.preimage_of n) → c.digest ≡ found →
+    SpellsNode first_form c.level page (page_node n) → found ≡ hash (view.preimage_of One n) → c.digest ≡ found →
     AreInside pages n → IsRead hash pages c n
 read_of hash pages c n page found v is digest same inside = record {
-  shape = shape_of n v is.fits;
+  shape = shape_of One n v is.fits (node_tells One n is.fits);
+  told = node_tells One n is.fits;
   level = level_same n ∙ is.level;
   digest = sym digest ∙ sym same;
   inside = inside;
@@ -61,13 +63,13 @@ read_of hash pages c n page found v is digest same inside = record {
 -- ---- what a file tells
 
 pub again_told : {A : Type 0} (hash : List ℕ → List ℕ) (told : Option Files) (name : List ℕ) (pages : ℕ) (c : Child)
-    (p : List ℕ) (r : Result A NodesErr) (n : view.Node) → OfFile told name ⊥ (TellsPage c.id p) →
+    (p : List ℕ) (r : Result A NodesErr) (n : view.Node) → OfFile told name ⊥ (TellsPage first_form c.id p) →
     ((m : Node) → first_form.node_in p ≡ Some m → IsSaid hash pages c m → TellsNode m r n) →
     OfFile told name ⊤ (TellsAgain hash pages c r n)
 again_told {A} hash None name pages c p r n t j = tt
 again_told {A} hash (Some files) name pages c p r n t j = here (file files name) t
   where
-    here : (o : Option (List ℕ)) → MatchOption o ⊥ (TellsPage c.id p) →
+    here : (o : Option (List ℕ)) → MatchOption o ⊥ (TellsPage first_form c.id p) →
         MatchOption o ⊤ (TellsAgain {A = A} hash pages c r n)
     here None t = tt
     here (Some bytes) t = λ whole within m there said.
@@ -156,7 +158,7 @@ module _ (hash : List ℕ → List ℕ) (pages : ℕ) (c : Child) (page : List �
   -- it spells the node of a view
   module _ (shown : Bool) (n : view.Node) (found : List ℕ)
       (shows : Shows shown n (of_level c.level (first_form.node_in page))) (is : shown ≡ true)
-      (digest : found ≡ hash (view.preimage_of n)) where
+      (digest : found ≡ hash (view.preimage_of One n)) where
     at_test : (b : Bool) → bytes_eq c.digest found ≡ b → judged hash pages c page
         ≡ (if b then unless_outside (page_node n) (outside_of pages (page_node n))
         else Err (errors.Changed c.id c.digest found))

@@ -1,6 +1,6 @@
 -- The pages of a file on a shelf as a walk sees them, and what is kept of them.
-use Rattle.std.proofs.Common.{◌≡◌, ◌≢◌, ℕ, ◌+◌, ◌*◌, ◌/◌, ◌<◌, ◌≤◌, Bool, true, false, List, [], ◌∷◌, length, inl, inr, refl, sym, ap, subst, ◌∙◌, arith}
-use Rattle.std.specs.Prelude.{◌==◌, ◌⊎◌, nat_eq, Contains, Option, Some, None, option_map, Result, Ok, Err, IfSome, IsSome, OnOk, OnErr, MatchOption, if◌then◌else◌}
+use Rattle.std.proofs.Common.{◌≡◌, ◌≢◌, ℕ, ◌+◌, ◌<◌, ◌≤◌, Bool, true, false, List, [], ◌∷◌, length, inl, inr, refl, sym, ap, subst, ◌∙◌, arith}
+use Rattle.std.specs.Prelude.{◌==◌, ◌⊎◌, nat_eq, Contains, Option, Some, None, option_map, Result, Ok, Err, IfSome, IsSome, OnOk, OnErr}
 use Rattle.std.specs.List.{AllByRecursion, IsDistinct}
 use Rattle.std.specs.Map.{lookup, keys_of}
 use Rattle.std.proofs.lemmas.Bool.{ne_eqb}
@@ -8,20 +8,15 @@ use Rattle.std.proofs.lemmas.List.{length-map}
 use Rattle.std.proofs.lemmas.Map.Steps.{length-le_from_distinct_below}
 use Rattle.lru.specs.LruCache.{LruCache, IsValid}
 use Rattle.lru.proofs.Splits.{all_from, all_map}
-use Rattle.mr_outside.specs.Files.{Files, file}
-use Rattle.mr_outside.specs.Told.{OfFile}
+use Rattle.mr_outside.specs.Files.{Files}
+use Rattle.mr_record.specs.declared.version.Version.TheVariants.{One}
 use Rattle.mr_tree.specs.View as view
 use Rattle.mr_tree.specs.declared.child.Child.{Child}
-use Rattle.mr_pages.specs.declared.head.MapHead.{MapHead}
-use Rattle.mr_pages.specs.declared.rule.MapRule.{MapRule}
-use Rattle.mr_pages.specs.declared.rule.MapRule.TheVariants as rule
 use Rattle.mr_pages.specs.declared.node.Node as owned_type
 use Rattle.mr_pages.specs.PageBytes.{first_form}
-use Rattle.mr_pages.specs.File.{page_at, file_of}
-use Rattle.mr_pages.specs.Faults.{of_level}
-use Rattle.mr_pages.specs.Walking.{page_node, Shows, Heads}
-use Rattle.mr_pages.specs.Source.{Origin, HasPages, IsPaged, MayKeep}
-use Rattle.mr_pages.proofs.Agreement.{whole_pages_are}
+use Rattle.mr_pages.specs.File.{file_of}
+use Rattle.mr_pages.specs.Walking.{page_node}
+use Rattle.mr_pages.specs.Source.{HasPages, IsPaged, MayKeep}
 use Rattle.mr_pages.proofs.Lists.{all_has}
 use Rattle.mr_store.specs.declared.kept.Kept.{Kept}
 use Rattle.mr_store.specs.Kept.{Entries, node_of, AreInside, IsKeptOf, Gains}
@@ -31,9 +26,9 @@ use Rattle.mr_store.specs.Paging.{Holds, IsGoodEntry, IsFileOf, IsPaging}
 -- ---- the file
 
 -- where the files are told, it has so many pages
-pub paged : (hash : List ℕ → List ℕ) (told : Option Files) (name : List ℕ) (pages : ℕ) (es : Entries) (size : ℕ) →
-    IsPaging hash told name pages es size → IsPaged first_form pages told name
-paged hash told name pages es size s =
+pub paged : (hash : List ℕ → List ℕ) (told : Option Files) (name : List ℕ) (pages : ℕ) (first : List ℕ)
+    (es : Entries) (size : ℕ) → IsPaging hash told name pages first es size → IsPaged first_form pages told name
+paged hash told name pages first es size s =
     record { there = s.there; file_ = of_bytes (told_bytes told name) s.file_ }
   where
     of_bytes : (o : Option (List ℕ)) → IfSome o (IsFileOf pages es) → IfSome o (HasPages first_form pages)
@@ -42,12 +37,12 @@ paged hash told name pages es size s =
 
 -- ---- what is kept
 
-module _ (hash : List ℕ → List ℕ) (told : Option Files) (name : List ℕ) (pages : ℕ) (c d : LruCache ℕ Kept)
-    (s : IsPaging hash told name pages c.entries c.cap) (child : Child) (n : owned_type.Node)
+module _ (hash : List ℕ → List ℕ) (told : Option Files) (name : List ℕ) (pages : ℕ) (first : List ℕ)
+    (c d : LruCache ℕ Kept) (s : IsPaging hash told name pages first c.entries c.cap) (child : Child) (n :
+    owned_type.Node)
     (faults reads : ℕ)
-    (origin : Origin)
     (may : MayKeep hash (record {
-      origin = origin;
+      origin = record { name = name; files = told; form = first_form; lent = 0 };
       pages = pages;
       file = option_map (file_of first_form) (told_bytes told name);
       faults = faults;
@@ -60,7 +55,8 @@ module _ (hash : List ℕ → List ℕ) (told : Option Files) (name : List ℕ) 
     good = record {
       shape = subst Rattle.mr_tree.specs.Snapshot.HasShape (sym k.node) may.known.shape;
       level = ap view.level_of k.node ∙ may.known.level ∙ sym k.that.level;
-      digest = ap (λ m. hash (view.preimage_of m)) k.node ∙ may.known.digest ∙ sym k.that.digest;
+      told = subst (view.AreTold One) (sym k.node) may.known.told;
+      digest = ap (λ m. hash (view.preimage_of One m)) k.node ∙ may.known.digest ∙ sym k.that.digest;
       inside = subst (AreInside pages) (sym k.node) may.inside;
     };
   }
@@ -80,22 +76,23 @@ module _ (hash : List ℕ → List ℕ) (told : Option Files) (name : List ℕ) 
   }
 
   grown : Gains c.cap c.entries d.entries child (node_of n) → d.cap ≡ c.cap →
-      IsPaging hash told name pages d.entries d.cap
+      IsPaging hash told name pages first d.entries d.cap
   grown g same = record {
     some = s.some;
     few = s.few;
     cap = same ∙ s.cap;
     each = λ e within. elim (g.each e within) [ inl old ↦ s.each e old | inr new' ↦ good_entry e new' ];
     there = s.there;
+    headed = s.headed;
     file_ = grown_file g (told_bytes told name) may.told s.file_;
   }
 
   pub still_paging : {A E : Type 0} (r : Result A E) →
       OnOk r (Gains c.cap c.entries d.entries child (node_of n)) → OnErr r (d ≡ c) → d.cap ≡ c.cap →
-      IsPaging hash told name pages d.entries d.cap
+      IsPaging hash told name pages first d.entries d.cap
   still_paging (Ok a) g e same = grown g same
   still_paging (Err x) g e same =
-      subst (λ (m : LruCache ℕ Kept). IsPaging hash told name pages m.entries m.cap) (sym e) s
+      subst (λ (m : LruCache ℕ Kept). IsPaging hash told name pages first m.entries m.cap) (sym e) s
 
   -- ---- there is room for all pages of a small file
 

@@ -4,14 +4,14 @@ use Rattle.std.specs.Prelude.{All, AllPairs, Option, Some, None, IfSome, IsSome,
 use Rattle.std.proofs.Math.Logic.{∥∥₁_elim}
 use Rattle.std.proofs.lemmas.List.{length-map}
 use Rattle.std.proofs.lemmas.List.Elements.{All-nil}
-use Rattle.mr_record.specs.Record.{IsRecord}
+use Rattle.mr_record.specs.Record.{IsRecord, HasLayer}
 use Rattle.mr_record.specs.declared.record.Record.{Record}
 use Rattle.mr_record.specs.declared.version.Version.TheVariants.{One}
 use Rattle.mr_tree.specs.Tree.{records}
 use Rattle.mr_tree.specs.Digest.{by, entry}
 use Rattle.mr_tree.specs.View.{entry_of}
 use Rattle.mr_tree.specs.declared.entry.Entry.{Entry}
-use Rattle.mr_tree.specs.WellFormed.{IsFilledRoot, WellFormed}
+use Rattle.mr_tree.specs.WellFormed.{IsFilledRoot, WellFormed, HasLayers}
 use Rattle.mr_tree.specs.Nodes.{Standing, IsTop, MayFetch, tree_under, subtrees}
 use Rattle.mr_tree.specs.Snapshot.{tree_at, trees, standing, standing_of, AreLinked, IsSnapshot, IsRooted}
 use Rattle.mr_tree.specs.declared.child.Child.{Child}
@@ -43,7 +43,7 @@ none_linked hash ns e = subst (AreLinked (by One hash)) (sym e) (record { each =
 
 -- the standing of a tree is that of the map, where this is the map's tree
 stands_as : (hash : List ℕ → List ℕ) (s : Standing) (top : Top) (u t : Tree) → IsTop hash s top → u ≡ t →
-    standing_of One top.batch u ≡ standing_of s.version s.batch t
+    standing_of top.version top.batch u ≡ standing_of s.version s.batch t
 stands_as hash s top u t is same = λ i. standing_of (is.version i) (is.batch i) (same i)
 
 told_root : (hash : List ℕ → List ℕ) (s : Standing) (top : Top) (o : Option Child) (t : Tree) → IsTop hash s top →
@@ -53,6 +53,9 @@ told_root hash s top o t is root told =
     (subst (λ u. IfSome u (λ v. tree_under s top.root ≡ Some v)) told is.tree)
 
 -- ---- a map without a node
+
+empty_layers : HasLayers One tree.Empty
+empty_layers = subst (All (HasLayer One)) (sym records-Empty) (All-nil (HasLayer One))
 
 pub empty_well : WellFormed tree.Empty
 empty_well = record {
@@ -65,18 +68,21 @@ empty_well = record {
   few = omega (arith, ap length records-Empty);
 }
 
-module _ (hash : List ℕ → List ℕ) (s : Standing) (top : Top) (ns : List Stored) (is : IsTop hash s top)
-    (root : top.root ≡ None) (none : ns ≡ []) where
+module _ (hash : List ℕ → List ℕ) (s : Standing) (top : Top) (ns : List Stored)
+    (one : s.version ≡ One) (is : IsTop hash s top) (root : top.root ≡ None) (none : ns ≡ []) where
   abbrev empty_top : Top
-  empty_top = record { batch = top.batch; count = top.count; root = None }
+  empty_top = record { version = top.version; batch = top.batch; count = top.count; root = None }
 
   no_records : top.count ≡ length (records tree.Empty)
   no_records =
       is.none.1 (subst (IsNone {T = Child}) (sym root) refl) ∙ sym (ap length records-Empty)
 
   pub empty_whole : IsSnapshot hash ns empty_top
-  empty_whole = snapshot_of hash top.batch top.count tree.Empty empty_well no_records ns None
-      (rooted_empty (by One hash) ns tree.Empty none refl)
+  empty_whole =
+      subst (λ v. IsSnapshot hash ns (record { version = v; batch = top.batch; count = top.count; root = None }))
+      (sym (is.version ∙ one))
+      (snapshot_of (by One hash) top.batch top.count tree.Empty empty_well empty_layers no_records ns None
+      (rooted_empty (by One hash) ns tree.Empty none refl))
 
   pub empty_stands : StandsFor s ns empty_top
   empty_stands t told =
@@ -85,23 +91,24 @@ module _ (hash : List ℕ → List ℕ) (s : Standing) (top : Top) (ns : List St
 
   pub empty_said : IsSaid hash top (standing ns empty_top)
   empty_said = record {
+    version = refl;
     batch = refl;
     tree = tree.Empty;
     told = refl;
     count = sym no_records;
-    root = subst (λ o. IfSome o (λ c. entry (by One hash) tree.Empty ≡ entry_of c)) (sym root) tt;
+    root = subst (λ o. IfSome o (λ c. entry (by top.version hash) tree.Empty ≡ entry_of c)) (sym root) tt;
   }
 
 -- ---- a map with a root
 
 module _ (hash : List ℕ → List ℕ) (s : Standing) (top : Top) (r c : Child) (old ns : List Stored)
-    (before after : Seen) (pages : ℕ) (is : IsTop hash s top) (root : top.root ≡ Some r) (none : old ≡ [])
-    (start : Saw pages before [] []) (copied : IsCopied hash s true r c old ns before after) where
+    (before after : Seen) (pages : ℕ) (one : s.version ≡ One) (is : IsTop hash s top) (root : top.root ≡ Some r)
+    (none : old ≡ []) (start : Saw pages before [] []) (copied : IsCopied hash s true r c old ns before after) where
   abbrev t : Tree
   t = tree_at (trees ns) c.id
 
   abbrev whole_top : Top
-  whole_top = record { batch = top.batch; count = top.count; root = Some c }
+  whole_top = record { version = top.version; batch = top.batch; count = top.count; root = Some c }
 
   met : Saw pages after [] (numbers_of (records t))
   met = (copied.met pages [] start).1
@@ -136,7 +143,11 @@ module _ (hash : List ℕ → List ℕ) (s : Standing) (top : Top) (r c : Child)
   }
 
   pub whole_snapshot : top.count ≡ count_of after.numbers → IsSnapshot hash ns whole_top
-  whole_snapshot same = snapshot_of hash top.batch top.count t (whole_well same) (same ∙ counted) ns (Some c) rooted
+  whole_snapshot same =
+      subst (λ v. IsSnapshot hash ns (record { version = v; batch = top.batch; count = top.count; root = Some c }))
+      (sym (is.version ∙ one))
+      (snapshot_of (by One hash) top.batch top.count t (whole_well same) copied.fine.layers (same ∙ counted) ns
+      (Some c) rooted)
 
   told_tree : (u : Tree) → s.tree ≡ Some u → t ≡ u
   told_tree u told =
@@ -148,12 +159,13 @@ module _ (hash : List ℕ → List ℕ) (s : Standing) (top : Top) (r c : Child)
 
   pub whole_said : top.count ≡ count_of after.numbers → IsSaid hash top (standing ns whole_top)
   whole_said same = record {
+    version = refl;
     batch = refl;
     tree = t;
     told = refl;
     count = sym (same ∙ counted);
-    root = subst (λ o. IfSome o (λ c. entry (by One hash) t ≡ entry_of c)) (sym root)
-        (sym copied.placed.link.entry ∙ copied.known);
+    root = subst (λ o. IfSome o (λ c. entry (by top.version hash) t ≡ entry_of c)) (sym root)
+        (ap (λ v. entry (by v hash) t) (is.version ∙ one) ∙ sym copied.placed.link.entry ∙ copied.known);
   }
 
   -- another number of records is met only where the tree is not told

@@ -6,7 +6,7 @@ use Rattle.mr_outside.specs.declared.shelf.ShelfErr.{ShelfErr}
 use Rattle.mr_outside.specs.declared.shelf.ShelfErr.TheVariants as shelf
 use Rattle.mr_outside.specs.Told.{MayMiss}
 use Rattle.mr_tree.specs.View as view
-use Rattle.mr_tree.specs.View.{preimage_of}
+use Rattle.mr_tree.specs.View.{AreTold, preimage_of}
 use Rattle.mr_tree.specs.Snapshot.{HasShape}
 use Rattle.mr_tree.specs.declared.child.Child.{Child}
 use Rattle.mr_tree.specs.declared.nodes.NodesErr.{NodesErr}
@@ -83,11 +83,13 @@ IsGiven hash pages c e = GivenBySome hash pages c e
 
 -- ---- what follows of it
 
--- the view shows a node with the level and the digest of the child, whose children are in the file
+-- the view shows a node of version 1 with the level and the digest of the child, whose children are
+-- in the file
 pub record IsRead (hash : List ℕ → List ℕ) (pages : ℕ) (c : Child) (n : view.Node) : Type 0 where
   pub shape : HasShape n
   pub level : view.level_of n ≡ c.level
-  pub digest : hash (preimage_of n) ≡ c.digest
+  pub told : AreTold One n
+  pub digest : hash (preimage_of One n) ≡ c.digest
   pub inside : AreInside pages n
 
 -- a page's node is what is said of the child

@@ -7,7 +7,7 @@ use Rattle.mr_record.specs.declared.record.Record.{Record}
 use Rattle.mr_record.specs.declared.version.Version.TheVariants.{One}
 use Rattle.mr_tree.specs.Tree.{records}
 use Rattle.mr_tree.specs.Digest.{by}
-use Rattle.mr_tree.specs.WellFormed.{HasOneLevel}
+use Rattle.mr_tree.specs.WellFormed.{HasOneLevel, HasLayers}
 use Rattle.mr_tree.specs.View as view
 use Rattle.mr_tree.specs.Nodes.{Standing, IsId, HasSomeCause, subtrees}
 use Rattle.mr_tree.specs.Snapshot.{tree_at, trees, IsLinked, AreLinked, IsPlaced}
@@ -52,6 +52,7 @@ IsUnfit root c n stops.NoMemory = ⊤
 pub record Suits (hash : List ℕ → List ℕ) (root : Bool) (c : Child) (n : view.Node) : Type 0 where
   pub fits : view.IsView n
   pub some : 1 ≤ view.size n
+  pub told : view.AreTold One n
   pub known : view.entry_of c ≡ view.entry_over (by One hash) n
   pub full : least root (page_node n) ≤ size (page_node n)
 
@@ -61,6 +62,7 @@ pub record IsFine (root : Bool) (t : Tree) : Type 0 where
   pub there : t ≢ tree.Empty
   pub filled : FilledAs root t
   pub each : All IsRecord (records t)
+  pub layers : HasLayers One t
 
 -- the tree below the child is as full as it has to be, where it is told
 abbrev pub IsFull : Standing → Bool → Child → Type 0

@@ -2,7 +2,8 @@
 use Rattle.std.specs.Prelude.{◌≡◌, ℕ, ◌<◌, ◌≤◌, ◌⊎◌, Bool, true, false, List, length, All, Contains, Some, IsSome, IsSomeAnd, nat_eq}
 use Rattle.std.specs.Map.{lookup}
 use Rattle.lru.specs.LruCache.{lru_cache, promoted, put_entries}
-use Rattle.mr_tree.specs.View.{Node, children_in, level_of, preimage_of}
+use Rattle.mr_record.specs.declared.version.Version.TheVariants.{One}
+use Rattle.mr_tree.specs.View.{Node, AreTold, children_in, level_of, preimage_of}
 use Rattle.mr_tree.specs.Snapshot.{HasShape}
 use Rattle.mr_tree.specs.declared.child.Child.{Child}
 use Rattle.mr_pages.specs.declared.node.Node as owned_type
@@ -34,11 +35,13 @@ pub record IsShown (k : Kept) : Type 0 where
   pub shape : HasShape (node_of k.node)
   pub level : level_of (node_of k.node) ≡ k.level
 
--- what is kept is a node with this level and this digest, whose children are in the file
+-- what is kept is a node of version 1 with this level and this digest, whose children are in the
+-- file
 pub record IsGood (hash : List ℕ → List ℕ) (pages : ℕ) (k : Kept) : Type 0 where
   pub shape : HasShape (node_of k.node)
   pub level : level_of (node_of k.node) ≡ k.level
-  pub digest : hash (preimage_of (node_of k.node)) ≡ k.digest
+  pub told : AreTold One (node_of k.node)
+  pub digest : hash (preimage_of One (node_of k.node)) ≡ k.digest
   pub inside : AreInside pages (node_of k.node)
 
 -- the node of the child was found there

@@ -1,10 +1,10 @@
--- Proof of what holds of every opened map: its tree is well formed, each of its nodes has an id,
--- and what a call leaves, the next one leaves too.
+-- Proof of what holds of every opened map: its tree is well formed and has the layers of its
+-- version, each of its nodes has an id, and what a call leaves, the next one leaves too.
 use Rattle.std.proofs.Common.{◌≡◌, ℕ, ◌+◌, ◌*◌, ◌/◌, ◌≤◌, List, ◌++◌, length, inl, inr, refl, sym, ap, subst, ◌∙◌, arith}
 use Rattle.std.specs.Prelude.{Option, Some, None, IfSome, IsSome}
 use Rattle.mr_outside.specs.Files.{Files}
 use Rattle.mr_outside.specs.State.{Shelved}
-use Rattle.mr_tree.specs.WellFormed.{WellFormed}
+use Rattle.mr_tree.specs.WellFormed.{WellFormed, HasLayers}
 use Rattle.mr_tree.specs.Nodes.{HasIds}
 use Rattle.mr_pages.specs.declared.head.MapHead.{MapHead}
 use Rattle.mr_pages.specs.PageBytes.{page_size, first_form}
@@ -52,6 +52,16 @@ module _ (hash : List ℕ → List ℕ) (told : Option Files) (name : List ℕ) 
           IfSome (stands_for h o).tree (λ t. ∥ WellFormed t ∥₁)
       here None op = tt
       here (Some bytes) o = ∣ (opened hash h es bytes o).reads.well ∣₁
+
+  pub is_layered : IsStore hash told name h es cap →
+      IfSome (stands_for h (told_bytes told name)).tree
+      (HasLayers (stands_for h (told_bytes told name)).version)
+  is_layered s = here (told_bytes told name) s.open_
+    where
+      here : (o : Option (List ℕ)) → IfSome o (IsOpen hash h es) →
+          IfSome (stands_for h o).tree (HasLayers (stands_for h o).version)
+      here None op = tt
+      here (Some bytes) o = (opened hash h es bytes o).reads.layers
 
   pub has_ids : IsStore hash told name h es cap →
       IfSome (stands_for h (told_bytes told name)).tree (HasIds (stands_for h (told_bytes told

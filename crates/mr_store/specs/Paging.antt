@@ -1,5 +1,5 @@
 -- What is known of a file whose pages are read one by one, before it is known to stand for a map.
-use Rattle.std.specs.Prelude.{◌≡◌, ⊤, false, ℕ, ◌+◌, ◌/◌, ◌<◌, ◌≤◌, List, length, Contains, Option, Some, option_map, IfSome, IsSome, MatchOption, nat_eq}
+use Rattle.std.specs.Prelude.{◌≡◌, ⊤, false, ℕ, ◌+◌, ◌/◌, ◌<◌, ◌≤◌, List, length, Contains, Option, Some, IfSome, IsSome, MatchOption, nat_eq}
 use Rattle.std.specs.Map.{lookup}
 use Rattle.mr_outside.specs.Files.{Files, file}
 use Rattle.mr_outside.specs.State.{Shelved}
@@ -7,7 +7,7 @@ use Rattle.mr_record.specs.Bytes.{AreBytes}
 use Rattle.mr_pages.specs.Page.{page_limit}
 use Rattle.mr_pages.specs.PageBytes.{page_size, first_form}
 use Rattle.mr_pages.specs.File.{file_of, is_odd_size}
-use Rattle.mr_pages.specs.Source.{Sourced, on_shelf}
+use Rattle.mr_pages.specs.Source.{Sourced, HasFirst, on_shelf}
 use Rattle.mr_pages.specs.Walking.{page_node}
 use Rattle.mr_store.specs.declared.kept.Kept.{Kept}
 use Rattle.mr_store.specs.Kept.{Entries, IsGood, node_of}
@@ -36,11 +36,13 @@ pub record IsFileOf (pages : ℕ) (es : Entries) (bytes : List ℕ) : Type 0 whe
   pub same : (e : ℕ × Kept) → Contains es e →
       (file_of first_form bytes).node e.0 ≡ Some (page_node (node_of e.1.node))
 
+-- page 0, which was read before, is the first of these pages
 pub record IsPaging (hash : List ℕ → List ℕ) (told : Option Files) (name : List ℕ) (pages : ℕ)
-    (es : Entries) (size : ℕ) : Type 0 where
+    (first : List ℕ) (es : Entries) (size : ℕ) : Type 0 where
   pub some : 1 ≤ pages
   pub few : pages ≤ page_limit
   pub cap : size ≡ room
   pub each : (e : ℕ × Kept) → Contains es e → IsGoodEntry hash pages e
   pub there : MatchOption told ⊤ (λ files. IsSome (file files name))
+  pub headed : HasFirst first_form told name first
   pub file_ : IfSome (told_bytes told name) (IsFileOf pages es)

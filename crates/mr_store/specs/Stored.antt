@@ -5,10 +5,11 @@ use Rattle.mr_outside.specs.Files.{Files, file}
 use Rattle.mr_outside.specs.Faults.{last_count}
 use Rattle.mr_outside.specs.State.{Shelved}
 use Rattle.mr_record.specs.Bytes.{AreBytes}
+use Rattle.mr_record.specs.declared.version.Version.TheVariants.{One}
 use Rattle.mr_tree.specs.Limits.{count_limit, level_limit}
 use Rattle.mr_tree.specs.Digest.{by, entry}
 use Rattle.mr_tree.specs.Nodes.{Standing}
-use Rattle.mr_tree.specs.View.{entry_of}
+use Rattle.mr_tree.specs.View.{MayTell, entry_of}
 use Rattle.mr_tree.specs.Snapshot.{standing, standing_of}
 use Rattle.mr_tree.specs.declared.nodes.Top.{Top}
 use Rattle.mr_tree.specs.declared.stored.Stored.{Stored}
@@ -57,11 +58,12 @@ pub record IsOpen (hash : List ℕ → List ℕ) (h : MapHead) (es : Entries) (b
   pub all : h.pages ≤ room + 1 → (page : ℕ) → Contains (whole_pages (placed h bytes)) page →
       IsSome (lookup (nat_eq page) es)
 
--- the root's page is in the file
+-- the root's page is in the file, and nothing is told that version 1 does not tell
 pub record IsRootOf (pages : ℕ) (c : Child) : Type 0 where
   pub positive : 1 ≤ c.id
   pub within : c.id < pages
   pub low : c.level ≤ level_limit
+  pub told : MayTell One c.mask c.count
 
 -- what is known of an opened map, whether or not its file is told
 pub record IsStore (hash : List ℕ → List ℕ) (told : Option Files) (name : List ℕ) (h : MapHead)
@@ -108,11 +110,12 @@ StandsFor s nodes top = (t : Tree) → s.tree ≡ Some t →
 
 -- what page 0 says of the map
 abbrev pub top_in : MapHead → Top
-top_in h = record { batch = h.batch; count = h.count; root = h.root }
+top_in h = record { version = One; batch = h.batch; count = h.count; root = h.root }
 
 -- the tree in memory is of a map that says this of itself: at its batch, with as many records as it
 -- says, and with the level, rectangle and digest that it says of its root node
 pub record IsSaid (hash : List ℕ → List ℕ) (top : Top) (s : Standing) : Type 0 where
+  pub version : s.version ≡ top.version
   pub batch : s.batch ≡ top.batch
   pub tree : Tree
   pub told : s.tree ≡ Some tree

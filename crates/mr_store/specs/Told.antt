@@ -40,7 +40,7 @@ pub level_known : (hash : List ℕ → List ℕ) (n : view.Node) →
 level_known hash n = level_same n ∙ sym (level_is (by One hash) (page_node n))
 
 pub digest_known : (hash : List ℕ → List ℕ) (n : view.Node) →
-    hash (view.preimage_of n) ≡ (entry_of (by One hash) (page_node n)).digest
+    hash (view.preimage_of One n) ≡ (entry_of (by One hash) (page_node n)).digest
 digest_known hash n = ap (λ (k : Entry). k.digest) (entry_same (by One hash) n)
 
 -- ---- each node of the map is on its page, and its children are nodes of the map
@@ -132,8 +132,8 @@ pub record IsOn (hash : List ℕ → List ℕ) (at : ℕ →
   pub there : at c.id ≡ Some node
   pub known : entry_of (by One hash) node ≡ view.entry_of c
   pub inside : (n : view.Node) → page_node n ≡ node → AreInside s.span n
-  pub shows : (n : view.Node) → page_node n ≡ node → HasShape n → c.level ≤ level_limit →
-      Shows hash s c n
+  pub shows : (n : view.Node) → page_node n ≡ node → HasShape n → view.AreTold One n →
+      c.level ≤ level_limit → Shows hash s c n
 
 pub record IsChildOf (hash : List ℕ → List ℕ) (s : Standing) (c : Child) : Type 0 where
   pub positive : 1 ≤ c.id
@@ -250,26 +250,28 @@ module _ (hash : List ℕ → List ℕ) (at : ℕ → Option Node) (batch span :
 
   digest_is_known : (c : Child) (n : view.Node) (m : Node) → page_node n ≡ m →
       entry_of (by One hash) m ≡ view.entry_of c →
-      hash (view.preimage_of n) ≡ c.digest
+      hash (view.preimage_of One n) ≡ c.digest
   digest_is_known c n m e known = digest_known hash n ∙
       ap (λ k. (entry_of (by One hash) k).digest) e
       ∙ ap (λ (x : Entry). x.digest) known
 
   leaf_shows : (c : Child) (rs : List Record) → s.node c.id ≡ Some (tree.Leaf rs) →
       entry_of (by One hash) (node.Leaf rs) ≡ view.entry_of c →
-      (n : view.Node) → page_node n ≡ node.Leaf rs → HasShape n → Shows hash s c n
-  leaf_shows c rs here known node.Empty e shape = absurd (no e)
+      (n : view.Node) → page_node n ≡ node.Leaf rs → HasShape n → view.AreTold One n →
+      Shows hash s c n
+  leaf_shows c rs here known node.Empty e shape told = absurd (no e)
     where
       no : ◌≡◌ {A = Node} node.Empty (node.Leaf rs) → ⊥
       no h = cc
-  leaf_shows c rs here known (node.Inner cs) e shape = absurd (no e)
+  leaf_shows c rs here known (node.Inner cs) e shape told = absurd (no e)
     where
       no : ◌≡◌ {A = Node} (node.Inner (map child_link cs)) (node.Leaf rs) → ⊥
       no h = cc
-  leaf_shows c rs here known (node.Leaf qs) e shape =
+  leaf_shows c rs here known (node.Leaf qs) e shape told =
       let same : qs ≡ rs = of_leaf e in
       record {
         some = shape.some;
+        told = told;
         level = level_is_known c (node.Leaf qs) (node.Leaf rs) e known;
         digest = digest_is_known c (node.Leaf qs) (node.Leaf rs) e known;
         children = All-nil (MayFetch hash s);
@@ -284,22 +286,23 @@ module _ (hash : List ℕ → List ℕ) (at : ℕ → Option Node) (batch span :
       AreAmong all Ps →
       entry_of (by One hash) (node.Inner (links_of (by One hash) Ps)) ≡ view.entry_of c →
       (n : view.Node) → page_node n ≡ node.Inner (links_of (by One hash) Ps) → HasShape n →
-      c.level ≤ level_limit →
+      view.AreTold One n → c.level ≤ level_limit →
       Shows hash s c n
-  inner_shows c Ps here among known node.Empty e shape low = absurd (no e)
+  inner_shows c Ps here among known node.Empty e shape told low = absurd (no e)
     where
       no : ◌≡◌ {A = Node} node.Empty (node.Inner (links_of (by One hash) Ps)) → ⊥
       no h = cc
-  inner_shows c Ps here among known (node.Leaf rs) e shape low = absurd (no e)
+  inner_shows c Ps here among known (node.Leaf rs) e shape told low = absurd (no e)
     where
       no : ◌≡◌ {A = Node} (node.Leaf rs) (node.Inner (links_of (by One hash) Ps)) → ⊥
       no h = cc
-  inner_shows c Ps here among known (node.Inner cs) e shape low =
+  inner_shows c Ps here among known (node.Inner cs) e shape told low =
       let b = below_is cs Ps (of_inner e) among in
       let level = level_is_known c (node.Inner cs) (node.Inner (links_of (by One hash) Ps)) e known
       in
       record {
         some = shape.some;
+        told = told;
         level = level;
         digest = digest_is_known c (node.Inner cs) (node.Inner (links_of (by One hash) Ps)) e known;
         children = All-from_recursion (MayFetch hash s) cs (may (view.level_of (node.Inner cs)) cs
@@ -349,8 +352,8 @@ module _ (hash : List ℕ → List ℕ) (at : ℕ → Option Node) (batch span :
     there = ap at (sym page) ∙ read;
     known = entry_leaf (by One hash) rs ∙ sym known;
     inside = leaf_inside rs;
-    shows = λ n e shape low. leaf_shows c rs here (entry_leaf (by One hash) rs ∙
-        sym known) n e shape;
+    shows = λ n e shape told low. leaf_shows c rs here (entry_leaf (by One hash) rs ∙
+        sym known) n e shape told;
   }
   on_part c (Inner p Ps) here page read among known = record {
     node = node.Inner (links_of (by One hash) Ps);

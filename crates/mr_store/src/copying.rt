@@ -5,6 +5,7 @@ ghost use Rattle.mr_outside.specs.Faults.{next_count};
 ghost use Rattle.mr_record.specs.declared.version.Version.TheVariants.{One};
 ghost use Rattle.mr_tree.specs.Digest.{by};
 ghost use Rattle.mr_tree.specs.Nodes.{IsTop, MayFetch, Shows, TellsRefusal, subtrees};
+ghost use Rattle.mr_tree.specs.View.{MayTell};
 ghost use Rattle.mr_tree.specs.Snapshot.{AreLinked, standing, tree_of};
 ghost use Rattle.mr_tree.specs.declared.stored.Stored.TheVariants as stored;
 ghost use Rattle.mr_pages.specs.Walking.{owned};
@@ -42,7 +43,9 @@ fn look<N: Nodes>(
     root: bool,
     view: &mut NodeView,
 ) -> Result<Node, Stop>
-    requires { MayFetch N.Hash.of (N.stands nodes.old) child.now }
+    requires version { (N.stands nodes.old).version ≡ One }
+    requires may { MayFetch N.Hash.of (N.stands nodes.old) child.now }
+    requires told { MayTell One child.now.mask child.now.count }
     ensures kept { N.kept nodes.old nodes.new }
     ensures counted { N.fetches nodes.new ≡ next_count (N.fetches nodes.old) }
     ensures shows { IfOk result (λ n. Shows N.Hash.of (N.stands nodes.old) child.now (owned n)) }
@@ -72,6 +75,8 @@ fn put(list: &mut Vec<Stored>, said: &Child, node: Stored) -> Result<Child, Allo
         id: list.len() as u32,
         level: said.level,
         rect: said.rect,
+        mask: said.mask,
+        count: said.count,
         digest: said.digest,
     })
 }
@@ -104,7 +109,9 @@ fn copy<N: Nodes>(
     seen: &mut Seen,
     list: &mut Vec<Stored>,
 ) -> Result<Child, Stop>
+    requires version { (N.stands nodes.old).version ≡ One }
     requires may { MayFetch N.Hash.of (N.stands nodes.old) child.now }
+    requires told { MayTell One child.now.mask child.now.count }
     requires linked { AreLinked (by One N.Hash.of) list.old.items }
     ensures kept { N.kept nodes.old nodes.new }
     ensures copied { IfOk result (λ c. IsCopied N.Hash.of (N.stands nodes.old) root child.now c
@@ -142,6 +149,7 @@ fn copied_from<N: Nodes>(
     root: &Child,
     pages: u32,
 ) -> Result<Snapshot<N::Hash>, Stop>
+    requires version { (N.stands nodes.old).version ≡ One }
     requires top { IsTop N.Hash.of (N.stands nodes.old) top.now }
     requires root { top.now.root ≡ Some root.now }
     ensures kept { N.kept nodes.old nodes.new }
@@ -174,6 +182,7 @@ fn copied_from<N: Nodes>(
     Ok(Snapshot::over(
         list,
         Top {
+            version: top.version,
             batch: top.batch,
             count: top.count,
             root: Some(copied),
@@ -189,7 +198,8 @@ pub(crate) fn copied<N: Nodes>(
     top: &Top,
     pages: u32,
 ) -> Result<Snapshot<N::Hash>, Stop>
-    requires { IsTop N.Hash.of (N.stands nodes.old) top.now }
+    requires version { (N.stands nodes.old).version ≡ One }
+    requires top { IsTop N.Hash.of (N.stands nodes.old) top.now }
     ensures kept { N.kept nodes.old nodes.new }
     ensures stands { IfOk result (λ p. StandsFor (N.stands nodes.old) p.nodes.items p.top) }
     ensures says { IfOk result (λ p. IsSaid N.Hash.of top.now (standing p.nodes.items p.top)) }
@@ -207,6 +217,7 @@ pub(crate) fn copied<N: Nodes>(
         None => Ok(Snapshot::over(
             Vec::new(alloc),
             Top {
+                version: top.version,
                 batch: top.batch,
                 count: top.count,
                 root: None,

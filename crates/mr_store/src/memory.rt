@@ -11,6 +11,7 @@ use crate::paged::Paged;
 use crate::stop::refusal;
 use mr_outside::Shelf;
 use mr_pages::MapHead;
+use mr_record::Version;
 use mr_tree::{Hash32, NodesErr, Snapshot, Top};
 
 // What page 0 says of the map.
@@ -18,6 +19,7 @@ fn top_of(head: &MapHead) -> Top
     ensures { result ≡ top_in head.now }
 {
     Top {
+        version: Version::One,
         batch: head.batch,
         count: head.count,
         root: head.root,

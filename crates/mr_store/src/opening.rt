@@ -1,12 +1,15 @@
 //! Maps that are opened page by page.
 
-ghost use Rattle.std.specs.Prelude.{◌≡◌, ◌≤◌, ℕ, List, [], ⊤, length, IfOk, IfErr, None, OnOk, MatchResult};
+ghost use Rattle.std.specs.Prelude.{◌≡◌, ◌≤◌, ◌+◌, ℕ, List, [], ⊤, length, IfOk, IfErr, None, OnOk, OnErr, MatchResult};
 ghost use Rattle.std.specs.String.{string_bytes};
 ghost use Rattle.mr_outside.specs.Told.{OfFile};
 ghost use Rattle.mr_pages.specs.Page.{page_limit};
 ghost use Rattle.mr_store.specs.Paging.{sourced};
-ghost use Rattle.mr_store.specs.Opening.{HasPages, WasChecked, Refused, TellsMap, IsOpened, IsRefused, OpensMap, RefusesMap};
+ghost use Rattle.mr_pages.specs.PageBytes.{first_form};
+ghost use Rattle.mr_pages.specs.Source.{HasFirst};
+ghost use Rattle.mr_store.specs.Opening.{first_pages, HasPages, WasChecked, Refused, TellsMap, IsOpened, IsRefused, OpensMap, RefusesMap};
 ghost use Rattle.mr_record.specs.Bytes.{AreBytes};
+ghost use Rattle.mr_record.specs.declared.version.Version.TheVariants.{One};
 ghost use Rattle.mr_store.specs.Stored.{told_bytes, stands_for, room};
 
 use crate::kept::Kept;
@@ -14,7 +17,9 @@ use crate::paged::Paged;
 use crate::paging::Paging;
 use lru::LruCache;
 use mr_outside::Shelf;
-use mr_pages::{FIRST, MapErr, MapFault, MapHead, MapRule, check, page_count};
+use mr_pages::{
+    FIRST, MapErr, MapFault, MapHead, MapRule, PAGE_SIZE, check, page_count, page_into,
+};
 use mr_tree::{Hash32, Hashes};
 use std::alloc::{AllocError, Global};
 use std::marker::PhantomData;
@@ -23,11 +28,12 @@ use std::num::NonZeroUsize;
 // The node pages that are kept.
 const ROOM: usize = 256;
 
-// What is made before pages are read.
+// What is made before the nodes are read.
 #[derive(Drop)]
 struct Ready {
     name: String,
     pages: u32,
+    first: [u8; PAGE_SIZE],
     cache: LruCache<u32, Kept>,
 }
 
@@ -71,7 +77,27 @@ fn copied(alloc: Global, name: &str) -> Result<String, AllocError>
     String::from_str(alloc, name)
 }
 
-// All that is made before pages are read.
+// Reads page 0.
+fn read_first<H: Hashes, S: Shelf>(
+    shelf: &mut S,
+    name: &str,
+    into: &mut [u8; PAGE_SIZE],
+) -> Result<(), MapErr>
+    ensures headed { OnOk result
+        (HasFirst first_form (S.state shelf.old).files name.now into.new) }
+    ensures refused { IfErr result
+        (Refused H.of name.now (S.state shelf.old) (S.state shelf.new)) }
+    ensures files { (S.state shelf.new).files ≡ (S.state shelf.old).files }
+    ensures faults { (S.state shelf.old).faults ≤ (S.state shelf.new).faults }
+    ensures more { (S.state shelf.old).reads ≤ (S.state shelf.new).reads }
+    ensures one { (S.state shelf.new).reads ≤ (S.state shelf.old).reads + 1 }
+    ensures quiet { OnOk result ((S.state shelf.new).faults ≡ (S.state shelf.old).faults) }
+{
+    page_into(shelf, name, FIRST, 0, into)?;
+    Ok(())
+}
+
+// All that is made before the nodes are read.
 fn make_ready<H: Hashes, S: Shelf>(
     alloc: Global,
     shelf: &mut S,
@@ -88,14 +114,27 @@ fn make_ready<H: Hashes, S: Shelf>(
     ensures refused { IfErr result
         (Refused H.of name.now (S.state shelf.old) (S.state shelf.new)) }
     ensures files { (S.state shelf.new).files ≡ (S.state shelf.old).files }
+    ensures headed { IfOk result (λ r. HasFirst first_form (S.state shelf.old).files name.now
+        r.first) }
     ensures faults { (S.state shelf.old).faults ≤ (S.state shelf.new).faults }
-    ensures reads { (S.state shelf.new).reads ≡ (S.state shelf.old).reads }
+    ensures more { (S.state shelf.old).reads ≤ (S.state shelf.new).reads }
+    ensures one { (S.state shelf.new).reads ≤ (S.state shelf.old).reads + 1 }
+    ensures reads { OnErr result (OfFile (S.state shelf.old).files name.now
+        ((S.state shelf.new).reads ≡ (S.state shelf.old).reads)
+        (λ bytes. (S.state shelf.new).reads ≤ (S.state shelf.old).reads + first_pages bytes)) }
     ensures quiet { OnOk result ((S.state shelf.new).faults ≡ (S.state shelf.old).faults) }
 {
     let pages = pages_of::<H, S>(shelf, name)?;
     let cache = empty_cache(alloc)?;
-    let name = copied(alloc, name)?;
-    Ok(Ready { name, pages, cache })
+    let copy = copied(alloc, name)?;
+    let mut first = [0; PAGE_SIZE];
+    read_first::<H, S>(shelf, name, &mut first)?;
+    Ok(Ready {
+        name: copy,
+        pages,
+        first,
+        cache,
+    })
 }
 
 // What every hash function keeps to.
@@ -121,6 +160,7 @@ fn over<S: Shelf, H: Hash32>(alloc: Global, paging: Paging<S, H>, head: MapHead)
         shelf,
         name,
         pages: _,
+        first: _,
         cache,
         hash: _,
     } = paging;
@@ -163,6 +203,7 @@ fn given_up<S: Shelf, H: Hashes>(paging: Paging<S, H>) -> S
         shelf,
         name: _,
         pages: _,
+        first: _,
         cache: _,
         hash: _,
     } = paging;
@@ -181,19 +222,28 @@ impl<S: Shelf, H: Hash32> Paged<S, H> {
             (λ r. RefusesMap H.of name.now (S.state shelf) (S.state r.0) r.1) }
         // No fetch was refused yet.
         ensures unrefused { IfOk result (λ p. p.refusal ≡ None) }
+        // It stands for a map of version 1.
+        ensures version { IfOk result (λ p. (stands_for p.head
+            (told_bytes (S.state p.shelf).files (string_bytes p.name))).version ≡ One) }
     {
         are_sized::<H>();
         let mut shelf = shelf;
         match make_ready::<H, S>(alloc, &mut shelf, name) {
             Err(error) => Err((shelf, error)),
             Ok(made) => {
-                let Ready { name, pages, cache } = made;
+                let Ready {
+                    name,
+                    pages,
+                    first,
+                    cache,
+                } = made;
                 checked::<S, H>(
                     alloc,
                     Paging {
                         shelf,
                         name,
                         pages,
+                        first,
                         cache,
                         hash: PhantomData,
                     },

@@ -17,6 +17,7 @@ use crate::kept::Kept;
 use lru::LruCache;
 use mr_outside::{Shelf, ShelfErr, read_all};
 use mr_pages::MapHead;
+use mr_record::Version;
 use mr_tree::{Child, Hash32, NodeView, Nodes, NodesErr, Top};
 use std::alloc::Global;
 use std::marker::PhantomData;
@@ -37,7 +38,7 @@ pub struct Paged<S: Shelf, H: Hash32> {
 }
 
 impl<S: Shelf, H: Hash32> Nodes for Paged<S, H> {
-    ghost use Rattle.mr_store.specs.Laws.{keeps_self, keeps_on, keeps_stands, is_well_formed, has_ids};
+    ghost use Rattle.mr_store.specs.Laws.{keeps_self, keeps_on, keeps_stands, is_well_formed, is_layered, has_ids};
 
     type Hash = H;
 
@@ -55,6 +56,7 @@ impl<S: Shelf, H: Hash32> Nodes for Paged<S, H> {
 
     fn top(&self) -> Top {
         Top {
+            version: Version::One,
             batch: self.head.batch,
             count: self.head.count,
             root: self.head.root,
@@ -125,6 +127,8 @@ impl<S: Shelf, H: Hash32> Nodes for Paged<S, H> {
     ghost kept_faults = { λ s t k. k.faults };
 
     ghost well_formed = { λ s. is_well_formed H.of _ _ _ _ _ s.store };
+
+    ghost layered = { λ s. is_layered H.of _ _ _ _ _ s.store };
 
     ghost numbered = { λ s. has_ids H.of _ _ _ _ _ s.store };
 }

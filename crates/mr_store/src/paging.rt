@@ -17,22 +17,23 @@ use crate::kept::Kept;
 use lru::LruCache;
 use mr_outside::{Shelf, ShelfErr};
 use mr_pages::{
-    MapHead, MapRule, Node, PAGE_SIZE, Source, page_bytes, page_into, read_free_page, read_head,
-    read_page,
+    FIRST, Layout, MapHead, MapRule, Node, PAGE_SIZE, Source, free_on, head_on, node_on, page_into,
 };
 use mr_tree::{Child, Hashes, NodeView};
 use std::alloc::AllocError;
 use std::marker::PhantomData;
 
-/// A file of whole pages, which are read one by one, and the nodes of it that are kept.
+/// A file of whole pages, of which page 0 was read and the others are read one by one, and the
+/// nodes of it that are kept.
 pub struct Paging<S: Shelf, H: Hashes> {
     pub(crate) shelf: S,
     pub(crate) name: String,
     pub(crate) pages: u32,
+    pub(crate) first: [u8; PAGE_SIZE],
     pub(crate) cache: LruCache<u32, Kept>,
     pub(crate) hash: PhantomData<H>,
-    ghost paging: { IsPaging H.of (S.state shelf).files (string_bytes name) pages cache.entries
-        cache.cap } by { Prim.hlevel props },
+    ghost paging: { IsPaging H.of (S.state shelf).files (string_bytes name) pages first
+        cache.entries cache.cap } by { Prim.hlevel props },
 }
 
 impl<S: Shelf, H: Hashes> Source for Paging<S, H> {
@@ -50,25 +51,29 @@ impl<S: Shelf, H: Hashes> Source for Paging<S, H> {
         self.pages
     }
 
-    fn head(&mut self) -> Result<Result<MapHead, MapRule>, ShelfErr> {
-        let page = page_bytes(&mut self.shelf, self.name.as_str(), 0)?;
-        Ok(read_head(&page, self.pages))
+    fn layout(&self) -> Layout {
+        FIRST
+    }
+
+    fn head(&self) -> Result<MapHead, MapRule> {
+        head_on(FIRST, &self.first, self.pages)
     }
 
     fn node(
         &mut self,
         page: u32,
         level: u8,
-        bytes: &mut [u8; PAGE_SIZE],
+        bytes: &mut [u8],
         into: &mut NodeView,
     ) -> Result<bool, ShelfErr> {
-        page_into(&mut self.shelf, self.name.as_str(), page, bytes)?;
-        Ok(read_page(bytes, level, into))
+        page_into(&mut self.shelf, self.name.as_str(), FIRST, page, bytes)?;
+        Ok(node_on(FIRST, bytes, level, into))
     }
 
     fn free(&mut self, page: u32) -> Result<Option<u32>, ShelfErr> {
-        let bytes = page_bytes(&mut self.shelf, self.name.as_str(), page)?;
-        Ok(read_free_page(&bytes))
+        let mut bytes = [0; PAGE_SIZE];
+        page_into(&mut self.shelf, self.name.as_str(), FIRST, page, &mut bytes)?;
+        Ok(free_on(FIRST, &bytes))
     }
 
     fn none(&self) {}

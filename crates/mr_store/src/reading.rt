@@ -9,7 +9,7 @@ ghost use Rattle.mr_store.specs.Kept.{AreInside};
 ghost use Rattle.mr_store.specs.Again.{outside_of, judged, Judges, IsGiven, Outside, IsRead, IsSaid, TellsNode, TellsAgain, IsBlamed, IsRefused, ReadsOne, Refuses};
 
 use mr_outside::{Shelf, ShelfErr};
-use mr_pages::{PAGE_SIZE, digest_on, page_into, read_page};
+use mr_pages::{FIRST, PAGE_SIZE, digest_on, page_into, read_page};
 use mr_tree::{Child, Hashes, NodeView, NodesErr, is_view};
 
 // Whether two digests are the same.
@@ -51,7 +51,7 @@ pub fn judge<H: Hashes>(
         return Err(NodesErr::Page { page: child.id });
     }
     is_view(into);
-    let found = digest_on::<H>(page, into);
+    let found = digest_on::<H>(FIRST, page, into);
     if !are_same(&child.digest, &found) {
         return Err(NodesErr::Changed {
             page: child.id,
@@ -94,7 +94,7 @@ pub(crate) fn read_again<H: Hashes, S: Shelf>(
     ensures one { ReadsOne (S.state shelf.old) (S.state shelf.new) }
 {
     let mut page = [0; PAGE_SIZE];
-    match page_into(shelf, name, child.id, &mut page) {
+    match page_into(shelf, name, FIRST, child.id, &mut page) {
         Ok(()) => judge::<H>(&page, pages, child, into),
         Err(error) => Err(refusal(error)),
     }

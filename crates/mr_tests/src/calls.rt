@@ -27,10 +27,13 @@ const SMALL: &[File<'static>] = &[
     ("b", "| batch 1\n| - 7"),
     ("s", "| window:2,0,3,0\n| nearest:0,0,1\n| window:2,0,3,0"),
     ("t", "times 100 window:2,0,3,0"),
+    ("k", "| 7 0 0 0 0 5 -"),
 ];
 
-// The pages of a map are synced before its first page is written over the zeros that stand for it,
-// and again after. A batch is applied to a copy of them, which is made sixteen pages at a time.
+// The pages of a map of version 1 are appended at once. One of version 2 is written child by child
+// of its root, behind zeros for page 0 and the root's page, and then the latter. All is synced
+// before page 0 is written over its zeros, and again after. A batch is applied to a copy of the
+// pages, which is made sixteen pages at a time.
 const CALLS: &[Made<'static>] = &[
     Made {
         words: "root r",
@@ -45,6 +48,27 @@ const CALLS: &[Made<'static>] = &[
     Made {
         words: "list m",
         calls: "size m\nread_at m\nread_at m\nread_at m\nread_at m\n",
+        pieces: 0,
+    },
+    Made {
+        words: "upgrade m o",
+        calls: "size m\nread_at m\nread_at m\nread_at m\nread_at m\ncreate o\nappend o\nappend o\n\
+            append o\nwrite_at o\nsync o\nwrite_at o\nsync o\n",
+        pieces: 0,
+    },
+    Made {
+        words: "list o",
+        calls: "size o\nread_at o\nread_at o\nread_at o\nread_at o\n",
+        pieces: 0,
+    },
+    Made {
+        words: "root2 k",
+        calls: "size k\nread_at k\n",
+        pieces: 0,
+    },
+    Made {
+        words: "build2 o k",
+        calls: "size k\nread_at k\ncreate o\nappend o\nsync o\nwrite_at o\nsync o\n",
         pieces: 0,
     },
     Made {

@@ -1,16 +1,18 @@
 //! Bulk load in joined halves: the tree's root is that of one thread, and each leaf passes the gate
 //! once, with the number of its digest.
 
-ghost use Rattle.std.specs.Prelude.{IfSome};
-ghost use Rattle.mr_tree.specs.WellFormed.{WellFormed};
+ghost use Rattle.std.specs.Prelude.{◌≡◌, true, All, IfSome};
+ghost use Rattle.mr_record.specs.Record.{HasLayer};
+ghost use Rattle.mr_record.specs.declared.version.Version.TheVariants.{One, Two};
+ghost use Rattle.mr_tree.specs.WellFormed.{WellFormed, HasLayers};
 
 use crate::assertions::{all_hold, holds};
 use crate::gates::{Passages, fresh, has_left, is_passed};
 use mr_geom::Rect;
 use mr_outside::{Gate, NoGate};
 use mr_pack::{PackErr, pack, pack_joined};
-use mr_record::{Payload, Record, u64_of_bytes};
-use mr_tree::{Hash32, Sha, Tree, XorHash, leaf_entry, root_of};
+use mr_record::{Payload, Record, Version, u64_of_bytes};
+use mr_tree::{Hash32, Sha, Tree, XorHash, leaf_entry, records_of, root_of};
 use std::alloc::{AllocError, Global};
 use std::sync::atomic::{AtomicU64, Ordering};
 use std::thread::Threads;
@@ -24,6 +26,7 @@ fn scattered(number: u32) -> Option<Record> {
     Some(Record {
         number: u64::from(number),
         rect,
+        layer: 0,
         payload,
     })
 }
@@ -39,12 +42,23 @@ fn records(alloc: Global, count: u32) -> Result<Vec<Record>, AllocError> {
     Ok(list)
 }
 
+// Whether each of these records is on layer 0.
+fn are_on_first(list: &[Record]) -> bool
+    ensures first { result ≡ true → All (HasLayer One) list.now }
+    ensures second { result ≡ true → All (HasLayer Two) list.now }
+{
+    list.iter().all(|one| one.layer == 0)
+}
+
 /// The tree by one thread, none where there are too many records, a number stands twice or there
 /// is no memory.
 pub fn plain(alloc: Global, list: Vec<Record>) -> Option<Tree>
     ensures { IfSome result WellFormed }
 {
     if list.len() > 1 << 20 {
+        return None;
+    }
+    if !are_on_first(&list) {
         return None;
     }
     match pack(alloc, list) {
@@ -63,6 +77,9 @@ fn joined<H: Hash32, G: Gate, R: Threads + Sync>(
     if list.len() > 1 << 20 {
         return Err(PackErr::NoMemory);
     }
+    if !are_on_first(&list) {
+        return Err(PackErr::NoMemory);
+    }
     let (_tree, root) = pack_joined::<H, G, R>(rt, alloc, list, gate)?;
     Ok(root)
 }
@@ -72,7 +89,10 @@ fn number<H: Hash32>(leaf: &[Record]) -> u64 {
     if leaf.len() > 16 {
         return 0;
     }
-    let digest = leaf_entry::<H>(leaf).digest;
+    if !are_on_first(leaf) {
+        return 0;
+    }
+    let digest = leaf_entry::<H>(Version::One, leaf).digest;
     let (_, last) = digest.split_at(24);
     u64_of_bytes(last)
 }
@@ -128,6 +148,16 @@ const TWO_LEAVES: &[Load<'static>] = &[Load {
     leaves: 2,
 }];
 
+// Whether a tree is known to be one of version 1.
+fn is_first(alloc: Global, tree: &Tree) -> bool
+    ensures { result ≡ true → HasLayers One tree.now }
+{
+    match records_of(alloc, tree) {
+        Ok(list) => are_on_first(&list),
+        Err(_) => false,
+    }
+}
+
 // Whether a root is that of the tree, each of whose leaves passed the gate.
 fn is_its_root<H: Hash32>(
     alloc: Global,
@@ -137,6 +167,9 @@ fn is_its_root<H: Hash32>(
 ) -> Result<bool, AllocError>
     requires { WellFormed tree.now }
 {
+    if !is_first(alloc, tree) {
+        return Ok(false);
+    }
     let mut list = Vec::new(alloc);
     numbers::<H>(tree, &mut list)?;
     match root {

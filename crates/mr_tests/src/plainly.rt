@@ -3,7 +3,9 @@
 //! batch `list` prints the same of both files, and `prove` writes the same proofs, which `check`
 //! accepts. The roots are from a program of another language.
 
-ghost use Rattle.std.specs.Prelude.{IfSome};
+ghost use Rattle.std.specs.Prelude.{◌≡◌, true, All, IfSome};
+ghost use Rattle.mr_record.specs.Record.{HasLayer};
+ghost use Rattle.mr_record.specs.declared.version.Version.TheVariants.{One};
 ghost use Rattle.mr_tree.specs.WellFormed.{WellFormed};
 
 use crate::assertions::holds;
@@ -11,7 +13,7 @@ use mr_batch::{apply_plain, read_batch};
 use mr_bench::runs::{file_of, ran_on, shelf_of};
 use mr_outside::{MemShelf, MemSink};
 use mr_pages::{open_plain, save_plain};
-use mr_record::write_lines;
+use mr_record::{Record, Version, write_lines};
 use mr_tool::Status::Done;
 use mr_tree::{Sha, Tree, level_of, records_of};
 use std::alloc::{AllocError, Global};
@@ -155,9 +157,16 @@ fn tree_in(alloc: Global, shelf: &mut MemShelf, name: &str) -> Option<Tree>
     ensures { IfSome result WellFormed }
 {
     match open_plain::<Sha, MemShelf>(alloc, shelf, name) {
-        Ok((tree, _)) => Some(tree),
+        Ok(map) => Some(map.tree),
         Err(_) => None,
     }
+}
+
+// Whether each of these records is of layer 0, as those of version 1 are.
+fn are_first(list: &[Record]) -> bool
+    ensures { result ≡ true → All (HasLayer One) list.now }
+{
+    list.iter().all(|one| one.layer == 0)
 }
 
 // The tree of the map in a file after a batch.
@@ -180,7 +189,10 @@ fn lines_of(alloc: Global, tree: &Tree) -> Option<MemSink> {
         return None;
     };
     let mut out = MemSink::new(alloc, Vec::new(alloc));
-    match write_lines(&mut out, &records) {
+    if !are_first(&records) {
+        return None;
+    }
+    match write_lines(&mut out, Version::One, &records) {
         Ok(()) => Some(out),
         Err(_) => None,
     }
@@ -203,6 +215,12 @@ fn is_of(alloc: Global, shelf: &mut MemShelf, tree: &Tree) -> bool {
 fn is_laid_out(alloc: Global, shelf: &mut MemShelf, tree: &Tree, batch: u64) -> bool
     requires { WellFormed tree.now }
 {
+    let Ok(records) = records_of(alloc, tree) else {
+        return false;
+    };
+    if !are_first(&records) {
+        return false;
+    }
     save_plain::<Sha, MemShelf>(alloc, shelf, "t", tree, batch).is_ok()
 }
 

@@ -12,10 +12,11 @@ use Rattle.mr_record.specs.RecordText.{records_of_text, text_of}
 use Rattle.mr_record.specs.declared.record.Record.{Record}
 use Rattle.mr_record.specs.declared.text_fault.TextFault.{TextFault}
 use Rattle.mr_record.specs.declared.version.Version.{Version}
+use Rattle.mr_record.specs.declared.version.Version.TheVariants.{One, Two}
 use Rattle.mr_tree.specs.Digest.{by}
 use Rattle.mr_tree.specs.Digest as digests
 use Rattle.mr_tree.specs.Tree.{records}
-use Rattle.mr_tree.specs.WellFormed.{WellFormed}
+use Rattle.mr_tree.specs.WellFormed.{WellFormed, HasLayers}
 use Rattle.mr_tree.specs.declared.tree.Tree.{Tree}
 use Rattle.mr_query.specs.Scan.{scan}
 use Rattle.mr_query.specs.Script.{queries_of_text}
@@ -36,9 +37,10 @@ use Rattle.mr_proof.proofs.Worth.{headline, accepted_headline}
 use Rattle.mr_clash.specs.Finding.{finding_of, Collides}
 use Rattle.mr_clash.specs.declared.finding.Finding.{Finding}
 use Rattle.mr_clash.specs.declared.finding.Finding.TheVariants as findings
-use Rattle.mr_pages.specs.PageBytes.{first_form}
+use Rattle.mr_pages.specs.File.{version_of}
+use Rattle.mr_pages.specs.PageBytes.{form_by, first_form}
 use Rattle.mr_pages.specs.Law.{IsMap}
-use Rattle.mr_pages.specs.Opening.{pages_in}
+use Rattle.mr_pages.proofs.Answered.{stands_version}
 use Rattle.mr_pages.proofs.PageLaws.{from_bytes}
 use Rattle.mr_batch.specs.Admissible.{batch_fault}
 use Rattle.mr_batch.specs.Applied.{IsAdmissible}
@@ -48,13 +50,13 @@ use Rattle.mr_batch.specs.Replay.{replay}
 use Rattle.mr_batch.specs.declared.admission.BatchFault.{BatchFault}
 use Rattle.mr_command.specs.Answer.{World, HasStopped, IsWhole}
 use Rattle.mr_command.specs.Ending.{Comes, Ends, Finishes, FindsMap, IsWell, printed_of}
-use Rattle.mr_plan.specs.First.{first}
-use Rattle.mr_plan.specs.Found.{Found}
+use Rattle.mr_plan.specs.First.{first, first_map, first_pages}
+use Rattle.mr_plan.specs.Found.{Found, Shows}
 use Rattle.mr_plan.specs.Outcome.{Outcome, IsHeld}
 use Rattle.mr_plan.specs.Plan.{Plan, comes, opens, rereads, Input, IsInput}
 use Rattle.mr_plan.specs.Rereading.{Rereading, proving, auditing, serving, applying, MaySay}
-use Rattle.mr_tool.specs.Promises.{Holds, HoldsRecords, HoldsMap, HoldsProof, HoldsBatch, HoldsScript, HoldsBundle, IsInOrder, CompletesWords, AnswersHonest, PrintsScan, IsWorth, AcceptsHonestOrCollides, Delivers, SaysWorth, AuditsAccepted, CollidesRightly, IsApplied, AppliesAlike}
-use Rattle.mr_plan.specs.Say.{given, given_map, needs, needs_map, needs_sized_map, prints, say, say_root_of, say_build_of, say_list_of, say_admitted, say_batch, say_change, say_apply, say_apply_of, say_prove_of, say_check, say_check_of, say_audit, say_audit_of, say_finding, say_script, say_serve, say_serve_of, given_queries, say_parts, say_parts_of, say_check_all, say_make_of}
+use Rattle.mr_tool.specs.Promises.{Holds, HoldsRecords, HoldsMap, HoldsProof, HoldsBatch, HoldsScript, HoldsBundle, IsInOrder, CompletesWords, AnswersHonest, PrintsScan, IsWorth, AcceptsHonestOrCollides, Delivers, SaysWorth, AuditsAccepted, CollidesRightly, IsApplied, AppliesAlike, IsUpgraded, UpgradesAll}
+use Rattle.mr_plan.specs.Say.{always_first, given, given_map, needs, needs_map, needs_map_in, needs_sized_map, prints, say, say_root_of, say_build_of, say_list_of, say_upgrade_of, say_admitted, say_batch, say_change, say_apply, say_apply_of, say_prove_of, say_check, say_check_of, say_audit, say_audit_of, say_finding, say_script, say_serve, say_serve_of, given_queries, say_parts, say_parts_of, say_check_all, say_make_of}
 use Rattle.mr_plan.specs.Lines.{digest_line, sound_line, collision_lines}
 use Rattle.mr_plan.specs.Words.{IsWord, words_of, Spells}
 use Rattle.mr_command.specs.declared.ending.Ending.{Ending}
@@ -135,26 +137,32 @@ module _ (name bytes : List ℕ) (before after : Option Files) (status : Status)
       (input_is before name bytes ends.0 held ends.1) ends.3
 
 -- the map of this tree at this batch
+abbrev opened_as : Version → Tree → ℕ → Opened
+opened_as v t batch = record { tree = t; version = v; batch = batch }
+
 abbrev map_at : Tree → ℕ → Opened
-map_at t batch = record { tree = t; batch = batch }
+map_at t batch = first_map t batch
 
 -- what is opened is the map that the file stands for
-opened_on : (hash : List ℕ → List ℕ) (name held : List ℕ) (t : Tree) (batch : ℕ) (before after : Option Files)
-    (status : Status) (text : List ℕ) → Holds before name held → IsMap first_form hash held t batch
-    → (next : Opened → Plan) → Ends (opens hash held (given_map next)) before after status text
-    → Ends (next (map_at t batch)) before after status text
-opened_on hash name held t batch before after status text holds stands next on =
-    let finds = of_told before name held (FindsMap hash held on.0) holds on.1.1 in
-    subst (λ found. Ends (given_map next found) before after status text) (finds (map_at t batch) stands) on.3
+opened_on : (v : Version) (hash : List ℕ → List ℕ) (name held : List ℕ) (t : Tree) (batch : ℕ)
+    (before after : Option Files) (status : Status) (text : List ℕ) → Holds before name held
+    → IsMap (form_by v) hash held t batch
+    → (next : Opened → Plan) → Ends (opens v hash held (given_map next)) before after status text
+    → Ends (next (opened_as v t batch)) before after status text
+opened_on v hash name held t batch before after status text holds stands next on =
+    let finds = of_told before name held (FindsMap v hash held on.0) holds on.1.1 in
+    subst (λ found. Ends (given_map next found) before after status text) (finds (opened_as v t batch) (refl, stands))
+    on.3
 
 -- a command that opens this file came to its end by the map that it stands for
-map_on : (hash : List ℕ → List ℕ) (name held : List ℕ) (t : Tree) (batch : ℕ) (before after : Option Files)
-    (status : Status) (text : List ℕ) → Holds before name held → IsMap first_form hash held t batch
-    → (next : Opened → Plan) → Ends (needs_map hash name next) before after status text
-    → Ends (next (map_at t batch)) before after status text
-map_on hash name held t batch before after status text holds stands next ends =
-    opened_on hash name held t batch before after status text holds stands next
-    (ends_on name held before after status text holds (λ bytes. opens hash bytes (given_map next)) ends)
+map_on : (version : List ℕ → Version) (hash : List ℕ → List ℕ) (name held : List ℕ) (t : Tree) (batch : ℕ)
+    (before after : Option Files) (status : Status) (text : List ℕ) → Holds before name held
+    → IsMap (form_by (version held)) hash held t batch
+    → (next : Opened → Plan) → Ends (needs_map_in version hash name next) before after status text
+    → Ends (next (opened_as (version held) t batch)) before after status text
+map_on version hash name held t batch before after status text holds stands next ends =
+    opened_on (version held) hash name held t batch before after status text holds stands next
+    (ends_on name held before after status text holds (λ bytes. opens (version bytes) hash bytes (given_map next)) ends)
 
 -- ---- a proof beside the map
 
@@ -171,7 +179,7 @@ module _ (hash : List ℕ → List ℕ) (before after : Option Files) (status : 
       → Ends (comes (say_audit_of hash q (map_at t batch) bytes)) before after status text
   audited_ends ends =
       let next : Opened → Plan = λ m. needs name (λ bytes. comes (say_audit_of hash q m bytes)) in
-      let mapped = map_on hash map held t batch before after status text map_held stands next
+      let mapped = map_on always_first hash map held t batch before after status text map_held stands next
       (told_ends before after map held (auditing hash map q name) (needs_map hash map next) status text map_held ends)
       in
       ends_on name bytes before after status text name_held
@@ -183,9 +191,10 @@ module _ (hash : List ℕ → List ℕ) (before after : Option Files) (status : 
       let low = stands.stands.batch_fits in
       let accepted : verdict hash (digests.root (first hash) t batch) q bytes ≡ Ok (scan (records t) q) =
       ap (verdict hash (digests.root (first hash) t batch) q) own
-      ∙ accepts_honest (first hash) sized q asked t batch stands.well low in
+      ∙ accepts_honest (first hash) refl sized q asked t batch stands.well stands.layers low in
       let quiet : clash (first hash) t batch bytes ≡ None =
-      ap (clash (first hash) t batch) own ∙ honest_quiet (first hash) sized q asked t batch stands.well low in
+      ap (clash (first hash) t batch) own ∙ honest_quiet (first hash) refl sized q asked t batch stands.well
+      stands.layers low in
       (audited_ends ends).0
       ∙ ap (λ (o : Outcome). o.status) (says_found hash q t batch bytes (Ok (scan (records t) q)) None accepted quiet)
 
@@ -220,8 +229,8 @@ module _ (hash : List ℕ → List ℕ) (before after : World) (status : Status)
       → SaysWorth hash t batch q bytes o before after status
   says_worth None d own run = (
     own.own,
-    delivered None (prints (sound_line ++ text_of (scan (records t) q))) d
-        (ap (λ rs. prints (sound_line ++ text_of rs)) own.complete) run,
+    delivered None (prints (sound_line ++ text_of One (scan (records t) q))) d
+        (ap (λ rs. prints (sound_line ++ text_of One rs)) own.complete) run,
   )
   says_worth (Some p) d collides run = (collides, delivered (Some p) _ d refl run)
 
@@ -238,7 +247,7 @@ record Shown (hash : List ℕ → List ℕ) (text : List ℕ) : Type 0 where
   is : text ≡ collision_lines pair.owned pair.shown
 
 module _ (hash : List ℕ → List ℕ) (sized : IsSized hash) (q : Query) (may : IsQuery q) (t : Tree) (batch : ℕ)
-    (bytes : List ℕ) (well : WellFormed t) (low : batch < 2 ^ 64) (all : AreBytes bytes)
+    (bytes : List ℕ) (well : WellFormed t) (layers : HasLayers One t) (low : batch < 2 ^ 64) (all : AreBytes bytes)
     (before after : Option Files) (status : Status) (text : List ℕ) where
   shown_by : (r : Result (List Record) Fault) (o : Option Pair)
       → verdict hash (digests.root (first hash) t batch) q bytes ≡ r → clash (first hash) t batch bytes ≡ o
@@ -249,7 +258,7 @@ module _ (hash : List ℕ → List ℕ) (sized : IsSized hash) (q : Query) (may 
   shown_by (Ok answer) (Some p) e d is ends = record {
     pair = p;
     collides = subst (λ o. NoneAnd hash o (IsHonest (first hash) t batch q bytes answer)) d
-        (accepted_headline (first hash) sized q bytes may (from_bytes bytes all) t batch answer well low e);
+        (accepted_headline (first hash) sized q bytes may (from_bytes bytes all) t batch answer well layers low e);
     is = ends.1;
   }
 
@@ -267,24 +276,25 @@ module _ (hash : List ℕ → List ℕ) (sized : IsSized hash) (q : Query) (may 
   abbrev proof_plan : Opened → Plan
   proof_plan m = needs name (λ bytes. comes (say_audit_of hash q m bytes))
 
-  shown_with : (m : Opened) → WellFormed m.tree → m.batch < 2 ^ 64 → (input : Input)
+  shown_with : (m : Opened) → WellFormed m.tree → HasLayers One m.tree → m.batch < 2 ^ 64 → (input : Input)
       → IfSome input AreBytes
       → Ends (given name (λ bytes. comes (say_audit_of hash q m bytes)) input) before after status text
       → Shown hash text
-  shown_with m well low None taken ends = other_status status Outside is ends.0 (λ c. cc)
-  shown_with m well low (Some bytes) taken ends =
-      shown_of hash sized q may m.tree m.batch bytes well low taken before after status text is ends
+  unfolding say_audit_of
+  shown_with m well layers low None taken ends = other_status status Outside is ends.0 (λ c. cc)
+  shown_with m well layers low (Some bytes) taken ends =
+      shown_of hash sized q may m.tree m.batch bytes well layers low taken before after status text is ends
 
-  shown_found : (found : Found) → IsWell found → Ends (given_map proof_plan found) before after status text
-      → Shown hash text
-  shown_found (Ok m) well ends = shown_with m well.0 well.1 ends.0 ends.2 ends.3
-  shown_found (Err fault) well ends = other_status status BadMap is ends.0 (λ c. cc)
+  shown_found : (held : List ℕ) (found : Found) → Shows One hash held found → IsWell found
+      → Ends (given_map proof_plan found) before after status text → Shown hash text
+  shown_found held (Ok m) shows well ends = shown_with m well.0 shows.1.layers well.1 ends.0 ends.2 ends.3
+  shown_found held (Err fault) shows well ends = other_status status BadMap is ends.0 (λ c. cc)
 
   shown_opened : (map : List ℕ) (input : Input)
-      → Ends (given map (λ bytes. opens hash bytes (given_map proof_plan)) input) before after status text
+      → Ends (given map (λ bytes. opens One hash bytes (given_map proof_plan)) input) before after status text
       → Shown hash text
   shown_opened map None ends = other_status status Outside is ends.0 (λ c. cc)
-  shown_opened map (Some bytes) ends = shown_found ends.0 ends.2 ends.3
+  shown_opened map (Some bytes) ends = shown_found bytes ends.0 ends.1.0 ends.2 ends.3
 
   -- over files that are not told, by what was found
   shown_finding : (f : Finding) (said : Outcome) → Collides hash f → said ≡ say_finding f → status ≡ said.status
@@ -342,38 +352,38 @@ unfolding say_make_of
 make_done count seed records = refl
 
 module _ (hash : List ℕ → List ℕ) (before after : Option Files) (status : Status) (text : List ℕ) where
-  text_done : (name : List ℕ) (said : Result (List Record) TextFault → Outcome)
-      → ((list : List Record) → (said (Ok list)).status ≡ Done) → HoldsRecords before name
-      → Ends (needs name (λ bytes. comes (said (records_of_text bytes)))) before after status text → status ≡ Done
-  text_done name said done holds ends =
+  text_done : (v : Version) (name : List ℕ) (said : Result (List Record) TextFault → Outcome)
+      → ((list : List Record) → (said (Ok list)).status ≡ Done) → HoldsRecords v before name
+      → Ends (needs name (λ bytes. comes (said (records_of_text v bytes)))) before after status text → status ≡ Done
+  text_done v name said done holds ends =
       let on = ends_on name holds.bytes before after status text holds.held
-      (λ bytes. comes (said (records_of_text bytes))) ends in
+      (λ bytes. comes (said (records_of_text v bytes))) ends in
       on.0 ∙ ap (λ r. (said r).status) holds.right ∙ done holds.list
 
-  map_done : (name : List ℕ) (said : Opened → Outcome) → ((map : Opened) → (said map).status ≡ Done)
-      → HoldsMap hash before name → Ends (needs_map hash name (λ map. comes (said map))) before after status text
-      → status ≡ Done
-  map_done name said done holds ends =
+  map_done : (version : List ℕ → Version) (name : List ℕ) (said : Opened → Outcome)
+      → ((map : Opened) → (said map).status ≡ Done) → HoldsMap version hash before name
+      → Ends (needs_map_in version hash name (λ map. comes (said map))) before after status text → status ≡ Done
+  map_done version name said done holds ends =
       let next : Opened → Plan = λ map. comes (said map) in
-      let mapped = map_on hash name holds.bytes holds.tree holds.batch before after status text holds.held
+      let mapped = map_on version hash name holds.bytes holds.tree holds.batch before after status text holds.held
       holds.stands next ends in
-      mapped.0 ∙ done (map_at holds.tree holds.batch)
+      mapped.0 ∙ done (opened_as (version holds.bytes) holds.tree holds.batch)
 
   -- what `apply` came to, by the map and the batch
   applied_ends : (old name new : List ℕ) (t : Tree) (batch : ℕ) (bytes beside : List ℕ) (b : Changes)
       → Holds before old bytes → IsMap first_form hash bytes t batch → Holds before name beside
-      → batch_of_text beside ≡ Ok b → Ends (say_apply hash old name new) before after status text
-      → Ends (comes (say_batch hash new (pages_in bytes) (map_at t batch) b)) before after status text
+      → batch_of_text One beside ≡ Ok b → Ends (say_apply hash old name new) before after status text
+      → Ends (comes (say_batch hash new (first_pages bytes) (map_at t batch) b)) before after status text
   applied_ends old name new t batch bytes beside b held stands there right ends =
-      let next : List ℕ → Opened → Plan = λ bytes. say_change hash name new (pages_in bytes) in
+      let next : List ℕ → Opened → Plan = λ bytes. say_change hash name new (first_pages bytes) in
       let said : List ℕ → Plan =
-      λ text. comes (say_apply_of hash new (pages_in bytes) (map_at t batch) (batch_of_text text)) in
+      λ text. comes (say_apply_of hash new (first_pages bytes) (map_at t batch) (batch_of_text One text)) in
       let on = told_ends before after old bytes (applying hash old name new)
       (needs_sized_map hash old (say_change hash name new)) status text held ends in
       let opened = ends_on old bytes before after status text held
-      (λ bytes. opens hash bytes (given_map (next bytes))) on in
-      let mapped = opened_on hash old bytes t batch before after status text held stands (next bytes) opened in
-      subst (λ r. Ends (comes (say_apply_of hash new (pages_in bytes) (map_at t batch) r)) before after status text)
+      (λ bytes. opens One hash bytes (given_map (next bytes))) on in
+      let mapped = opened_on One hash old bytes t batch before after status text held stands (next bytes) opened in
+      subst (λ r. Ends (comes (say_apply_of hash new (first_pages bytes) (map_at t batch) r)) before after status text)
       right (ends_on name beside before after status text there said mapped)
 
   apply_done : (old name new : List ℕ) → HoldsBatch hash before old name
@@ -383,7 +393,7 @@ module _ (hash : List ℕ → List ℕ) (before after : Option Files) (status : 
       let last = applied_ends old name new holds.tree holds.batch holds.bytes holds.text holds.changes holds.held
       holds.stands holds.beside holds.right ends in
       last.0
-      ∙ ap (λ (o : Outcome). o.status) (says_applied hash new (pages_in holds.bytes) map holds.changes holds.may)
+      ∙ ap (λ (o : Outcome). o.status) (says_applied hash new (first_pages holds.bytes) map holds.changes holds.may)
 
   -- an outcome of `apply` that is done has the map after the batch in the file
   record HasApplied (t : Tree) (batch : ℕ) (b : Changes) (new : List ℕ) : Type 0 where
@@ -430,7 +440,8 @@ module _ (hash : List ℕ → List ℕ) (before after : Option Files) (status : 
       let held = map_at holds.tree holds.batch in
       let next = say_script hash script bundle in
       let said : List ℕ → Outcome = λ text. say_serve_of hash bundle held (queries_of_text text) in
-      let mapped = map_on hash map holds.bytes holds.tree holds.batch before after status text holds.held holds.stands
+      let mapped = map_on always_first hash map holds.bytes holds.tree holds.batch before after status text
+      holds.held holds.stands
       next (told_ends before after map holds.bytes (serving hash map script bundle) (needs_map hash map next) status
       text holds.held ends) in
       let last = ends_on script holds.text before after status text holds.beside (λ text. comes (said text)) mapped in
@@ -450,14 +461,21 @@ module _ (hash : List ℕ → List ℕ) (before after : Option Files) (status : 
 
   done : IsSized hash → (command : Command) → AllByRecursion IsWord (words_of command) → IsInOrder hash before command
       → Ends (say hash (Some command)) before after status text → status ≡ Done
-  done sized (commands.Root name) each holds ends = text_done name.now (say_root_of hash) (λ list. refl) holds ends
+  done sized (commands.Root name) each holds ends =
+      text_done One name.now (say_root_of One hash) (λ list. refl) holds ends
+  done sized (commands.Root2 name) each holds ends =
+      text_done Two name.now (say_root_of Two hash) (λ list. refl) holds ends
   done sized (commands.Build map name) each holds ends =
-      text_done name.now (say_build_of hash map.now) (λ list. refl) holds ends
+      text_done One name.now (say_build_of One hash map.now) (λ list. refl) holds ends
+  done sized (commands.Build2 map name) each holds ends =
+      text_done Two name.now (say_build_of Two hash map.now) (λ list. refl) holds ends
   done sized (commands.List map) each holds ends =
-      map_done map.now (λ held. say_list_of held.tree) (λ held. refl) holds ends
+      map_done version_of map.now (λ held. say_list_of held) (λ held. refl) holds ends
+  done sized (commands.Upgrade old new) each holds ends =
+      map_done version_of old.now (say_upgrade_of hash new.now) (λ held. refl) holds ends
   done sized (commands.Apply old name new) each holds ends = apply_done old.now name.now new.now holds ends
   done sized (commands.Prove map q name) each holds ends =
-      map_done map.now (say_prove_of hash q name.now) (prove_done hash q name.now) holds
+      map_done always_first map.now (say_prove_of hash q name.now) (prove_done hash q name.now) holds
       (told_ends before after map.now holds.bytes (proving hash map.now q name.now)
       (needs_map hash map.now (λ m. comes (say_prove_of hash q name.now m))) status text holds.held ends)
   done sized (commands.Check root q name) each holds ends =
@@ -484,21 +502,22 @@ not_stopped before after status done (inr failed) =
 not_refused : {A : Type 0} (status : Status) → status ≡ Done → status ≡ Refused → A
 not_refused status done refused = absurd (cc)
 
-module _ (v : Version) (hash : List ℕ → List ℕ) (sized : IsSized hash) (before after : World) (status : Status)
-    (t : Tree) (batch : ℕ) (root : List ℕ) (q : Query) (name : List ℕ) (well : WellFormed t) (low : batch < 2 ^ 64)
-    (is_root : root ≡ digests.root (by v hash) t batch) (asked : IsQuery q)
+module _ (hash : List ℕ → List ℕ) (sized : IsSized hash) (before after : World) (status : Status)
+    (t : Tree) (batch : ℕ) (root : List ℕ) (q : Query) (name : List ℕ) (well : WellFormed t)
+    (layers : HasLayers One t) (low : batch < 2 ^ 64)
+    (is_root : root ≡ digests.root (first hash) t batch) (asked : IsQuery q)
     (run : HasRun (say_check hash root q name) before after status) where
-  says_honest : say_check_of hash root q (proof (by v hash) t batch q) ≡ prints (text_of (scan (records t) q))
-  says_honest = says_verdict hash root q (proof (by v hash) t batch q) (Ok (scan (records t) q))
-      (subst (λ held. verdict hash held q (proof (by v hash) t batch q) ≡ Ok (scan (records t) q)) (sym is_root)
-      (accepts_honest (by v hash) sized q asked t batch well low))
+  says_honest : say_check_of hash root q (proof (first hash) t batch q) ≡ prints (text_of One (scan (records t) q))
+  says_honest = says_verdict hash root q (proof (first hash) t batch q) (Ok (scan (records t) q))
+      (subst (λ held. verdict hash held q (proof (first hash) t batch q) ≡ Ok (scan (records t) q)) (sym is_root)
+      (accepts_honest (first hash) refl sized q asked t batch well layers low))
 
-  whole_honest : Holds before.shelf.files name (proof (by v hash) t batch q)
-      → IsWhole (prints (text_of (scan (records t) q))) before after status
+  whole_honest : Holds before.shelf.files name (proof (first hash) t batch q)
+      → IsWhole (prints (text_of One (scan (records t) q))) before after status
   whole_honest held =
-      let on = ends_on name (proof (by v hash) t batch q) before.shelf.files after.shelf.files status run.text held
+      let on = ends_on name (proof (first hash) t batch q) before.shelf.files after.shelf.files status run.text held
       (λ bytes. comes (say_check_of hash root q bytes)) run.ends in
-      let said : Ends (comes (prints (text_of (scan (records t) q)))) before.shelf.files after.shelf.files status
+      let said : Ends (comes (prints (text_of One (scan (records t) q)))) before.shelf.files after.shelf.files status
       run.text =
       subst (λ o. Ends (comes o) before.shelf.files after.shelf.files status run.text) says_honest on in
       record {
@@ -507,6 +526,11 @@ module _ (v : Version) (hash : List ℕ → List ℕ) (sized : IsSized hash) (be
         files = said.2;
       }
 
+module _ (v : Version) (hash : List ℕ → List ℕ) (sized : IsSized hash) (before after : World) (status : Status)
+    (t : Tree) (batch : ℕ) (root : List ℕ) (q : Query) (name : List ℕ) (well : WellFormed t)
+    (layers : HasLayers v t) (low : batch < 2 ^ 64)
+    (is_root : root ≡ digests.root (by v hash) t batch) (asked : IsQuery q)
+    (run : HasRun (say_check hash root q name) before after status) where
   -- by the verdict on the bytes
   worth_by : (bytes : List ℕ) → AreBytes bytes → status ≡ Done
       → Ends (comes (say_check_of hash root q bytes)) before.shelf.files after.shelf.files status run.text
@@ -525,10 +549,10 @@ module _ (v : Version) (hash : List ℕ → List ℕ) (sized : IsSized hash) (be
         worth = none_more hash (clash (by v hash) t batch bytes) (IsHonest (by v hash) t batch q bytes answer)
             (PrintsScan (by v hash) t batch q bytes before after)
             (accepted_headline (by v hash) sized q bytes asked (from_bytes bytes all) t batch answer
-            well low accepted)
+            well layers low accepted)
             (λ own. record {
               own = own.own;
-              printed = subst (Takes before.sink after.sink) (on.1 ∙ said ∙ ap text_of own.complete) run.printed;
+              printed = subst (Takes before.sink after.sink) (on.1 ∙ said ∙ ap (text_of One) own.complete) run.printed;
             });
       }
 
@@ -559,17 +583,17 @@ module _ (hash : List ℕ → List ℕ) (words : List (List ℕ)) (before after 
   ]
 
   pub honest_answered : IsSized hash → AnswersHonest hash words before after status
-  honest_answered sized v t batch root q name well low is_root spells held =
+  honest_answered sized t batch root q name well layers low is_root spells held =
       elim (ran_as (commands.Check root q name) spells) [
-        | inl run ↦ inl (whole_honest v hash sized before after status t batch root q name.now well low is_root
+        | inl run ↦ inl (whole_honest hash sized before after status t batch root q name.now well layers low is_root
             spells.each.1.1.0 run held)
         | inr stop ↦ inr stop
       ]
 
   pub accepted_worth : IsSized hash → AcceptsHonestOrCollides hash words before after status
-  accepted_worth sized v t batch root q name bytes well low is_root spells held done =
+  accepted_worth sized v t batch root q name bytes well layers low is_root spells held done =
       elim (ran_as (commands.Check root q name) spells) [
-        | inl run ↦ worth v hash sized before after status t batch root q name.now well low is_root
+        | inl run ↦ worth v hash sized before after status t batch root q name.now well layers low is_root
             spells.each.1.1.0 run bytes held done
         | inr stop ↦ not_stopped before after status done stop
       ]
@@ -579,7 +603,7 @@ module _ (hash : List ℕ → List ℕ) (words : List (List ℕ)) (before after 
       says_worth hash before after status map.now q name.now t batch held bytes answer map_held stands name_held
       (verdict_from hash (digests.root (first hash) t batch) q bytes answer spells.each.1.1.0 proves)
       (clash (first hash) t batch bytes) refl
-      (headline (first hash) sized q bytes spells.each.1.1.0 t batch answer stands.well
+      (headline (first hash) sized q bytes spells.each.1.1.0 t batch answer stands.well stands.layers
       stands.stands.batch_fits proves)
       (ran_as (commands.Audit map q name) spells)
 
@@ -596,7 +620,7 @@ module _ (hash : List ℕ → List ℕ) (words : List (List ℕ)) (before after 
       by_files None none run = absurd (subst (λ o. Holds o old.now bytes) none map_held)
       by_files (Some files) told run =
           let on = has_applied hash before.shelf.files after.shelf.files status run.text t held b new.now
-          (pages_in bytes) files told done
+          (first_pages bytes) files told done
           (applied_ends hash before.shelf.files after.shelf.files status run.text old.now name.now new.now t held
           bytes text b map_held stands beside right run.ends) in
           record {
@@ -605,6 +629,33 @@ module _ (hash : List ℕ → List ℕ) (words : List (List ℕ)) (before after 
             bytes = on.bytes;
             there = on.there;
             stands = on.is;
+          }
+
+  pub upgraded_all : UpgradesAll hash words before after status
+  upgraded_all v t batch old new bytes spells held stands done =
+      elim (ran_as (commands.Upgrade old new) spells) [
+        | inl run ↦ by_files before.shelf.files refl run
+        | inr stop ↦ not_stopped before after status done stop
+      ]
+    where
+      own : version_of bytes ≡ v
+      own = stands_version v hash bytes t batch stands.stands
+
+      by_files : (o : Option Files) → before.shelf.files ≡ o
+          → HasRun (say hash (Some (commands.Upgrade old new))) before after status
+          → IsUpgraded hash t batch new.now before after
+      by_files None none run = absurd (subst (λ o. Holds o old.now bytes) none held)
+      by_files (Some files) told run =
+          let next : Opened → Plan = λ map. comes (say_upgrade_of hash new.now map) in
+          let on = map_on version_of hash old.now bytes t batch before.shelf.files after.shelf.files
+          status run.text held
+          (subst (λ u. IsMap (form_by u) hash bytes t batch) (sym own) stands) next run.ends in
+          record {
+            printed = subst (Takes before.sink after.sink) on.1 run.printed;
+            bytes = on.2.0;
+            there = held_after hash before.shelf.files after.shelf.files status run.text files new.now
+                on.2.0 told on.2.2;
+            stands = on.2.1.stands;
           }
 
   pub collided_rightly : IsSized hash → CollidesRightly hash words before after status

@@ -18,7 +18,7 @@ use Rattle.mr_plan.specs.declared.status.Status.TheVariants.{BadWords}
 use Rattle.mr_plan.specs.declared.words.Command.{Command}
 use Rattle.mr_plan.specs.declared.words.Command.TheVariants as commands
 use Rattle.mr_command.proofs.Counting.{few_none}
-use Rattle.mr_tool.proofs.Promises.{completes, honest_answered, accepted_worth, accepted_audited, collided_rightly, applied_alike}
+use Rattle.mr_tool.proofs.Promises.{completes, honest_answered, accepted_worth, accepted_audited, collided_rightly, applied_alike, upgraded_all}
 use Rattle.mr_tool.proofs.Runs.{answer_of, from_sink, outside_of, quiet_of, words_answered}
 
 -- what is said of a command is said of the same one
@@ -55,6 +55,7 @@ module _ (hash : List ℕ → List ℕ) (words : List (List ℕ)) (before after 
         audited = accepted_audited hash words before after status plan came same comes ended sized;
         collides = collided_rightly hash words before after status plan came same comes ended sized;
         alike = applied_alike hash words before after status plan came same comes ended;
+        upgrades = upgraded_all hash words before after status plan came same comes ended;
       }
 
   quiet_words : after.shelf ≡ before.shelf → Prints BadWords bad_words_line before.sink after.sink status
@@ -83,12 +84,14 @@ module _ (hash : List ℕ → List ℕ) (words : List (List ℕ)) (before after 
         (few_none before.shelf.files (ends BadWords bad_words_line) before.shelf.reads after.shelf.reads
         (ap (λ s. s.reads) same));
     complete = λ command spells order. absurd (none command spells);
-    honest = λ v t batch root q name well low is_root spells held. absurd (none (commands.Check root q name) spells);
-    worth = λ v t batch root q name bytes well low is_root spells held done.
+    honest = λ t batch root q name well layers low is_root spells held. absurd
+        (none (commands.Check root q name) spells);
+    worth = λ v t batch root q name bytes well layers low is_root spells held done.
         absurd (none (commands.Check root q name) spells);
     audited = λ t batch map q name held bytes answer spells map_held stands name_held proves.
         absurd (none (commands.Audit map q name) spells);
     collides = λ map q name spells is. absurd (none (commands.Audit map q name) spells);
     alike = λ t held old batch new bytes text b spells there stands beside right done.
         absurd (none (commands.Apply old batch new) spells);
+    upgrades = λ v t batch old new bytes spells held stands done. absurd (none (commands.Upgrade old new) spells);
   }

@@ -8,12 +8,14 @@ use Rattle.mr_outside.specs.Told.{Takes}
 use Rattle.mr_record.specs.RecordText.{records_of_text, text_of}
 use Rattle.mr_record.specs.declared.record.Record.{Record}
 use Rattle.mr_record.specs.declared.version.Version.{Version}
+use Rattle.mr_record.specs.declared.version.Version.TheVariants.{One, Two}
 use Rattle.mr_tree.specs.Digest.{Scheme, by}
 use Rattle.mr_tree.specs.Digest as digests
 use Rattle.mr_tree.specs.Tree.{records}
-use Rattle.mr_tree.specs.WellFormed.{WellFormed}
+use Rattle.mr_tree.specs.WellFormed.{WellFormed, HasLayers}
 use Rattle.mr_tree.specs.declared.tree.Tree.{Tree}
-use Rattle.mr_pages.specs.PageBytes.{first_form}
+use Rattle.mr_pages.specs.File.{version_of}
+use Rattle.mr_pages.specs.PageBytes.{form_by, first_form, second_form}
 use Rattle.mr_pages.specs.Law.{IsMap}
 use Rattle.mr_batch.specs.Applied.{IsAdmissible}
 use Rattle.mr_batch.specs.BatchText.{batch_of_text}
@@ -32,7 +34,7 @@ use Rattle.mr_plan.specs.First.{first}
 use Rattle.mr_plan.specs.Judged.{IsAccepted}
 use Rattle.mr_plan.specs.Outcome.{Outcome}
 use Rattle.mr_plan.specs.Lines.{digest_line, sound_line, collision_lines}
-use Rattle.mr_plan.specs.Say.{ends, prints}
+use Rattle.mr_plan.specs.Say.{always_first, ends, prints}
 use Rattle.mr_plan.specs.Words.{Spells}
 use Rattle.mr_plan.specs.declared.status.Status.{Status}
 use Rattle.mr_plan.specs.declared.status.Status.TheVariants.{Done, Collision}
@@ -44,20 +46,21 @@ abbrev pub Holds : Option Files → List ℕ → List ℕ → Type 0
 Holds None name bytes = ⊥
 Holds (Some files) name bytes = file files name ≡ Some bytes
 
--- it holds a text of records without a fault
-pub record HoldsRecords (told : Option Files) (name : List ℕ) : Type 0 where
+-- it holds a text of records of this version without a fault
+pub record HoldsRecords (v : Version) (told : Option Files) (name : List ℕ) : Type 0 where
   pub bytes : List ℕ
   pub held : Holds told name bytes
   pub list : List Record
-  pub right : records_of_text bytes ≡ Ok list
+  pub right : records_of_text v bytes ≡ Ok list
 
--- it stands for a map
-pub record HoldsMap (hash : List ℕ → List ℕ) (told : Option Files) (name : List ℕ) : Type 0 where
+-- it stands for a map, read in a version that goes by its bytes
+pub record HoldsMap (version : List ℕ → Version) (hash : List ℕ → List ℕ) (told : Option Files)
+    (name : List ℕ) : Type 0 where
   pub bytes : List ℕ
   pub held : Holds told name bytes
   pub tree : Tree
   pub batch : ℕ
-  pub stands : IsMap first_form hash bytes tree batch
+  pub stands : IsMap (form_by (version bytes)) hash bytes tree batch
 
 -- it proves an answer
 pub record HoldsProof (hash : List ℕ → List ℕ) (told : Option Files) (root : List ℕ) (q : Query)
@@ -88,7 +91,7 @@ pub record HoldsBatch (hash : List ℕ → List ℕ) (told : Option Files) (map 
   pub text : List ℕ
   pub beside : Holds told name text
   pub changes : Changes
-  pub right : batch_of_text text ≡ Ok changes
+  pub right : batch_of_text One text ≡ Ok changes
   pub may : IsAdmissible (records tree) batch changes
 
 -- a map, and a script without a fault
@@ -120,11 +123,14 @@ pub record HoldsBundle (hash : List ℕ → List ℕ) (told : Option Files) (roo
 
 -- the inputs of a command are there, and each is in order
 abbrev pub IsInOrder : (List ℕ → List ℕ) → Option Files → Command → Type 0
-IsInOrder hash told (commands.Root name) = HoldsRecords told name.now
-IsInOrder hash told (commands.Build map name) = HoldsRecords told name.now
-IsInOrder hash told (commands.List map) = HoldsMap hash told map.now
+IsInOrder hash told (commands.Root name) = HoldsRecords One told name.now
+IsInOrder hash told (commands.Root2 name) = HoldsRecords Two told name.now
+IsInOrder hash told (commands.Build map name) = HoldsRecords One told name.now
+IsInOrder hash told (commands.Build2 map name) = HoldsRecords Two told name.now
+IsInOrder hash told (commands.List map) = HoldsMap version_of hash told map.now
+IsInOrder hash told (commands.Upgrade old new) = HoldsMap version_of hash told old.now
 IsInOrder hash told (commands.Apply old batch new) = HoldsBatch hash told old.now batch.now
-IsInOrder hash told (commands.Prove map q proof) = HoldsMap hash told map.now
+IsInOrder hash told (commands.Prove map q proof) = HoldsMap always_first hash told map.now
 IsInOrder hash told (commands.Check root q proof) = HoldsProof hash told root q proof.now
 IsInOrder hash told (commands.Audit map q proof) = HoldsHonest hash told map.now q proof.now
 IsInOrder hash told (commands.Serve map script bundle) =
@@ -147,21 +153,21 @@ Delivers said before after status = IsWhole said before after status
     ⊎ HasStopped before after status
 
 -- `check` of the proof that an honest server gives, against the root digest of its map, prints
--- what a scan of the map's records gives; for every map and query. So far there is one version.
+-- what a scan of the map's records gives; for every query and map of the first version.
 abbrev pub AnswersHonest : (List ℕ → List ℕ) → List (List ℕ) → World → World → Status → Type 0
 AnswersHonest hash words before after status =
-    (v : Version) (t : Tree) (batch : ℕ) (root : List ℕ) (q : Query) (proof : Bor (List ℕ))
-    → WellFormed t → batch < 2 ^ 64 → root ≡ digests.root (by v hash) t batch
-    → Spells words (commands.Check root q proof)
-    → Holds before.shelf.files proof.now (honest.proof (by v hash) t batch q)
-    → Delivers (prints (text_of (scan (records t) q))) before after status
+    (t : Tree) (batch : ℕ) (root : List ℕ) (q : Query) (proof : Bor (List ℕ))
+    → WellFormed t → HasLayers One t → batch < 2 ^ 64
+    → root ≡ digests.root (first hash) t batch → Spells words (commands.Check root q proof)
+    → Holds before.shelf.files proof.now (honest.proof (first hash) t batch q)
+    → Delivers (prints (text_of One (scan (records t) q))) before after status
 
 -- the bytes are those that an honest server gives, and what was printed is what a scan of the map's
 -- records gives
 pub record PrintsScan (s : Scheme) (t : Tree) (batch : ℕ) (q : Query)
     (bytes : List ℕ) (before after : World) : Type 0 where
   pub own : bytes ≡ honest.proof s t batch q
-  pub printed : Takes before.sink after.sink (text_of (scan (records t) q))
+  pub printed : Takes before.sink after.sink (text_of One (scan (records t) q))
 
 -- the bytes prove an answer; and no two strings stand at one place of the map and of the bytes and
 -- differ, the bytes are the honest proof and what was printed is the scan, or the first two that do
@@ -172,14 +178,14 @@ pub record IsWorth (s : Scheme) (t : Tree) (batch : ℕ) (q : Query)
   pub proves : Proves s.of (digests.root s t batch) q bytes answer
   pub worth : NoneAnd s.of (clash s t batch bytes) (PrintsScan s t batch q bytes before after)
 
--- What it is worth that `check` accepts bytes against the root digest of a map, for every map,
--- query and bytes. So far there is one version.
+-- What it is worth that `check` accepts bytes against the root digest of a map, for every map of
+-- either version, query and bytes.
 abbrev pub AcceptsHonestOrCollides : (List ℕ → List ℕ) → List (List ℕ) → World → World → Status
     → Type 0
 AcceptsHonestOrCollides hash words before after status =
     (v : Version) (t : Tree) (batch : ℕ) (root : List ℕ) (q : Query) (proof : Bor (List ℕ))
     (bytes : List ℕ)
-    → WellFormed t → batch < 2 ^ 64 → root ≡ digests.root (by v hash) t batch
+    → WellFormed t → HasLayers v t → batch < 2 ^ 64 → root ≡ digests.root (by v hash) t batch
     → Spells words (commands.Check root q proof) → Holds before.shelf.files proof.now bytes
     → status ≡ Done → IsWorth (by v hash) t batch q bytes before after
 
@@ -189,7 +195,7 @@ abbrev pub SaysWorth : (List ℕ → List ℕ) → Tree → (batch : ℕ) → Qu
     → World → World → Status → Type 0
 SaysWorth hash t batch q bytes None before after status =
     (bytes ≡ honest.proof (first hash) t batch q)
-    × Delivers (prints (sound_line ++ text_of (scan (records t) q))) before after status
+    × Delivers (prints (sound_line ++ text_of One (scan (records t) q))) before after status
 SaysWorth hash t batch q bytes (Some p) before after status =
     IsCollision hash p
     × Delivers (ends Collision (collision_lines p.owned p.shown)) before after status
@@ -233,4 +239,21 @@ AppliesAlike hash words before after status =
     (t : Tree) (held : ℕ) (old batch new : Bor (List ℕ)) (bytes text : List ℕ) (b : Changes)
     → Spells words (commands.Apply old batch new) → Holds before.shelf.files old.now bytes
     → IsMap first_form hash bytes t held → Holds before.shelf.files batch.now text
-    → batch_of_text text ≡ Ok b → status ≡ Done → IsApplied hash t held b new.now before after
+    → batch_of_text One text ≡ Ok b → status ≡ Done → IsApplied hash t held b new.now before after
+
+-- what `upgrade` prints and leaves of a map: the root digest of its tree and batch in the second
+-- version is printed, and the new file stands for these in that version
+pub record IsUpgraded (hash : List ℕ → List ℕ) (t : Tree) (batch : ℕ) (new : List ℕ)
+    (before after : World) : Type 0 where
+  pub printed : Takes before.sink after.sink (digest_line (digests.root (by Two hash) t batch))
+  pub bytes : List ℕ
+  pub there : Holds after.shelf.files new bytes
+  pub stands : IsMap second_form hash bytes t batch
+
+-- so it does of every map, whichever version its file has
+abbrev pub UpgradesAll : (List ℕ → List ℕ) → List (List ℕ) → World → World → Status → Type 0
+UpgradesAll hash words before after status =
+    (v : Version) (t : Tree) (batch : ℕ) (old new : Bor (List ℕ)) (bytes : List ℕ)
+    → Spells words (commands.Upgrade old new) → Holds before.shelf.files old.now bytes
+    → IsMap (form_by v) hash bytes t batch → status ≡ Done
+    → IsUpgraded hash t batch new.now before after

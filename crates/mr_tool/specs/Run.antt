@@ -1,7 +1,7 @@
 -- A run of the program on some words, as the clauses of `run` say it.
 use Rattle.std.specs.Prelude.{◌≡◌, ℕ, List, Option}
 use Rattle.mr_command.specs.Answer.{World, Counts, HasOutsideCause, IsAnswer, IsQuiet}
-use Rattle.mr_tool.specs.Promises.{CompletesWords, AnswersHonest, AcceptsHonestOrCollides, AuditsAccepted, CollidesRightly, AppliesAlike}
+use Rattle.mr_tool.specs.Promises.{CompletesWords, AnswersHonest, AcceptsHonestOrCollides, AuditsAccepted, CollidesRightly, AppliesAlike, UpgradesAll}
 use Rattle.mr_command.specs.Counting.{ReadsFew}
 use Rattle.mr_plan.specs.Say.{say}
 use Rattle.mr_plan.specs.Spelling.{IsSpelled}
@@ -40,6 +40,7 @@ pub record IsRun (hash : List ℕ → List ℕ) (words : List (List ℕ)) (befor
   pub audited : AuditsAccepted hash words before after status
   pub collides : CollidesRightly hash words before after status
   pub alike : AppliesAlike hash words before after status
+  pub upgrades : UpgradesAll hash words before after status
 
 -- a run that ends with this exit status
 abbrev pub EndsWith : (List ℕ → List ℕ) → List (List ℕ) → World → World → (code : ℕ) → Type 0

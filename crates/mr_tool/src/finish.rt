@@ -5,12 +5,12 @@ ghost use Rattle.std.specs.String.{string_bytes};
 ghost use Rattle.mr_outside.specs.Causes.{SinkCauses};
 ghost use Rattle.mr_outside.specs.Told.{Takes, TakesFront};
 ghost use Rattle.mr_record.specs.RecordText.{text_of};
-ghost use Rattle.mr_command.specs.Ending.{Finishes, Prints, printed_of, shown_of};
+ghost use Rattle.mr_command.specs.Ending.{Finishes, HasLines, Prints, printed_of, shown_of};
 
 use mr_command::{Ending, Halt, Shown, write_tree};
 use mr_outside::{Sink, SinkErr, write_all};
 use mr_plan::Status;
-use mr_record::write_lines;
+use mr_record::{Version, write_lines};
 
 // Writes the text of an ending, its records one by one.
 fn write_ending<W: Sink>(out: &mut W, ending: &Ending) -> Result<(), SinkErr>
@@ -20,20 +20,21 @@ fn write_ending<W: Sink>(out: &mut W, ending: &Ending) -> Result<(), SinkErr>
     ensures causes { SinkCauses (W.state out.old) (W.state out.new) result }
 {
     write_all(out, ending.text.as_slice())?;
-    write_shown(out, &ending.records)
+    write_shown(out, ending.version, &ending.records)
 }
 
-// Writes a line for each record that is shown.
-fn write_shown<W: Sink>(out: &mut W, records: &Shown) -> Result<(), SinkErr>
+// Writes a line of this version for each record that is shown.
+fn write_shown<W: Sink>(out: &mut W, version: Version, records: &Shown) -> Result<(), SinkErr>
+    requires { HasLines version records.now }
     ensures whole { OnOk result
-        (Takes (W.state out.old) (W.state out.new) (text_of (shown_of records.now))) }
+        (Takes (W.state out.old) (W.state out.new) (text_of version (shown_of records.now))) }
     ensures front { TakesFront (W.state out.old) (W.state out.new)
-        (text_of (shown_of records.now)) }
+        (text_of version (shown_of records.now)) }
     ensures causes { SinkCauses (W.state out.old) (W.state out.new) result }
 {
     match records {
-        Shown::Records(list) => write_lines(out, list),
-        Shown::OfTree(alloc, tree) => write_tree(*alloc, out, tree),
+        Shown::Records(list) => write_lines(out, version, list),
+        Shown::OfTree(alloc, tree) => write_tree(*alloc, out, version, tree),
     }
 }
 

@@ -5,21 +5,40 @@ ghost use Rattle.std.specs.String.{string_bytes};
 ghost use Rattle.mr_record.specs.Bytes.{AreBytes};
 ghost use Rattle.mr_command.specs.Answer.{Counts, IsQuiet, world};
 ghost use Rattle.mr_command.specs.Ending.{Comes};
-ghost use Rattle.mr_tool.specs.Promises.{CompletesWords, AnswersHonest, AcceptsHonestOrCollides, AuditsAccepted, CollidesRightly, AppliesAlike};
+ghost use Rattle.mr_tool.specs.Promises.{CompletesWords, AnswersHonest, AcceptsHonestOrCollides, AuditsAccepted, CollidesRightly, AppliesAlike, UpgradesAll};
 ghost use Rattle.mr_tool.specs.Run.{AnswersWords, BlamesRightly, IsRun, ReadsFewWords};
-ghost use Rattle.mr_plan.specs.Say.{say};
+ghost use Rattle.mr_plan.specs.Say.{say, say_build};
 ghost use Rattle.mr_plan.specs.Spelling.{IsSpelled, MayBeAsked};
 
 use crate::finish::finish;
 use mr_command::{
     Ending, Halt, apply, audit_query, build, check_bundle, check_proof, demo, list, make,
-    prove_query, root, serve,
+    prove_query, root, serve, upgrade,
 };
 use mr_outside::{Gate, Shelf, Sink};
 use mr_plan::{Command, Status, read_words};
+use mr_record::Version;
 use mr_tree::Hash32;
 use std::alloc::Global;
 use std::thread::Threads;
+
+// Makes a map file of records in this version, and hands the shelf back.
+fn build_on<H: Hash32, S: Shelf, G: Gate, R: Threads + Sync>(
+    rt: &R,
+    alloc: Global,
+    version: Version,
+    map: &str,
+    records: &str,
+    shelf: S,
+    gate: &G,
+) -> (Result<Ending, Halt>, S)
+    ensures { Comes (say_build version H.of map.now records.now) (S.state shelf) (S.state result.1)
+        result.0 }
+{
+    let mut shelf = shelf;
+    let came = build::<H, S, G, R>(rt, alloc, version, map, records, &mut shelf, gate);
+    (came, shelf)
+}
 
 // Carries out a command, and hands the shelf back.
 fn carry_out<H: Hash32, S: Shelf, G: Gate, R: Threads + Sync>(
@@ -35,12 +54,23 @@ fn carry_out<H: Hash32, S: Shelf, G: Gate, R: Threads + Sync>(
     match command {
         Command::Root(records) => {
             let mut shelf = shelf;
-            let came = root::<H, S, G, R>(rt, alloc, *records, &mut shelf, gate);
+            let came = root::<H, S, G, R>(rt, alloc, Version::One, *records, &mut shelf, gate);
+            (came, shelf)
+        }
+        Command::Root2(records) => {
+            let mut shelf = shelf;
+            let came = root::<H, S, G, R>(rt, alloc, Version::Two, *records, &mut shelf, gate);
             (came, shelf)
         }
         Command::Build(map, records) => {
+            build_on::<H, S, G, R>(rt, alloc, Version::One, *map, *records, shelf, gate)
+        }
+        Command::Build2(map, records) => {
+            build_on::<H, S, G, R>(rt, alloc, Version::Two, *map, *records, shelf, gate)
+        }
+        Command::Upgrade(old, new) => {
             let mut shelf = shelf;
-            let came = build::<H, S, G, R>(rt, alloc, *map, *records, &mut shelf, gate);
+            let came = upgrade::<H, S>(alloc, *old, *new, &mut shelf);
             (came, shelf)
         }
         Command::List(map) => {
@@ -111,10 +141,10 @@ fn answered<H: Hash32, S: Shelf, W: Sink, G: Gate, R: Threads + Sync>(
 
 /// Runs the program on the words after its name, and hands the shelf back beside the status.
 ///
-/// Inputs are read from the shelf by name, and all that is printed goes to the sink. Where a map is
-/// made of records, the digests of its leaves are computed in joined halves, and the gate is passed
-/// before and after each leaf; so are the queries of a script proved and the parts of a bundle
-/// checked, each a piece.
+/// Inputs are read from the shelf by name, and all that is printed goes to the sink. Where a map of
+/// version 1 is made of records, the digests of its leaves are computed in joined halves, and the
+/// gate is passed before and after each leaf; so are the queries of a script proved and the parts
+/// of a bundle checked, each a piece.
 pub fn run<H: Hash32, S: Shelf, W: Sink, G: Gate, R: Threads + Sync>(
     rt: &R,
     alloc: Global,
@@ -174,6 +204,10 @@ pub fn run<H: Hash32, S: Shelf, W: Sink, G: Gate, R: Threads + Sync>(
     ensures alike { let before = world (S.state shelf) (W.state out.old) in
         let after = world (S.state result.1) (W.state out.new) in
         AppliesAlike H.of (map string_bytes words.now) before after result.0 }
+    // A map of either version is written anew in version 2, with its tree and its batch.
+    ensures upgrades { let before = world (S.state shelf) (W.state out.old) in
+        let after = world (S.state result.1) (W.state out.new) in
+        UpgradesAll H.of (map string_bytes words.now) before after result.0 }
 {
     answered::<H, S, W, G, R>(rt, alloc, words, shelf, out, gate)
 }

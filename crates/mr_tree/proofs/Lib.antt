@@ -1,6 +1,9 @@
 pub mod Induction
 pub mod Folds
+pub mod Masks
 pub mod Equations
+pub mod Told
+pub mod Below
 pub mod Gathered
 pub mod Filled
 pub mod Joins
@@ -12,3 +15,4 @@ pub mod Counting
 pub mod Soundness
 pub mod Placements
 pub mod Reading
+pub mod Layers

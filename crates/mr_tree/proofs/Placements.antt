@@ -1,7 +1,6 @@
 -- Nodes that are put behind others leave what stands there as it is.
-use Rattle.std.proofs.Common.{◌≡◌, ℕ, ◌+◌, ◌-◌, ◌<◌, ◌≤◌, List, [], ◌∷◌, ◌++◌, map, length, get_or, take, append_assoc, refl, sym, ap, subst, ◌∙◌, arith, length-append, ◌^◌}
-use Rattle.std.specs.Prelude.{Option, Some, None, IsSome, All, fold, Result, Ok, Err, IfOk}
-use Rattle.mr_geom.specs.Rectangle.{Rectangle}
+use Rattle.std.proofs.Common.{◌≡◌, ◌≢◌, ℕ, ◌+◌, ◌-◌, ◌<◌, ◌≤◌, List, [], ◌∷◌, ◌++◌, map, length, get_or, take, append_assoc, refl, sym, ap, subst, ◌∙◌, arith, length-append, ◌^◌}
+use Rattle.std.specs.Prelude.{Some, IsSome, All, fold, Result, Ok, Err, IfOk}
 use Rattle.std.specs.List.{AllByRecursion, flat_map}
 use Rattle.std.proofs.Math.Seq.{get_or-append_seam}
 use Rattle.std.proofs.lemmas.List.{length-map, map-append, take_more, flat_map_more, get_or_append_left}
@@ -9,12 +8,14 @@ use Rattle.std.proofs.lemmas.Simd.{map-map}
 use Rattle.std.proofs.lemmas.List.Sums.{fold-append}
 use Rattle.std.proofs.lemmas.List.Folds.{length-flat_map-take}
 use Rattle.std.proofs.lemmas.List.Elements.{recursion_from_All, All-from_recursion, All-push}
-use Rattle.mr_record.specs.Record.{record_bytes}
 use Rattle.mr_record.specs.declared.record.Record.{Record}
-use Rattle.mr_tree.specs.Tree.{level, first_level, union_of}
+use Rattle.mr_tree.specs.Tree.{level, records, first_level}
 use Rattle.mr_tree.specs.Digest.{Scheme, entry, entry_step, level_over}
 use Rattle.mr_tree.specs.declared.entry.Entry.{Entry}
-use Rattle.mr_tree.specs.View.{children_in, level_of, entry_of}
+use Rattle.mr_record.specs.Record.{HasLayer}
+use Rattle.mr_tree.specs.Limits.{count_limit}
+use Rattle.mr_tree.specs.View.{children_in, MayTell, AreTold, HasCount, level_of, entry_of}
+use Rattle.mr_tree.specs.WellFormed.{HasLayers}
 use Rattle.mr_tree.specs.Nodes.{subtrees}
 use Rattle.mr_tree.specs.Snapshot.{node_of, tree_at, tree_over, add_tree, trees, HasShape, IsLinked, IsNode, AreLinked, IsPlaced}
 use Rattle.mr_tree.specs.Sound.{IsSound, IsSoundNode}
@@ -25,6 +26,8 @@ use Rattle.mr_tree.specs.declared.tree.Tree.{Tree}
 use Rattle.mr_tree.specs.declared.tree.Tree.TheVariants as tree
 use Rattle.mr_tree.specs.declared.tree.Tree.TheOpen.{Leaf, Inner}
 use Rattle.mr_tree.proofs.Equations.{entry_level}
+use Rattle.mr_tree.proofs.Told.{any_layers, may_tell}
+use Rattle.mr_tree.proofs.Soundness.{some_records}
 use Rattle.mr_tree.proofs.Folds.{fold-Leaf, fold-Inner}
 use Rattle.mr_tree.proofs.Subtrees.{subtrees-Leaf, subtrees-Inner}
 use Rattle.mr_tree.proofs.Induction.{here-Inner}
@@ -59,6 +62,7 @@ module _ (hash : Scheme) (ts us : List Tree) where
   node_before : (n : Stored) → IsNode hash ts n → IsNode hash (ts ++ us) n
   node_before n here = record {
     shape = here.shape;
+    told = here.told;
     links = λ k d within. link_before (get_or (children_in (node_of n)) k d) (here.links k d within);
   }
 
@@ -120,9 +124,10 @@ put_placed hash ns n c t linked here is id same =
 -- ---- a leaf
 
 pub leaf_placed : (hash : Scheme) (ns : List Stored) (rs : List Record) (c : Child) → AreLinked hash ns →
-    IsSoundNode (Leaf rs) → c.id ≡ length ns + 1 → entry_of c ≡ entry_step hash (Leaf rs) →
+    IsSoundNode (Leaf rs) → All (HasLayer hash.version) rs → c.id ≡ length ns + 1 →
+    entry_of c ≡ entry_step hash (Leaf rs) →
     IsPlaced hash ns (ns ++ Records rs ∷ []) c (tree.Leaf rs) (tree.Leaf rs ∷ [])
-leaf_placed hash ns rs c linked sound id said =
+leaf_placed hash ns rs c linked sound layers id said =
     put_placed hash ns (Records rs) c (tree.Leaf rs) linked
     (record {
       shape = record {
@@ -131,7 +136,10 @@ leaf_placed hash ns rs c linked sound id said =
         few = omega arith;
         low = omega arith;
         alike = λ k d within. absurd (omega arith);
+        layers = any_layers hash.version rs layers;
+        counts = λ k d within. absurd (omega arith);
       };
+      told = record { layers = layers; children = λ k d within. absurd (omega arith) };
       links = λ k d within. absurd (omega arith);
     })
     refl id (said ∙ sym (fold-Leaf Entry (entry_step hash) rs))
@@ -147,13 +155,13 @@ entries_of hash ts [] links = refl
 entries_of hash ts (c ∷ cs) links = λ i. links.0.entry i ∷ entries_of hash ts cs links.1 i
 
 pub inner_placed : (hash : Scheme) (ns : List Stored) (cs : List Child) (c : Child) → AreLinked hash ns →
-    HasShape (Inner cs) → All (IsLinked hash (trees ns)) cs → c.id ≡ length ns + 1 →
+    HasShape (Inner cs) → AreTold hash.version (Inner cs) → All (IsLinked hash (trees ns)) cs → c.id ≡ length ns + 1 →
     entry_of c ≡ entry_step hash (Inner (map entry_of cs)) →
     IsPlaced hash ns (ns ++ Children cs ∷ []) c (tree_over (trees ns) (Children cs))
     (tree_over (trees ns) (Children cs) ∷ [])
-inner_placed hash ns cs c linked shape links id said =
+inner_placed hash ns cs c linked shape told links id said =
     put_placed hash ns (Children cs) c (tree_over (trees ns) (Children cs)) linked
-    (record { shape = shape; links = links })
+    (record { shape = shape; links = links; told = told })
     refl id (said
     ∙ ap (λ es. entry_step hash (Inner es))
     (entries_of hash (trees ns) cs (recursion_from_All (IsLinked hash (trees ns)) cs links))
@@ -178,8 +186,8 @@ alike_all hash ts n (c ∷ cs) links same =
     (ap (λ (k : ℕ). k + 1) (link_level hash ts c links.0 ∙ same.0), alike_all hash ts n cs links.1 same.1)
 
 pub shape_over : (hash : Scheme) (ts us : List Tree) (cs : List Child) → All (IsLinked hash ts) cs →
-    map (λ (c : Child). tree_at ts c.id) cs ≡ us → IsSound (tree.Inner us) → HasShape (Inner cs)
-shape_over hash ts us cs links same sound =
+    All HasCount cs → map (λ (c : Child). tree_at ts c.id) cs ≡ us → IsSound (tree.Inner us) → HasShape (Inner cs)
+shape_over hash ts us cs links counts same sound =
     let here = here-Inner IsSoundNode us sound in
     let each = recursion_from_All (IsLinked hash ts) cs links in
     let count : length cs ≡ length us =
@@ -197,7 +205,21 @@ shape_over hash ts us cs links same sound =
           (All-from_recursion (λ (c : Child). c.level + 1 ≡ first_level (map level us) + 1) cs
           (alike_all hash ts (first_level (map level us)) cs each
           (subst (AllByRecursion (λ t. level t ≡ first_level (map level us))) (sym same) all)));
+      layers = λ k d within. absurd (omega arith);
+      counts = counts;
     }
+
+-- one child more tells what its version may
+pub told_more : (hash : Scheme) (ns ms : List Stored) (cs ds : List Child) (c : Child) (t : Tree) →
+    IsPlaced hash ns ms c t (subtrees t) → IsSound t → t ≢ tree.Empty → length (records t) ≤ count_limit →
+    HasLayers hash.version t → All (λ (c : Child). MayTell hash.version c.mask c.count) cs → ds ≡ cs ++ c ∷ [] →
+    All (λ (c : Child). MayTell hash.version c.mask c.count) ds
+told_more hash ns ms cs ds c t placed sound filled few layers so_far e =
+    let May : Child → Type 0 = λ c. MayTell hash.version c.mask c.count in
+    subst (All May) (sym e) (All-push May cs c so_far
+    (subst (λ (e : Entry). MayTell hash.version e.mask e.count)
+    (sym (placed.link.entry ∙ ap (entry hash) placed.here))
+    (may_tell hash t (some_records t sound filled) few (any_layers hash.version (records t) layers))))
 
 pub links_more : (hash : Scheme) (ns ms : List Stored) (cs ds : List Child) (c : Child) (t : Tree) →
     IsPlaced hash ns ms c t (subtrees t) → All (IsLinked hash (trees ns)) cs → ds ≡ cs ++ c ∷ [] →

@@ -9,12 +9,13 @@ use Rattle.mr_geom.specs.Rectangle.{union_of}
 use Rattle.mr_record.specs.declared.record.Record.{Record}
 use Rattle.mr_tree.specs.Tree.{level, records}
 use Rattle.mr_record.specs.declared.version.Version.{Version}
-use Rattle.mr_record.specs.declared.version.Version.TheVariants.{One}
 use Rattle.mr_tree.specs.Digest.{Scheme, by, entry, entry_step}
 use Rattle.mr_tree.specs.declared.entry.Entry.{Entry}
-use Rattle.mr_tree.specs.WellFormed.{WellFormed}
-use Rattle.mr_tree.specs.View.{Node, level_of, entry_of}
-use Rattle.mr_tree.specs.Nodes.{Standing, MayFetch, IsNodeOf, Shows, IsTop, subtrees, top_version}
+use Rattle.mr_tree.specs.WellFormed.{WellFormed, HasLayers}
+use Rattle.mr_record.specs.Version.{told}
+use Rattle.mr_tree.proofs.Told.{any_layers, may_tell, count_told}
+use Rattle.mr_tree.specs.View.{Node, MayTell, level_of, entry_of}
+use Rattle.mr_tree.specs.Nodes.{Standing, MayFetch, IsNodeOf, Shows, IsTop, subtrees}
 use Rattle.mr_tree.specs.Snapshot.{with_id, standing_of, standing, node_of, tree_at, tree_over, trees, tree_of, HasShape, IsLinked, IsNode, AreLinked, IsSnapshot, IsRooted}
 use Rattle.mr_tree.specs.declared.child.Child.{Child}
 use Rattle.mr_tree.specs.declared.nodes.Top.{Top}
@@ -23,7 +24,7 @@ use Rattle.mr_tree.specs.declared.stored.Stored.TheVariants.{Records, Children}
 use Rattle.mr_tree.specs.declared.tree.Tree.{Tree}
 use Rattle.mr_tree.specs.declared.tree.Tree.TheVariants as tree
 use Rattle.mr_tree.specs.declared.tree.Tree.TheOpen.{Leaf, Inner}
-use Rattle.mr_tree.proofs.Equations.{entry_rect, records-Empty}
+use Rattle.mr_tree.proofs.Equations.{entry_rect, entry_count, records-Empty}
 use Rattle.mr_tree.proofs.Folds.{fold-Leaf, fold-Inner}
 use Rattle.mr_tree.proofs.Joins.{rects_of, rect_round}
 use Rattle.mr_tree.proofs.Subtrees.{subtrees-Empty}
@@ -44,8 +45,8 @@ abbrev stood : Version → ℕ → Tree → List Tree → Standing
 stood v batch t ts = record { version = v; batch = batch; span = length ts + 1; tree = Some t; node = with_id ts }
 
 module _ (hash : Scheme) (batch : ℕ) (whole : Tree) (ts : List Tree) where
-  pub may_fetch : (c : Child) → IsLinked hash ts c → c.level ≤ 7 → MayFetch hash.of
-      (stood hash.version batch whole ts) c
+  pub may_fetch : (c : Child) → IsLinked hash ts c → c.level ≤ 7 →
+      MayFetch hash.of (stood hash.version batch whole ts) c
   may_fetch c link low = record {
     positive = link.positive;
     within = omega (arith, link.within);
@@ -55,8 +56,8 @@ module _ (hash : Scheme) (batch : ℕ) (whole : Tree) (ts : List Tree) where
   }
 
   below : (n : ℕ) (cs : List Child) → n ≤ 7 → AllByRecursion (IsLinked hash ts) cs →
-      AllByRecursion (λ (c : Child). c.level + 1 ≡ n) cs → AllByRecursion
-      (MayFetch hash.of (stood hash.version batch whole ts)) cs
+      AllByRecursion (λ (c : Child). c.level + 1 ≡ n) cs →
+      AllByRecursion (MayFetch hash.of (stood hash.version batch whole ts)) cs
   below n [] low links alike = tt
   below n (c ∷ cs) low links alike =
       (may_fetch c links.0 (omega (arith, alike.0, low)), below n cs low links.1 alike.1)
@@ -75,6 +76,7 @@ module _ (hash : Scheme) (batch : ℕ) (whole : Tree) (ts : List Tree) where
         some = here.shape.some;
         level = sym (ap (λ (e : Entry). e.level) parts);
         digest = sym (ap (λ (e : Entry). e.digest) parts);
+        told = here.told;
         children = λ k d within. absurd (omega arith);
         node = subst (λ o. IfSome o (λ t. IsNodeOf (stood hash.version batch whole ts) t (Leaf rs)))
             (sym (with_id_at ts c.id low high)) is;
@@ -88,6 +90,7 @@ module _ (hash : Scheme) (batch : ℕ) (whole : Tree) (ts : List Tree) where
         some = here.shape.some;
         level = level_over_children cs ∙ sym (ap (λ (e : Entry). e.level) parts);
         digest = sym (ap (λ (e : Entry). e.digest) parts);
+        told = here.told;
         children = All-from_recursion (MayFetch hash.of (stood hash.version batch whole ts)) cs
             (below (level_of (Inner cs)) cs here.shape.low links
             (recursion_from_All (λ (c : Child). c.level + 1 ≡ level_of (Inner cs)) cs here.shape.alike));
@@ -131,9 +134,9 @@ pub reads : (hash : List ℕ → List ℕ) (ns : List Stored) (top : Top) (c : C
     MayFetch hash (standing ns top) c → Some n ≡ slice_get (map node_of ns) (c.id - 1) →
     Shows hash (standing ns top) c n
 reads hash ns top c n snapshot may e =
-    subst (λ us. Shows hash (stood (top_version top) top.batch (tree_of ns top) us) c n) snapshot.whole
-    (reads_from (by (top_version top) hash) top.batch (tree_of ns top) ns c n snapshot.linked
-    (subst (λ us. MayFetch hash (stood (top_version top) top.batch (tree_of ns top) us) c) (sym snapshot.whole) may) e)
+    subst (λ us. Shows hash (stood top.version top.batch (tree_of ns top) us) c n) snapshot.whole
+    (reads_from (by top.version hash) top.batch (tree_of ns top) ns c n snapshot.linked
+    (subst (λ us. MayFetch hash (stood top.version top.batch (tree_of ns top) us) c) (sym snapshot.whole) may) e)
 
 pub place_of : (hash : List ℕ → List ℕ) (ns : List Stored) (top : Top) (c : Child) → IsSnapshot hash ns top →
     MayFetch hash (standing ns top) c → c.id - 1 < length ns
@@ -162,8 +165,8 @@ pub shapes_at : (hash : List ℕ → List ℕ) (ns : List Stored) (top : Top) �
     All HasShape (map node_of ns)
 shapes_at hash ns top snapshot =
     All-from_recursion HasShape (map node_of ns)
-    (shapes_of (by (top_version top) hash) (trees ns) ns
-    (recursion_from_All (IsNode (by (top_version top) hash) (trees ns)) ns snapshot.linked.each))
+    (shapes_of (by top.version hash) (trees ns) ns
+    (recursion_from_All (IsNode (by top.version hash) (trees ns)) ns snapshot.linked.each))
 
 -- ---- the head
 
@@ -188,10 +191,28 @@ filled hash t c same none = at (records t) refl
         cc
     at (r ∷ rs) e = let some : length (records t) ≡ suc (length rs) = ap length e in absurd (omega (arith, none, some))
 
-module _ (of : List ℕ → List ℕ) (batch count : ℕ) (t : Tree) (well : WellFormed t)
+module _ (hash : Scheme) (batch count : ℕ) (t : Tree) (well : WellFormed t) (layers : HasLayers hash.version t)
     (counted : count ≡ length (records t)) where
-  head_of : (ns : List Stored) (o : Option Child) → IsRooted (by One of) ns o t →
-      IsTop of (stood One batch t (trees ns)) (record { batch = batch; count = count; root = o })
+  told_of : (c : Child) → entry_of c ≡ entry hash t →
+      MayTell hash.version c.mask c.count × (c.count ≡ told hash.version count)
+  told_of c same =
+      let may = may_tell hash t (some_records c same) (omega (arith, well.few))
+      (any_layers hash.version (records t) layers) in (
+        subst (λ (e : Entry). MayTell hash.version e.mask e.count) (sym same) may,
+        ap (λ (e : Entry). e.count) same ∙ entry_count hash t ∙ count_told hash.version t
+            ∙ ap (told hash.version) (sym counted),
+      )
+    where
+      some_records : (c : Child) → entry_of c ≡ entry hash t → 1 ≤ length (records t)
+      some_records c same = at (length (records t)) refl
+        where
+          at : (n : ℕ) → length (records t) ≡ n → 1 ≤ length (records t)
+          at zero e = absurd (filled hash t c same e)
+          at (suc n) e = omega (arith, e)
+
+  head_of : (ns : List Stored) (o : Option Child) → IsRooted hash ns o t →
+      IsTop hash.of (stood hash.version batch t (trees ns))
+      (record { version = hash.version; batch = batch; count = count; root = o })
   head_of ns None rooted = record {
     version = refl;
     batch = refl;
@@ -199,30 +220,34 @@ module _ (of : List ℕ → List ℕ) (batch count : ℕ) (t : Tree) (well : Wel
     none = (λ _. refl, λ _. counted ∙ ap (λ u. length (records u)) (sym rooted.tree) ∙ ap length records-Empty);
     root = tt;
     count = counted;
+    told = tt;
     tree = ap Some rooted.tree;
   }
   head_of ns (Some c) rooted =
       let link = rooted.root in
-      let same : entry_of c ≡ entry (by One of) t = link.entry ∙ ap (entry (by One of)) rooted.tree in
+      let same : entry_of c ≡ entry hash t = link.entry ∙ ap (entry hash) rooted.tree in
       let low : c.level ≤ 7 =
-      omega (arith, well.shallow, link_level (by One of) (trees ns) c link, ap level rooted.tree) in
+      omega (arith, well.shallow, link_level hash (trees ns) c link, ap level rooted.tree) in
       record {
         version = refl;
         batch = refl;
         few = omega (arith, well.few, counted);
-        none = (λ z. absurd (filled (by One of) t c same (sym counted ∙ z)), λ none. cc);
-        root = may_fetch (by One of) batch t (trees ns) c link low;
+        none = (λ z. absurd (filled hash t c same (sym counted ∙ z)), λ none. cc);
+        root = may_fetch hash batch t (trees ns) c link low;
         count = counted;
+        told = told_of c same;
         tree = with_id_at (trees ns) c.id link.positive link.within ∙ ap Some rooted.tree;
       }
 
-  pub snapshot_of : (ns : List Stored) (o : Option Child) → IsRooted (by One of) ns o t →
-      IsSnapshot of ns (record { batch = batch; count = count; root = o })
+  pub snapshot_of : (ns : List Stored) (o : Option Child) → IsRooted hash ns o t →
+      IsSnapshot hash.of ns (record { version = hash.version; batch = batch; count = count; root = o })
   snapshot_of ns o rooted = record {
     linked = rooted.linked;
     whole = rooted.whole ∙ ap subtrees (sym rooted.tree);
-    head = subst (λ u. IsTop of (standing_of One batch u) (record { batch = batch; count = count; root = o }))
+    head = subst (λ u. IsTop hash.of (standing_of hash.version batch u)
+        (record { version = hash.version; batch = batch; count = count; root = o }))
         (sym rooted.tree)
-        (subst (λ us. IsTop of (stood One batch t us) (record { batch = batch; count = count; root = o }))
+        (subst (λ us. IsTop hash.of (stood hash.version batch t us)
+        (record { version = hash.version; batch = batch; count = count; root = o }))
         rooted.whole (head_of ns o rooted));
   }

@@ -5,9 +5,9 @@ use Rattle.std.specs.List.{flat_map}
 use Rattle.std.specs.Int.{w64, to_be_bytes}
 use Rattle.mr_geom.specs.Rectangle.{Rectangle}
 use Rattle.mr_record.specs.declared.version.Version.{Version}
+use Rattle.mr_record.specs.Version.{version_byte, from_two}
 use Rattle.mr_record.specs.Record.{record_bytes, rectangle_bytes}
-use Rattle.mr_record.specs.Version.{version_byte}
-use Rattle.mr_tree.specs.Tree.{records, level_step, rect_step}
+use Rattle.mr_tree.specs.Tree.{records, level_step, rect_step, mask_step, count_step}
 use Rattle.mr_tree.specs.declared.entry.Entry.{Entry}
 use Rattle.mr_tree.specs.declared.tree.Tree.{Tree}
 use Rattle.mr_tree.specs.declared.tree.Tree.TheOpen.{Tree-F, Empty, Leaf, Inner}
@@ -28,17 +28,23 @@ abbrev pub rect_bytes : Option Rectangle → List ℕ
 rect_bytes None = []
 rect_bytes (Some r) = rectangle_bytes r
 
--- what an inner node's preimage holds of a child: its rectangle and its digest
-abbrev pub entry_bytes : Entry → List ℕ
-entry_bytes e = rect_bytes e.rect ++ e.digest
+-- a word that only the second version spells
+abbrev pub word_bytes : Version → ℕ → List ℕ
+word_bytes v n = from_two v (to_be_bytes w64 n)
 
--- what a root preimage says of the root node behind its level
-abbrev pub root_entry_bytes : Entry → List ℕ
-root_entry_bytes e = rect_bytes e.rect ++ e.digest
+-- the bytes of an entry, which is what an inner node holds of a child, in its preimage: the child's
+-- rectangle, mask, count and digest
+abbrev pub entry_bytes : Version → Entry → List ℕ
+entry_bytes v e =
+    rect_bytes e.rect ++ (word_bytes v e.mask ++ (word_bytes v e.count ++ e.digest))
+
+-- what a root preimage says of the root node behind its level; the count stands in front
+abbrev pub root_entry_bytes : Version → Entry → List ℕ
+root_entry_bytes v e = rect_bytes e.rect ++ (word_bytes v e.mask ++ e.digest)
 
 -- what is said of no node
 abbrev pub no_entry : Entry
-no_entry = record { level = 0; rect = None; digest = replicate 32 0 }
+no_entry = record { level = 0; rect = None; mask = 0; count = 0; digest = replicate 32 0 }
 
 -- the level of a node whose children have these entries
 abbrev pub level_over : List Entry → ℕ
@@ -59,18 +65,21 @@ abbrev pub empty_tag : ℕ
 empty_tag = 0x45
 
 -- the bytes that a node's digest is of
-abbrev pub node_preimage : Tree-F Entry → List ℕ
-node_preimage Empty = []
-node_preimage (Leaf records) = leaf_tag ∷ length records ∷ flat_map record_bytes records
-node_preimage (Inner entries) =
-    inner_tag ∷ level_over entries ∷ length entries ∷ flat_map entry_bytes entries
+abbrev pub node_preimage : Version → Tree-F Entry → List ℕ
+node_preimage v Empty = []
+node_preimage v (Leaf records) =
+    leaf_tag ∷ length records ∷ flat_map (record_bytes v) records
+node_preimage v (Inner entries) =
+    inner_tag ∷ level_over entries ∷ length entries ∷ flat_map (entry_bytes v) entries
 
 -- a node's entry, from those of its children
 abbrev pub entry_step : Scheme → Tree-F Entry → Entry
 entry_step s x = record {
   level = level_step (map-Tree Entry ℕ (λ (e : Entry). e.level) x);
   rect = rect_step (map-Tree Entry (Option Rectangle) (λ (e : Entry). e.rect) x);
-  digest = s.of (node_preimage x);
+  mask = mask_step s.version (map-Tree Entry ℕ (λ (e : Entry). e.mask) x);
+  count = count_step s.version (map-Tree Entry ℕ (λ (e : Entry). e.count) x);
+  digest = s.of (node_preimage s.version x);
 }
 
 -- what a node above the tree holds of it
@@ -79,7 +88,7 @@ entry s = fold-Tree Entry (entry_step s)
 
 -- the bytes that the tree's digest is of
 abbrev pub preimage : Scheme → Tree → List ℕ
-preimage s t = node_preimage (map-Tree Tree Entry (entry s) (out-Tree t))
+preimage s t = node_preimage s.version (map-Tree Tree Entry (entry s) (out-Tree t))
 
 abbrev pub digest : Scheme → Tree → List ℕ
 digest s t = (entry s t).digest
@@ -90,7 +99,7 @@ abbrev pub root_preimage : Version → (batch count : ℕ) → Entry → List �
 root_preimage v batch count e =
     if count == 0 then empty_tag ∷ version_byte v ∷ to_be_bytes w64 batch
     else root_tag ∷ version_byte v
-    ∷ (to_be_bytes w64 batch ++ to_be_bytes w64 count ++ e.level ∷ root_entry_bytes e)
+    ∷ (to_be_bytes w64 batch ++ to_be_bytes w64 count ++ e.level ∷ root_entry_bytes v e)
 
 -- those of the map with this tree at this batch
 abbrev pub root_bytes : Scheme → Tree → (batch : ℕ) → List ℕ

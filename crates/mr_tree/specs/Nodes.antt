@@ -5,10 +5,10 @@ use Rattle.mr_outside.specs.Faults.{Rose}
 use Rattle.mr_tree.specs.Limits.{count_limit, level_limit}
 use Rattle.mr_tree.specs.Tree.{records}
 use Rattle.mr_record.specs.declared.version.Version.{Version}
-use Rattle.mr_record.specs.declared.version.Version.TheVariants.{One}
+use Rattle.mr_record.specs.Version.{told}
 use Rattle.mr_tree.specs.Digest.{by, entry, no_entry}
 use Rattle.mr_tree.specs.declared.entry.Entry.{Entry}
-use Rattle.mr_tree.specs.View.{Node, children_in, size, level_of, entry_of, preimage_of}
+use Rattle.mr_tree.specs.View.{Node, MayTell, AreTold, children_in, size, level_of, entry_of, preimage_of}
 use Rattle.mr_tree.specs.declared.child.Child.{Child}
 use Rattle.mr_tree.specs.declared.nodes.NodesErr.{NodesErr}
 use Rattle.mr_tree.specs.declared.nodes.NodesErr.TheVariants.{Changed, Page, Outside, Missing, Fault, NoMemory}
@@ -74,7 +74,9 @@ IsNodeOf s t (Inner children) =
 pub record Shows (hash : List ℕ → List ℕ) (s : Standing) (c : Child) (n : Node) : Type 0 where
   pub some : 1 ≤ size n
   pub level : level_of n ≡ c.level
-  pub digest : hash (preimage_of n) ≡ c.digest
+  pub digest : hash (preimage_of s.version n) ≡ c.digest
+  -- what its version may tell
+  pub told : AreTold s.version n
   -- each child may be fetched in its turn
   pub children : All (MayFetch hash s) (children_in n)
   pub node : IfSome (s.node c.id) (λ t. IsNodeOf s t n)
@@ -89,18 +91,17 @@ abbrev pub root_entry : Option Child → Entry
 root_entry None = no_entry
 root_entry (Some c) = entry_of c
 
--- the version that a map tells of itself; so far there is one
-abbrev pub top_version : Top → Version
-top_version top = One
-
 -- what is said of the map as a whole
 pub record IsTop (hash : List ℕ → List ℕ) (s : Standing) (top : Top) : Type 0 where
-  pub version : top_version top ≡ s.version
+  pub version : top.version ≡ s.version
   pub batch : top.batch ≡ s.batch
   pub few : top.count ≤ count_limit
   pub none : (top.count ≡ 0) ↔ IsNone top.root
   pub root : IfSome top.root (MayFetch hash s)
   pub count : IfSome s.tree (λ t. top.count ≡ length (records t))
+  -- what its version may tell of the root, whose records are those of the map
+  pub told : IfSome top.root
+      (λ c. MayTell s.version c.mask c.count × (c.count ≡ told s.version top.count))
   pub tree : IfSome s.tree (λ t. tree_under s top.root ≡ Some t)
 
 -- this is the id of a node that may be asked for

@@ -2,10 +2,12 @@
 -- at place i - 1.
 use Rattle.std.specs.Prelude.{◌≡◌, ℕ, zero, suc, ◌+◌, ◌-◌, ◌≤◌, List, [], ◌∷◌, ◌++◌, map, length, get_or, fold, All, Option, Some, None, IfSome, slice_get}
 use Rattle.mr_tree.specs.Limits.{level_limit, leaf_limit, inner_limit}
+use Rattle.mr_record.specs.Record.{HasLayer}
 use Rattle.mr_record.specs.declared.version.Version.{Version}
+use Rattle.mr_record.specs.declared.version.Version.TheVariants.{Two}
 use Rattle.mr_tree.specs.Digest.{Scheme, by, entry}
-use Rattle.mr_tree.specs.View.{Node, records_in, children_in, size, level_of, entry_of}
-use Rattle.mr_tree.specs.Nodes.{Standing, IsTop, subtrees, top_version}
+use Rattle.mr_tree.specs.View.{Node, records_in, children_in, HasCount, AreTold, size, level_of, entry_of}
+use Rattle.mr_tree.specs.Nodes.{Standing, IsTop, subtrees}
 use Rattle.mr_tree.specs.declared.child.Child.{Child}
 use Rattle.mr_tree.specs.declared.nodes.Top.{Top}
 use Rattle.mr_tree.specs.declared.stored.Stored.{Stored}
@@ -59,7 +61,7 @@ abbrev pub tree_of : List Stored → Top → Tree
 tree_of ns top = root_tree (trees ns) top.root
 
 abbrev pub standing : List Stored → Top → Standing
-standing ns top = standing_of (top_version top) top.batch (tree_of ns top)
+standing ns top = standing_of top.version top.batch (tree_of ns top)
 
 -- ---- which lists of nodes are a tree's
 
@@ -70,6 +72,8 @@ pub record HasShape (n : Node) : Type 0 where
   pub few : length (children_in n) ≤ inner_limit
   pub low : level_of n ≤ level_limit
   pub alike : All (λ (c : Child). c.level + 1 ≡ level_of n) (children_in n)
+  pub layers : All (HasLayer Two) (records_in n)
+  pub counts : All HasCount (children_in n)
 
 -- the child is the entry of the tree with its id
 pub record IsLinked (s : Scheme) (ts : List Tree) (c : Child) : Type 0 where
@@ -80,6 +84,7 @@ pub record IsLinked (s : Scheme) (ts : List Tree) (c : Child) : Type 0 where
 pub record IsNode (s : Scheme) (ts : List Tree) (n : Stored) : Type 0 where
   pub shape : HasShape (node_of n)
   pub links : All (IsLinked s ts) (children_in (node_of n))
+  pub told : AreTold s.version (node_of n)
 
 -- each node is linked to nodes that stand before it
 pub record AreLinked (s : Scheme) (ns : List Stored) : Type 0 where
@@ -88,7 +93,7 @@ pub record AreLinked (s : Scheme) (ns : List Stored) : Type 0 where
 
 -- they are the nodes of the tree of the map, of which this is the head
 pub record IsSnapshot (hash : List ℕ → List ℕ) (ns : List Stored) (top : Top) : Type 0 where
-  pub linked : AreLinked (by (top_version top) hash) ns
+  pub linked : AreLinked (by top.version hash) ns
   pub whole : trees ns ≡ subtrees (tree_of ns top)
   pub head : IsTop hash (standing ns top) top
 

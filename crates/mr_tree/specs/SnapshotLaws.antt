@@ -1,7 +1,7 @@
 -- Proof that the ids of a snapshot are those of the nodes of its tree, each of which has one.
 use Rattle.std.specs.Prelude.{◌≡◌, ℕ, zero, suc, ◌<◌, List, [], ◌∷◌, length, None, IsSome, slice_get, refl}
 use Rattle.std.proofs.Common.{arith}
-use Rattle.mr_tree.specs.Nodes.{HasIds, subtrees, top_version}
+use Rattle.mr_tree.specs.Nodes.{HasIds, subtrees}
 use Rattle.mr_record.specs.declared.version.Version.{Version}
 use Rattle.mr_tree.specs.Snapshot.{with_id, standing_of, standing, tree_of}
 use Rattle.mr_tree.specs.declared.nodes.Top.{Top}
@@ -28,4 +28,4 @@ tree_has_ids v batch t = record {
     others (suc i) some = (i, place_within (subtrees t) i some, refl)
 
 pub has_ids : (ns : List Stored) (top : Top) → HasIds (standing ns top) (tree_of ns top)
-has_ids ns top = tree_has_ids (top_version top) top.batch (tree_of ns top)
+has_ids ns top = tree_has_ids top.version top.batch (tree_of ns top)

@@ -1,9 +1,12 @@
 -- One node with what it holds of its children, as a call gives it out.
 use Rattle.std.specs.Prelude.{◌≡◌, ℕ, ◌+◌, ◌^◌, ◌<◌, ◌≤◌, ◌==◌, if◌then◌else◌, List, [], take, length, All, Option, Some}
 use Rattle.mr_geom.specs.Rectangle.{Rectangle, IsOrdered, FitsMap}
-use Rattle.mr_record.specs.Record.{IsRecord}
+use Rattle.mr_record.specs.Record.{IsRecord, HasLayer}
+use Rattle.mr_record.specs.declared.version.Version.{Version}
+use Rattle.mr_record.specs.declared.version.Version.TheVariants.{Two}
 use Rattle.mr_record.specs.declared.record.Record.{Record}
-use Rattle.mr_tree.specs.Limits.{level_limit, leaf_limit, inner_limit}
+use Rattle.mr_record.specs.Version.{told}
+use Rattle.mr_tree.specs.Limits.{count_limit, level_limit, leaf_limit, inner_limit}
 use Rattle.mr_tree.specs.Tree.{level_step, rect_step}
 use Rattle.mr_tree.specs.Digest.{Scheme, entry_step, node_preimage}
 use Rattle.mr_tree.specs.declared.entry.Entry.{Entry}
@@ -34,15 +37,21 @@ level_of node = level_step (map-Tree Child ℕ (λ (c : Child). c.level) node)
 
 -- what is said of a child
 abbrev pub entry_of : Child → Entry
-entry_of c = record { level = c.level; rect = Some c.rect; digest = c.digest }
+entry_of c = record {
+  level = c.level;
+  rect = Some c.rect;
+  mask = c.mask;
+  count = c.count;
+  digest = c.digest;
+}
 
 -- the node over the entries of its children
 abbrev pub over_entries : Node → Tree-F Entry
 over_entries node = map-Tree Child Entry entry_of node
 
 -- the bytes that the node's digest is of
-abbrev pub preimage_of : Node → List ℕ
-preimage_of node = node_preimage (over_entries node)
+abbrev pub preimage_of : Version → Node → List ℕ
+preimage_of v node = node_preimage v (over_entries node)
 
 -- what is to be said of the node
 abbrev pub entry_over : Scheme → Node → Entry
@@ -54,10 +63,29 @@ rect_of node = rect_step (map-Tree Child (Option Rectangle) (λ (c : Child). Som
 
 -- ---- what a view holds
 
+-- what a version may tell of a node with records: nothing, which is 0; or some layers, and from 1
+-- to as many records as a map has
+pub record MayTell (v : Version) (mask count : ℕ) : Type 0 where
+  pub some : told v 1 ≤ mask
+  pub fits : mask < 2 ^ told v 64
+  pub counted : told v 1 ≤ count
+  pub few : count ≤ told v count_limit
+
+-- a node of a map of this version
+pub record AreTold (v : Version) (n : Node) : Type 0 where
+  pub layers : All (HasLayer v) (records_in n)
+  pub children : All (λ (c : Child). MayTell v c.mask c.count) (children_in n)
+
+-- a count of records that a map may have
+abbrev pub HasCount : Child → Type 0
+HasCount c = c.count ≤ count_limit
+
 pub record IsChild (c : Child) : Type 0 where
   pub id : c.id < 2 ^ 32
   pub ordered : IsOrdered c.rect
   pub coordinates : FitsMap c.rect
+  pub mask : c.mask < 2 ^ 64
+  pub count : c.count < 2 ^ 64
   pub digest : length c.digest ≡ 32
 
 -- up to 16 records, or 1 to 64 children of one level
@@ -89,4 +117,5 @@ pub record IsKept (level len : ℕ) (records : List Record) (children : List Chi
   pub few : len ≤ inner_limit
   pub brief : level ≡ 0 → len ≤ leaf_limit
   pub some : 0 < level → 1 ≤ len
+  pub layers : level ≡ 0 → All (HasLayer Two) (take len records)
   pub below : 0 < level → All (λ (c : Child). c.level + 1 ≡ level) (take len children)

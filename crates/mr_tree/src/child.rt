@@ -8,14 +8,19 @@ use mr_geom::Rect;
 use mr_record::Record;
 
 /// What an inner node holds of a child: where it is found (a page, or a place in a list), its
-/// level, the least rectangle round its records, in map units, and its digest.
+/// level, the least rectangle round its records, in map units, the mask of their layers and their
+/// number, both 0 in version 1, and its digest.
 #[derive(Clone, Copy, Debug)]
 pub struct Child {
     pub id: u32,
     pub level: u8,
     pub rect: Rect,
+    pub mask: u64,
+    pub count: u64,
     pub digest: [u8; 32],
 }
+
+const _: () = prove!(size_of::<Child>() == 72);
 
 impl Child {
     /// A leaf at the point (0, 0): it fills a place until another child is put there.
@@ -24,6 +29,8 @@ impl Child {
             id: 0,
             level: 0,
             rect: Record::blank().rect,
+            mask: 0,
+            count: 0,
             digest: [0; 32],
         }
     }
@@ -35,6 +42,8 @@ impl Child {
         Entry {
             level: self.level,
             rect: Some(self.rect),
+            mask: self.mask,
+            count: self.count,
             digest: self.digest,
         }
     }

@@ -2,7 +2,8 @@
 
 ghost use Rattle.std.specs.Prelude.{◌≡◌, ◌++◌, ◌∷◌, [], ℕ, List, length};
 ghost use Rattle.std.specs.Int.{w64, to_be_bytes};
-ghost use Rattle.mr_record.specs.Record.{record_bytes};
+ghost use Rattle.mr_record.specs.Record.{HasLayer, record_bytes};
+ghost use Rattle.mr_record.specs.declared.version.Version.TheVariants.{Two};
 ghost use Rattle.mr_record.specs.Version.{version_byte};
 ghost use Rattle.mr_tree.specs.Digest.{leaf_tag, inner_tag, root_tag, root_preimage, root_entry_bytes, entry_bytes};
 
@@ -15,20 +16,21 @@ use mr_record::{Record, Version, encoded};
 pub const ROOT_LIMIT: usize = 19 + ENTRY_LIMIT;
 
 // Feeds the bytes of a record.
-pub(crate) fn feed_record<H: Hashes>(hasher: &mut H, one: &Record)
+pub(crate) fn feed_record<H: Hashes>(hasher: &mut H, version: Version, one: &Record)
+    requires { HasLayer Two one.now }
     ensures { (fed : List ℕ) → H.holds hasher.old fed
-        → H.holds hasher.new (fed ++ record_bytes one.now) }
+        → H.holds hasher.new (fed ++ record_bytes version one.now) }
 {
-    let bytes = encoded(one);
+    let bytes = encoded(version, one);
     hasher.update(bytes.as_slice());
 }
 
 // Feeds an entry, which is what an inner node holds of a child.
-pub(crate) fn feed_entry<H: Hashes>(hasher: &mut H, entry: &Entry)
+pub(crate) fn feed_entry<H: Hashes>(hasher: &mut H, version: Version, entry: &Entry)
     ensures { (fed : List ℕ) → H.holds hasher.old fed
-        → H.holds hasher.new (fed ++ entry_bytes entry.now) }
+        → H.holds hasher.new (fed ++ entry_bytes version entry.now) }
 {
-    let bytes = entry.encoded();
+    let bytes = entry.encoded(version);
     hasher.update(bytes.as_slice());
 }
 
@@ -66,12 +68,12 @@ fn root_front(tag: u8, version: Version, batch: u64) -> Buffer<ROOT_LIMIT>
 fn filled_root(version: Version, batch: u64, count: u64, root: &Entry) -> Buffer<ROOT_LIMIT>
     ensures { result ≡ root_tag ∷ version_byte version
         ∷ (to_be_bytes w64 batch ++ to_be_bytes w64 count
-        ++ root.now.level ∷ root_entry_bytes root.now) }
+        ++ root.now.level ∷ root_entry_bytes version root.now) }
 {
     let mut bytes = root_front(b'R', version, batch);
     bytes.put(&count.to_be_bytes());
     bytes.put(&[root.level]);
-    let entry = root.encoded();
+    let entry = root.encoded_as_root(version);
     bytes.put(entry.as_slice());
     bytes
 }

@@ -17,10 +17,13 @@ mod tree;
 mod view;
 
 pub use child::Child;
-pub use digest::{count as count_of, digest_of, empty_entry, leaf_entry, root_of};
+pub use digest::{
+    count as count_of, digest_by, digest_of, digest2_of, empty_entry, leaf_entry, root_by, root_of,
+    root2_of,
+};
 pub use entry::{ENTRY_LIMIT, Entry};
 pub use feeding::{ROOT_LIMIT, root_digest, root_encoded};
-pub use gathering::Gathering;
+pub use gathering::{Gathering, as_told, layers_of};
 pub use hash::{Hash32, Hashes, Sha, XorHash};
 pub use limits::{
     COUNT_LIMIT, INNER_FILL, INNER_LIMIT, LEAF_FILL, LEAF_LIMIT, LEVEL_LIMIT, ROOT_FILL,

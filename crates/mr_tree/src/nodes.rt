@@ -3,29 +3,23 @@
 ghost use Rattle.std.specs.Prelude.{◌≡◌, ℕ, ◌≤◌, Option, Some, IfSome, IfErr, OnOk};
 ghost use Rattle.mr_outside.specs.Faults.{next_count};
 ghost use Rattle.mr_tree.specs.declared.nodes.NodesErr as error;
-ghost use Rattle.mr_tree.specs.WellFormed.{WellFormed};
-ghost use Rattle.mr_tree.specs.Nodes.{Standing, HasIds, IsTop, MayFetch, Shows, HasCause, top_version, root_entry};
+ghost use Rattle.mr_tree.specs.WellFormed.{WellFormed, HasLayers};
+ghost use Rattle.mr_tree.specs.Nodes.{Standing, HasIds, IsTop, MayFetch, Shows, HasCause, root_entry};
 
 use crate::{Child, Entry, Hashes, NodeView};
 use mr_record::Version;
 
-/// What a map says of itself: the batch that it stands at, the number of its records, and the entry
-/// of its root node, which a map without records has not.
+/// What a map says of itself: its version, the batch that it stands at, the number of its records,
+/// and the entry of its root node, which a map without records has not.
 #[derive(Clone, Copy, Debug)]
 pub struct Top {
+    pub version: Version,
     pub batch: u64,
     pub count: u64,
     pub root: Option<Child>,
 }
 
 impl Top {
-    /// The version of the map, so far the only one.
-    pub fn version(&self) -> Version
-        ensures { result ≡ top_version self.now }
-    {
-        Version::One
-    }
-
     /// What is said of the root node, and of no node where there is none.
     pub fn root_entry(&self) -> Entry
         ensures { result ≡ root_entry self.now.root }
@@ -82,7 +76,8 @@ pub trait Nodes {
     // what a call leaves of the object, from what it was before it
     ghost kept: { Self → Self → Type 0 };
 
-    /// Batch, count and root entry.
+    /// Version, batch and count of the map, and the entry of its root, whose count is that of the
+    /// map in version 2 and 0 in version 1.
     fn top(&self) -> Top
         ensures { IsTop Self.Hash.of (stands self.now) result };
 
@@ -110,6 +105,9 @@ pub trait Nodes {
 
     // a tree that is told is well formed
     ghost well_formed: { (s : Self) → IfSome (stands s).tree (λ t. ∥ WellFormed t ∥₁) };
+
+    // of its version
+    ghost layered: { (s : Self) → IfSome (stands s).tree (HasLayers (stands s).version) };
 
     // and each of its nodes has an id of its own
     ghost numbered: { (s : Self) → IfSome (stands s).tree (HasIds (stands s)) };

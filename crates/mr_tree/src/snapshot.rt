@@ -5,8 +5,8 @@ ghost use Rattle.std.proofs.Props.{props};
 ghost use Rattle.std.specs.Coded.{Coded-set as set};
 ghost use Rattle.mr_outside.specs.Faults.{next_count};
 ghost use Rattle.mr_tree.specs.Tree.{nodes};
-ghost use Rattle.mr_tree.specs.WellFormed.{WellFormed};
-ghost use Rattle.mr_record.specs.declared.version.Version.TheVariants.{One};
+ghost use Rattle.mr_tree.specs.WellFormed.{WellFormed, HasLayers};
+ghost use Rattle.mr_record.specs.declared.version.Version.TheVariants.{One, Two};
 ghost use Rattle.mr_tree.specs.Nodes.{MayFetch, Shows, HasCause};
 ghost use Rattle.mr_tree.specs.declared.nodes.NodesErr as error;
 ghost use Rattle.mr_tree.specs.Snapshot.{standing, standing_of, tree_of, node_of, HasShape, IsSnapshot};
@@ -18,6 +18,7 @@ use crate::digest::count;
 use crate::placing::{level_over, rooted};
 use crate::stored::Stored;
 use crate::{Child, Hashes, NodeView, Nodes, NodesErr, Top, Tree};
+use mr_record::Version;
 use std::alloc::{AllocError, Global};
 use std::marker::PhantomData;
 
@@ -29,6 +30,7 @@ pub struct Snapshot<H: Hashes> {
     hash: PhantomData<H>,
     ghost whole: { IsSnapshot H.of nodes.items top } by { Prim.hlevel (props, set row.coded) },
     ghost well_formed: { ∥ WellFormed (tree_of nodes.items top) ∥₁ },
+    ghost layered: { HasLayers top.version (tree_of nodes.items top) },
 }
 
 /// Fetches nodes of a snapshot. It needs no memory, and no fetch fails.
@@ -39,22 +41,57 @@ pub struct Reader<'a, H: Hashes> {
 }
 
 impl<H: Hashes> Snapshot<H> {
+    /// `of` and `of2` by version.
+    pub fn by(
+        alloc: Global,
+        version: Version,
+        tree: &Tree,
+        batch: u64,
+    ) -> Result<Snapshot<H>, AllocError>
+        requires well_formed { WellFormed tree.now }
+        requires layers { HasLayers version tree.now }
+        ensures stands { IfOk result
+            (λ s. standing s.nodes.items s.top ≡ standing_of version batch tree.now) }
+        ensures span { IfOk result
+            (λ s. (standing s.nodes.items s.top).span ≡ nodes tree.now + 1) }
+    {
+        let mut nodes = Vec::new(alloc);
+        let root = rooted::<H>(alloc, version, tree, &mut nodes)?;
+        let count = count(tree);
+        Ok(Snapshot {
+            nodes,
+            top: Top {
+                version,
+                batch,
+                count,
+                root,
+            },
+            hash: PhantomData,
+        })
+    }
+
     /// Keeps a copy of the tree of a map that stands at this batch.
     pub fn of(alloc: Global, tree: &Tree, batch: u64) -> Result<Snapshot<H>, AllocError>
-        requires { WellFormed tree.now }
+        requires well_formed { WellFormed tree.now }
+        requires layers { HasLayers One tree.now }
         ensures stands { IfOk result
             (λ s. standing s.nodes.items s.top ≡ standing_of One batch tree.now) }
         ensures span { IfOk result
             (λ s. (standing s.nodes.items s.top).span ≡ nodes tree.now + 1) }
     {
-        let mut nodes = Vec::new(alloc);
-        let root = rooted::<H>(alloc, tree, &mut nodes)?;
-        let count = count(tree);
-        Ok(Snapshot {
-            nodes,
-            top: Top { batch, count, root },
-            hash: PhantomData,
-        })
+        Self::by(alloc, Version::One, tree, batch)
+    }
+
+    /// The same in version 2.
+    pub fn of2(alloc: Global, tree: &Tree, batch: u64) -> Result<Snapshot<H>, AllocError>
+        requires well_formed { WellFormed tree.now }
+        requires layers { HasLayers Two tree.now }
+        ensures stands { IfOk result
+            (λ s. standing s.nodes.items s.top ≡ standing_of Two batch tree.now) }
+        ensures span { IfOk result
+            (λ s. (standing s.nodes.items s.top).span ≡ nodes tree.now + 1) }
+    {
+        Self::by(alloc, Version::Two, tree, batch)
     }
 
     /// The map of which these are the nodes, children before their parent, and this is the head.
@@ -155,6 +192,8 @@ impl<'a, H: Hashes> Nodes for Reader<'a, H> {
     ghost kept_faults = { Prim.search rules };
 
     ghost well_formed = { λ r. r.snapshot.now.well_formed };
+
+    ghost layered = { λ r. r.snapshot.now.layered };
 
     ghost numbered = { λ r. has_ids r.snapshot.now.nodes.items r.snapshot.now.top };
 }

@@ -1,10 +1,11 @@
 //! One node, kept inline.
 
 ghost use Rattle.std.specs.Prelude.{◌≡◌, ℕ, ◌+◌, ◌<◌, ◌^◌, ◌≤◌, [], map, length, take, slice_get, Some, All};
-ghost use Rattle.mr_record.specs.declared.version.Version.TheVariants.{One};
 ghost use Rattle.mr_geom.specs.Rectangle.{union_of};
-ghost use Rattle.mr_tree.specs.View.{records_in, children_in, IsChild, IsView, size, level_of, entry_over, rect_of};
+ghost use Rattle.mr_record.specs.Record.{HasLayer};
+ghost use Rattle.mr_record.specs.declared.version.Version.TheVariants.{Two};
 ghost use Rattle.mr_tree.specs.Digest.{by};
+ghost use Rattle.mr_tree.specs.View.{records_in, children_in, HasCount, IsChild, IsView, size, level_of, entry_over, rect_of};
 ghost use Rattle.mr_tree.specs.declared.child.Child as types;
 ghost use Rattle.mr_tree.specs.declared.tree.Tree.TheOpen.{Leaf, Inner};
 ghost use Rattle.mr_tree.specs.Limits.{inner_limit, leaf_limit};
@@ -14,7 +15,7 @@ use crate::gathering::Gathering;
 use crate::tree::bounds_of;
 use crate::{Child, Entry, Hashes};
 use mr_geom::{Rect, joined};
-use mr_record::{Record, are_records};
+use mr_record::{Record, Version, are_records};
 use std::marker::Model;
 
 /// One node: up to 16 records, or up to 64 children. Contracts see the node over its children.
@@ -25,6 +26,8 @@ pub struct NodeView {
     records: [Record; 16],
     children: [Child; 64],
 }
+
+const _: () = prove!(size_of::<NodeView>() == 8336);
 
 impl Model for NodeView {
     ghost use Rattle.mr_tree.specs.View.{Node, shown, IsKept};
@@ -67,14 +70,15 @@ fn child_at(list: &[Child], i: usize) -> &Child
 }
 
 // What is to be said of an inner node.
-pub(crate) fn inner_entry<H: Hashes>(level: u8, children: &[Child]) -> Entry
+pub(crate) fn inner_entry<H: Hashes>(version: Version, level: u8, children: &[Child]) -> Entry
     requires level { level ≡ level_of (Inner children.now) }
     requires few { length children.now ≤ inner_limit }
-    ensures { result ≡ entry_over (by One H.of) (Inner children.now) }
+    requires counts { All HasCount children.now }
+    ensures { result ≡ entry_over (by version H.of) (Inner children.now) }
 {
     let mut all = Gathering::<H>::inner(level, children.len() as u8);
     for child in children {
-        all.add_entry(&child.entry());
+        all.add_entry(version, &child.entry());
     }
     all.close(level)
 }
@@ -139,6 +143,7 @@ impl NodeView {
     pub fn records(&self) -> &[Record]
         ensures value { result.now ≡ records_in self.now }
         ensures few { length (records_in self.now) ≤ leaf_limit }
+        ensures layers { All (HasLayer Two) (records_in self.now) }
         ensures leaf { level_of self.now ≡ 0 → self.now ≡ Leaf (records_in self.now) }
     {
         if self.level == 0 {
@@ -164,14 +169,15 @@ impl NodeView {
         }
     }
 
-    /// What is to be said of the node: level, rectangle and digest.
-    pub fn entry<H: Hashes>(&self) -> Entry
-        ensures { result ≡ entry_over (by One H.of) self.now }
+    /// What is to be said of the node: level, rectangle, mask, count and digest.
+    pub fn entry<H: Hashes>(&self, version: Version) -> Entry
+        requires { All HasCount (children_in self.now) }
+        ensures { result ≡ entry_over (by version H.of) self.now }
     {
         if self.level() == 0 {
-            leaf_entry::<H>(self.records())
+            leaf_entry::<H>(version, self.records())
         } else {
-            inner_entry::<H>(self.level(), self.children())
+            inner_entry::<H>(version, self.level(), self.children())
         }
     }
 
@@ -190,6 +196,7 @@ impl NodeView {
     pub fn set_leaf(&mut self, list: &[Record])
         requires some { 1 ≤ length list.now }
         requires few { length list.now ≤ leaf_limit }
+        requires layers { All (HasLayer Two) list.now }
         ensures { self.new ≡ Leaf list.now }
     {
         self.level = 0;
@@ -216,10 +223,16 @@ fn is_id(_id: u32)
     ensures { _id < 2 ^ 32 }
 {}
 
+fn is_word(_word: u64)
+    ensures { _word < 2 ^ 64 }
+{}
+
 fn is_child(one: &Child)
     ensures { IsChild one.now }
 {
     is_id(one.id);
+    is_word(one.mask);
+    is_word(one.count);
     let _corners = one.rect.corners();
     let _digest = one.digest;
 }

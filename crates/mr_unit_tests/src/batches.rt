@@ -3,16 +3,20 @@
 use crate::assertions::{all_hold, holds};
 use crate::made::{directory_of, records_of};
 use crate::texts::{Faulty, fault_of, is_fault};
-use mr_batch::{Batch, BatchFault, Directory, admit, read_batch};
+use mr_batch::{Batch, BatchFault, Directory, admit, read_batch, read_batch2};
+use mr_record::Version::{self, One, Two};
 use mr_record::{TextErr, TextRule};
 use std::alloc::Global;
 
-fn batch_or_fault(alloc: Global, text: &str) -> Result<Batch, TextErr> {
-    read_batch(alloc, text.as_bytes())
+fn batch_or_fault(alloc: Global, version: Version, text: &str) -> Result<Batch, TextErr> {
+    match version {
+        One => read_batch(alloc, text.as_bytes()),
+        Two => read_batch2(alloc, text.as_bytes()),
+    }
 }
 
 fn batch_of(alloc: Global, text: &str) -> Option<Batch> {
-    match batch_or_fault(alloc, text) {
+    match batch_or_fault(alloc, One, text) {
         Ok(batch) => Some(batch),
         Err(_) => None,
     }
@@ -151,9 +155,13 @@ const FAULTS: &[Faulty<'static>] = &[
     },
 ];
 
-fn first_unfaulted(alloc: Global, rows: &[Faulty<'static>]) -> Option<&'static str> {
+fn first_unfaulted(
+    alloc: Global,
+    version: Version,
+    rows: &[Faulty<'static>],
+) -> Option<&'static str> {
     for row in rows {
-        if !is_fault(row, fault_of(batch_or_fault(alloc, row.text))) {
+        if !is_fault(row, fault_of(batch_or_fault(alloc, version, row.text))) {
             return Some(row.text);
         }
     }
@@ -166,19 +174,85 @@ const SOUND: &[&str] = &[
     "batch 1\n- 5\n+ 7 0 0 0 0 -\n",
 ];
 
-fn first_unsound(alloc: Global, texts: &[&'static str]) -> Option<&'static str> {
+fn first_unsound(alloc: Global, version: Version, texts: &[&'static str]) -> Option<&'static str> {
     for text in texts {
-        if fault_of(batch_or_fault(alloc, text)).is_some() {
+        if fault_of(batch_or_fault(alloc, version, text)).is_some() {
             return Some(text);
         }
     }
     None
 }
 
+// In version 2 a record has a layer, whose rule comes behind all others of its line.
+const SECOND_FAULTS: &[Faulty<'static>] = &[
+    Faulty {
+        text: "batch 1\n- 5\n+ 7 0 0 0 0 64 -\n",
+        line: 3,
+        rule: TextRule::Layer,
+    },
+    Faulty {
+        text: "batch 1\n+ 7 0 0 0 0 05 -\n",
+        line: 2,
+        rule: TextRule::Layer,
+    },
+    Faulty {
+        text: "batch 1\n+ 7 0 0 0 0  -\n",
+        line: 2,
+        rule: TextRule::Layer,
+    },
+    Faulty {
+        text: "batch 1\n+ 7 0 0 0 0 64 x\n",
+        line: 2,
+        rule: TextRule::Payload,
+    },
+    Faulty {
+        text: "batch 1\n+ 7 1 0 0 0 64 -\n",
+        line: 2,
+        rule: TextRule::Order,
+    },
+    Faulty {
+        text: "batch 1\n+ 07 0 0 0 0 64 -\n",
+        line: 2,
+        rule: TextRule::Number,
+    },
+    Faulty {
+        text: "batch 1\n+ 7 0 0 0 0 -\n",
+        line: 2,
+        rule: TextRule::Form,
+    },
+    Faulty {
+        text: "batch 1\n+ 7 0 0 0 0 5 - -\n",
+        line: 2,
+        rule: TextRule::Form,
+    },
+    Faulty {
+        text: "batch 1\n- 7 5\n",
+        line: 2,
+        rule: TextRule::Form,
+    },
+    Faulty {
+        text: "batch 1\n+ 7 0 0 0 0 64 -",
+        line: 2,
+        rule: TextRule::NoEnd,
+    },
+    Faulty {
+        text: "batch x\n+ 7 0 0 0 0 64 -\n",
+        line: 1,
+        rule: TextRule::Head,
+    },
+];
+
+const SECOND_SOUND: &[&str] = &[
+    "batch 1\n",
+    "batch 1\n+ 7 0 0 0 0 0 -\n- 7\n+ 7 0 0 0 0 63 00\n",
+];
+
 #[test]
 fn texts_of_batches(rt: HostRuntime) {
-    all_hold(&rt, first_unfaulted(rt.alloc(), FAULTS));
-    all_hold(&rt, first_unsound(rt.alloc(), SOUND));
+    all_hold(&rt, first_unfaulted(rt.alloc(), One, FAULTS));
+    all_hold(&rt, first_unsound(rt.alloc(), One, SOUND));
+    all_hold(&rt, first_unfaulted(rt.alloc(), Two, SECOND_FAULTS));
+    all_hold(&rt, first_unsound(rt.alloc(), Two, SECOND_SOUND));
 }
 
 // Why a batch may not be applied to the record 7 at this held batch.

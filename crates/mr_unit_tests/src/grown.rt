@@ -1,10 +1,12 @@
 //! Insertion into trees and deletion from them, and directories of records, by their calls.
 
 ghost use Rattle.std.specs.Prelude.{IfSome};
+ghost use Rattle.mr_record.specs.Record.{HasLayer};
+ghost use Rattle.mr_record.specs.declared.version.Version.TheVariants.{Two};
 ghost use Rattle.mr_tree.specs.WellFormed.{WellFormed};
 
 use crate::assertions::{holds, holds_in_memory};
-use crate::made::{directory_of, record_of, records_of, rect, tree_of};
+use crate::made::{directory_of, is_first, record_of, records_of, rect, tree_of};
 use mr_batch::Directory;
 use mr_geom::Rect;
 use mr_grow::{DropErr, GrowErr, delete, insert};
@@ -28,7 +30,8 @@ fn first_entries(tree: &Tree) -> usize {
 }
 
 fn with(alloc: Global, tree: Tree, one: Record) -> Option<Tree>
-    requires { WellFormed tree }
+    requires tree { WellFormed tree }
+    requires layer { HasLayer Two one }
     ensures { IfSome result WellFormed }
 {
     match insert(alloc, tree, one) {
@@ -48,9 +51,12 @@ fn without(alloc: Global, tree: Tree, number: u64) -> Option<Tree>
 }
 
 // Whether the first leaf has so many entries, and the root ends in this byte.
-fn is_so(tree: &Tree, batch: u64, entries: usize, root: u8) -> bool
+fn is_so(alloc: Global, tree: &Tree, batch: u64, entries: usize, root: u8) -> bool
     requires { WellFormed tree.now }
 {
+    if !is_first(alloc, tree) {
+        return false;
+    }
     first_entries(tree) == entries && root_of::<XorHash>(tree, batch)[31] == root
 }
 
@@ -58,9 +64,9 @@ fn is_so(tree: &Tree, batch: u64, entries: usize, root: u8) -> bool
 fn is_there_and_back(alloc: Global) -> Option<bool> {
     let tree = tree_of(alloc, records_of(alloc, SIXTEEN)?)?;
     let grown = with(alloc, tree, record_of("17 100 100 100 100 -")?)?;
-    let split = is_so(&grown, 1, 11, 0x04);
+    let split = is_so(alloc, &grown, 1, 11, 0x04);
     let back = without(alloc, grown, 17)?;
-    Some(split && is_so(&back, 2, 0, 0x1c))
+    Some(split && is_so(alloc, &back, 2, 0, 0x1c))
 }
 
 #[test]
@@ -80,7 +86,8 @@ fn listed(alloc: Global, tree: &Tree) -> Option<usize> {
 }
 
 fn inserted(alloc: Global, tree: Tree, one: Record) -> Result<Tree, GrowErr>
-    requires { WellFormed tree }
+    requires tree { WellFormed tree }
+    requires layer { HasLayer Two one }
 {
     insert(alloc, tree, one)
 }

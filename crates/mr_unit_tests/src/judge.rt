@@ -5,11 +5,12 @@ ghost use Rattle.mr_query.specs.Word.{IsAskable};
 
 use crate::assertions::all_hold;
 use crate::client::{INNER, OPENED, digest, sha_root};
+use crate::made::are_first;
 use mr_check::{CheckErr, Fed, Judge, check};
 use mr_outside::MemSink;
 use mr_proof::{Fault, Rule};
 use mr_query::{Query, read_query};
-use mr_record::{Record, write_lines};
+use mr_record::{Record, Version, write_lines};
 use mr_tree::{Hash32, Sha, XorHash};
 use std::alloc::{AllocError, Global};
 use std::test::Fail;
@@ -226,7 +227,9 @@ fn feed<H: Hash32>(
 // These records as lines of a text.
 fn lines(alloc: Global, records: &[Record]) -> Result<Vec<u8>, AllocError> {
     let mut out = MemSink::new(alloc, Vec::new(alloc));
-    let _ = write_lines(&mut out, records);
+    if are_first(records) {
+        let _ = write_lines(&mut out, Version::One, records);
+    }
     out.bytes().to_vec(alloc)
 }
 

@@ -34,6 +34,8 @@ mod rects;
 #[cfg(test)]
 mod refusals;
 #[cfg(test)]
+mod second;
+#[cfg(test)]
 mod splits;
 #[cfg(test)]
 mod texts;

@@ -1,8 +1,12 @@
 //! Insertion at its limits, over pages that are in no file: below a root that may not rise, and
 //! where no page may be added. The page of the root is blamed.
 
-ghost use Rattle.std.specs.Prelude.{◌≡◌, ◌≤◌, ◌+◌, ⊤, None, All};
+ghost use Rattle.std.specs.Prelude.{◌≡◌, ◌≤◌, ◌+◌, ⊤, None, All, true};
+ghost use Rattle.mr_record.specs.Record.{HasLayer};
+ghost use Rattle.mr_record.specs.declared.version.Version.TheVariants.{One, Two};
+ghost use Rattle.mr_tree.specs.View.{AreTold};
 ghost use Rattle.mr_tree.specs.declared.child.Child as types;
+ghost use Rattle.mr_edit.specs.Held.{IsTold};
 
 use crate::assertions::holds;
 use mr_edit::{Desk, EditErr, PageFile, insert};
@@ -20,11 +24,14 @@ struct Full {
 
 // A child with these at the place of the blank record.
 fn child_of(id: u32, level: u8) -> Child
-    ensures { result.level ≡ level }
+    ensures level { result.level ≡ level }
+    ensures told { IsTold One result }
 {
     Child {
         id,
         level,
+        mask: 0,
+        count: 0,
         ..Child::blank()
     }
 }
@@ -32,17 +39,60 @@ fn child_of(id: u32, level: u8) -> Child
 // As many children as there may be, of the level below this one.
 fn children_below(level: u8) -> [Child; 64]
     requires { 1 ≤ level }
-    ensures { All (λ (c : types.Child). c.level + 1 ≡ level) result }
+    ensures below { All (λ (c : types.Child). c.level + 1 ≡ level) result }
+    ensures told { All (IsTold One) result }
 {
     [child_of(9, level - 1); 64]
 }
 
-// Shows a full node, where there is one of this level.
-fn show(level: u8, into: &mut NodeView) {
+// The blank record, of which it is said that it is on layer 0.
+fn blank() -> Record
+    ensures first { HasLayer One result }
+    ensures second { HasLayer Two result }
+{
+    Record {
+        layer: 0,
+        ..Record::blank()
+    }
+}
+
+// As many records as a leaf may have.
+fn full_row() -> [Record; 16]
+    ensures first { All (HasLayer One) result }
+    ensures second { All (HasLayer Two) result }
+{
+    [blank(); 16]
+}
+
+#[tactic(auto, using(crate::proofs::Layers::leaf_shown))]
+fn show_leaf(into: &mut NodeView)
+    ensures { AreTold One into.new }
+{
+    into.set_leaf(&full_row());
+}
+
+#[tactic(auto, using(crate::proofs::Layers::inner_shown))]
+fn show_inner(level: u8, into: &mut NodeView)
+    requires { (1 ≤ level) × (level ≤ 7) }
+    ensures { AreTold One into.new }
+{
+    into.set_inner(level, &children_below(level));
+}
+
+// Shows a full node, where there is one of this level, and answers whether there is.
+fn show(level: u8, into: &mut NodeView) -> bool
+    ensures { result ≡ true → AreTold One into.new }
+{
     match level {
-        0 => into.set_leaf(&[Record::blank(); 16]),
-        1..=7 => into.set_inner(level, &children_below(level)),
-        _ => {}
+        0 => {
+            show_leaf(into);
+            true
+        }
+        1..=7 => {
+            show_inner(level, into);
+            true
+        }
+        _ => false,
     }
 }
 
@@ -60,7 +110,9 @@ impl PageFile for Full {
     ghost kept = { λ s t. ⊤ };
 
     fn read(&mut self, child: &Child, into: &mut NodeView) -> Result<(), EditErr> {
-        show(child.level, into);
+        if !show(child.level, into) {
+            return Err(EditErr::NoMemory);
+        }
         if child.id == 0 {
             return Err(EditErr::NoMemory);
         }
@@ -107,7 +159,7 @@ impl PageFile for Full {
 // and so many pages can be added.
 fn blamed(alloc: Global, root: Option<Child>, room: u32) -> Option<u32> {
     let mut desk = Desk::new(alloc, Full { room }, 0);
-    match insert(alloc, &mut desk, root, &Record::blank()) {
+    match insert(alloc, &mut desk, root, &blank()) {
         Err(
             EditErr::Map(
                 MapFault {

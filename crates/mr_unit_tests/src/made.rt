@@ -1,14 +1,16 @@
 //! Rectangles, records, directories and trees that tests begin with.
 
-ghost use Rattle.std.specs.Prelude.{◌≢◌, IfSome, AllPairs};
+ghost use Rattle.std.specs.Prelude.{◌≡◌, ◌≢◌, ◌≤◌, ◌^◌, true, length, All, IfSome, AllPairs};
+ghost use Rattle.mr_record.specs.Record.{HasLayer};
 ghost use Rattle.mr_record.specs.declared.record.Record as types;
-ghost use Rattle.mr_tree.specs.WellFormed.{WellFormed};
+ghost use Rattle.mr_record.specs.declared.version.Version.TheVariants.{One, Two};
+ghost use Rattle.mr_tree.specs.WellFormed.{WellFormed, HasLayers};
 
 use mr_batch::Directory;
 use mr_geom::Rect;
 use mr_pack::pack;
 use mr_record::{Payload, Record, read_line, read_lines};
-use mr_tree::Tree;
+use mr_tree::{Tree, records_of as list_of};
 use std::alloc::Global;
 
 /// The sides of a rectangle: left, bottom, right, top.
@@ -19,17 +21,39 @@ pub fn rect((x0, y0, x1, y1): Corners) -> Option<Rect> {
     Rect::new(x0, y0, x1, y1)
 }
 
-/// A record without a payload.
+/// A record without a payload, of layer 0.
 pub fn record_at(number: u64, corners: Corners) -> Option<Record> {
     Some(Record {
         number,
         rect: rect(corners)?,
+        layer: 0,
         payload: Payload::new(&[])?,
     })
 }
 
+/// Whether each of these records is of layer 0, as those of version 1 are.
+pub fn are_first(list: &[Record]) -> bool
+    ensures first { result ≡ true → All (HasLayer One) list.now }
+    ensures second { result ≡ true → All (HasLayer Two) list.now }
+{
+    list.iter().all(|one| one.layer == 0)
+}
+
+/// Whether a tree is known to be one of version 1.
+pub fn is_first(alloc: Global, tree: &Tree) -> bool
+    ensures { result ≡ true → HasLayers One tree.now }
+{
+    match list_of(alloc, tree) {
+        Ok(list) => are_first(&list),
+        Err(_) => false,
+    }
+}
+
 /// The record that a line spells, none where it breaks a rule.
-pub fn record_of(line: &str) -> Option<Record> {
+pub fn record_of(line: &str) -> Option<Record>
+    ensures first { IfSome result (HasLayer One) }
+    ensures second { IfSome result (HasLayer Two) }
+{
     match read_line(line.as_bytes()) {
         Ok(record) => Some(record),
         Err(_) => None,
@@ -38,7 +62,7 @@ pub fn record_of(line: &str) -> Option<Record> {
 
 /// The records that a text spells, none where it breaks a rule or there is no memory.
 pub fn records_of(alloc: Global, text: &str) -> Option<Vec<Record>>
-    ensures { IfSome result (λ v.
+    ensures apart { IfSome result (λ v.
         AllPairs (λ (a b : types.Record). a.number ≢ b.number) v.items) }
 {
     match read_lines(alloc, text.as_bytes()) {
@@ -57,16 +81,31 @@ pub fn directory_of(alloc: Global, list: &[Record]) -> Option<Directory>
     }
 }
 
-/// The tree of some records, none where there are too many, a number stands twice or there is no
-/// memory.
-pub fn tree_of(alloc: Global, list: Vec<Record>) -> Option<Tree>
-    ensures { IfSome result WellFormed }
+// The tree of some records of layer 0.
+fn packed(alloc: Global, list: Vec<Record>) -> Option<Tree>
+    requires few { length list.items ≤ 2 ^ 20 }
+    requires first { All (HasLayer One) list.items }
+    requires second { All (HasLayer Two) list.items }
+    ensures well_formed { IfSome result WellFormed }
+    ensures layers { IfSome result (HasLayers One) }
 {
-    if list.len() > 1 << 20 {
-        return None;
-    }
     match pack(alloc, list) {
         Ok(tree) => Some(tree),
         Err(_) => None,
     }
+}
+
+/// The tree of some records of layer 0, none where there are too many, a number stands twice or
+/// there is no memory.
+pub fn tree_of(alloc: Global, list: Vec<Record>) -> Option<Tree>
+    ensures well_formed { IfSome result WellFormed }
+    ensures layers { IfSome result (HasLayers One) }
+{
+    if list.len() > 1 << 20 {
+        return None;
+    }
+    if !are_first(&list) {
+        return None;
+    }
+    packed(alloc, list)
 }

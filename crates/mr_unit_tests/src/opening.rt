@@ -1,9 +1,12 @@
 //! A map file that is read short: what lies behind the bytes that come counts as zeros.
 
+ghost use Rattle.mr_tree.specs.WellFormed.{WellFormed};
+
 use crate::assertions::all_hold_in_memory;
+use crate::made::is_first;
 use crate::untold::Untold;
 use mr_pages::open_plain;
-use mr_tree::{XorHash, root_of};
+use mr_tree::{Tree, XorHash, root_of};
 use std::alloc::{AllocError, Global};
 
 // Page 0 of the map of record 7 at (0,0), up to its seal, under the exclusive or of all bytes.
@@ -53,10 +56,21 @@ const CUTS: &[Cut<'static>] = &[
     },
 ];
 
+// The last byte of the root digest of a map of version 1.
+fn last_byte(alloc: Global, tree: &Tree, batch: u64) -> Option<u8>
+    requires { WellFormed tree.now }
+{
+    if is_first(alloc, tree) {
+        Some(root_of::<XorHash>(tree, batch)[31])
+    } else {
+        None
+    }
+}
+
 fn opened(alloc: Global, bytes: Vec<u8>) -> Option<u8> {
     let mut shelf = Untold::new(8192, bytes);
     match open_plain::<XorHash, _>(alloc, &mut shelf, "map") {
-        Ok((tree, batch)) => Some(root_of::<XorHash>(&tree, batch)[31]),
+        Ok(map) => last_byte(alloc, &map.tree, map.batch),
         Err(_) => None,
     }
 }

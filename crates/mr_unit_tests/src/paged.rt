@@ -6,10 +6,10 @@ ghost use Rattle.mr_query.specs.Word.{IsAskable};
 
 use crate::assertions::{all_hold, all_hold_in_memory, holds};
 use crate::client::window;
+use crate::made::tree_of;
 use mr_batch::generate;
 use mr_geom::{Point, Rect};
 use mr_outside::{MemShelf, MemSink, Shelf, ShelfErr};
-use mr_pack::pack;
 use mr_pages::{MapErr, open_plain, save_plain};
 use mr_prove::{ProveErr, prove};
 use mr_query::Query;
@@ -23,6 +23,7 @@ fn point(number: u64, x: i32) -> Option<Record> {
     Some(Record {
         number,
         rect: Rect::new(x, 0, x, 0)?,
+        layer: 0,
         payload: Payload::new(&[])?,
     })
 }
@@ -40,10 +41,7 @@ fn line(alloc: Global, count: u32) -> Result<Vec<Record>, Fail>
 
 // The bytes of the map file of these records.
 fn map_of(alloc: Global, records: Vec<Record>) -> Result<Vec<u8>, Fail> {
-    if records.len() > 1 << 20 {
-        return Err("too many".into());
-    }
-    let Ok(tree) = pack(alloc, records) else {
+    let Some(tree) = tree_of(alloc, records) else {
         return Err("not packed".into());
     };
     let mut shelf = MemShelf::new(alloc, Vec::new(alloc));

@@ -1,12 +1,13 @@
 //! Batches on trees by `apply_plain`: the tree afterwards, or the first cause and the tree that is
 //! handed back. Roots are under the exclusive or of all bytes.
 
-ghost use Rattle.std.specs.Prelude.{IfSome};
+ghost use Rattle.std.specs.Prelude.{All, IfSome};
 ghost use Rattle.mr_tree.specs.WellFormed.{WellFormed};
+ghost use Rattle.mr_batch.specs.Changes.{IsLayered};
 
 use crate::assertions::all_hold;
 use crate::client::digest;
-use crate::made::{records_of, tree_of};
+use crate::made::{is_first, records_of, tree_of};
 use mr_batch::{ApplyErr, Batch, BatchFault, apply_plain, read_batch};
 use mr_tree::{Tree, XorHash, records_of as list_of, root_of};
 use std::alloc::Global;
@@ -17,7 +18,10 @@ const SIXTEEN: &str = "1 1 0 1 0 -\n2 2 0 2 0 -\n3 3 0 3 0 -\n4 4 0 4 0 -\n5 5 0
 
 const SEVEN: &str = "7 0 0 0 0 -\n";
 
-fn batch_of(alloc: Global, text: &str) -> Option<Batch> {
+#[tactic(auto, using(crate::proofs::Layers::layered))]
+fn batch_of(alloc: Global, text: &str) -> Option<Batch>
+    ensures { IfSome result (λ b. All IsLayered b.list) }
+{
     match read_batch(alloc, text.as_bytes()) {
         Ok(batch) => Some(batch),
         Err(_) => None,
@@ -133,6 +137,9 @@ const CASES: &[Case<'static>] = &[
 
 fn is_so(alloc: Global, case: &Case<'_>) -> Option<bool> {
     let tree = applied_both(alloc, case)?;
+    if !is_first(alloc, &tree) {
+        return None;
+    }
     let told = root_of::<XorHash>(&tree, case.last) == digest(case.root);
     Some(told && first_leaf(&tree) == case.leaf && has_numbers(alloc, &tree, case.numbers)?)
 }
@@ -199,7 +206,8 @@ fn is_refused(alloc: Global, answer: Result<Tree, ApplyErr>, fault: BatchFault) 
 
 // What is answered, of which nothing is known.
 fn answered(alloc: Global, tree: Tree, held: u64, batch: &Batch) -> Result<Tree, ApplyErr>
-    requires { WellFormed tree }
+    requires well_formed { WellFormed tree }
+    requires layers { All IsLayered batch.now.list }
 {
     apply_plain(alloc, tree, held, batch)
 }

@@ -12,6 +12,7 @@ use mr_geom::{Point, Rect};
 use mr_outside::MemSink;
 use mr_prove::{ProveErr, prove};
 use mr_query::Query;
+use mr_record::Version;
 use mr_tree::{Child, NodeView, Nodes, NodesErr, Top, XorHash};
 use std::alloc::Global;
 
@@ -72,12 +73,15 @@ impl Nodes for Refuser {
 
     fn top(&self) -> Top {
         Top {
+            version: Version::One,
             batch: 0,
             count: 1,
             root: Some(Child {
                 id: 1,
                 level: 0,
                 rect: self.root,
+                mask: 0,
+                count: 0,
                 digest: digest(0x4a),
             }),
         }
@@ -117,6 +121,8 @@ impl Nodes for Refuser {
     ghost kept_faults = { Prim.search rules };
 
     ghost well_formed = { Prim.search rules };
+
+    ghost layered = { Prim.search rules };
 
     ghost numbered = { Prim.search rules };
 }

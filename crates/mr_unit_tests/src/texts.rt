@@ -1,5 +1,9 @@
 //! Numbers, records and their texts, read and written, by their calls.
 
+ghost use Rattle.std.specs.Prelude.{IfSome};
+ghost use Rattle.mr_record.specs.Record.{HasLayer};
+ghost use Rattle.mr_record.specs.declared.version.Version.TheVariants.{One};
+
 use crate::assertions::{all_hold, all_hold_in_memory, holds, holds_in_memory};
 use crate::made::{Corners, record_of, records_of, rect};
 use mr_outside::{MemSink, SinkErr};
@@ -299,24 +303,35 @@ fn bytes_up_to(alloc: Global, count: u8) -> Result<Vec<u8>, AllocError> {
     Ok(bytes)
 }
 
-fn record_with(row: &Written<'_>, payload: &[u8]) -> Option<Record> {
+fn record_with(row: &Written<'_>, payload: &[u8]) -> Option<Record>
+    ensures { IfSome result (HasLayer One) }
+{
     Some(Record {
         number: row.number,
         rect: rect(row.corners)?,
+        layer: 0,
         payload: Payload::new(payload)?,
     })
 }
 
-fn writes(out: &mut MemSink, record: &Record) -> bool {
-    write_line(out, record).is_ok()
+fn writes(out: &mut MemSink, one: &Record) -> bool
+    requires { HasLayer One one.now }
+{
+    write_line(out, one).is_ok()
 }
 
-fn is_written(alloc: Global, record: Option<Record>, line: &str) -> bool {
-    let Some(record) = record else {
-        return false;
-    };
+fn is_written(alloc: Global, one: &Record, line: &str) -> bool
+    requires { HasLayer One one.now }
+{
     let mut out = MemSink::new(alloc, Vec::new(alloc));
-    writes(&mut out, &record) && out.bytes() == line.as_bytes()
+    writes(&mut out, one) && out.bytes() == line.as_bytes()
+}
+
+fn is_row_written(alloc: Global, row: &Written<'_>, payload: &[u8]) -> bool {
+    match record_with(row, payload) {
+        Some(one) => is_written(alloc, &one, row.line),
+        None => false,
+    }
 }
 
 fn first_unwritten(
@@ -325,7 +340,7 @@ fn first_unwritten(
 ) -> Result<Option<&'static str>, AllocError> {
     for row in rows {
         let payload = bytes_up_to(alloc, row.payload)?;
-        if !is_written(alloc, record_with(row, &payload), row.line) {
+        if !is_row_written(alloc, row, &payload) {
             return Ok(Some(row.name));
         }
     }
@@ -337,8 +352,10 @@ fn writes_one_line_of_a_record(rt: HostRuntime) {
     all_hold_in_memory(&rt, first_unwritten(rt.alloc(), WRITTEN));
 }
 
-fn is_refused(out: &mut MemSink, record: &Record) -> bool {
-    matches!(write_line(out, record), Err(SinkErr::Fault))
+fn is_refused(out: &mut MemSink, one: &Record) -> bool
+    requires { HasLayer One one.now }
+{
+    matches!(write_line(out, one), Err(SinkErr::Fault))
 }
 
 const ONCE: &[u8] = b"7 0 -1 0 1 -\n";
@@ -346,11 +363,13 @@ const ONCE: &[u8] = b"7 0 -1 0 1 -\n";
 const TWICE: &[u8] = b"7 0 -1 0 1 -\n7 0 -1 0 1 -\n";
 
 // Whether a line is written, then refused and not there, then written behind the first.
-fn is_written_but_once(out: &mut MemSink, record: &Record) -> bool {
-    writes(out, record)
-        && is_refused(out, record)
+fn is_written_but_once(out: &mut MemSink, one: &Record) -> bool
+    requires { HasLayer One one.now }
+{
+    writes(out, one)
+        && is_refused(out, one)
         && out.bytes() == ONCE
-        && writes(out, record)
+        && writes(out, one)
         && out.bytes() == TWICE
 }
 

@@ -1,6 +1,7 @@
 //! The calls on trees, at one leaf and at none.
 
-ghost use Rattle.mr_tree.specs.WellFormed.{WellFormed};
+ghost use Rattle.mr_record.specs.declared.version.Version.TheVariants.{One};
+ghost use Rattle.mr_tree.specs.WellFormed.{WellFormed, HasLayers};
 
 use crate::assertions::{holds, holds_in_memory};
 use crate::client::digest;
@@ -11,7 +12,8 @@ use std::alloc::{AllocError, Global};
 
 // Whether these are the digest of a tree and the root digest of its map.
 fn has_digests(tree: &Tree, node: u8, root: u8) -> bool
-    requires { WellFormed tree.now }
+    requires well_formed { WellFormed tree.now }
+    requires layers { HasLayers One tree.now }
 {
     match tree {
         Tree::Empty => false,
@@ -23,7 +25,8 @@ fn has_digests(tree: &Tree, node: u8, root: u8) -> bool
 }
 
 fn has_root(tree: &Tree, batch: u64, root: u8) -> bool
-    requires { WellFormed tree.now }
+    requires well_formed { WellFormed tree.now }
+    requires layers { HasLayers One tree.now }
 {
     root_of::<XorHash>(tree, batch) == digest(root)
 }
@@ -52,7 +55,8 @@ fn has_one(alloc: Global, tree: &Tree) -> Result<bool, AllocError>
 }
 
 fn is_the_leaf(alloc: Global, tree: Tree) -> Result<bool, AllocError>
-    requires { WellFormed tree }
+    requires well_formed { WellFormed tree }
+    requires layers { HasLayers One tree }
 {
     let told = has_digests(&tree, 0x4a, 0x18) && level_of(&tree) == 0 && is_at_the_origin(&tree);
     let listed = has_one(alloc, &tree)?;
@@ -77,7 +81,8 @@ fn the_leaf_of_one_record(rt: HostRuntime) {
 }
 
 fn is_the_empty_tree(tree: &Tree) -> bool
-    requires { WellFormed tree.now }
+    requires well_formed { WellFormed tree.now }
+    requires layers { HasLayers One tree.now }
 {
     level_of(tree) == 0
         && count_of(tree) == 0

@@ -19,12 +19,21 @@ fn encoded(next: u32) -> Buffer<5>
     bytes
 }
 
+/// Makes the page of this layout a free one, which names the next one, or 0 for none.
+pub fn put_free(layout: Layout, next: u32, page: &mut [u8])
+    requires layout { IsLayout layout }
+    requires size { length page.old ≡ layout.size }
+    ensures { page.new ≡ (form_of layout).free_page next }
+{
+    let bytes = encoded(next);
+    fill(page, bytes.as_slice());
+}
+
 /// Makes the page a free one, which names the next one, or 0 for none.
 pub fn write_free_page(next: u32, into: &mut [u8; PAGE_SIZE])
     ensures { into.new ≡ first_form.free_page next }
 {
-    let bytes = encoded(next);
-    fill(into, bytes.as_slice());
+    put_free(FIRST, next, into);
 }
 
 // What a page that is as long as its front names, if it is a free one.

@@ -3,10 +3,14 @@ use Rattle.std.specs.List.Sorted.{IsPermutation}
 use Rattle.std.proofs.lemmas.Result.{IfOk-weaker}
 use Rattle.mr_tree.specs.Tree.{records}
 use Rattle.mr_batch.specs.Applied.{made}
+use Rattle.mr_batch.specs.Changes.{IsLayered}
 use Rattle.mr_batch.specs.declared.change.Change.{Change}
 use Rattle.mr_batch.proofs.Permuted.{addition_leaves}
 use Rattle.mr_batch.proofs.Replaying.{removal_mixes}
 use Rattle.mr_batch.proofs.replay.changed.Goals as goal
+
+pub grow-requires-clause-layer : goal.grow-requires-clause-layer
+grow-requires-clause-layer c = subst IsLayered c.in-Add.is c.requires.layer
 
 pub returns-in-Add-clause-records : goal.returns-in-Add-clause-records
 returns-in-Add-clause-records c =

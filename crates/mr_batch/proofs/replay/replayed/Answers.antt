@@ -1,4 +1,5 @@
-use Rattle.std.proofs.Common.{arith}
+use Rattle.std.proofs.Common.{◌<◌, length, sym, subst, arith}
+use Rattle.mr_batch.specs.Changes.{IsLayered}
 use Rattle.mr_batch.proofs.Replaying.{at_start, next_may, after_next, tree_at_end, records_at_end}
 use Rattle.mr_batch.proofs.replay.replayed.Goals as goal
 
@@ -9,6 +10,13 @@ pub changed-requires-clause-may : goal.changed-requires-clause-may
 changed-requires-clause-may c =
     next_may c.args.tree c.loop-i.tree c.args.batch.now.list c.loop-i.i c.change.result.now (omega arith)
     c.change.ensures c.loop-i.invariant
+
+pub changed-requires-clause-layer : goal.changed-requires-clause-layer
+changed-requires-clause-layer c =
+    subst IsLayered (sym c.change.ensures)
+    (c.requires.layers c.loop-i.i c.change.result.now
+    (let within : c.loop-i.i < length c.args.batch.now.list = omega arith in
+    within))
 
 pub loop-i-preserved : goal.loop-i-preserved
 loop-i-preserved c =

@@ -31,6 +31,8 @@ returns-then-not-is_to_be_opened-clause-closes g t c = λ given os P r.
     (record {
       level = c.close-parent.ensures.level;
       rect = c.close-parent.ensures.rect;
+      mask = c.close-parent.ensures.mask;
+      count = c.close-parent.ensures.count;
       digest =
           c.close-parent.ensures.digest;
     })
@@ -48,6 +50,8 @@ returns-else-not-is_to_be_opened-clause-closes g t c = λ given os P r.
     (record {
       level = c.close-parent.ensures.level;
       rect = c.close-parent.ensures.rect;
+      mask = c.close-parent.ensures.mask;
+      count = c.close-parent.ensures.count;
       digest =
           c.close-parent.ensures.digest;
     })

@@ -13,6 +13,8 @@ returns-then-not-is_to_be_opened-clause-steps g c = λ given a is_met is.
     (record {
       level = c.close-node.ensures.level;
       rect = c.close-node.ensures.rect;
+      mask = c.close-node.ensures.mask;
+      count = c.close-node.ensures.count;
       digest = c.close-node.ensures.digest;
     })
     (sym c.is_to_be_opened.ensures ∙ c.if-not-is_to_be_opened.true)
@@ -34,6 +36,8 @@ returns-clause-steps g c = λ given a is_met is.
     (record {
       level = c.close-node.ensures.level;
       rect = c.close-node.ensures.rect;
+      mask = c.close-node.ensures.mask;
+      count = c.close-node.ensures.count;
       digest = c.close-node.ensures.digest;
     })
     (sym c.is_to_be_opened.ensures ∙ c.if-not-is_to_be_opened.false) is_met

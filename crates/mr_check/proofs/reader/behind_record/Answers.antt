@@ -1,6 +1,7 @@
 use Rattle.std.proofs.Common.{length, drop, ap, sym, arith}
 use Rattle.std.proofs.lemmas.List.{length-append}
 use Rattle.mr_record.specs.Record.{record_bytes}
+use Rattle.mr_proof.specs.Fields.{version}
 use Rattle.mr_check.specs.Standing.{after_record, ways_at}
 use Rattle.mr_check.proofs.Whole.{record_long}
 use Rattle.mr_check.proofs.Turning.{turn_record, takes_some}
@@ -18,7 +19,7 @@ returns-clause-takes g c =
       arith,
       c.requires.whole.sized,
       ap length c.requires.whole.bytes,
-      length-append (record_bytes c.args.one.now) (drop c.args.size c.args.piece.now),
+      length-append (record_bytes version c.args.one.now) (drop c.args.size c.args.piece.now),
     ))
 
 pub returns-clause-turns : goal.returns-clause-turns

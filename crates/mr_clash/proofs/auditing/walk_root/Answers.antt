@@ -28,10 +28,11 @@ returns-in_ok-alone-in-Some-clause-walked g c = λ h P bytes spelled count level
       ordered = c.is_rect.ensures.ordered;
       fits = c.is_rect.ensures.fits;
     })
-    c.if-root-said.false spelled (λ z. c.if-said-eq0.false (count ∙ z)) level here c.in_ok-alone-in-Some.ensures
+    (c.is_alike.ensures.other c.if-is_alike.false) spelled (λ z. c.if-said-eq0.false (count ∙ z)) level here
+    c.in_ok-alone-in-Some.ensures
 
-pub returns-then-root-said-clause-walked : goal.returns-then-root-said-clause-walked
-returns-then-root-said-clause-walked g c = λ h P bytes spelled count level here.
+pub returns-then-is_alike-clause-walked : goal.returns-then-is_alike-clause-walked
+returns-then-is_alike-clause-walked g c = λ h P bytes spelled count level here.
     root_walked g.N.Hash.Hashes.of c.digests_are_sized.ensures (g.N.Nodes.stands c.args.nodes.now) c.args.top.now
     c.in-Some.root h P bytes c.args.said.now.level (left c.args.from.now) _ c.walk.result c.requires
     c.in-Some.is c.are_words.ensures.batch c.are_words.ensures.count
@@ -41,10 +42,12 @@ returns-then-root-said-clause-walked g c = λ h P bytes spelled count level here
       ordered = c.is_rect.ensures.ordered;
       fits = c.is_rect.ensures.fits;
     })
-    c.if-root-said.true spelled (λ z. c.if-said-eq0.false (count ∙ z)) level here c.walk.ensures.walked
+    (c.is_alike.ensures.alike c.if-is_alike.true).1 spelled (λ z. c.if-said-eq0.false (count ∙ z)) level here
+    c.walk.ensures.walked
 
-pub returns-then-root-said-clause-fetched : goal.returns-then-root-said-clause-fetched
-returns-then-root-said-clause-fetched g c = λ h P bytes spelled count level here.
+pub returns-then-is_alike-clause-fetched : goal.returns-then-is_alike-clause-fetched
+returns-then-is_alike-clause-fetched g c = λ h P bytes spelled count level here.
     fetched_root h P bytes c.in-Some.root.level c.args.said.now.level (left c.args.from.now)
     (g.N.Nodes.fetches c.args.nodes.now) (g.N.Nodes.fetches c.walk.new.nodes) spelled
-    (λ z. c.if-said-eq0.false (count ∙ z)) c.if-root-said.true level here c.walk.ensures.fetched
+    (λ z. c.if-said-eq0.false (count ∙ z)) (c.is_alike.ensures.alike c.if-is_alike.true).1 level here
+    c.walk.ensures.fetched

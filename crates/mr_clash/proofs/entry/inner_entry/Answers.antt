@@ -1,36 +1,27 @@
-use Rattle.std.proofs.Common.{◌∷◌, ◌++◌, [], length, map, take, subst, ap, refl, ◌∙◌, arith}
+use Rattle.std.proofs.Common.{◌∷◌, ◌++◌, [], length, take, subst, ap, ◌∙◌, sym, arith}
 use Rattle.std.specs.List.{flat_map}
-use Rattle.std.proofs.lemmas.List.{take_all}
-use Rattle.std.proofs.lemmas.List.Folds.{flat_map-map}
-use Rattle.std.proofs.lemmas.Simd.{map-map}
-use Rattle.mr_tree.specs.Tree.{union_of}
+use Rattle.std.proofs.lemmas.List.{flat_map_more, take_more, take_all}
 use Rattle.mr_tree.specs.Digest.{inner_tag, entry_bytes}
-use Rattle.mr_tree.specs.Gathers.{Gathers, Piece, of_entry}
 use Rattle.mr_tree.specs.declared.entry.Entry.{Entry}
-use Rattle.mr_tree.proofs.Gathered.{pieces_more}
+use Rattle.mr_proof.specs.Fields.{version}
 use Rattle.mr_clash.proofs.entry.inner_entry.Goals as goal
 
 pub loop-child-preserved : goal.loop-child-preserved
 loop-child-preserved g c =
-    subst (Gathers (g.H.Hashes.holds c.add_entry.new.self.hasher) c.add_entry.new.self.rect
-    (inner_tag ∷ c.args.level ∷ length c.args.children.now ∷ []))
-    (pieces_more of_entry c.args.children.now c.loop-child.child-index c.child-item.result _ refl
-    c.child-item.is c.loop-child-test.true)
-    (c.add_entry.ensures _ _ c.loop-child.invariant)
-
-pub returns-clause-rect : goal.returns-clause-rect
-returns-clause-rect g c =
-    let xs = take c.loop-child.child-index c.args.children.now in
-    let all = take_all c.loop-child.child-index c.args.children.now (omega arith) in
-    c.close.ensures.rect ∙ c.loop-child.invariant.round
-    ∙ ap union_of (map-map (λ (p : Piece). p.rect) of_entry xs)
-    ∙ ap (λ ys. union_of (map (λ (e : Entry). e.rect) ys)) all
+    let cs = c.args.children.now in
+    let i = c.loop-child.child-index in
+    let one = c.child-item.result in
+    let head = inner_tag ∷ c.args.level ∷ length cs ∷ [] in
+    subst (g.H.Hashes.holds c.feed_entry.new.hasher)
+    (flat_map_more (entry_bytes version) head (take i cs) one
+    ∙ ap (λ xs. head ++ flat_map (entry_bytes version) xs)
+    (ap (λ (x : Entry). take i cs ++ x ∷ []) c.child-item.is ∙ sym (take_more cs i one c.loop-child-test.true)))
+    (c.feed_entry.ensures (head ++ flat_map (entry_bytes version) (take i cs)) c.loop-child.invariant)
 
 pub returns-clause-digest : goal.returns-clause-digest
 returns-clause-digest g c =
     let xs = take c.loop-child.child-index c.args.children.now in
-    let all = take_all c.loop-child.child-index c.args.children.now (omega arith) in
     let head = inner_tag ∷ c.args.level ∷ length c.args.children.now ∷ [] in
-    c.close.ensures.digest (head ++ flat_map (λ (p : Piece). p.bytes) (map of_entry xs)) c.loop-child.invariant.fed
-    ∙ ap (λ bs. g.H.Hashes.of (head ++ bs))
-    (flat_map-map (λ (p : Piece). p.bytes) of_entry xs ∙ ap (flat_map entry_bytes) all)
+    c.finish.ensures (head ++ flat_map (entry_bytes version) xs) c.loop-child.invariant
+    ∙ ap (λ ys. g.H.Hashes.of (head ++ flat_map (entry_bytes version) ys))
+    (take_all c.loop-child.child-index c.args.children.now (omega arith))

@@ -1,10 +1,11 @@
-use Rattle.std.proofs.Common.{◌∷◌, [], length, map, take}
-use Rattle.mr_tree.specs.Digest.{inner_tag}
-use Rattle.mr_tree.specs.Gathers.{Gathers, of_entry}
+use Rattle.std.proofs.Common.{◌∷◌, ◌++◌, [], length, take}
+use Rattle.std.specs.List.{flat_map}
+use Rattle.mr_tree.specs.Digest.{inner_tag, entry_bytes}
+use Rattle.mr_proof.specs.Fields.{version}
 use Rattle.mr_clash.proofs.entry.inner_entry.Given as goal
 
--- the children so far were gathered
+-- the children so far were fed
 abbrev pub invariant-loop-child : goal.invariant-loop-child
 invariant-loop-child g l =
-    Gathers (g.H.Hashes.holds l.all.hasher) l.all.rect (inner_tag ∷ l.level ∷ length l.children ∷ [])
-    (map of_entry (take l.child-index l.children))
+    g.H.Hashes.holds l.hasher ((inner_tag ∷ l.level ∷ length l.children ∷ [])
+    ++ flat_map (entry_bytes version) (take l.child-index l.children))

@@ -13,7 +13,8 @@ pass_inner-returns g t c = λ Ps rest fits is.
     let p = c.in_ok-children.ensures.passed Ps rest fits.1 (sym n.0) n.1 in
     inner_passed g.H.Hashes.of (c.args.level - 1) c.args.level Ps rest c.in_ok-children.children.items
     c.deref.result.now _ _ (omega (arith, c.requires)) fits.0.some fits.1 p.say c.deref.ensures.value
-    c.inner_entry.ensures.level c.inner_entry.ensures.rect c.inner_entry.ensures.digest p.behind
+    c.inner_entry.ensures.level c.inner_entry.ensures.rect c.inner_entry.ensures.untold c.inner_entry.ensures.digest
+    p.behind
 
 pub pass_item-returns-then-is_pruned : goal.pass_item-returns-then-is_pruned
 pass_item-returns-then-is_pruned g t c = λ P rest fits is.

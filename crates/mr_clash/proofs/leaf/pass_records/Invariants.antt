@@ -3,6 +3,7 @@ use Rattle.std.specs.Prelude.{All}
 use Rattle.std.specs.List.{flat_map}
 use Rattle.mr_record.specs.Record.{IsRecord, record_bytes}
 use Rattle.mr_record.specs.declared.record.Record.{Record}
+use Rattle.mr_proof.specs.Fields.{version}
 use Rattle.mr_clash.specs.Steps.{left}
 use Rattle.mr_clash.proofs.Taking.{PassedRecords}
 use Rattle.mr_clash.proofs.leaf.pass_records.Given as goal
@@ -11,4 +12,5 @@ use Rattle.mr_clash.proofs.leaf.pass_records.Given as goal
 abbrev pub invariant-loop : goal.invariant-loop
 invariant-loop l =
     (rs : List Record) (rest : List ℕ) → length rs ≡ l.count → All IsRecord rs
-    → left l.initial.from ≡ flat_map record_bytes rs ++ rest → PassedRecords rs rest l.counter l.all (left l.from)
+    → left l.initial.from ≡ flat_map (record_bytes version) rs ++ rest
+    → PassedRecords rs rest l.counter l.all (left l.from)

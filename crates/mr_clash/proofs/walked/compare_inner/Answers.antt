@@ -11,6 +11,7 @@ returns g c = λ held.
     let shown = c.in_ok-shown.ensures ∙ ap (string_over c.args.child.now.level) c.deref.ensures.value in
     record {
       at_level = refl;
+      untold = (refl, refl);
       place = c.bounds.ensures ∙ ap (λ xs. union_of (map (λ (e : Entry). e.rect) xs)) c.deref-4.ensures.value;
       digest = c.digest_beside-digest.ensures c.args.owned.items held
           (c.in_ok-clash.ensures ∙ ap (λ y. differ c.args.owned.items (Some y))

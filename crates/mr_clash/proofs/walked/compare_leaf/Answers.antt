@@ -11,7 +11,7 @@ returns g c = λ held rs rest fits is.
     let r = c.leaf_rect-rect.ensures rs rest fits is in
     let string = c.passed-shown.ensures (cut_bytes (Leaf rs)) rest is r.1 in
     record {
-      says = leaf_said g.H.Hashes.of rs _ c.passed-shown.result.now refl r.0
+      says = leaf_said g.H.Hashes.of rs _ c.passed-shown.result.now refl r.0 refl refl
           (c.digest_beside-digest.ensures c.args.owned.items held c.in_ok-clash.ensures) string;
       behind = r.1;
       pair = c.in_ok-clash.ensures ∙ ap (λ y. differ c.args.owned.items (Some y)) string;

@@ -6,9 +6,9 @@ use Rattle.mr_clash.proofs.OwnNodes.{own_leaf}
 use Rattle.mr_clash.proofs.walked.walk_leaf.Goals as goal
 
 pub returns-then-pass_own_leaf : goal.returns-then-pass_own_leaf
-returns-then-pass_own_leaf g c = λ held rs rest fits is.
+returns-then-pass_own_leaf g c = λ held layers rs rest fits is.
     let after = left c.pass_own_leaf.new.from in
     own_leaf g.H.Hashes.of c.args.view.now rs rest (left c.args.from.now) after c.args.child.now.digest c.rect.result
-    c.is_view.ensures (c.records.ensures.leaf c.requires) fits is
+    c.is_view.ensures layers (c.records.ensures.leaf c.requires) fits is
     (c.pass_own_leaf.ensures.own c.if-pass_own_leaf.true
     ∙ ap (λ xs. cut_bytes (Leaf xs) ++ after) c.records.ensures.value) c.rect.ensures held

@@ -1,9 +1,11 @@
 use Rattle.std.proofs.Common.{arith, ap, length, length-append, refl, [], ◌∷◌, ◌++◌, ◌-◌, sym, subst, ◌∙◌}
-use Rattle.std.specs.Prelude.{Ok, option_map}
+use Rattle.std.specs.Prelude.{◌≡◌, All, Ok, option_map}
 use Rattle.mr_tree.specs.Nodes.{Standing}
-use Rattle.mr_tree.specs.View.{preimage_of}
+use Rattle.mr_tree.specs.View.{records_in, preimage_of}
+use Rattle.mr_record.specs.Record.{HasLayer}
+use Rattle.mr_record.specs.declared.version.Version.{Version}
 use Rattle.mr_proof.specs.Cut.{count_of}
-use Rattle.mr_proof.specs.Fields.{inner_tag}
+use Rattle.mr_proof.specs.Fields.{version, inner_tag}
 use Rattle.mr_proof.specs.Spelling.{cuts_bytes}
 use Rattle.mr_clash.specs.Steps.{left, WalksChildren, pair_of}
 use Rattle.mr_clash.specs.declared.error.AuditErr.{AuditErr}
@@ -36,10 +38,14 @@ walk-returns-then-is_pruned-clause-walked g t c = λ P rest fits is.
 pub walk-returns-then-child-eq0-clause-walked : goal.walk-returns-then-child-eq0-clause-walked
 walk-returns-then-child-eq0-clause-walked g t c = λ P rest fits is.
     let shows = c.in_ok-fetch.ensures.shows in
-    leaf_walked g.N.Hash.Hashes.of (g.N.Nodes.stands c.args.nodes.now) c.args.child.now c.fetch.new.view shows P rest
-    (left c.args.from.now) _ (preimage_of c.fetch.new.view) c.in_ok-leaf.leaf fits c.if-child-eq0.true
+    let one = c.requires.version in
+    let held = subst (λ (v : Version). g.N.Hash.Hashes.of (preimage_of v c.fetch.new.view) ≡ c.args.child.now.digest)
+    one shows.digest in
+    let layers = subst (λ (v : Version). All (HasLayer v) (records_in c.fetch.new.view)) one shows.told.layers in
+    leaf_walked g.N.Hash.Hashes.of (g.N.Nodes.stands c.args.nodes.now) one c.args.child.now c.fetch.new.view shows P
+    rest (left c.args.from.now) _ (preimage_of version c.fetch.new.view) c.in_ok-leaf.leaf fits c.if-child-eq0.true
     (sym (c.is_pruned.ensures P rest is) ∙ c.if-is_pruned.false) is refl
-    (λ rs fit here. c.in_ok-leaf.ensures shows.digest rs rest fit here)
+    (λ rs fit here. c.in_ok-leaf.ensures held layers rs rest fit here)
 
 pub walk-returns-clause-walked : goal.walk-returns-clause-walked
 walk-returns-clause-walked g t c = λ P rest fits is.
@@ -51,12 +57,15 @@ walk-returns-clause-walked g t c = λ P rest fits is.
     let walked = subst (λ (s : Standing). WalksChildren {E = AuditErr} hash s c.args.child.now.level
     c.children.result.now (left c.args.from.now) (left c.walk_children.new.from) (Ok c.in_ok-row.row)) stands
     c.in_ok-row.ensures.walked in
-    inner_walked hash s c.args.child.now c.fetch.new.view shows c.digests_are_sized.ensures P c.children.result.now rest
-    (left c.args.from.now) (left c.walk_children.new.from) (preimage_of c.fetch.new.view) c.in_ok-row.row
+    let held = subst (λ (v : Version). hash (preimage_of v c.fetch.new.view) ≡ c.args.child.now.digest)
+    c.requires.version shows.digest in
+    inner_walked hash s c.requires.version c.args.child.now c.fetch.new.view shows c.digests_are_sized.ensures P
+    c.children.result.now rest
+    (left c.args.from.now) (left c.walk_children.new.from) (preimage_of version c.fetch.new.view) c.in_ok-row.row
     c.in_ok-inner.inner
     fits c.if-child-eq0.false (sym (c.is_pruned.ensures P rest is) ∙ c.if-is_pruned.false) is refl c.is_view.ensures
-    (c.children.ensures.inner above) c.children.ensures.value c.children.ensures.alike
-    (λ Ps fit here. walked Ps rest fit here) (c.in_ok-inner.ensures shows.digest)
+    (c.children.ensures.inner above) c.children.ensures.value
+    (λ Ps fit here. walked Ps rest fit here) (c.in_ok-inner.ensures held)
 
 pub walk_all-loop-child-preserved : goal.walk_all-loop-child-preserved
 walk_all-loop-child-preserved g t c =

@@ -8,6 +8,7 @@ use Rattle.mr_plan.specs.Plan.{comes}
 use Rattle.mr_plan.specs.Rereading.{applying}
 use Rattle.mr_plan.specs.Say.{say_batch}
 use Rattle.mr_command.proofs.Applied.{unlisted, unadmitted, admitted, may_apply, well_in}
+use Rattle.mr_command.proofs.Batches.{of_first}
 use Rattle.mr_command.proofs.applying.apply_batch.Goals as goal
 
 pub returns-in-Err : goal.returns-in-Err
@@ -43,6 +44,10 @@ change-requires-clause-may g c κs within =
     (c.top.ensures.batch ∙ ap (λ (st : Standing). st.batch) (keeps_stands (string_bytes paged.name)
     (string_bytes later.name) paged.head later.head before mid paged.fetches later.fetches is.kept))
     (λ rs numbers. (c.in-Ok-admit.ensures.admissible rs numbers).0 refl)
+
+pub change-requires-clause-plain : goal.change-requires-clause-plain
+change-requires-clause-plain g c κs within =
+    of_first c.requires.text.0 c.args.batch.now c.requires.text.2
 
 pub returns-in-Err-admit : goal.returns-in-Err-admit
 returns-in-Err-admit g c = λ name.

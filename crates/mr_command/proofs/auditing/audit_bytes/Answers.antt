@@ -2,7 +2,15 @@ use Rattle.std.specs.String.{string_bytes}
 use Rattle.mr_store.specs.Stored.{stands_for, told_bytes}
 use Rattle.mr_command.proofs.Audits.{found_told, found_untold, unfetched_told, unfetched_untold}
 use Rattle.mr_command.proofs.Pages.{version_first, reads_opened, files_told}
+use Rattle.mr_command.proofs.Plain.{finding_layers}
 use Rattle.mr_command.proofs.auditing.audit_bytes.Goals as goal
+
+pub say_found-requires : goal.say_found-requires
+say_found-requires g c =
+    let paged = c.args.paged.now in
+    let told = told_bytes (g.S.Shelf.state paged.shelf).files (string_bytes paged.name) in
+    finding_layers g.H.Hashes.of (stands_for paged.head told) c.args.query.now c.args.bytes.now c.in-Ok.finding
+    c.are_bytes.ensures c.in-Ok.ensures.judged
 
 pub returns-in-Ok-clause-told : goal.returns-in-Ok-clause-told
 returns-in-Ok-clause-told g c =

@@ -1,4 +1,4 @@
-use Rattle.std.proofs.Common.{ℕ, List, sym, subst, ◌∙◌}
+use Rattle.std.proofs.Common.{ℕ, List, subst, ◌∙◌}
 use Rattle.std.specs.Prelude.{IfSome, Ok, Err}
 use Rattle.std.specs.String.{string_bytes}
 use Rattle.mr_tree.specs.Nodes.{Standing}
@@ -7,7 +7,8 @@ use Rattle.mr_store.specs.Stored.{stands_for, told_bytes}
 use Rattle.mr_command.specs.Ending.{ComesBut, ReadsOpened}
 use Rattle.mr_plan.specs.Plan.{comes}
 use Rattle.mr_plan.specs.Say.{say_audit_of}
-use Rattle.mr_command.proofs.Audits.{map_in, read_told, read_untold, missed_told, missed_untold, unread_told, read_beside, alone_beside}
+use Rattle.mr_command.proofs.Audits.{read_told, read_untold, missed_told, missed_untold, unread_told, read_beside, alone_beside}
+use Rattle.mr_command.proofs.Pages.{map_in}
 use Rattle.mr_command.proofs.auditing.audit_file.Goals as goal
 
 pub returns-in-Ok-Some-clause-told : goal.returns-in-Ok-Some-clause-told

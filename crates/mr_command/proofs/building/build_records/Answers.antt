@@ -6,5 +6,6 @@ use Rattle.mr_command.proofs.building.build_records.Goals as goal
 
 pub returns : goal.returns
 returns g c =
-    subst (λ tree. Comes (comes (say_map g.H.Hashes.of c.args.map.now tree 0)) (g.S.Shelf.state c.args.shelf.now)
+    subst (λ tree. Comes (comes (say_map c.args.version g.H.Hashes.of c.args.map.now tree 0))
+    (g.S.Shelf.state c.args.shelf.now)
     (g.S.Shelf.state c.save_map.new.shelf) c.save_map.result) c.in_ok-made.ensures.exact c.save_map.ensures

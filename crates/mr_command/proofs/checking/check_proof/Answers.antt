@@ -1,14 +1,21 @@
 use Rattle.std.proofs.Common.{refl, sym, subst}
 use Rattle.std.specs.Prelude.{None, Ok, Err}
 use Rattle.mr_record.specs.RecordText.{text_of}
+use Rattle.mr_record.specs.declared.version.Version.TheVariants.{One}
 use Rattle.mr_command.specs.Ending.{Gives, GivesOrStops}
 use Rattle.mr_plan.specs.Say.{prints, say_check_of}
 use Rattle.mr_command.proofs.Counting.{text_taken}
 use Rattle.mr_command.proofs.Going.{comes_given, comes_on, comes_missed, comes_unread, judged_needs, misses}
 use Rattle.mr_plan.specs.Plan.{comes}
+use Rattle.mr_command.proofs.Plain.{answer_layers}
 use Rattle.mr_command.proofs.ToFault.{comes_judged, once_to_fault}
 use Rattle.mr_command.proofs.Verdicts.{says_verdict, gives, check_writes}
 use Rattle.mr_command.proofs.checking.check_proof.Goals as goal
+
+pub records-requires : goal.records-requires
+records-requires g c =
+    let is = c.in-Ok.ensures.judges in
+    answer_layers g.H.Hashes.of c.args.root.now c.args.query.now is.bytes c.in-Ok.records.items is.are is.verdict_is
 
 pub returns-in-Ok : goal.returns-in-Ok
 returns-in-Ok g c =
@@ -29,7 +36,7 @@ returns-in-Ok g c =
     (check_writes hash c.args.root.now c.args.query.now is.bytes)
     (subst (λ outcome. Gives outcome c.records.result)
     (sym (says_verdict hash c.args.root.now c.args.query.now is.bytes (Ok c.in-Ok.records.items) is.verdict_is))
-    (gives (prints (text_of c.in-Ok.records.items)) c.records.result ((λ e. cc), (λ e. cc)) c.records.ensures.status
+    (gives (prints (text_of One c.in-Ok.records.items)) c.records.result ((λ e. cc), (λ e. cc)) c.records.ensures.status
     c.records.ensures.printed))))
 
 pub returns-in-Err-Refused : goal.returns-in-Err-Refused

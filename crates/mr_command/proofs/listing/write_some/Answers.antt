@@ -1,4 +1,4 @@
-use Rattle.std.proofs.Common.{subst, sym}
+use Rattle.std.proofs.Common.{subst}
 use Rattle.std.specs.Prelude.{OnOk}
 use Rattle.mr_outside.specs.Told.{Takes, TakesFront}
 use Rattle.mr_record.specs.RecordText.{text_of}
@@ -11,13 +11,14 @@ returns-in_err-list-clause-front g c = front_none _ _
 pub returns-clause-whole : goal.returns-clause-whole
 returns-clause-whole g c =
     subst (λ rs. OnOk c.write_lines.result (Takes (g.W.Sink.state c.args.out.now) (g.W.Sink.state c.write_lines.new.out)
-    (text_of rs))) c.in_ok-list.ensures
+    (text_of c.args.version rs))) c.in_ok-list.ensures
     (subst (λ rs. OnOk c.write_lines.result (Takes (g.W.Sink.state c.args.out.now)
-    (g.W.Sink.state c.write_lines.new.out) (text_of rs))) c.deref.ensures.value c.write_lines.ensures.whole)
+    (g.W.Sink.state c.write_lines.new.out) (text_of c.args.version rs))) c.deref.ensures.value
+    c.write_lines.ensures.whole)
 
 pub returns-clause-front : goal.returns-clause-front
 returns-clause-front g c =
     subst (λ rs. TakesFront (g.W.Sink.state c.args.out.now) (g.W.Sink.state c.write_lines.new.out)
-    (text_of rs)) c.in_ok-list.ensures
+    (text_of c.args.version rs)) c.in_ok-list.ensures
     (subst (λ rs. TakesFront (g.W.Sink.state c.args.out.now) (g.W.Sink.state c.write_lines.new.out)
-    (text_of rs)) c.deref.ensures.value c.write_lines.ensures.front)
+    (text_of c.args.version rs)) c.deref.ensures.value c.write_lines.ensures.front)

@@ -1,4 +1,4 @@
-use Rattle.std.proofs.Common.{◌∙◌, ◌+◌, refl, arith}
+use Rattle.std.proofs.Common.{◌∙◌, refl, arith}
 use Rattle.std.proofs.lemmas.Result.{err_from_is_err_and}
 use Rattle.mr_command.proofs.Taking.{nothing_taken, piece_taken, piece_unsettled, file_taken, short_taken, file_stops}
 use Rattle.mr_command.proofs.ToFault.{none_read, one_read, more_read, to_fault}

@@ -11,20 +11,20 @@ use Rattle.mr_command.proofs.saving.save_map.Goals as goal
 pub returns-in_err-save : goal.returns-in_err-save
 returns-in_err-save g c =
     let hash = g.H.Hashes.of in
-    let said = say_map hash c.args.name.now c.args.tree.now c.args.batch in
+    let said = say_map c.args.version hash c.args.name.now c.args.tree.now c.args.batch in
     let before = g.S.Shelf.state c.args.shelf.now in
     let after = g.S.Shelf.state c.save.new.shelf in
     subst (Comes (comes said) before after)
     (sym (halted_is c.from_residual-in_err-save.result c.in_err-save.field-0.0
     c.from_residual-in_err-save.ensures.1))
-    (comes_unsaved c.args.name.now (map_of hash c.args.tree.now c.args.batch) said before after
+    (comes_unsaved c.args.name.now (map_of c.args.version hash c.args.tree.now c.args.batch) said before after
     c.in_err-save.field-0.0 refl c.in_err-save.ensures)
 
 pub returns : goal.returns
 returns g c =
     let hash = g.H.Hashes.of in
-    comes_saved c.args.name.now (map_of hash c.args.tree.now c.args.batch)
-    (say_map hash c.args.name.now c.args.tree.now c.args.batch)
+    comes_saved c.args.name.now (map_of c.args.version hash c.args.tree.now c.args.batch)
+    (say_map c.args.version hash c.args.name.now c.args.tree.now c.args.batch)
     (g.S.Shelf.state c.args.shelf.now) (g.S.Shelf.state c.save.new.shelf) c.line.result c.in_ok-save.field-0 refl
     (record {
       status = c.line.ensures.status;

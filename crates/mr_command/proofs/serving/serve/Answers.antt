@@ -63,6 +63,6 @@ returns-in-Ok-snapshot g c =
     (string_bytes later.name) before mid end (stands_for paged.head (told_bytes mid.files (string_bytes paged.name)))
     paged.head later.head paged.fetches later.fetches o.files o.quiet o.more o.answers o.pages o.reads e.kept o.none
     e.fetched
-    nodes.nodes.items nodes.top after c.serve_script-came.result e.stands nodes.well_formed e.quiet
+    nodes.nodes.items nodes.top after c.serve_script-came.result e.stands e.says.version nodes.well_formed e.quiet
     (subst (λ w. Comes (say_script hash c.args.script.now c.args.bundle.now (held_in nodes.nodes.items nodes.top)) w
     after c.serve_script-came.result) (ap g.S.Shelf.state c.close-shelf.ensures) c.serve_script-came.ensures)

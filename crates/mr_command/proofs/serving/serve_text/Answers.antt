@@ -1,4 +1,3 @@
-use Rattle.std.proofs.Common.{sym, subst, ◌∙◌}
 use Rattle.mr_query.specs.Script.{queries_of_text}
 use Rattle.mr_plan.specs.Saying.{held_in}
 use Rattle.mr_command.proofs.Bundles.{fault_given}

@@ -1,7 +1,7 @@
 use Rattle.std.proofs.Common.{sym, subst}
 use Rattle.std.proofs.lemmas.Result.{err_from_is_err_and}
 use Rattle.mr_draft.specs.Sheets.{book_on, IsSheets}
-use Rattle.mr_draft.proofs.NodesKept.{still_kept, finds_it, found_level, found_some, found_node, kept_more, memory_refuses}
+use Rattle.mr_draft.proofs.NodesKept.{still_kept, finds_it, found_level, found_some, found_told, found_node, kept_more, memory_refuses}
 use Rattle.mr_draft.proofs.keeping.show_inside.Goals as goal
 
 pub returns-then-recall-clause-sheets : goal.returns-then-recall-clause-sheets
@@ -27,6 +27,13 @@ returns-then-recall-clause-some g c =
     (finds_it c.args.cache.now.entries c.args.child.now c.recall.result c.recall.new.into c.if-recall.true
     c.recall.ensures.finds)
 
+pub returns-then-recall-clause-shown : goal.returns-then-recall-clause-shown
+returns-then-recall-clause-shown g c =
+    found_told g.H.Hashes.of (book_on (g.S.Shelf.state c.args.shelf.now).files c.args.name.now c.args.pages)
+    c.args.cache.now.entries c.args.cache.now.cap c.requires.sheets.kept c.args.child.now c.recall.new.into
+    (finds_it c.args.cache.now.entries c.args.child.now c.recall.result c.recall.new.into c.if-recall.true
+    c.recall.ensures.finds)
+
 pub returns-then-recall-clause-node : goal.returns-then-recall-clause-node
 returns-then-recall-clause-node g c =
     found_node g.H.Hashes.of (book_on (g.S.Shelf.state c.args.shelf.now).files c.args.name.now c.args.pages)
@@ -46,8 +53,9 @@ returns-clause-sheets g c =
           (still_kept g.H.Hashes.of told c.args.cache.now.entries c.args.cache.now.cap c.requires.sheets.kept
           c.recall.new.cache.entries c.recall.new.cache.cap c.recall.ensures.stays c.recall.ensures.cap)
           c.args.child.now c.read_node.new.into c.recall.new.cache.cap c.remember.new.cache.entries
-          c.remember.new.cache.cap c.in_ok-read_node.ensures.read.shape c.in_ok-read_node.ensures.read.level
-          c.in_ok-read_node.ensures.read.digest c.in_ok-read_node.ensures.node c.in_ok-remember.ensures.gains
+          c.remember.new.cache.cap c.in_ok-read_node.ensures.read.shape c.in_ok-read_node.ensures.read.told
+          c.in_ok-read_node.ensures.read.level c.in_ok-read_node.ensures.read.digest c.in_ok-read_node.ensures.node
+          c.in_ok-remember.ensures.gains
           c.remember.ensures.cap;
     })
 

@@ -43,7 +43,8 @@ returns-clause-sheets g c =
           c.args.child.now.id after c.forget.new.cache.entries c.forget.new.cache.cap c.forget.ensures.forgets
           c.forget.ensures.cap c.put_page.ensures.others)
           c.args.child.now c.args.view.now c.forget.new.cache.cap c.remember.new.cache.entries
-          c.remember.new.cache.cap (view_shape c.args.view.now c.is_view.ensures c.requires.some)
+          c.remember.new.cache.cap (view_shape c.args.view.now c.is_view.ensures c.requires.some c.requires.shown)
+          c.requires.shown
           (said_level g.H.Hashes.of c.args.child.now c.args.view.now c.requires.said)
           (said_digest g.H.Hashes.of c.args.child.now c.args.view.now c.requires.said)
           (put_node told after c.args.child.now.id (page_node c.args.view.now)

@@ -1,8 +1,11 @@
 use Rattle.std.proofs.Common.{true, refl, sym, subst, ◌∙◌}
-use Rattle.std.specs.Prelude.{IfSome}
+use Rattle.std.specs.Prelude.{All, IfSome}
 use Rattle.mr_edit.specs.declared.left.Left.{Left}
+use Rattle.mr_edit.specs.Held.{IsTold}
 use Rattle.mr_edit.specs.Outcome.{IsLow}
 use Rattle.std.proofs.lemmas.Result.{IfOk-weaker}
+use Rattle.mr_record.specs.Record.{HasLayer}
+use Rattle.mr_record.specs.declared.record.Record.{Record}
 use Rattle.mr_record.specs.declared.version.Version.TheVariants.{One}
 use Rattle.mr_tree.specs.Digest.{by}
 use Rattle.mr_edit.specs.Removal.{Searches}
@@ -11,6 +14,7 @@ use Rattle.mr_edit.specs.Removable.{CanDelete}
 use Rattle.mr_edit.proofs.Deletable.{no_root, root_sought, none_lacks, left_inserts}
 use Rattle.mr_edit.proofs.Dropped.{deleted}
 use Rattle.mr_edit.proofs.Results.{if_err}
+use Rattle.mr_edit.proofs.Shown.{layers_sorted}
 use Rattle.mr_edit.proofs.Sound.{never, handed}
 use Rattle.mr_edit.proofs.ChangeReads.{deletes_none, deletes_stopped, deletes_twice}
 use Rattle.mr_edit.proofs.deleting.delete.Goals as goal
@@ -111,6 +115,19 @@ returns-clause-twice g c =
     (g.F.PageFile.told c.take_out.new.desk.file) c.take_out.new.desk.free c.in-Some.child c.args.number
     c.args.rect.now) c.in-Some-found.is c.in_ok-found.ensures.searches)
     (c.deref.ensures.value ∙ c.in_ok-sort_by_number.ensures) c.take_out.ensures.twice c.put_all.ensures.reads
+
+pub put_all-requires : goal.put_all-requires
+put_all-requires g c =
+    layers_sorted (λ (r : Record). r.number) c.in-Some-found.left.aside.items c.deref.result.now
+    (c.deref.ensures.value ∙ c.in_ok-sort_by_number.ensures)
+    (subst (λ o. IfSome o (λ (l : Left). All (HasLayer One) l.aside.items)) c.in-Some-found.is
+    c.in_ok-found.ensures.layers)
+
+pub returns-clause-told : goal.returns-clause-told
+returns-clause-told g c =
+    IfOk-weaker c.put_all.result _ _
+    (λ r h. h (subst (λ o. IfSome o (λ (l : Left). IfSome l.entry (IsTold One))) c.in-Some-found.is
+    c.in_ok-found.ensures.told)) c.put_all.ensures.told
 
 pub returns-clause-low : goal.returns-clause-low
 returns-clause-low g c =

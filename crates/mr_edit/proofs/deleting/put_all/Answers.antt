@@ -16,6 +16,7 @@ loop-one-init g c = record {
       c.args.root;
   reads = omega arith;
   low = λ is. is;
+  told = λ is. is;
   kept = g.met.F.PageFile.kept_self c.args.desk.now.file;
   quiet = refl;
 }
@@ -34,6 +35,7 @@ loop-one-preserved g c = record {
     taken_more c.args.records.now c.loop-one.one-index c.loop-one-test.true,
   );
   low = λ is. c.in_ok-child.ensures.low;
+  told = λ is. c.in_ok-child.ensures.told;
   kept = g.met.F.PageFile.kept_on c.args.desk.now.file c.loop-one.desk.file c.insert.new.desk.file
       c.loop-one.invariant.kept c.insert.ensures.kept;
   quiet = c.in_ok-child.ensures.quiet ∙ c.loop-one.invariant.quiet;

@@ -1,7 +1,9 @@
 use Rattle.std.proofs.Common.{◌≡◌, ◌+◌, ◌*◌, ◌≤◌, length, take}
+use Rattle.std.specs.Prelude.{IfSome}
 use Rattle.mr_record.specs.declared.version.Version.TheVariants.{One}
 use Rattle.mr_tree.specs.Digest.{by}
 use Rattle.mr_edit.specs.Deleted.{InsertsAll}
+use Rattle.mr_edit.specs.Held.{IsTold}
 use Rattle.mr_edit.specs.Outcome.{IsLow}
 use Rattle.mr_edit.specs.Reads.{insertion_reads}
 use Rattle.mr_edit.proofs.deleting.put_all.Given as goal
@@ -14,6 +16,7 @@ invariant-loop-one g l = record {
   reads : g.F.PageFile.reads l.desk.file
       ≤ g.F.PageFile.reads l.initial.desk.file + length (take l.one-index l.records) * insertion_reads;
   low : IsLow l.initial.root → IsLow l.root;
+  told : IfSome l.initial.root (IsTold One) → IfSome l.root (IsTold One);
   kept : g.F.PageFile.kept l.initial.desk.file l.desk.file;
   quiet : g.F.PageFile.faults l.desk.file ≡ g.F.PageFile.faults l.initial.desk.file;
 }

@@ -25,6 +25,7 @@ loop-one-preserved g t c = record {
       c.children-one-items.result.now c.loop-one.one-index c.one-item.result c.args.list.now.items
       c.loop-one.list.items c.free_subtree.new.list.items c.loop-one-test.true c.one-item.is
       c.loop-one.invariant.frees c.in_ok-free_subtree.ensures.frees;
+  layers = λ all. c.in_ok-free_subtree.ensures.layers (c.loop-one.invariant.layers all);
   once = frees_next (by One g.F.Hash.Hashes.of) (g.F.PageFile.told c.free_page.new.desk.file)
       (g.F.PageFile.told c.loop-one.desk.file) c.free_page.new.desk.free c.loop-one.desk.free
       c.children-one-items.result.now c.loop-one.one-index c.one-item.result c.args.list.now.items
@@ -133,6 +134,7 @@ pub loop-one-init : goal.loop-one-init
 loop-one-init g t c = record {
   frees = frees_none (by One g.F.Hash.Hashes.of) (g.F.PageFile.told c.free_page.new.desk.file)
       c.free_page.new.desk.free c.args.list.now.items;
+  layers = λ all. all;
   once = frees_nothing (by One g.F.Hash.Hashes.of) (g.F.PageFile.told c.free_page.new.desk.file)
       c.free_page.new.desk.free (g.F.PageFile.reads c.free_page.new.desk.file);
   kept = g.met.F.PageFile.kept_self c.free_page.new.desk.file;

@@ -19,6 +19,7 @@ loop-child-preserved g c = record {
       c.args.children.now c.loop-child.child-index c.child-item.result c.args.list.now.items c.loop-child.list.items
       c.free_subtree.new.list.items c.loop-child-test.true c.child-item.is c.loop-child.invariant.frees
       c.in_ok-free_subtree.ensures.frees;
+  layers = λ all. c.in_ok-free_subtree.ensures.layers (c.loop-child.invariant.layers all);
   once = frees_next (by One g.F.Hash.Hashes.of) (g.F.PageFile.told c.args.desk.now.file)
       (g.F.PageFile.told c.loop-child.desk.file) c.args.desk.now.free c.loop-child.desk.free c.args.children.now
       c.loop-child.child-index c.child-item.result c.args.list.now.items c.loop-child.list.items
@@ -65,6 +66,7 @@ pub loop-child-init : goal.loop-child-init
 loop-child-init g c = record {
   frees = frees_none (by One g.F.Hash.Hashes.of) (g.F.PageFile.told c.args.desk.now.file) c.args.desk.now.free
       c.args.list.now.items;
+  layers = λ all. all;
   once = frees_nothing (by One g.F.Hash.Hashes.of) (g.F.PageFile.told c.args.desk.now.file) c.args.desk.now.free
       (g.F.PageFile.reads c.args.desk.now.file);
   kept = g.met.F.PageFile.kept_self c.args.desk.now.file;

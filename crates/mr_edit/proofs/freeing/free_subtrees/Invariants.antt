@@ -1,4 +1,6 @@
 use Rattle.std.proofs.Common.{◌≡◌, take}
+use Rattle.std.specs.Prelude.{All}
+use Rattle.mr_record.specs.Record.{HasLayer}
 use Rattle.mr_record.specs.declared.version.Version.TheVariants.{One}
 use Rattle.mr_tree.specs.Digest.{by}
 use Rattle.mr_edit.specs.Counted.{FreesOnce}
@@ -10,6 +12,7 @@ abbrev pub invariant-loop-child : goal.invariant-loop-child
 invariant-loop-child g l = record {
   frees : Frees (by One g.F.Hash.Hashes.of) (g.F.PageFile.told l.initial.desk.file) l.initial.desk.free
       (g.F.PageFile.told l.desk.file) l.desk.free (take l.child-index l.children) l.initial.list.items l.list.items;
+  layers : All (HasLayer One) l.initial.list.items → All (HasLayer One) l.list.items;
   once : FreesOnce (by One g.F.Hash.Hashes.of) (g.F.PageFile.told l.initial.desk.file) l.initial.desk.free
       (take l.child-index l.children) (g.F.PageFile.reads l.initial.desk.file) (g.F.PageFile.reads l.desk.file);
   kept : g.F.PageFile.kept l.initial.desk.file l.desk.file;

@@ -1,5 +1,6 @@
 use Rattle.std.proofs.Common.{◌≡◌, ◌<◌, ◌+◌, ◌++◌, ◌∷◌, [], length, map, sym, ap, subst, ◌∙◌, arith}
 use Rattle.std.specs.Prelude.{IfSome}
+use Rattle.std.specs.List.{AllByRecursion}
 use Rattle.std.proofs.lemmas.Result.{IfOk-weaker, IfErr-weaker}
 use Rattle.std.proofs.lemmas.List.Elements.{recursion_from_All}
 use Rattle.mr_record.specs.declared.version.Version.TheVariants.{One}
@@ -10,11 +11,11 @@ use Rattle.mr_tree.specs.declared.tree.Tree.TheOpen as node
 use Rattle.mr_split.specs.Choice.{choose}
 use Rattle.mr_pages.specs.Walking.{page_node}
 use Rattle.mr_edit.specs.Book.{HasNode}
-use Rattle.mr_edit.specs.Held.{entries}
+use Rattle.mr_edit.specs.Held.{entries, IsTold}
 use Rattle.mr_edit.specs.Outcome.{PutsInner}
 use Rattle.mr_edit.specs.Growing.{CanGrow}
 use Rattle.mr_edit.proofs.Results.{on_any}
-use Rattle.mr_edit.proofs.Levels.{AreBelow, replaced_below, replaced_length, few_entries}
+use Rattle.mr_edit.proofs.Levels.{AreBelow, replaced_below, replaced_all, replaced_length, few_entries}
 use Rattle.mr_edit.proofs.Descending.{grows_leaf, grows_below}
 use Rattle.mr_edit.proofs.Growth.{leaf_put, child_grow, inner_put}
 use Rattle.mr_edit.proofs.Looking.{can_look}
@@ -35,6 +36,17 @@ put_inner-requires-clause-below g t c =
     subst (AreBelow c.level-level.result) (sym c.in_ok-children-2.ensures)
     (replaced_below c.level-level.result c.in_ok-at.at cs (entries c.in_ok-stand.stand) c.index.result.now below within
     c.index.ensures c.in_ok-stand.ensures.level)
+
+pub put_inner-requires-clause-told : goal.put_inner-requires-clause-told
+put_inner-requires-clause-told g t c =
+    let cs = c.in_ok-children.children.items in
+    let view = c.look.new.into in
+    let same : cs ≡ children_in view = c.in_ok-children.ensures.items ∙ c.children.ensures.value in
+    replaced_all (IsTold One) c.in_ok-at.at cs (entries c.in_ok-stand.stand) c.in_ok-children-2.children.items
+    c.in_ok-children-2.ensures
+    (subst (AllByRecursion (IsTold One)) (sym same)
+    (recursion_from_All (IsTold One) (children_in view) c.in_ok-look.ensures.shown.children))
+    c.in_ok-stand.ensures.told
 
 pub put_inner-requires-clause-few : goal.put_inner-requires-clause-few
 put_inner-requires-clause-few g t c =

@@ -6,6 +6,8 @@ use Rattle.mr_tree.specs.Digest.{by}
 use Rattle.mr_tree.specs.declared.child.Child.{Child}
 use Rattle.mr_tree.specs.declared.tree.Tree.TheOpen as node
 use Rattle.mr_pages.specs.Walking.{child_link}
+use Rattle.mr_grow.proofs.Cutting.{all_first, all_second}
+use Rattle.mr_edit.specs.Held.{IsTold}
 use Rattle.mr_edit.specs.Outcome.{Writes, CanPut}
 use Rattle.mr_edit.proofs.Sound.{never, can_take, can_write, both_write, still_write, handed}
 use Rattle.mr_edit.proofs.Levels.{first_below, second_below}
@@ -51,6 +53,16 @@ write_inner-requires-then-len-clause-below g c =
     let P = λ (x : Child). x.level + 1 ≡ c.args.level in
     subst (All P) (sym (c.deref-then-len.ensures.value ∙ c.in_ok-front.ensures.second_is))
     (All-from_recursion P _ (second_below c.args.level _ c.args.children.items c.requires.below))
+
+pub write_inner-requires-clause-told : goal.write_inner-requires-clause-told
+write_inner-requires-clause-told g c =
+    subst (All (IsTold One)) (sym (c.deref.ensures.value ∙ c.in_ok-front.ensures.first_is))
+    (All-from_recursion (IsTold One) _ (all_first (IsTold One) _ c.args.children.items c.requires.told))
+
+pub write_inner-requires-then-len-clause-told : goal.write_inner-requires-then-len-clause-told
+write_inner-requires-then-len-clause-told g c =
+    subst (All (IsTold One)) (sym (c.deref-then-len.ensures.value ∙ c.in_ok-front.ensures.second_is))
+    (All-from_recursion (IsTold One) _ (all_second (IsTold One) _ c.args.children.items c.requires.told))
 
 pub returns-in_ok-second-clause-puts : goal.returns-in_ok-second-clause-puts
 returns-in_ok-second-clause-puts g c =

@@ -1,7 +1,11 @@
-use Rattle.std.proofs.Common.{◌<◌, ◌≤◌, length, ap, subst, arith}
+use Rattle.std.proofs.Common.{◌<◌, ◌≤◌, length, sym, ap, subst, ◌∙◌, arith}
+use Rattle.std.specs.Prelude.{All}
+use Rattle.std.proofs.lemmas.List.Elements.{recursion_from_All, All-from_recursion}
+use Rattle.mr_record.specs.Record.{HasLayer}
 use Rattle.mr_record.specs.declared.version.Version.TheVariants.{One}
 use Rattle.mr_tree.specs.Digest.{by}
 use Rattle.mr_tree.specs.declared.tree.Tree.TheOpen as node
+use Rattle.mr_grow.proofs.Cutting.{all_first, all_second}
 use Rattle.mr_edit.specs.Outcome.{Writes, CanPut}
 use Rattle.mr_edit.proofs.Sound.{never, can_take, can_write, both_write, still_write, handed}
 use Rattle.mr_edit.proofs.Splitting.{leaf_whole, leaf_split}
@@ -34,6 +38,20 @@ write_leaf-requires-then-len-clause-few g c = omega (
   c.in_ok-front.ensures.second_size.most_is,
   ap length c.deref-then-len.ensures.value,
 )
+
+pub write_leaf-requires-clause-layers : goal.write_leaf-requires-clause-layers
+write_leaf-requires-clause-layers g c =
+    let P = HasLayer One in
+    subst (All P) (sym (c.deref.ensures.value ∙ c.in_ok-front.ensures.first_is))
+    (All-from_recursion P _ (all_first P _ c.args.records.items
+    (recursion_from_All P c.args.records.items c.requires.layers)))
+
+pub write_leaf-requires-then-len-clause-layers : goal.write_leaf-requires-then-len-clause-layers
+write_leaf-requires-then-len-clause-layers g c =
+    let P = HasLayer One in
+    subst (All P) (sym (c.deref-then-len.ensures.value ∙ c.in_ok-front.ensures.second_is))
+    (All-from_recursion P _ (all_second P _ c.args.records.items
+    (recursion_from_All P c.args.records.items c.requires.layers)))
 
 pub returns-in_ok-second-clause-puts : goal.returns-in_ok-second-clause-puts
 returns-in_ok-second-clause-puts g c =

@@ -1,5 +1,6 @@
 use Rattle.std.proofs.Common.{◌≡◌, ◌<◌, ◌≤◌, ◌+◌, ◌-◌, false, length, refl, sym, ap, subst, ◌∙◌, arith, ◌++◌, suc, take, drop}
 use Rattle.std.specs.Prelude.{IfSome}
+use Rattle.std.specs.List.{AllByRecursion}
 use Rattle.std.specs.Option.{option_to_list}
 use Rattle.std.proofs.lemmas.List.Elements.{recursion_from_All}
 use Rattle.mr_record.specs.declared.version.Version.TheVariants.{One}
@@ -11,11 +12,13 @@ use Rattle.mr_grow.specs.Found.{is_numbered, place_of}
 use Rattle.mr_pages.specs.Walking.{page_node}
 use Rattle.mr_edit.specs.Book.{HasNode}
 use Rattle.mr_edit.specs.Counted.{ReadsOnce, LeavesOnce, TakesTwice}
+use Rattle.mr_edit.specs.Held.{IsTold}
 use Rattle.mr_edit.specs.declared.left.Left.{Left}
 use Rattle.mr_edit.specs.Removal.{Lacks, LeavesInner, Searches}
 use Rattle.mr_edit.specs.Removable.{CanLeave, CanTakeOut}
 use Rattle.mr_edit.proofs.FreeReads.{beside_none, once_looked}
-use Rattle.mr_edit.proofs.Levels.{AreBelow, AreOf, replaced_below}
+use Rattle.mr_edit.proofs.Levels.{AreBelow, AreOf, replaced_below, replaced_all}
+use Rattle.mr_edit.proofs.Shown.{of_option}
 use Rattle.mr_edit.proofs.Searching.{NoneYet, outside, none_first, none_tried, replaced_few, lacks_inner}
 use Rattle.mr_edit.proofs.Removed.{removes_leaf, lacks_leaf, removes_below}
 use Rattle.mr_edit.proofs.Looking.{can_look}
@@ -159,6 +162,25 @@ leave-requires-clause-below g t c =
     subst (AreBelow c.level-level.result) (sym (c.deref-in-loop-n.ensures.value ∙ c.in_ok-rest.ensures))
     (replaced_below c.level-level.result c.tried-at.result cs (option_to_list c.in-Some.left.entry) d below
     (omega (arith, c.if-at-children.false)) c.index-children-at-in-loop-n.is levels)
+
+pub leave-requires-clause-told : goal.leave-requires-clause-told
+leave-requires-clause-told g t c =
+    let cs = c.children-children.result.now in
+    let view = c.look.new.into in
+    let entry = c.in-Some.left.entry in
+    replaced_all (IsTold One) c.tried-at.result cs (option_to_list entry) c.deref-in-loop-n.result.now
+    (c.deref-in-loop-n.ensures.value ∙ c.in_ok-rest.ensures)
+    (subst (AllByRecursion (IsTold One)) (sym c.children-children.ensures.value)
+    (recursion_from_All (IsTold One) (children_in view) c.in_ok-look.ensures.shown.children))
+    (of_option (IsTold One) entry
+    (subst (λ o. IfSome o (λ (l : Left). IfSome l.entry (IsTold One))) c.in-Some.is c.in_ok-found.ensures.told))
+
+pub returns-in_err-left-clause-kept : goal.returns-in_err-left-clause-kept
+returns-in_err-left-clause-kept g t c =
+    g.met.F.PageFile.kept_on c.args.desk.now.file c.look.new.file c.leave.new.desk.file c.in_ok-look.ensures.kept
+    (g.met.F.PageFile.kept_on c.look.new.file c.loop-n.desk.file c.leave.new.desk.file c.loop-n.invariant.kept
+    (g.met.F.PageFile.kept_on c.loop-n.desk.file c.take_out.new.desk.file c.leave.new.desk.file
+    c.in_ok-found.ensures.kept c.in_err-left.ensures.kept))
 
 pub returns-in-loop-n-clause-searches : goal.returns-in-loop-n-clause-searches
 returns-in-loop-n-clause-searches g t c =

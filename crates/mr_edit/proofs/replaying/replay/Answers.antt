@@ -15,6 +15,7 @@ loop-i-init g c = record {
   part = part_none (by One g.F.Hash.Hashes.of) (g.F.PageFile.told c.args.desk.now.file) c.args.desk.now.free
       c.args.root c.args.dir.now c.args.batch.now (g.F.PageFile.reads c.args.desk.now.file);
   low = λ is. is;
+  told = λ is. is;
   kept = g.met.F.PageFile.kept_self c.args.desk.now.file;
   quiet = refl;
 }
@@ -35,6 +36,7 @@ loop-i-preserved g c = record {
       (g.F.PageFile.reads c.make_change.new.desk.file) (omega arith) c.change.ensures c.loop-i.invariant.part
       c.in_ok-root.ensures.changes c.make_change.ensures.within;
   low = λ is. c.in_ok-root.ensures.low;
+  told = λ is. c.in_ok-root.ensures.told;
   kept = g.met.F.PageFile.kept_on c.args.desk.now.file c.loop-i.desk.file c.make_change.new.desk.file
       c.loop-i.invariant.kept c.make_change.ensures.kept;
   quiet = c.in_ok-root.ensures.quiet ∙ c.loop-i.invariant.quiet;

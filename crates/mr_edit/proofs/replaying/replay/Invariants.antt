@@ -1,6 +1,8 @@
 use Rattle.std.proofs.Common.{◌≡◌}
+use Rattle.std.specs.Prelude.{IfSome}
 use Rattle.mr_record.specs.declared.version.Version.TheVariants.{One}
 use Rattle.mr_tree.specs.Digest.{by}
+use Rattle.mr_edit.specs.Held.{IsTold}
 use Rattle.mr_edit.specs.Outcome.{IsLow}
 use Rattle.mr_edit.proofs.ChangeReads.{ReplaysPart}
 use Rattle.mr_edit.proofs.Turns.{ReplaysFirst}
@@ -15,6 +17,7 @@ invariant-loop-i g l = record {
       l.initial.root l.initial.dir (g.F.PageFile.told l.desk.file) l.desk.free l.root l.dir l.batch l.i l.learned
       (g.F.PageFile.reads l.initial.desk.file) (g.F.PageFile.reads l.desk.file);
   low : IsLow l.initial.root → IsLow l.root;
+  told : IfSome l.initial.root (IsTold One) → IfSome l.root (IsTold One);
   kept : g.F.PageFile.kept l.initial.desk.file l.desk.file;
   quiet : g.F.PageFile.faults l.desk.file ≡ g.F.PageFile.faults l.initial.desk.file;
 }

@@ -11,7 +11,9 @@ use Rattle.mr_tree.specs.WellFormed.{HasOneLevel}
 use Rattle.mr_tree.specs.declared.tree.Tree.{Tree}
 use Rattle.mr_tree.specs.declared.tree.Tree.TheFolds.{every-Tree}
 use Rattle.mr_tree.specs.declared.tree.Tree.TheVariants as variants
-use Rattle.mr_tree.proofs.Equations.{level-Inner, level_over-Inner, entry-Inner}
+use Rattle.mr_tree.specs.declared.entry.Entry.{Entry}
+use Rattle.mr_tree.proofs.Equations.{level-Inner, level_over-Inner, entry-Inner, entry_count}
+use Rattle.mr_tree.proofs.Told.{count_told}
 use Rattle.mr_tree.proofs.Gathered.{pieces_more, inner_gathered}
 use Rattle.mr_tree.proofs.Induction.{here-Inner, every_child}
 use Rattle.mr_pack.specs.Leaves.{leaf_entries}
@@ -30,7 +32,8 @@ loop-child-init g t c =
     let s = by One g.H.Hashes.of in
     record {
       gathered =
-          subst (λ head. Gathers (g.H.Hashes.holds c.inner-all.result.hasher) c.inner-all.result.rect head [])
+          subst (λ head. Gathers (g.H.Hashes.holds c.inner-all.result.hasher) c.inner-all.result.rect
+          c.inner-all.result.mask c.inner-all.result.count head [])
           (λ i. inner_tag ∷ c.requires.level i
           ∷ length ((c.as_slice.ensures ∙ sym c.as_slice-child-items.ensures) i) ∷ [])
           c.inner-all.ensures;
@@ -38,6 +41,7 @@ loop-child-init g t c =
           c.requires.entries ∙ ap (leaf_entries s) c.in-Inner.is ∙ leaf_entries-Inner s c.in-Inner.children
           ∙ ap (flat_map (leaf_entries s)) (sym c.as_slice-child-items.ensures);
       few = omega arith;
+      none = c.inner-all.ensures.tally;
     }
 
 -- a child of a slim node whose children have one level
@@ -54,6 +58,20 @@ child_of ts items k one slim alike same is within =
           (All-from_recursion (every-Tree HasOneLevel) ts (every_child HasOneLevel ts alike) k one inside),
       omega (arith, low, level-Inner ts),
     )
+
+-- version 1 tells no counts
+none_told : (hash : List ℕ → List ℕ) (t : Tree) → (entry (by One hash) t).count ≡ 0
+none_told hash t = entry_count (by One hash) t ∙ count_told One t
+
+pub add_entry-requires : goal.add_entry-requires
+add_entry-requires g t c = record {
+  few = omega (
+    arith,
+    c.loop-child.invariant.none,
+    none_told g.H.Hashes.of c.child-item.result,
+    ap (λ (e : Entry). e.count) c.entry_over-one.ensures,
+  );
+}
 
 pub leaf_count-requires : goal.leaf_count-requires
 leaf_count-requires g t c =
@@ -98,16 +116,23 @@ loop-child-preserved g t c =
     record {
       gathered =
           subst (Gathers (g.H.Hashes.holds c.add_entry.new.self.hasher) c.add_entry.new.self.rect
-          (inner_tag ∷ level c.args.tree.now ∷ length items ∷ []))
-          (pieces_more (λ (u : Tree). of_entry (entry s u)) items c.loop-child.child-index c.child-item.result
-          (of_entry c.entry_over-one.result)
-          (ap of_entry c.entry_over-one.ensures) c.child-item.is c.loop-child-test.true)
-          (c.add_entry.ensures _ _ c.loop-child.invariant.gathered);
+          c.add_entry.new.self.mask c.add_entry.new.self.count (inner_tag ∷ level c.args.tree.now ∷ length items ∷ []))
+          (pieces_more (λ (u : Tree). of_entry One (entry s u)) items c.loop-child.child-index c.child-item.result
+          (of_entry One c.entry_over-one.result)
+          (ap (of_entry One) c.entry_over-one.ensures) c.child-item.is c.loop-child-test.true)
+          (c.add_entry.ensures.gathers _ _ c.loop-child.invariant.gathered);
       left =
           child_back s items c.loop-child.child-index c.child-item.result c.loop-child.rest.now c.child-item.is
           c.loop-child-test.true c.loop-child.invariant.left
           c.leaf_count.result c.split_at.result.1.now c.leaf_count.ensures c.split_at.ensures.back;
       few = omega (arith, c.split_at.ensures.back_len, c.loop-child.invariant.few);
+      none = omega (
+        arith,
+        c.add_entry.ensures.counted,
+        c.loop-child.invariant.none,
+        none_told g.H.Hashes.of c.child-item.result,
+        ap (λ (e : Entry). e.count) c.entry_over-one.ensures,
+      );
     }
 
 pub returns-after-loop-child : goal.returns-after-loop-child
@@ -119,12 +144,14 @@ returns-after-loop-child g t c =
     items (level c.args.tree.now) c.close.result
     (ap level (c.in-Inner.is ∙ ap variants.Inner (sym c.as_slice-child-items.ensures)) ∙ sym (level_over-Inner s items))
     (c.close.ensures.level ∙ c.requires.level)
-    (subst (Gathers (g.H.Hashes.holds c.loop-child.all.hasher) c.close.result.rect
-    (inner_tag ∷ level c.args.tree.now ∷ length items ∷ []))
-    (ap (map (λ (u : Tree). of_entry (entry s u))) all)
+    (subst (Gathers (g.H.Hashes.holds c.loop-child.all.hasher) c.close.result.rect c.close.result.mask
+    c.close.result.count (inner_tag ∷ level c.args.tree.now ∷ length items ∷ []))
+    (ap (map (λ (u : Tree). of_entry One (entry s u))) all)
     (record {
       fed = c.loop-child.invariant.gathered.fed;
       round = c.close.ensures.rect ∙ c.loop-child.invariant.gathered.round;
+      layers = c.close.ensures.mask ∙ c.loop-child.invariant.gathered.layers;
+      tally = c.close.ensures.count ∙ c.loop-child.invariant.gathered.tally;
     }))
     c.close.ensures.digest in
     whole ∙ sym (entry-Inner s items)

@@ -14,9 +14,10 @@ decreases-entry_over g l = l.level
 -- the children so far were gathered, and the entries of the other children's leaves are left
 abbrev pub invariant-loop-child : goal.invariant-loop-child
 invariant-loop-child g l = record {
-  gathered : Gathers (g.H.Hashes.holds l.all.hasher) l.all.rect
+  gathered : Gathers (g.H.Hashes.holds l.all.hasher) l.all.rect l.all.mask l.all.count
       (inner_tag ∷ level l.fn.tree ∷ length l.child-items ∷ [])
-      (map (λ (t : Tree). of_entry (entry (by One g.H.Hashes.of) t)) (take l.child-index l.child-items));
+      (map (λ (t : Tree). of_entry One (entry (by One g.H.Hashes.of) t)) (take l.child-index l.child-items));
   left : l.rest ≡ flat_map (leaf_entries (by One g.H.Hashes.of)) (drop l.child-index l.child-items);
   few : length l.rest ≤ length l.fn.entries;
+  none : l.all.count ≡ 0;
 }

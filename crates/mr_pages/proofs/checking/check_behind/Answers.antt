@@ -1,4 +1,4 @@
-use Rattle.std.proofs.Common.{◌≡◌, refl, sym, ◌∙◌}
+use Rattle.std.proofs.Common.{◌≡◌, refl, sym, ap, ◌∙◌}
 use Rattle.std.proofs.lemmas.Result.{err_from_is_err_and}
 use Rattle.mr_tree.specs.Digest.{by}
 use Rattle.mr_pages.specs.Faults.{walk, reached, all_records, numbers_of}
@@ -17,8 +17,9 @@ returns-in_err-made-clause-told g c =
     rw (p.1, p.2) (err_settles (Unit {0}) (Unit {0}) c.in_err-made.field-0.0 c.in_err-made.ensures.told
     (gives_all s c.in_ok-seen.seen c.visit_all.new.seen _ _
     (c.visit_all.ensures.room ∙ c.in_ok-seen.ensures.told.count ∙ c.count.ensures) (λ file walked. record {
-      checks = λ same sealed. visits_stop g.P.Hash.Hashes.of file (head_of c.args.head.now) sealed
-          c.visit_all.result s.pages c.in_err-made.field-0.0 c.visit_all.new.seen (sym same) walked.visits_;
+      checks = λ ver same sealed. visits_stop g.P.Hash.Hashes.of file (head_of c.args.head.now) sealed
+          c.visit_all.result s.pages c.in_err-made.field-0.0 c.visit_all.new.seen _ (sym ver) (sym same)
+          walked.visits_;
       made = tt;
     })))
 
@@ -27,9 +28,9 @@ returns-then-head-found-clause-told g c =
     let s = g.P.Source.state c.args.pages.now in
     gives_all s c.in_ok-seen.seen c.visit_all.new.seen _ _
     (c.visit_all.ensures.room ∙ c.in_ok-seen.ensures.told.count ∙ c.count.ensures) (λ file walked. record {
-      checks = λ same sealed.
-          let p = same_pages (by file.version g.P.Hash.Hashes.of) s.pages file.pages _ c.visit_all.new.seen
-          (sym same) walked.visits_ in
+      checks = λ ver same sealed.
+          let p = same_pages _ (by file.version g.P.Hash.Hashes.of) s.pages file.pages _ c.visit_all.new.seen
+          (ap (λ u. by u g.P.Hash.Hashes.of) (sym ver)) (sym same) walked.visits_ in
           count_stops g.P.Hash.Hashes.of file (head_of c.args.head.now) sealed c.count-found.result p.none
           (c.count-found.ensures ∙ p.saw.met.count) c.if-head-found.true;
       made = tt;
@@ -45,10 +46,10 @@ returns-in_err-chain-clause-told g c =
     gives_all s c.in_ok-seen.seen c.chain.new.seen _ _
     (c.chain.ensures.room ∙ c.visit_all.ensures.room ∙ c.in_ok-seen.ensures.told.count ∙ c.count.ensures)
     (λ file both. record {
-      checks = λ same sealed.
+      checks = λ ver same sealed.
           let vs = walk file.node (head_of c.args.head.now).root in
-          let p = same_pages (by file.version g.P.Hash.Hashes.of) s.pages file.pages vs c.visit_all.new.seen
-          (sym same) both.0.visits_ in
+          let p = same_pages _ (by file.version g.P.Hash.Hashes.of) s.pages file.pages vs c.visit_all.new.seen
+          (ap (λ u. by u g.P.Hash.Hashes.of) (sym ver)) (sym same) both.0.visits_ in
           let now : t.pages ≡ file.pages = c.visit_all.ensures.goes.count ∙ sym same in
           chain_refused g.P.Hash.Hashes.of file (head_of c.args.head.now) sealed (Unit {0}) c.visit_all.result
           t.pages c.count-found.result e c.visit_all.new.seen c.chain.new.seen now p
@@ -66,10 +67,10 @@ returns-in-Some-clause-told g c =
     gives_all s c.in_ok-seen.seen c.chain.new.seen _ _
     (c.chain.ensures.room ∙ c.visit_all.ensures.room ∙ c.in_ok-seen.ensures.told.count ∙ c.count.ensures)
     (λ file both. record {
-      checks = λ same sealed.
+      checks = λ ver same sealed.
           let vs = walk file.node (head_of c.args.head.now).root in
-          let p = same_pages (by file.version g.P.Hash.Hashes.of) s.pages file.pages vs c.visit_all.new.seen
-          (sym same) both.0.visits_ in
+          let p = same_pages _ (by file.version g.P.Hash.Hashes.of) s.pages file.pages vs c.visit_all.new.seen
+          (ap (λ u. by u g.P.Hash.Hashes.of) (sym ver)) (sym same) both.0.visits_ in
           let now : t.pages ≡ file.pages = c.visit_all.ensures.goes.count ∙ sym same in
           let q = chained (Unit {0}) tt file.free t.pages file.pages c.args.head.now.free (reached vs)
           (numbers_of (all_records vs)) c.chain.new.seen now (both.1 (reached vs) (numbers_of (all_records vs))
@@ -89,10 +90,10 @@ returns-clause-told g c =
     gives_all s c.in_ok-seen.seen c.chain.new.seen _ _
     (c.chain.ensures.room ∙ c.visit_all.ensures.room ∙ c.in_ok-seen.ensures.told.count ∙ c.count.ensures)
     (λ file both. record {
-      checks = λ same sealed.
+      checks = λ ver same sealed.
           let vs = walk file.node (head_of c.args.head.now).root in
-          let p = same_pages (by file.version g.P.Hash.Hashes.of) s.pages file.pages vs c.visit_all.new.seen
-          (sym same) both.0.visits_ in
+          let p = same_pages _ (by file.version g.P.Hash.Hashes.of) s.pages file.pages vs c.visit_all.new.seen
+          (ap (λ u. by u g.P.Hash.Hashes.of) (sym ver)) (sym same) both.0.visits_ in
           let now : t.pages ≡ file.pages = c.visit_all.ensures.goes.count ∙ sym same in
           let q = chained (Unit {0}) tt file.free t.pages file.pages c.args.head.now.free (reached vs)
           (numbers_of (all_records vs)) c.chain.new.seen now (both.1 (reached vs) (numbers_of (all_records vs))

@@ -1,26 +1,32 @@
 use Rattle.std.proofs.lemmas.Result.{err_from_is_err_and}
+use Rattle.mr_pages.specs.PageBytes.{form_of}
+use Rattle.mr_pages.proofs.HeadLaws.{form_is}
 use Rattle.mr_pages.proofs.Answered.{told_err, told_ok, some_err, some_ok}
 use Rattle.mr_pages.proofs.opening.open_pages.Goals as goal
 
 pub returns-in_err-checked-clause-told : goal.returns-in_err-checked-clause-told
 returns-in_err-checked-clause-told g c =
     let p = err_from_is_err_and c.from_residual.result c.from_residual.ensures.1 in
-    rw (p.1, p.2) (told_err g.H.Hashes.of c.args.name.now 0 c.args.pages (g.S.Shelf.state c.args.shelf.now)
+    rw (p.1, p.2) (told_err (form_of c.args.layout) (form_is c.args.layout c.requires.layout) g.H.Hashes.of
+    c.args.name.now 0 c.args.pages (g.S.Shelf.state c.args.shelf.now)
     c.requires.paged c.in_err-checked.field-0.0 c.in_err-checked.ensures.told)
 
 pub returns-in_err-checked-clause-some : goal.returns-in_err-checked-clause-some
 returns-in_err-checked-clause-some g c =
     let p = err_from_is_err_and c.from_residual.result c.from_residual.ensures.1 in
-    rw (p.1, p.2) (some_err g.H.Hashes.of c.args.name.now _ c.args.pages (g.S.Shelf.state c.args.shelf.now)
+    rw (p.1, p.2) (some_err (form_of c.args.layout) (form_is c.args.layout c.requires.layout) g.H.Hashes.of
+    c.args.name.now _ c.args.pages (g.S.Shelf.state c.args.shelf.now)
     c.requires.paged c.requires.some c.requires.few c.in_err-checked.field-0.0 g.met.H.Hashes.sized
     c.in_err-checked.ensures.some)
 
 pub returns-clause-told : goal.returns-clause-told
 returns-clause-told g c =
-    told_ok g.H.Hashes.of c.args.name.now 0 c.args.pages (g.S.Shelf.state c.args.shelf.now) c.requires.paged
+    told_ok (form_of c.args.layout) (form_is c.args.layout c.requires.layout) g.H.Hashes.of c.args.name.now 0
+    c.args.pages (g.S.Shelf.state c.args.shelf.now) c.requires.paged
     c.in_ok-checked.checked c.in_ok-checked.ensures.told c.in_ok-checked.ensures.made
 
 pub returns-clause-some : goal.returns-clause-some
 returns-clause-some g c =
-    some_ok g.H.Hashes.of c.args.name.now _ c.args.pages (g.S.Shelf.state c.args.shelf.now) c.requires.paged
+    some_ok (form_of c.args.layout) (form_is c.args.layout c.requires.layout) g.H.Hashes.of c.args.name.now _
+    c.args.pages (g.S.Shelf.state c.args.shelf.now) c.requires.paged
     c.requires.some c.requires.few c.in_ok-checked.checked c.in_ok-checked.ensures.some

@@ -1,12 +1,17 @@
-use Rattle.std.proofs.Common.{rules, ◌≡◌, ◌≤◌, ◌<◌, ◌+◌, ◌*◌, ◌/◌, suc, ◌∙◌, length, subst, sym, ap, arith}
+use Rattle.std.proofs.Common.{rules, ◌≡◌, ◌≤◌, ◌<◌, ◌+◌, ◌-◌, ◌/◌, suc, ◌∙◌, length, subst, sym, ap, arith}
 use Rattle.mr_tree.specs.declared.tree.Tree.TheVariants as tree
 use Rattle.mr_tree.specs.declared.tree.Tree.TheOpen as node
 use Rattle.mr_pages.specs.PageBytes.{form_of}
-use Rattle.mr_tree.specs.View.{size}
+use Rattle.std.specs.Prelude.{All}
+use Rattle.std.proofs.lemmas.List.Elements.{All-nil}
+use Rattle.mr_tree.proofs.Told.{told_counts}
+use Rattle.mr_tree.specs.declared.child.Child.{Child}
+use Rattle.mr_tree.specs.View.{size, children_in, HasCount, MayTell, AreTold}
 use Rattle.mr_tree.specs.Tree.{level}
 use Rattle.mr_pages.specs.Stands.{all_pages}
-use Rattle.mr_pages.proofs.Put.{leaf_entries, leaf_put_at, put_none, room_for, next_page, child_room, child_can, child_lower, put_one, put_whole, one_of, below_first, inner_put, written_whole, some_row}
-use Rattle.mr_pages.specs.Putting.{IsPut}
+use Rattle.mr_pages.proofs.Put.{leaf_entries, leaf_put_at, put_none, room_for, next_page, child_room, child_can, child_lower, put_one, put_whole, one_of, below_first, inner_put, written_whole}
+use Rattle.mr_pages.proofs.Laying.{child_layers, child_few, links_told}
+use Rattle.mr_pages.specs.Putting.{IsPut, some_row}
 use Rattle.mr_pages.proofs.putting.+put_tree.Goals as goal
 
 pub set_leaf-requires-clause-some : goal.set_leaf-requires-clause-some
@@ -37,19 +42,40 @@ put_page-requires-clause-room g t c =
 pub child_on-requires : goal.child_on-requires
 child_on-requires g t c =
     let few = leaf_entries c.args.tree.now c.in-Leaf.records c.requires.can c.in-Leaf.is in
-    subst (λ n. 1 ≤ size n) (sym c.set_leaf.ensures) (subst (λ rs. 1 ≤ length rs) (sym c.as_slice.ensures) few.0)
+    record {
+      some = subst (λ n. 1 ≤ size n) (sym c.set_leaf.ensures)
+          (subst (λ rs. 1 ≤ length rs) (sym c.as_slice.ensures) few.0);
+      counts = subst (λ n. All HasCount (children_in n)) (sym c.set_leaf.ensures) (All-nil HasCount);
+    }
 
-pub overflow_cast-next : goal.overflow_cast-next
-overflow_cast-next g t c =
+pub overflow_cast-before : goal.overflow_cast-before
+overflow_cast-before g t c =
     let ts = c.as_slice-child-items.result.now in
     let long : c.len.result ≡ length c.loop-child.pages.items = omega (arith, c.len.ensures, c.loop-child.pages.ok) in
-    let next : c.len.result / c.args.layout.size ≡ suc c.args.page + length
+    let here : c.len-at.result ≡ length c.args.pages.now.items = omega (arith, c.len-at.ensures, c.args.pages.now.ok) in
+    let next : c.args.page + (c.len.result - c.len-at.result) / c.args.layout.size ≡ suc c.args.page + length
     (all_pages (some_row (suc c.args.page) ts c.loop-child.child-index)) =
-    ap (λ n. n / c.args.layout.size) long
+    (λ k. c.args.page + (long k - here k) / c.args.layout.size)
     ∙ next_page (form_of c.args.layout) g.H.Hashes.of ts c.loop-child.child-index c.args.page c.args.pages.now.items
     c.loop-child.pages.items c.loop-child.links.items (omega (arith, c.requires.layout.room)) c.loop-child.invariant in
     let room = child_room c.args.tree.now ts c.args.page c.loop-child.child-index
-    (c.len.result / c.args.layout.size) c.child-item.result
+    (c.args.page + (c.len.result - c.len-at.result) / c.args.layout.size) c.child-item.result
+    (c.in-Inner.is ∙ ap tree.Inner (sym c.as_slice-child-items.ensures)) c.loop-child-test.true c.child-item.is next
+    c.requires.room in
+    omega (arith, room)
+
+pub overflow_add-page : goal.overflow_add-page
+overflow_add-page g t c =
+    let ts = c.as_slice-child-items.result.now in
+    let long : c.len.result ≡ length c.loop-child.pages.items = omega (arith, c.len.ensures, c.loop-child.pages.ok) in
+    let here : c.len-at.result ≡ length c.args.pages.now.items = omega (arith, c.len-at.ensures, c.args.pages.now.ok) in
+    let next : c.args.page + (c.len.result - c.len-at.result) / c.args.layout.size ≡ suc c.args.page + length
+    (all_pages (some_row (suc c.args.page) ts c.loop-child.child-index)) =
+    (λ k. c.args.page + (long k - here k) / c.args.layout.size)
+    ∙ next_page (form_of c.args.layout) g.H.Hashes.of ts c.loop-child.child-index c.args.page c.args.pages.now.items
+    c.loop-child.pages.items c.loop-child.links.items (omega (arith, c.requires.layout.room)) c.loop-child.invariant in
+    let room = child_room c.args.tree.now ts c.args.page c.loop-child.child-index
+    (c.args.page + (c.len.result - c.len-at.result) / c.args.layout.size) c.child-item.result
     (c.in-Inner.is ∙ ap tree.Inner (sym c.as_slice-child-items.ensures)) c.loop-child-test.true c.child-item.is next
     c.requires.room in
     omega (arith, room)
@@ -59,35 +85,40 @@ put_tree-requires g t c κs within =
     let ts = c.as_slice-child-items.result.now in
     let is = c.in-Inner.is ∙ ap tree.Inner (sym c.as_slice-child-items.ensures) in
     let long : c.len.result ≡ length c.loop-child.pages.items = omega (arith, c.len.ensures, c.loop-child.pages.ok) in
-    let next : c.len.result / c.args.layout.size ≡ suc c.args.page + length
+    let here : c.len-at.result ≡ length c.args.pages.now.items = omega (arith, c.len-at.ensures, c.args.pages.now.ok) in
+    let next : c.args.page + (c.len.result - c.len-at.result) / c.args.layout.size ≡ suc c.args.page + length
     (all_pages (some_row (suc c.args.page) ts c.loop-child.child-index)) =
-    ap (λ n. n / c.args.layout.size) long
+    (λ k. c.args.page + (long k - here k) / c.args.layout.size)
     ∙ next_page (form_of c.args.layout) g.H.Hashes.of ts c.loop-child.child-index c.args.page c.args.pages.now.items
     c.loop-child.pages.items c.loop-child.links.items (omega (arith, c.requires.layout.room)) c.loop-child.invariant in
     let room = child_room c.args.tree.now ts c.args.page c.loop-child.child-index
-    (c.len.result / c.args.layout.size) c.child-item.result is
+    (c.args.page + (c.len.result - c.len-at.result) / c.args.layout.size) c.child-item.result is
     c.loop-child-test.true c.child-item.is next c.requires.room in
     let can = child_can c.args.tree.now ts c.loop-child.child-index c.child-item.result is c.requires.can
     c.loop-child-test.true c.child-item.is in
-    let at : length c.loop-child.pages.items ≡ c.len.result / c.args.layout.size * c.args.layout.size =
-    c.loop-child.invariant.size ∙ ap (λ n. n * c.args.layout.size) (sym next) in
+    let layers = child_layers c.args.layout.version c.args.tree.now ts c.loop-child.child-index c.child-item.result is
+    c.requires.layers c.loop-child-test.true c.child-item.is in
+    let few = child_few c.args.tree.now ts c.loop-child.child-index c.child-item.result is c.requires.few
+    c.loop-child-test.true c.child-item.is in
     let here : level c.args.tree.now ≡ t = c.decreases in
     let lower = child_lower c.args.tree.now ts c.loop-child.child-index c.child-item.result is c.requires.can
     c.loop-child-test.true c.child-item.is in
     let smaller : level c.child-item.result < t = omega (arith, lower, here) in
-    (smaller, (search rules, (c.requires.layout, (can, (at, room)))))
+    (smaller, (search rules, (c.requires.layout, (can, (layers, (few, room))))))
 
 pub loop-child-preserved : goal.loop-child-preserved
 loop-child-preserved g t c =
     let ts = c.as_slice-child-items.result.now in
     let long : c.len.result ≡ length c.loop-child.pages.items = omega (arith, c.len.ensures, c.loop-child.pages.ok) in
-    let next : c.len.result / c.args.layout.size ≡ suc c.args.page + length
+    let here : c.len-at.result ≡ length c.args.pages.now.items = omega (arith, c.len-at.ensures, c.args.pages.now.ok) in
+    let next : c.args.page + (c.len.result - c.len-at.result) / c.args.layout.size ≡ suc c.args.page + length
     (all_pages (some_row (suc c.args.page) ts c.loop-child.child-index)) =
-    ap (λ n. n / c.args.layout.size) long
+    (λ k. c.args.page + (long k - here k) / c.args.layout.size)
     ∙ next_page (form_of c.args.layout) g.H.Hashes.of ts c.loop-child.child-index c.args.page c.args.pages.now.items
     c.loop-child.pages.items c.loop-child.links.items (omega (arith, c.requires.layout.room)) c.loop-child.invariant in
     put_one (form_of c.args.layout) g.H.Hashes.of ts c.loop-child.child-index c.args.page
-    (c.len.result / c.args.layout.size) c.args.pages.now.items c.loop-child.pages.items
+    (c.args.page + (c.len.result - c.len-at.result) / c.args.layout.size) c.args.pages.now.items
+    c.loop-child.pages.items
     c.put_tree.new.pages.items c.loop-child.links.items c.push.new.self.items c.child-item.result
     c.in_ok-link-in-Inner.link
     c.loop-child-test.true c.child-item.is next c.loop-child.invariant c.in_ok-link-in-Inner.ensures
@@ -189,22 +220,46 @@ put_page-requires-in-Inner-clause-room g t c =
       ap length c.as_mut_slice-in-Inner.ensures.value,
     )
 
+pub put_page-requires-in-Inner-clause-told : goal.put_page-requires-in-Inner-clause-told
+put_page-requires-in-Inner-clause-told g t c =
+    let v = c.args.layout.version in
+    let ts = c.as_slice-child-items.result.now in
+    let told = links_told (form_of c.args.layout) g.H.Hashes.of c.args.tree.now ts c.loop-child.child-index c.args.page
+    c.args.pages.now.items c.loop-child.pages.items
+    c.loop-child.links.items (c.in-Inner.is ∙ ap tree.Inner (sym c.as_slice-child-items.ensures)) c.requires.can
+    c.requires.layers c.requires.few c.loop-child.invariant
+    (omega (arith, c.loop-child-test.false, c.loop-child.auto.child-index-end)) in
+    subst (AreTold v) (sym c.set_inner.ensures) (record {
+      layers = All-nil _;
+      children = subst (All (λ (d : Child). MayTell v d.mask d.count)) (sym c.deref.ensures.value) told;
+    })
+
 pub child_on-requires-in-Inner : goal.child_on-requires-in-Inner
 child_on-requires-in-Inner g t c =
     let ts = c.as_slice-child-items.result.now in
+    let is = c.in-Inner.is ∙ ap tree.Inner (sym c.as_slice-child-items.ensures) in
     let all = put_whole (form_of c.args.layout) g.H.Hashes.of c.args.tree.now ts c.loop-child.child-index c.args.page
     c.args.pages.now.items
     c.loop-child.pages.items
-    c.loop-child.links.items (c.in-Inner.is ∙ ap tree.Inner (sym c.as_slice-child-items.ensures)) c.requires.can
+    c.loop-child.links.items is c.requires.can
     c.loop-child.invariant
     (omega (arith, c.loop-child-test.false, c.loop-child.auto.child-index-end)) in
-    subst (λ n. 1 ≤ size n) (sym c.set_inner.ensures) (omega
-    (arith, all.count, all.few.0, ap length c.deref.ensures.value))
+    let told = links_told (form_of c.args.layout) g.H.Hashes.of c.args.tree.now ts c.loop-child.child-index c.args.page
+    c.args.pages.now.items c.loop-child.pages.items c.loop-child.links.items is c.requires.can
+    c.requires.layers c.requires.few c.loop-child.invariant
+    (omega (arith, c.loop-child-test.false, c.loop-child.auto.child-index-end)) in
+    record {
+      some = subst (λ n. 1 ≤ size n) (sym c.set_inner.ensures) (omega
+          (arith, all.count, all.few.0, ap length c.deref.ensures.value));
+      counts = subst (λ n. All HasCount (children_in n)) (sym c.set_inner.ensures)
+          (subst (All HasCount) (sym c.deref.ensures.value)
+          (told_counts c.args.layout.version c.loop-child.links.items told));
+    }
 
 pub loop-child-init : goal.loop-child-init
 loop-child-init g t c =
     put_none (form_of c.args.layout) g.H.Hashes.of c.as_slice-child-items.result.now c.args.page
-    c.args.pages.now.items c.add_page.new.pages.items c.new-links.result.items c.requires.at
+    c.args.pages.now.items c.add_page.new.pages.items c.new-links.result.items
     c.in_ok-add_page.ensures.page c.new-links.ensures.items
 
 pub returns-in-Leaf : goal.returns-in-Leaf
@@ -236,6 +291,6 @@ returns-after-loop-child g t c =
     c.args.pages.now.items c.loop-child.pages.items c.put_page-in-Inner.new.pages c.len-at.result
     c.loop-child.links.items c.deref.result.now c.child_on-in-Inner.result
     (c.in-Inner.is ∙ ap tree.Inner (sym c.as_slice-child-items.ensures)) c.requires.can c.loop-child.invariant
-    (omega (arith, c.loop-child-test.false, c.loop-child.auto.child-index-end)) c.requires.at here
+    (omega (arith, c.loop-child-test.false, c.loop-child.auto.child-index-end)) here
     c.deref.ensures.value c.set_inner.ensures c.as_mut_slice-in-Inner.ensures.value c.put_page-in-Inner.ensures kept
     c.child_on-in-Inner.ensures)

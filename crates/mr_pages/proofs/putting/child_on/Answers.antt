@@ -1,16 +1,12 @@
 use Rattle.std.proofs.Common.{sym, ap, ◌∙◌}
-use Rattle.mr_record.specs.declared.version.Version.{Version}
-use Rattle.mr_record.specs.declared.version.Version.TheVariants.{One}
 use Rattle.mr_tree.specs.Digest.{by}
 use Rattle.mr_tree.specs.declared.entry.Entry.{Entry}
-use Rattle.mr_pages.specs.Page.{entry_of}
-use Rattle.mr_pages.specs.Walking.{page_node}
-use Rattle.mr_pages.proofs.Judged.{rect_there, only_version}
+use Rattle.mr_pages.proofs.Judged.{rect_there}
 use Rattle.mr_pages.proofs.putting.child_on.Goals as goal
 
 pub unreachable-requires : goal.unreachable-requires
 unreachable-requires g c =
-    rect_there (by One g.H.Hashes.of) c.args.view.now c.requires
+    rect_there (by c.args.layout.version g.H.Hashes.of) c.args.view.now c.requires.some
     (sym (ap (λ (e : Entry). e.rect) c.entry_on-entry.ensures) ∙ c.in-None.is)
 
 pub returns : goal.returns
@@ -19,8 +15,8 @@ returns g c = λ i. record {
   entry = ((λ k. record {
     level = c.entry_on-entry.result.level;
     rect = sym c.in-Some.is k;
+    mask = c.entry_on-entry.result.mask;
+    count = c.entry_on-entry.result.count;
     digest = c.entry_on-entry.result.digest;
-  }) ∙ c.entry_on-entry.ensures
-      ∙ ap (λ (v : Version). entry_of (by v g.H.Hashes.of) (page_node c.args.view.now))
-      (sym (only_version c.args.layout.version))) i;
+  }) ∙ c.entry_on-entry.ensures) i;
 }

@@ -1,93 +1,96 @@
-use Rattle.std.proofs.Common.{◌≡◌, inl, refl, ◌/◌, ◌^◌, ◌<◌, ◌∙◌, length, sym, subst, ap, arith}
-use Rattle.std.specs.Prelude.{OnOk}
-use Rattle.mr_outside.specs.Files.{with_file}
-use Rattle.mr_outside.specs.Writing.{IsChanged}
-use Rattle.mr_pages.specs.Saved.{IsHalfWritten, MayStand, saved_pages}
-use Rattle.mr_pages.specs.Putting.{IsImage}
+use Rattle.std.proofs.Common.{◌≤◌, inr, ◌^◌, ◌<◌, ◌∙◌, length, refl, ap, arith}
+use Rattle.mr_outside.proofs.Changes.{OfFile-put}
+use Rattle.mr_outside.specs.declared.shelf.ShelfErr.TheVariants as shelf
+use Rattle.mr_pages.specs.Making.{IsBegun}
 use Rattle.mr_pages.specs.PageBytes.{form_of, head_page}
+use Rattle.mr_pages.specs.Saved.{MayStand, saved_nodes, saved_pages}
 use Rattle.mr_pages.proofs.HeadLaws.{form_is}
+use Rattle.mr_pages.proofs.Imaged.{begun_stands, seal_leaves, seal_whole, leaves_as, head_is}
 use Rattle.mr_pages.proofs.SavedStands.{saved_stands}
-use Rattle.mr_pages.proofs.Imaged.{saved_is, half_stands, leaves_as, head_is, pages_fit, at_least}
+use Rattle.mr_pages.proofs.Short.{at_least}
+use Rattle.mr_pages.proofs.Written.{begun_all, causes_from, causes_given_up, causes_no_memory, failed}
 use Rattle.mr_pages.proofs.saving.save_named.Goals as goal
-
-pub returns-in_err-pages-clause-stands : goal.returns-in_err-pages-clause-stands
-returns-in_err-pages-clause-stands g c =
-    let low : c.args.batch < 2 ^ 64 = omega (arith, c.ranges.batch) in
-    saved_stands (form_of c.args.layout)
-    (form_is c.args.layout c.requires.layout) g.H.Hashes.of g.met.H.Hashes.sized c.args.tree.now c.args.batch
-    c.requires.well low
 
 pub returns-in_err-first-clause-stands : goal.returns-in_err-first-clause-stands
 returns-in_err-first-clause-stands g c =
     let low : c.args.batch < 2 ^ 64 = omega (arith, c.ranges.batch) in
-    saved_stands (form_of c.args.layout)
-    (form_is c.args.layout c.requires.layout) g.H.Hashes.of g.met.H.Hashes.sized c.args.tree.now c.args.batch
-    c.requires.well low
+    saved_stands (form_of c.args.layout) (form_is c.args.layout c.requires.layout) g.H.Hashes.of
+    g.met.H.Hashes.sized c.args.tree.now c.args.batch c.requires.well c.requires.layers low
 
-pub overflow_cast-head : goal.overflow_cast-head
-overflow_cast-head g c =
-    let long : c.len.result ≡ length c.in_ok-pages.pages.items = omega (arith, c.len.ensures, c.in_ok-pages.pages.ok) in
-    let fit = pages_fit (form_of c.args.layout) g.H.Hashes.of c.args.tree.now c.in_ok-pages.pages.items
-    c.in_ok-pages.root c.requires.well (omega (arith, c.requires.layout.room)) c.in_ok-pages.ensures in
-    omega (arith, fit, ap (λ n. n / c.args.layout.size) long)
+pub returns-in_err-first-clause-causes : goal.returns-in_err-first-clause-causes
+returns-in_err-first-clause-causes g c =
+    let before = g.S.Shelf.state c.args.shelf.now in
+    failed c.from_residual.result shelf.NoMemory before before c.from_residual.ensures.1
+    (causes_no_memory before before refl)
+
+pub returns-in_err-root-clause-stands : goal.returns-in_err-root-clause-stands
+returns-in_err-root-clause-stands g c =
+    let low : c.args.batch < 2 ^ 64 = omega (arith, c.ranges.batch) in
+    saved_stands (form_of c.args.layout) (form_is c.args.layout c.requires.layout) g.H.Hashes.of
+    g.met.H.Hashes.sized c.args.tree.now c.args.batch c.requires.well c.requires.layers low
+
+pub returns-in_err-root-clause-left : goal.returns-in_err-root-clause-left
+returns-in_err-root-clause-left g c =
+    let form = form_of c.args.layout in
+    leaves_as (IsBegun c.args.layout.size) (MayStand form g.H.Hashes.of c.args.tree.now c.args.batch)
+    (begun_stands c.args.layout c.requires.layout c.requires.by_version g.H.Hashes.of c.args.tree.now c.args.batch)
+    c.args.name.now (g.S.Shelf.state c.args.shelf.now).files (g.S.Shelf.state c.make_nodes.new.shelf).files
+    c.in_err-root.ensures.left
+
+pub returns-in_err-root-clause-causes : goal.returns-in_err-root-clause-causes
+returns-in_err-root-clause-causes g c =
+    let before = g.S.Shelf.state c.args.shelf.now in
+    let after = g.S.Shelf.state c.make_nodes.new.shelf in
+    let e = c.in_err-root.field-0.0 in
+    failed c.from_residual-in_err-root.result e before after c.from_residual-in_err-root.ensures.1
+    (causes_given_up c.args.layout.size c.args.name.now before after e c.in_err-root.ensures)
+
+pub seal-requires : goal.seal-requires
+seal-requires g c =
+    let made = c.in_ok-root.ensures in
+    OfFile-put c.args.name.now made.bytes ⊥ (λ held. length c.deref.result.now ≤ length held)
+    (g.S.Shelf.state c.args.shelf.now).files (g.S.Shelf.state c.make_nodes.new.shelf).files made.made.files
+    (omega (
+      arith,
+      ap length c.deref.ensures.value,
+      c.put_first.ensures.size,
+      made.image.size,
+      at_least (saved_pages c.args.tree.now) c.args.layout.size (omega arith),
+    ))
 
 pub returns-clause-whole : goal.returns-clause-whole
 returns-clause-whole g c =
-    let long : c.len.result ≡ length c.in_ok-pages.pages.items = omega (arith, c.len.ensures, c.in_ok-pages.pages.ok) in
-    let head = c.deref-2.ensures.value ∙ c.in_ok-first.ensures.page ∙ ap (head_page c.args.layout)
-    (head_is (form_of c.args.layout) g.H.Hashes.of c.args.tree.now c.args.batch c.count.result
-    (c.len.result / c.args.layout.size) c.in_ok-pages.pages.items
-    c.in_ok-pages.root (omega (arith, c.requires.layout.room)) c.in_ok-pages.ensures c.count.ensures
-    (ap (λ n. n / c.args.layout.size) long)) in
-    let image = subst (λ bs. IsImage (form_of c.args.layout) g.H.Hashes.of c.args.tree.now bs c.in_ok-pages.root)
-    (sym c.deref.ensures.value) c.in_ok-pages.ensures in
-    subst (λ bs. OnOk c.write_pages.result (IsChanged (with_file c.args.name.now) bs
-    (g.S.Shelf.state c.args.shelf.now).files
-    (g.S.Shelf.state c.write_pages.new.shelf).files))
-    (saved_is c.args.layout c.requires.layout g.H.Hashes.of c.args.tree.now c.args.batch c.deref.result.now
-    c.deref-2.result.now
-    c.in_ok-pages.root image head
-    (ap length c.deref-2.ensures.value ∙ c.in_ok-first.ensures.size)) c.write_pages.ensures.whole
+    let form = form_of c.args.layout in
+    let made = c.in_ok-root.ensures in
+    let head = c.deref.ensures.value ∙ c.put_first.ensures.page ∙ ap (head_page c.args.layout)
+    (head_is form g.H.Hashes.of c.args.tree.now c.args.batch c.count.result c.in_ok-root.pages made.bytes
+    c.in_ok-root.root made.image c.count.ensures made.count) in
+    seal_whole c.args.layout c.requires.layout c.requires.by_version g.H.Hashes.of c.args.tree.now
+    c.args.batch made.bytes
+    c.deref.result.now c.in_ok-root.root made.image head (ap length c.deref.ensures.value ∙ c.put_first.ensures.size)
+    c.args.name.now (g.S.Shelf.state c.args.shelf.now).files (g.S.Shelf.state c.make_nodes.new.shelf).files
+    (g.S.Shelf.state c.seal.new.shelf).files made.made.files c.seal.result c.seal.ensures.whole
 
 pub returns-clause-stands : goal.returns-clause-stands
 returns-clause-stands g c =
     let low : c.args.batch < 2 ^ 64 = omega (arith, c.ranges.batch) in
-    saved_stands (form_of c.args.layout)
-    (form_is c.args.layout c.requires.layout) g.H.Hashes.of g.met.H.Hashes.sized c.args.tree.now c.args.batch
-    c.requires.well low
+    saved_stands (form_of c.args.layout) (form_is c.args.layout c.requires.layout) g.H.Hashes.of
+    g.met.H.Hashes.sized c.args.tree.now c.args.batch c.requires.well c.requires.layers low
 
 pub returns-clause-left : goal.returns-clause-left
 returns-clause-left g c =
-    let long : c.len.result ≡ length c.in_ok-pages.pages.items = omega (arith, c.len.ensures, c.in_ok-pages.pages.ok) in
-    let head = c.deref-2.ensures.value ∙ c.in_ok-first.ensures.page ∙ ap (head_page c.args.layout)
-    (head_is (form_of c.args.layout) g.H.Hashes.of c.args.tree.now c.args.batch c.count.result
-    (c.len.result / c.args.layout.size) c.in_ok-pages.pages.items
-    c.in_ok-pages.root (omega (arith, c.requires.layout.room)) c.in_ok-pages.ensures c.count.ensures
-    (ap (λ n. n / c.args.layout.size) long)) in
-    let image = subst (λ bs. IsImage (form_of c.args.layout) g.H.Hashes.of c.args.tree.now bs c.in_ok-pages.root)
-    (sym c.deref.ensures.value) c.in_ok-pages.ensures in
-    leaves_as (IsHalfWritten c.deref-2.result.now c.deref.result.now)
-    (MayStand (form_of c.args.layout) g.H.Hashes.of c.args.tree.now c.args.batch)
-    (half_stands c.args.layout c.requires.layout g.H.Hashes.of c.args.tree.now c.args.batch c.deref.result.now
-    c.deref-2.result.now
-    c.in_ok-pages.root image head
-    (ap length c.deref-2.ensures.value ∙ c.in_ok-first.ensures.size))
-    c.args.name.now (g.S.Shelf.state c.args.shelf.now).files
-    (g.S.Shelf.state c.write_pages.new.shelf).files c.write_pages.ensures.left
-
-pub returns-in_err-pages-clause-left : goal.returns-in_err-pages-clause-left
-returns-in_err-pages-clause-left g c = inl refl
+    let form = form_of c.args.layout in
+    let made = c.in_ok-root.ensures in
+    let head = c.deref.ensures.value ∙ c.put_first.ensures.page ∙ ap (head_page c.args.layout)
+    (head_is form g.H.Hashes.of c.args.tree.now c.args.batch c.count.result c.in_ok-root.pages made.bytes
+    c.in_ok-root.root made.image c.count.ensures made.count) in
+    seal_leaves c.args.layout c.requires.layout c.requires.by_version g.H.Hashes.of c.args.tree.now
+    c.args.batch made.bytes
+    c.deref.result.now c.in_ok-root.root made.image head (ap length c.deref.ensures.value ∙ c.put_first.ensures.size)
+    c.args.name.now (g.S.Shelf.state c.args.shelf.now).files (g.S.Shelf.state c.make_nodes.new.shelf).files
+    (g.S.Shelf.state c.seal.new.shelf).files made.made.files c.seal.ensures.front
 
 pub returns-clause-causes : goal.returns-clause-causes
-returns-clause-causes g c = c.write_pages.ensures.causes
-
-pub write_pages-requires : goal.write_pages-requires
-write_pages-requires g c =
-    omega (
-      arith,
-      ap length c.deref-2.ensures.value,
-      c.in_ok-first.ensures.size,
-      ap length c.deref.ensures.value,
-      c.in_ok-pages.ensures.size,
-      at_least (saved_pages c.args.tree.now) c.args.layout.size (omega arith),
-    )
+returns-clause-causes g c =
+    causes_from (g.S.Shelf.state c.args.shelf.now) (g.S.Shelf.state c.make_nodes.new.shelf)
+    (g.S.Shelf.state c.seal.new.shelf) c.seal.result c.in_ok-root.ensures.made.faults c.seal.ensures.causes

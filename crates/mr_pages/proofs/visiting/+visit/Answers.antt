@@ -4,11 +4,11 @@ use Rattle.std.proofs.Math.Seq.{take-length}
 use Rattle.std.proofs.lemmas.List.{take_all}
 use Rattle.std.proofs.lemmas.List.Elements.{All-nil, All-more}
 use Rattle.std.proofs.lemmas.Result.{err_from_is_err_and}
-use Rattle.mr_record.specs.declared.version.Version.TheVariants.{One}
 use Rattle.mr_tree.specs.Digest.{by}
 use Rattle.mr_tree.specs.declared.child.Child.{Child}
 use Rattle.mr_pages.specs.Walking.{child_link, page_node, owned}
 use Rattle.mr_pages.specs.Source.{Knows, AreMade}
+use Rattle.mr_pages.specs.declared.node.Node.TheVariants as owned_node
 use Rattle.mr_pages.proofs.Building.{what_is_found}
 use Rattle.mr_pages.proofs.Giving.{err_settles, gives_none, gives_one, gives_so, gives_still, gives_next}
 use Rattle.mr_pages.proofs.Walks.{AtInner, refused_at_entry, number_refused, inner_starts}
@@ -19,7 +19,9 @@ pub returns-in-Some-clause-told : goal.returns-in-Some-clause-told
 returns-in-Some-clause-told g t c =
     gives_none (g.P.Source.state c.args.pages.now) c.args.seen.now c.enter.new.self _ c.in-Some.ensures.step
     (λ f. record {
-      walks = λ before saw. refused_at_entry (by One g.P.Hash.Hashes.of) (g.P.Source.state c.args.pages.now).pages
+      walks = λ before saw. refused_at_entry
+          (by (g.P.Source.state c.args.pages.now).origin.form.version g.P.Hash.Hashes.of)
+          (g.P.Source.state c.args.pages.now).pages
           f.node before c.args.root (child_link c.args.child.now) _ (c.in-Some.ensures.told _ _ _ saw);
       made = tt;
     })
@@ -30,7 +32,9 @@ returns-in_err-records-clause-told g t c =
     let s = g.P.Source.state c.args.pages.now in
     rw (p.1, p.2) (err_settles (Unit {0}) (Unit {0}) c.in_err-records.field-0.0 c.in_err-records.ensures.told (λ gave.
     gives_so s c.args.seen.now c.enter.new.self _ _ (λ f looked. record {
-      walks = λ before saw. look_refuses (Unit {0}) (by One g.P.Hash.Hashes.of) s.pages f.node before c.args.root
+      walks = λ before saw. look_refuses (Unit {0})
+          (by (g.P.Source.state c.args.pages.now).origin.form.version g.P.Hash.Hashes.of) s.pages f.node
+          before c.args.root
           (child_link c.args.child.now) c.in_err-records.field-0.0 c.enter.new.self
           (c.in_default.ensures.told _ _ _ saw).0 looked;
       made = tt;
@@ -43,7 +47,8 @@ returns-then-branch-clause-told g t c =
     (gives_so s c.args.seen.now c.enter.new.self _ _ (λ f looked. record {
       walks = λ before saw.
           let entered = c.in_default.ensures.told _ _ _ saw in
-          number_refused (by One g.P.Hash.Hashes.of) s.pages f.node before c.args.root
+          number_refused (by (g.P.Source.state c.args.pages.now).origin.form.version g.P.Hash.Hashes.of) s.pages f.node
+          before c.args.root
           (child_link c.args.child.now) c.in-Leaf.records.items c.deref.result.now c.in_ok-meet-in-Leaf.field-0
           entered.0 looked.0 (looked.1 ∙ ap (λ n. Some (page_node (owned n))) c.in-Leaf.is) c.deref.ensures.value
           (c.in_ok-meet-in-Leaf.ensures.told _ _ _ entered.1).0 c.if-branch.true;
@@ -58,7 +63,8 @@ returns-in_ok-make-in-Leaf-clause-told g t c =
     (gives_so s c.args.seen.now c.enter.new.self _ _ (λ f looked. record {
       walks = λ before saw.
           let entered = c.in_default.ensures.told _ _ _ saw in
-          leaf_passes (by One g.P.Hash.Hashes.of) s.pages f.node before c.args.root
+          leaf_passes (by (g.P.Source.state c.args.pages.now).origin.form.version g.P.Hash.Hashes.of) s.pages f.node
+          before c.args.root
           (child_link c.args.child.now) c.in-Leaf.records.items c.deref.result.now c.in_ok-meet-in-Leaf.field-0
           c.meet.new.self entered.0 looked.0 (looked.1 ∙ ap (λ n. Some (page_node (owned n))) c.in-Leaf.is)
           c.deref.ensures.value (c.in_ok-meet-in-Leaf.ensures.told _ _ _ entered.1) c.if-branch.false;
@@ -74,14 +80,16 @@ loop-one-init g t c = record {
   told =
       let s = g.P.Source.state c.args.pages.now in
       gives_so s c.args.seen.now c.enter.new.self _ _ (λ f looked.
-      let inner = inner_known g.P.Hash.Hashes.of f.node c.args.root c.args.child.now c.in_ok-records.field-0
+      let inner = inner_known (by (g.P.Source.state c.args.pages.now).origin.form.version g.P.Hash.Hashes.of) f.node
+      c.args.root c.args.child.now c.in_ok-records.field-0
       c.in-Inner.children.items c.in_ok-records.ensures.known (ap owned c.in-Inner.is) looked.1 in
       record {
         inner = subst (λ cs. AtInner f.node c.args.root (child_link c.args.child.now) (map child_link cs))
             (sym c.deref-one-items.ensures.value) inner;
         passed = λ before saw.
             let entered = c.in_default.ensures.told _ _ _ saw in
-            inner_starts (by One g.P.Hash.Hashes.of) s.pages f.node before c.args.root
+            inner_starts (by (g.P.Source.state c.args.pages.now).origin.form.version g.P.Hash.Hashes.of) s.pages f.node
+            before c.args.root
             (child_link c.args.child.now) (map child_link c.in-Inner.children.items)
             c.enter.new.self entered.0 entered.1 looked.0
             (looked.1 ∙ ap (λ n. Some (page_node (owned n))) c.in-Inner.is);
@@ -110,15 +118,19 @@ returns-in_err-made-in-Inner-clause-told g t c =
     gives_so s c.args.seen.now c.visit.new.seen _ _ (λ f both. record {
       walks = λ before saw.
           let so_far = both.0.passed before saw in
-          child_refuses (Unit {0}) (Unit {0}) (by One g.P.Hash.Hashes.of) s.pages
+          child_refuses (Unit {0}) (Unit {0})
+          (by (g.P.Source.state c.args.pages.now).origin.form.version g.P.Hash.Hashes.of) s.pages
           f.node before c.args.root (child_link c.args.child.now) items items
           c.loop-one.seen c.visit.new.seen c.loop-one.one-index c.one-item.result e both.0.inner
           refl c.loop-one-test.true c.one-item.is so_far
-          (along (Unit {0}) (by One g.P.Hash.Hashes.of) (g.P.Source.state c.loop-one.pages).pages
+          (along (Unit {0}) _ (by (g.P.Source.state c.args.pages.now).origin.form.version g.P.Hash.Hashes.of)
+          (g.P.Source.state c.loop-one.pages).pages
           s.pages f.node
           (before_child f.node before c.args.root (child_link c.args.child.now)
           (take c.loop-one.one-index items)) false (child_link c.one-item.result)
-          (Err e) c.loop-one.seen c.visit.new.seen _ _ c.loop-one.invariant.goes.count
+          (Err e) c.loop-one.seen c.visit.new.seen _ _
+          (ap (λ o. by o.form.version g.P.Hash.Hashes.of) c.loop-one.invariant.goes.from_)
+          c.loop-one.invariant.goes.count
           (both.1.walks (before_child f.node before c.args.root (child_link c.args.child.now)
           (take c.loop-one.one-index items))) so_far.saw);
       made = tt;
@@ -134,12 +146,14 @@ loop-one-preserved g t c = record {
         inner = both.0.inner;
         passed = λ before saw.
             let so_far = both.0.passed before saw in
-            child_passes (by One g.P.Hash.Hashes.of) s.pages
+            child_passes (by (g.P.Source.state c.args.pages.now).origin.form.version g.P.Hash.Hashes.of) s.pages
             f.node before c.args.root (child_link c.args.child.now) items
             items c.loop-one.seen c.visit.new.seen c.loop-one.one-index c.one-item.result both.0.inner
             refl c.loop-one-test.true c.one-item.is so_far
-            (along (Unit {0}) (by One g.P.Hash.Hashes.of) (g.P.Source.state c.loop-one.pages).pages
+            (along (Unit {0}) _ (by (g.P.Source.state c.args.pages.now).origin.form.version g.P.Hash.Hashes.of)
+            (g.P.Source.state c.loop-one.pages).pages
             s.pages f.node _ _ _ (Ok tt) c.loop-one.seen _ _ _
+            (ap (λ o. by o.form.version g.P.Hash.Hashes.of) c.loop-one.invariant.goes.from_)
             c.loop-one.invariant.goes.count
             (both.1.walks (before_child f.node before c.args.root (child_link c.args.child.now)
             (take c.loop-one.one-index items))) so_far.saw);
@@ -177,7 +191,10 @@ pub make-requires-in-Inner : goal.make-requires-in-Inner
 make-requires-in-Inner g t c =
     let pages = c.loop-one.invariant.goes.count in
     record {
-      known = subst (Knows g.P.Hash.Hashes.of c.args.child.now) c.in-Inner.is c.in_ok-records.ensures.known;
+      known = subst (λ o. Knows (by o.form.version g.P.Hash.Hashes.of) c.args.child.now
+          (owned_node.Inner c.in-Inner.children)) (sym c.loop-one.invariant.goes.from_)
+          (subst (Knows (by (g.P.Source.state c.args.pages.now).origin.form.version g.P.Hash.Hashes.of)
+          c.args.child.now) c.in-Inner.is c.in_ok-records.ensures.known);
       low = c.in_default.ensures.step.low;
       place = omega (arith, c.in_default.ensures.step.inside, c.requires, pages);
       inside = subst (λ n. All (λ (d : Child). (1 ≤ d.id) × (d.id < n)) c.in-Inner.children.items) (sym pages)
@@ -197,7 +214,8 @@ returns-in_ok-make-in-Inner-clause-told g t c =
     let end : c.loop-one.one-index ≡ length items = omega arith in
     let whole : take c.loop-one.one-index items ≡ items = ap (λ n. take n items) end ∙ take-length items in
     gives_so s c.args.seen.now c.loop-one.seen _ _ (λ f so_far. record {
-      walks = λ before saw. inner_passes (by One g.P.Hash.Hashes.of) s.pages f.node before c.args.root
+      walks = λ before saw. inner_passes (by (g.P.Source.state c.args.pages.now).origin.form.version g.P.Hash.Hashes.of)
+          s.pages f.node before c.args.root
           (child_link c.args.child.now) items items c.loop-one.seen
           c.loop-one.one-index so_far.inner refl whole (so_far.passed before saw);
       made = inner_made g.P.Source.makes f.node c.args.root (child_link c.args.child.now) items

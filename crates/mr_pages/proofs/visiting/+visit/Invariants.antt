@@ -1,7 +1,6 @@
 use Rattle.std.proofs.Common.{◌≡◌, ℕ, ◌<◌, ◌≤◌, length, take}
 use Rattle.std.specs.Prelude.{◌⊎◌, All, Ok}
 use Rattle.mr_tree.specs.declared.child.Child.{Child}
-use Rattle.mr_record.specs.declared.version.Version.TheVariants.{One}
 use Rattle.mr_tree.specs.Digest.{by}
 use Rattle.mr_pages.specs.Walking.{child_link}
 use Rattle.mr_pages.specs.Source.{Gives, Goes, Stay, IsReached, left}
@@ -14,7 +13,8 @@ decreases-visit g l = l.child.now.level
 -- no fault was met at this node and below the children so far, and what was reached is kept
 abbrev pub invariant-loop-one : goal.invariant-loop-one
 invariant-loop-one g l = record {
-  told : Gives (g.P.Source.state l.fn.pages) l.fn.seen l.seen (WalkedBelow (by One g.P.Hash.Hashes.of)
+  told : Gives (g.P.Source.state l.fn.pages) l.fn.seen l.seen
+      (WalkedBelow (by (g.P.Source.state l.fn.pages).origin.form.version g.P.Hash.Hashes.of)
       g.P.Source.makes (g.P.Source.state l.fn.pages).pages l.fn.seen l.root (child_link l.child) l.one-items
       (take l.one-index l.one-items) l.below.items l.seen);
   room : length l.seen.reached.items ≡ length l.fn.seen.reached.items;

@@ -1,4 +1,4 @@
-use Rattle.std.proofs.Common.{◌≡◌, ◌++◌, take}
+use Rattle.std.proofs.Common.{◌≡◌, ◌++◌}
 use Rattle.mr_plan.specs.Judged.{missing_lines}
 use Rattle.mr_plan.proofs.judged.put_all_missing.Given as goal
 

@@ -1,4 +1,3 @@
-use Rattle.std.specs.Prelude.{Result, OnOk}
 use Rattle.mr_plan.proofs.BundleLines.{accepted_after}
 use Rattle.mr_plan.proofs.judged.put_answer.Goals as goal
 

@@ -2,7 +2,7 @@ use Rattle.std.proofs.Common.{refl, sym, subst, ◌∙◌, ◌∷◌, []}
 use Rattle.std.specs.Prelude.{codes}
 use Rattle.mr_plan.specs.Spelling.{IsSpelled}
 use Rattle.mr_plan.proofs.Digests.{digest_written}
-use Rattle.mr_plan.proofs.Spelling.{no_check_all, no_root, is_check_all}
+use Rattle.mr_plan.proofs.Spelling.{no_root, is_check_all}
 use Rattle.mr_plan.proofs.words.check_all_words.Goals as goal
 
 pub returns-in_err-digest : goal.returns-in_err-digest

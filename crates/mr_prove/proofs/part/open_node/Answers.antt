@@ -1,4 +1,4 @@
-use Rattle.std.specs.Prelude.{IsSome, Bool, true, ◌≡◌}
+use Rattle.std.specs.Prelude.{IsSome, true, ◌≡◌}
 use Rattle.mr_outside.specs.Told.{TakesFront}
 use Rattle.mr_proof.specs.declared.way.Way.{Way}
 use Rattle.mr_proof.specs.Tight.{Seen, opens_at}

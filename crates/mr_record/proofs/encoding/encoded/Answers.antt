@@ -8,6 +8,7 @@ returns-clause-bytes c =
     rw (
       c.put-4.ensures,
       c.put-3.ensures,
+      c.put_layer.ensures.put,
       c.put-2.ensures,
       c.put.ensures,
       c.new-bytes.ensures,

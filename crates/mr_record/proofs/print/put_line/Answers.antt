@@ -8,6 +8,7 @@ returns-clause-put g c =
     rw (
       c.put-2.ensures,
       c.put_payload.ensures.put,
+      c.put_layer.ensures.put,
       c.put_rect.ensures.put,
       c.put.ensures,
       c.put_number.ensures.put,

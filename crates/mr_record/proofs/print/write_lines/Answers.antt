@@ -4,18 +4,18 @@ use Rattle.mr_record.proofs.WrittenLines.{none_gathered, gathered_more, front_ga
 use Rattle.mr_record.proofs.print.write_lines.Goals as goal
 
 pub loop-one-init : goal.loop-one-init
-loop-one-init g c = none_gathered (g.W.Sink.state c.args.out.now) c.args.records.now c.new-piece.result
+loop-one-init g c = none_gathered c.args.version (g.W.Sink.state c.args.out.now) c.args.records.now c.new-piece.result
     c.new-piece.ensures
 
 pub returns-in_err-make_room-clause-front : goal.returns-in_err-make_room-clause-front
 returns-in_err-make_room-clause-front g c =
-    front_gathered (g.W.Sink.state c.args.out.now) (g.W.Sink.state c.loop-one.out)
+    front_gathered c.args.version (g.W.Sink.state c.args.out.now) (g.W.Sink.state c.loop-one.out)
     (g.W.Sink.state c.make_room.new.out) c.args.records.now c.loop-one.one-index c.loop-one.piece
     c.loop-one.invariant c.make_room.ensures.front
 
 pub loop-one-preserved : goal.loop-one-preserved
 loop-one-preserved g c =
-    gathered_more (g.W.Sink.state c.args.out.now) (g.W.Sink.state c.loop-one.out)
+    gathered_more c.args.version (g.W.Sink.state c.args.out.now) (g.W.Sink.state c.loop-one.out)
     (g.W.Sink.state c.make_room.new.out) c.args.records.now c.loop-one.one-index c.loop-one.piece
     c.loop-one.invariant c.one-item.result c.make_room.new.piece c.put_line.new.line c.loop-one-test.true
     c.one-item.is c.put_line.ensures.record c.in_ok-make_room.ensures.sent c.in_ok-make_room.ensures.causes.quiet
@@ -23,7 +23,7 @@ loop-one-preserved g c =
 
 pub returns-clause-front : goal.returns-clause-front
 returns-clause-front g c =
-    front_gathered (g.W.Sink.state c.args.out.now) (g.W.Sink.state c.loop-one.out)
+    front_gathered c.args.version (g.W.Sink.state c.args.out.now) (g.W.Sink.state c.loop-one.out)
     (g.W.Sink.state c.write_all.new.out) c.args.records.now c.loop-one.one-index c.loop-one.piece
     c.loop-one.invariant
     (subst (TakesFront (g.W.Sink.state c.loop-one.out) (g.W.Sink.state c.write_all.new.out))

@@ -4,4 +4,4 @@ use Rattle.mr_record.proofs.print.write_lines.Given as goal
 
 abbrev pub invariant-loop-one : goal.invariant-loop-one
 invariant-loop-one g l =
-    HasGathered (g.W.Sink.state l.initial.out) (g.W.Sink.state l.out) l.records l.one-index l.piece
+    HasGathered l.version (g.W.Sink.state l.initial.out) (g.W.Sink.state l.out) l.records l.one-index l.piece

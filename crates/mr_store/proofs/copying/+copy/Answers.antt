@@ -1,4 +1,4 @@
-use Rattle.std.proofs.Common.{◌+◌, rules, [], length, false, arith, refl, sym, subst, ◌∙◌}
+use Rattle.std.proofs.Common.{◌+◌, rules, [], length, false, arith, refl, sym, ap, subst, ◌∙◌}
 use Rattle.std.proofs.lemmas.List.{take_all}
 use Rattle.std.proofs.lemmas.Result.{err_from_is_err_and}
 use Rattle.mr_outside.specs.Faults.{next_count}
@@ -8,7 +8,7 @@ use Rattle.mr_tree.specs.declared.tree.Tree.TheOpen.{Inner}
 use Rattle.mr_pages.specs.Walking.{owned}
 use Rattle.mr_store.specs.Copying.{Suits, IsFull, CanCopy, IsPut, IsCopied, AreCopied}
 use Rattle.mr_store.proofs.Copies.{leaf_copied, inner_copied, none_copied, next_copied}
-use Rattle.mr_store.proofs.Blames.{twice_stops, twice_handed, stops_along, may_next, next_can, if_ok, if_err}
+use Rattle.mr_store.proofs.Blames.{twice_stops, twice_handed, stops_along, may_next, told_next, next_can, if_ok, if_err}
 use Rattle.mr_store.proofs.Counted.{one_fetch, some_fetches, fetched_more, once_looked, once_put}
 use Rattle.mr_store.proofs.copying.+copy.Goals as goal
 
@@ -136,12 +136,14 @@ copy-requires g t c κs within =
     let s = g.N.Nodes.stands c.args.nodes.now in
     let hash = g.N.Hash.Hashes.of in
     let shows = subst (λ n. Shows hash s c.args.child.now (owned n)) c.in-Inner.is c.in_ok-records.ensures.shows in
+    let same = g.met.N.Nodes.kept_stands c.args.nodes.now c.loop-one.nodes c.loop-one.invariant.kept in
+    let there = subst (λ xs. Shows hash s c.args.child.now (Inner xs)) (sym c.deref-one-items.ensures.value) shows in
     let may = may_next hash s (g.N.Nodes.stands c.loop-one.nodes) c.args.child.now c.one-item.result
-    c.deref-one-items.result.now c.loop-one.one-index
-    (g.met.N.Nodes.kept_stands c.args.nodes.now c.loop-one.nodes c.loop-one.invariant.kept)
-    (subst (λ xs. Shows hash s c.args.child.now (Inner xs)) (sym c.deref-one-items.ensures.value) shows)
-    c.loop-one-test.true c.one-item.is in
-    (search rules, (search rules, (search rules, (may, search rules))))
+    c.deref-one-items.result.now c.loop-one.one-index same there c.loop-one-test.true c.one-item.is in
+    let told = told_next hash s c.args.child.now c.one-item.result c.deref-one-items.result.now c.loop-one.one-index
+    c.requires.version there c.loop-one-test.true c.one-item.is in
+    let one = ap (λ (x : Standing). x.version) same ∙ c.requires.version in
+    (search rules, (search rules, (search rules, (one, (may, (told, search rules))))))
 
 pub returns-in_err-records-clause-fetched : goal.returns-in_err-records-clause-fetched
 returns-in_err-records-clause-fetched g t c =

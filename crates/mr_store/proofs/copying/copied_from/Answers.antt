@@ -1,7 +1,10 @@
-use Rattle.std.proofs.Common.{◌+◌, length, subst, sym, ap, ◌∙◌, arith}
+use Rattle.std.proofs.Common.{◌≡◌, length, subst, sym, ap, ◌∙◌, arith}
 use Rattle.std.specs.Prelude.{IfSome}
 use Rattle.std.proofs.lemmas.Result.{err_from_is_err_and}
+use Rattle.mr_record.specs.Version.{told}
+use Rattle.mr_record.specs.declared.version.Version.TheVariants.{One}
 use Rattle.mr_tree.specs.Nodes.{Standing, MayFetch}
+use Rattle.mr_tree.specs.View.{MayTell}
 use Rattle.mr_store.specs.Stored.{IsSaid}
 use Rattle.mr_store.proofs.Wholes.{none_linked, whole_well, whole_said, whole_snapshot, whole_stands, miscounted, stops_all, none_fetched, root_fetched}
 use Rattle.mr_store.proofs.Counted.{nodes_listed}
@@ -11,6 +14,13 @@ pub copy-requires-clause-may : goal.copy-requires-clause-may
 copy-requires-clause-may g c =
     subst (λ o. IfSome o (MayFetch g.N.Hash.Hashes.of (g.N.Nodes.stands c.args.nodes.now))) c.requires.root
     c.requires.top.root
+
+pub copy-requires-clause-told : goal.copy-requires-clause-told
+copy-requires-clause-told g c =
+    (subst (λ o. IfSome o (λ r. MayTell One r.mask r.count × (r.count ≡ told One c.args.top.now.count)))
+    c.requires.root (subst (λ v. IfSome c.args.top.now.root
+    (λ r. MayTell v r.mask r.count × (r.count ≡ told v c.args.top.now.count))) c.requires.version
+    c.requires.top.told)).0
 
 pub copy-requires-clause-linked : goal.copy-requires-clause-linked
 copy-requires-clause-linked g c =
@@ -28,14 +38,16 @@ pub over-requires-clause-whole : goal.over-requires-clause-whole
 over-requires-clause-whole g c =
     whole_snapshot g.N.Hash.Hashes.of (g.N.Nodes.stands c.args.nodes.now) c.args.top.now c.args.root.now
     c.in_ok-copied.copied c.new-list.result.items c.copy.new.list.items c.in_ok-seen.seen c.copy.new.seen c.args.pages
-    c.requires.top c.requires.root c.new-list.ensures.items c.in_ok-seen.ensures.told c.in_ok-copied.ensures.copied
+    c.requires.version c.requires.top c.requires.root c.new-list.ensures.items c.in_ok-seen.ensures.told
+    c.in_ok-copied.ensures.copied
     (sym c.if-count-top.false ∙ c.count.ensures)
 
 pub over-requires-clause-well_formed : goal.over-requires-clause-well_formed
 over-requires-clause-well_formed g c =
     whole_well g.N.Hash.Hashes.of (g.N.Nodes.stands c.args.nodes.now) c.args.top.now c.args.root.now
     c.in_ok-copied.copied c.new-list.result.items c.copy.new.list.items c.in_ok-seen.seen c.copy.new.seen c.args.pages
-    c.requires.top c.requires.root c.new-list.ensures.items c.in_ok-seen.ensures.told c.in_ok-copied.ensures.copied
+    c.requires.version c.requires.top c.requires.root c.new-list.ensures.items c.in_ok-seen.ensures.told
+    c.in_ok-copied.ensures.copied
     (sym c.if-count-top.false ∙ c.count.ensures)
 
 pub returns-then-count-top-clause-cause : goal.returns-then-count-top-clause-cause
@@ -44,7 +56,8 @@ returns-then-count-top-clause-cause g c =
     c.requires.top.root in (
       miscounted g.N.Hash.Hashes.of (g.N.Nodes.stands c.args.nodes.now) c.args.top.now c.args.root.now
           c.in_ok-copied.copied c.new-list.result.items c.copy.new.list.items c.in_ok-seen.seen c.copy.new.seen
-          c.args.pages c.requires.top c.requires.root c.new-list.ensures.items c.in_ok-seen.ensures.told
+          c.args.pages c.requires.version c.requires.top c.requires.root c.new-list.ensures.items
+          c.in_ok-seen.ensures.told
           c.in_ok-copied.ensures.copied (λ e. c.if-count-top.true (c.count.ensures ∙ sym e)),
       (may.positive, may.within),
       c.in_ok-copied.ensures.quiet,
@@ -54,7 +67,8 @@ pub returns-clause-stands : goal.returns-clause-stands
 returns-clause-stands g c = λ u told.
     c.over.ensures ∙ whole_stands g.N.Hash.Hashes.of (g.N.Nodes.stands c.args.nodes.now) c.args.top.now c.args.root.now
     c.in_ok-copied.copied c.new-list.result.items c.copy.new.list.items c.in_ok-seen.seen c.copy.new.seen c.args.pages
-    c.requires.top c.requires.root c.new-list.ensures.items c.in_ok-seen.ensures.told c.in_ok-copied.ensures.copied
+    c.requires.version c.requires.top c.requires.root c.new-list.ensures.items c.in_ok-seen.ensures.told
+    c.in_ok-copied.ensures.copied
     u told
 
 pub returns-clause-says : goal.returns-clause-says
@@ -62,7 +76,8 @@ returns-clause-says g c =
     subst (IsSaid g.N.Hash.Hashes.of c.args.top.now) (sym c.over.ensures)
     (whole_said g.N.Hash.Hashes.of (g.N.Nodes.stands c.args.nodes.now) c.args.top.now c.args.root.now
     c.in_ok-copied.copied c.new-list.result.items c.copy.new.list.items c.in_ok-seen.seen c.copy.new.seen c.args.pages
-    c.requires.top c.requires.root c.new-list.ensures.items c.in_ok-seen.ensures.told c.in_ok-copied.ensures.copied
+    c.requires.version c.requires.top c.requires.root c.new-list.ensures.items c.in_ok-seen.ensures.told
+    c.in_ok-copied.ensures.copied
     (sym c.if-count-top.false ∙ c.count.ensures))
 
 pub returns-in_err-copied-clause-fetched : goal.returns-in_err-copied-clause-fetched
@@ -91,7 +106,8 @@ pub returns-clause-once : goal.returns-clause-once
 returns-clause-once g c =
     let whole = whole_snapshot g.N.Hash.Hashes.of (g.N.Nodes.stands c.args.nodes.now) c.args.top.now c.args.root.now
     c.in_ok-copied.copied c.new-list.result.items c.copy.new.list.items c.in_ok-seen.seen c.copy.new.seen c.args.pages
-    c.requires.top c.requires.root c.new-list.ensures.items c.in_ok-seen.ensures.told c.in_ok-copied.ensures.copied
+    c.requires.version c.requires.top c.requires.root c.new-list.ensures.items c.in_ok-seen.ensures.told
+    c.in_ok-copied.ensures.copied
     (sym c.if-count-top.false ∙ c.count.ensures) in
     let nodes = nodes_listed g.N.Hash.Hashes.of c.copy.new.list.items _ whole in
     let spans = ap (λ (s : Standing). s.span) c.over.ensures in

@@ -14,7 +14,7 @@ pub returns-in-Ok-clause-suits : goal.returns-in-Ok-clause-suits
 returns-in-Ok-clause-suits g c =
     if_ok c.judged.result _ _
     (λ n j. suits_of g.N.Hash.Hashes.of (g.N.Nodes.stands c.args.nodes.now) c.args.root c.args.child.now
-    c.fetch.new.into (owned n) c.in-Ok.ensures.shows j) c.judged.ensures.judged
+    c.fetch.new.into (owned n) c.requires.version c.requires.told c.in-Ok.ensures.shows j) c.judged.ensures.judged
 
 pub returns-in-Ok-clause-handed : goal.returns-in-Ok-clause-handed
 returns-in-Ok-clause-handed g c =
@@ -27,10 +27,11 @@ returns-in-Ok-clause-cause g c =
     if_err c.judged.result _ _
     (λ e u. unfit_stops g.N.Hash.Hashes.of (g.N.Nodes.stands c.args.nodes.now)
     (g.N.Nodes.faults c.args.nodes.now) (g.N.Nodes.faults c.fetch.new.self) c.args.root c.args.child.now
-    c.fetch.new.into e c.requires c.in-Ok.ensures.shows c.in-Ok.ensures.quiet u) c.judged.ensures.unfit
+    c.fetch.new.into e c.requires.may c.in-Ok.ensures.shows c.in-Ok.ensures.quiet u)
+    c.judged.ensures.unfit
 
 pub returns-in-Err-clause-cause : goal.returns-in-Err-clause-cause
 returns-in-Err-clause-cause g c =
     fetch_stops g.N.Hash.Hashes.of (g.N.Nodes.stands c.args.nodes.now) c.args.child.now
-    (g.N.Nodes.faults c.args.nodes.now) (g.N.Nodes.faults c.fetch.new.self) c.in-Err.error c.requires
+    (g.N.Nodes.faults c.args.nodes.now) (g.N.Nodes.faults c.fetch.new.self) c.in-Err.error c.requires.may
     c.in-Err.ensures.cause

@@ -1,7 +1,17 @@
 use Rattle.std.proofs.Common.{sym, ◌∙◌, ◌≡◌, true, false}
 use Rattle.std.proofs.lemmas.Slice.Eq.{bytes_eq-Decides}
+use Rattle.mr_record.specs.declared.version.Version.TheVariants.{One}
+use Rattle.mr_tree.specs.View as view
+use Rattle.mr_tree.proofs.Told.{told_counts}
+use Rattle.mr_pages.proofs.ViewPages.{node_tells}
 use Rattle.mr_store.proofs.PageReads.{shown_is, digest_shown, read_of, none_judged, changed_judged, same_judged}
 use Rattle.mr_store.proofs.reading.judge.Goals as goal
+
+pub digest_on-found-requires-clause-counts : goal.digest_on-found-requires-clause-counts
+digest_on-found-requires-clause-counts g c =
+    let n = c.read_page.new.into in
+    let spelled = c.read_page.ensures.written c.if-not-read_page.false in
+    told_counts One (view.children_in n) (node_tells One n spelled.fits).children
 
 pub returns-then-not-are_same-clause-told : goal.returns-then-not-are_same-clause-told
 returns-then-not-are_same-clause-told g c = λ m there said.

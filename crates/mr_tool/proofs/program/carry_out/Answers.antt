@@ -5,7 +5,18 @@ pub returns-in-Root : goal.returns-in-Root
 returns-in-Root g c = as_said g.H.Hashes.of _ _ _ _ c.root-came.result c.in-Root.is c.root-came.ensures
 
 pub returns-in-Build : goal.returns-in-Build
-returns-in-Build g c = as_said g.H.Hashes.of _ _ _ _ c.build-came.result c.in-Build.is c.build-came.ensures
+returns-in-Build g c = as_said g.H.Hashes.of _ _ _ _ c.build_on.result.0 c.in-Build.is c.build_on.ensures
+
+pub returns-in-Root2 : goal.returns-in-Root2
+returns-in-Root2 g c = as_said g.H.Hashes.of _ _ _ _ c.root-came-in-Root2.result c.in-Root2.is
+    c.root-came-in-Root2.ensures
+
+pub returns-in-Build2 : goal.returns-in-Build2
+returns-in-Build2 g c =
+    as_said g.H.Hashes.of _ _ _ _ c.build_on-in-Build2.result.0 c.in-Build2.is c.build_on-in-Build2.ensures
+
+pub returns-in-Upgrade : goal.returns-in-Upgrade
+returns-in-Upgrade g c = as_said g.H.Hashes.of _ _ _ _ c.upgrade-came.result c.in-Upgrade.is c.upgrade-came.ensures
 
 pub returns-in-List : goal.returns-in-List
 returns-in-List g c = as_said g.H.Hashes.of _ _ _ _ c.list-came.result c.in-List.is c.list-came.ensures

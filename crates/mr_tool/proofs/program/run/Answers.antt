@@ -34,3 +34,6 @@ returns-clause-collides g c = c.answered.ensures.run.collides
 
 pub returns-clause-alike : goal.returns-clause-alike
 returns-clause-alike g c = c.answered.ensures.run.alike
+
+pub returns-clause-upgrades : goal.returns-clause-upgrades
+returns-clause-upgrades g c = c.answered.ensures.run.upgrades

@@ -23,6 +23,7 @@ returns-in-Ok-clause-given g c =
       audited = e.audited;
       collides = e.collides;
       alike = e.alike;
+      upgrades = e.upgrades;
     } in
     subst (λ given. IfOk given (λ ws. EndsWith hash (map string_bytes ws.items) before after c.code.result))
     (sym c.in-Ok.is) (

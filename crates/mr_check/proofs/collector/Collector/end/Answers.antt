@@ -1,4 +1,3 @@
-use Rattle.std.proofs.lemmas.Result.{err_from_is_err_and}
 use Rattle.mr_check.proofs.Gathering.{gathered}
 use Rattle.mr_check.proofs.collector.Collector.end.Goals as goal
 

@@ -1,12 +1,10 @@
 use Rattle.std.proofs.Common.{sym, subst}
-use Rattle.std.specs.Prelude.{Ok, Err, Result}
+use Rattle.std.specs.Prelude.{Ok, Err}
 use Rattle.std.proofs.lemmas.Result.{err_from_is_err_and}
 use Rattle.mr_query.specs.declared.query.Query.{Query}
 use Rattle.mr_record.proofs.Encodings.{IsBytes-from}
-use Rattle.mr_proof.specs.declared.rule.Fault.{Fault}
 use Rattle.mr_proof.specs.Tight.{question}
 use Rattle.mr_proof.proofs.Handed.{hands_opened}
-use Rattle.mr_check.specs.declared.outline.Outline.{Outline}
 use Rattle.mr_check.specs.Judged.{WasFed, EndsAs}
 use Rattle.mr_check.proofs.Judging.{query_ends}
 use Rattle.mr_check.proofs.judge.Judge.end.Goals as goal

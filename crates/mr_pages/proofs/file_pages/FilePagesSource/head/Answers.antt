@@ -1,4 +1,5 @@
-use Rattle.std.proofs.Common.{sym, subst}
+use Rattle.std.proofs.Common.{sym, subst, arith}
+use Rattle.mr_pages.specs.PageBytes.{form_of}
 use Rattle.mr_pages.specs.Walking.{Heads}
 use Rattle.mr_pages.proofs.PageReads.{shelf_gives_head}
 use Rattle.mr_pages.proofs.file_pages.FilePagesSource.head.Goals as goal
@@ -6,6 +7,6 @@ use Rattle.mr_pages.proofs.file_pages.FilePagesSource.head.Goals as goal
 pub returns-clause-shows : goal.returns-clause-shows
 returns-clause-shows g c =
     let s = c.args.self.now in
-    shelf_gives_head s.name.now s.shelf.ghost_name s.pages c.in_ok-page.page (g.S.Shelf.state s.shelf.now) _
-    s.paged c.requires c.in_ok-page.ensures.told c.in_ok-page.ensures.is
-    (λ f h. subst (Heads c.read_head.result) (sym h) c.read_head.ensures.exact)
+    shelf_gives_head (form_of s.layout) (omega (arith, s.fits.room)) s.name.now s.shelf.ghost_name s.pages s.first.now
+    (g.S.Shelf.state s.shelf.now) _ s.paged c.requires s.headed
+    (λ f h. subst (Heads c.head_on.result) (sym h) c.head_on.ensures.exact)

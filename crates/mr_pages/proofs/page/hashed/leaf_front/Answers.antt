@@ -8,8 +8,8 @@ use Rattle.mr_pages.proofs.page.hashed.leaf_front.Goals as goal
 
 pub returns : goal.returns
 returns c =
-    front_of_leaf c.args.page.now c.split_at.result.0.now c.args.view.now (records_in c.args.view.now)
+    front_of_leaf c.args.layout c.args.page.now c.split_at.result.0.now c.args.view.now (records_in c.args.view.now)
     c.width_of.result c.requires.page (c.records.ensures.leaf c.requires.leaf)
     (c.width_of.ensures.value
-    ∙ ap (λ (rs : List Record). length (flat_map record_bytes rs)) c.records.ensures.value)
+    ∙ ap (λ (rs : List Record). length (flat_map (record_bytes c.args.layout.version) rs)) c.records.ensures.value)
     c.split_at.ensures.front

@@ -5,6 +5,6 @@ use Rattle.mr_pages.proofs.page.hashed.width_of.Given as goal
 
 abbrev pub invariant-loop-one : goal.invariant-loop-one
 invariant-loop-one l = record {
-  value : l.all ≡ length (flat_map record_bytes (take l.one-index l.records));
-  bound : l.all ≤ 225 * l.one-index;
+  value : l.all ≡ length (flat_map (record_bytes l.version) (take l.one-index l.records));
+  bound : l.all ≤ 226 * l.one-index;
 }

@@ -13,6 +13,6 @@ loop-child-preserved c = record {
   );
   bytes = c.put-place.ensures.bytes
       ∙ (λ i. c.loop-child.invariant.bytes i ++ (c.as_slice.ensures.bytes ∙ c.encoded_link.ensures.bytes) i)
-      ∙ links_more c.args.children.now c.loop-child.child-index c.child-item.result
+      ∙ links_more c.args.version c.args.children.now c.loop-child.child-index c.child-item.result
       (take c.args.at c.args.page.now) c.loop-child-test.true c.child-item.is;
 }

@@ -5,6 +5,7 @@ use Rattle.mr_pages.proofs.page.node.put_records.Given as goal
 
 abbrev pub invariant-loop-record : goal.invariant-loop-record
 invariant-loop-record l = record {
-  place : l.place ≤ l.at + 225 * l.record-index;
-  bytes : take l.place l.page ≡ take l.at l.fn.page ++ flat_map record_bytes (take l.record-index l.records);
+  place : l.place ≤ l.at + 226 * l.record-index;
+  bytes : take l.place l.page ≡ take l.at l.fn.page ++ flat_map (record_bytes l.version)
+      (take l.record-index l.records);
 }

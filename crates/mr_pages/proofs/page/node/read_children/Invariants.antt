@@ -6,5 +6,5 @@ use Rattle.mr_pages.proofs.page.node.read_children.Given as goal
 
 -- the first places hold what was read so far
 abbrev pub invariant-loop-place : goal.invariant-loop-place
-invariant-loop-place l = many (link_field l.level) l.place-index l.bytes
+invariant-loop-place l = many (link_field l.version l.level) l.place-index l.bytes
     ≡ Some (map child_link (take l.place-index l.places), l.rest)

@@ -5,4 +5,5 @@ use Rattle.mr_pages.proofs.page.node.read_records.Given as goal
 
 -- the first places hold what was read so far
 abbrev pub invariant-loop-place : goal.invariant-loop-place
-invariant-loop-place l = many record_field l.place-index l.bytes ≡ Some (take l.place-index l.places, l.rest)
+invariant-loop-place l = many (record_field l.version) l.place-index l.bytes ≡ Some
+    (take l.place-index l.places, l.rest)

@@ -10,4 +10,5 @@ set_inner-requires-clause-below c =
     let back : c.args.level - 1 + 1 ≡ c.args.level = omega arith in
     subst (λ (n : ℕ). All (λ (d : Child). d.level + 1 ≡ n) c.read_children.new.places) back
     (All-from_recursion (λ (d : Child). d.level + 1 ≡ c.args.level - 1 + 1) c.read_children.new.places
-    (levels_read (c.args.level - 1) _ c.args.bytes.now c.read_children.new.places c.in-Some.rest.now c.in-Some.ensures))
+    (levels_read c.args.version (c.args.level - 1) _ c.args.bytes.now c.read_children.new.places c.in-Some.rest.now
+    c.in-Some.ensures))

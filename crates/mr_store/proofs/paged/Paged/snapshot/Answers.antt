@@ -3,7 +3,7 @@ use Rattle.std.specs.String.{string_bytes}
 use Rattle.mr_tree.specs.Nodes.{IsTop}
 use Rattle.mr_tree.specs.Snapshot.{standing}
 use Rattle.mr_store.specs.Stored.{told_bytes, stands_for, IsSaid}
-use Rattle.mr_store.proofs.Maps.{top_is}
+use Rattle.mr_store.proofs.Maps.{top_is, version_is}
 use Rattle.mr_store.proofs.Blames.{cause_of}
 use Rattle.mr_store.proofs.paged.Paged.snapshot.Goals as goal
 
@@ -15,8 +15,13 @@ returns-in-Err-clause-cause g c =
     before.faults (g.S.Shelf.state c.copied.new.nodes.shelf).faults c.in-Err.stop c.refusal.result
     c.in-Err.ensures.cause c.refusal.ensures
 
-pub copied-requires : goal.copied-requires
-copied-requires g c =
+pub copied-requires-clause-version : goal.copied-requires-clause-version
+copied-requires-clause-version g c =
+    let old = c.args.self.now in
+    version_is old.head (told_bytes (g.S.Shelf.state old.shelf).files (string_bytes old.name))
+
+pub copied-requires-clause-top : goal.copied-requires-clause-top
+copied-requires-clause-top g c =
     let old = c.args.self.now in
     let files = (g.S.Shelf.state old.shelf).files in
     subst (IsTop g.H.Hashes.of (stands_for old.head (told_bytes files (string_bytes old.name))))

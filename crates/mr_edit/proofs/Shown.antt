@@ -1,0 +1,112 @@
+-- What version 1 tells of a node: no layers and no number of records.
+use Rattle.std.proofs.Common.{◌≡◌, Bool, true, false, ℕ, List, [], ◌∷◌, map, refl, sym, ap, subst, ◌∙◌, arith}
+use Rattle.std.specs.Prelude.{All, Option, Some, None, IfSome, sum, bit_or, if◌then◌else◌}
+use Rattle.std.specs.List.{AllByRecursion}
+use Rattle.std.specs.Option.{option_to_list}
+use Rattle.std.proofs.lemmas.List.Elements.{All-nil, recursion_from_All, All-from_recursion}
+use Rattle.std.proofs.lemmas.List.Sums.{sum_by-cons}
+use Rattle.mr_record.specs.Record.{HasLayer}
+use Rattle.mr_record.specs.Sorting.{put_in, sorted_by, sorted_by_key}
+use Rattle.mr_record.specs.declared.record.Record.{Record}
+use Rattle.mr_record.specs.declared.version.Version.TheVariants.{One}
+use Rattle.mr_tree.specs.Digest.{by}
+use Rattle.mr_tree.specs.Tree.{mask_of, layer_bit}
+use Rattle.mr_tree.specs.View as view
+use Rattle.mr_tree.specs.View.{AreTold, MayTell, HasCount}
+use Rattle.mr_tree.specs.declared.child.Child.{Child}
+use Rattle.mr_tree.specs.declared.entry.Entry.{Entry}
+use Rattle.mr_tree.specs.declared.tree.Tree.TheOpen.{Empty, Leaf, Inner}
+use Rattle.mr_tree.proofs.Masks.{mask_of-cons}
+use Rattle.mr_pages.specs.Page.{Link, entry_of}
+use Rattle.mr_pages.specs.Walking.{child_link, page_node}
+use Rattle.mr_pages.proofs.Judged.{entry_same}
+use Rattle.mr_edit.specs.Held.{IsTold}
+
+-- ---- what is said of a node of this version
+
+no_layers : (rs : List Record) → mask_of (map (layer_bit One) rs) ≡ 0
+no_layers [] = refl
+no_layers (r ∷ rs) = mask_of-cons 0 (map (layer_bit One) rs) ∙ ap (bit_or 0) (no_layers rs)
+
+abbrev masks : List Child → List ℕ
+masks cs = map (λ (e : Entry). e.mask) (map view.entry_of cs)
+
+abbrev counts : List Child → List ℕ
+counts cs = map (λ (e : Entry). e.count) (map view.entry_of cs)
+
+no_masks : (cs : List Child) → AllByRecursion (IsTold One) cs → mask_of (masks cs) ≡ 0
+no_masks [] told = refl
+no_masks (c ∷ cs) told =
+    let none : c.mask ≡ 0 = omega (arith, told.0.fits) in
+    mask_of-cons c.mask (masks cs) ∙ ap (λ m. bit_or m (mask_of (masks cs))) none ∙ ap (bit_or 0) (no_masks cs told.1)
+
+no_counts : (cs : List Child) → AllByRecursion (IsTold One) cs → sum (counts cs) ≡ 0
+no_counts [] told = refl
+no_counts (c ∷ cs) told =
+    let rest = no_counts cs told.1 in
+    let all = sum_by-cons (λ n. n) c.count (counts cs) in
+    omega (arith, told.0.few, rest, all)
+
+pub no_mask : (hash : List ℕ → List ℕ) (n : view.Node) → AreTold One n → (view.entry_over (by One hash) n).mask ≡ 0
+no_mask hash Empty told = refl
+no_mask hash (Leaf rs) told = no_layers rs
+no_mask hash (Inner cs) told = no_masks cs (recursion_from_All (IsTold One) cs told.children)
+
+pub no_count : (hash : List ℕ → List ℕ) (n : view.Node) → AreTold One n → (view.entry_over (by One hash) n).count ≡ 0
+no_count hash Empty told = refl
+no_count hash (Leaf rs) told = refl
+no_count hash (Inner cs) told = no_counts cs (recursion_from_All (IsTold One) cs told.children)
+
+-- ---- what is said of a node that is written
+
+nothing : (mask count : ℕ) → mask ≡ 0 → count ≡ 0 → MayTell One mask count
+nothing mask count none few = record {
+  some = omega arith;
+  fits = omega (arith, none);
+  counted = omega arith;
+  few = omega (arith, few);
+}
+
+pub child_told : (hash : List ℕ → List ℕ) (n : view.Node) (c : Child) (page : ℕ) → AreTold One n →
+    child_link c ≡ record { page = page; entry = entry_of (by One hash) (page_node n) } → IsTold One c
+child_told hash n c page told said =
+    let is : view.entry_of c ≡ view.entry_over (by One hash) n =
+    ap (λ (l : Link). l.entry) said ∙ sym (entry_same (by One hash) n) in
+    nothing c.mask c.count (ap (λ (e : Entry). e.mask) is ∙ no_mask hash n told)
+    (ap (λ (e : Entry). e.count) is ∙ no_count hash n told)
+
+pub leaf_told : (n : view.Node) (rs : List Record) → n ≡ Leaf rs → All (HasLayer One) rs → AreTold One n
+leaf_told n rs is layers = subst (AreTold One) (sym is)
+    (record { layers = layers; children = All-nil (IsTold One) })
+
+pub inner_told : (n : view.Node) (cs : List Child) → n ≡ Inner cs → All (IsTold One) cs → AreTold One n
+inner_told n cs is told = subst (AreTold One) (sym is)
+    (record { layers = All-nil (HasLayer One); children = told })
+
+-- ---- lists
+
+pub of_option : {X : Type 0} (P : X → Type 0) (o : Option X) → IfSome o P → AllByRecursion P (option_to_list o)
+of_option P None all = tt
+of_option P (Some x) all = (all, tt)
+
+module _ {X : Type 0} (P : X → Type 0) (before : X → X → Bool) where
+  either : (b : Bool) (xs ys : List X) → AllByRecursion P xs → AllByRecursion P ys →
+      AllByRecursion P (if b then xs else ys)
+  either true xs ys all more = all
+  either false xs ys all more = more
+
+  placed_all : (x : X) (ys : List X) → P x → AllByRecursion P ys → AllByRecursion P (put_in before x ys)
+  placed_all x [] one all = (one, tt)
+  placed_all x (y ∷ ys) one all =
+      either (before y x) (y ∷ put_in before x ys) (x ∷ y ∷ ys) (all.0, placed_all x ys one all.1) (one, all)
+
+  sorted_all : (xs : List X) → AllByRecursion P xs → AllByRecursion P (sorted_by before xs)
+  sorted_all [] all = tt
+  sorted_all (x ∷ xs) all = placed_all x (sorted_by before xs) all.0 (sorted_all xs all.1)
+
+pub layers_sorted : (key : Record → ℕ) (rs sorted : List Record) → sorted ≡ sorted_by_key key rs →
+    All (HasLayer One) rs → All (HasLayer One) sorted
+layers_sorted key rs sorted is layers =
+    subst (All (HasLayer One)) (sym is)
+    (All-from_recursion (HasLayer One) (sorted_by_key key rs)
+    (sorted_all (HasLayer One) _ rs (recursion_from_All (HasLayer One) rs layers)))

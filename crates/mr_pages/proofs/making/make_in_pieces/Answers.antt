@@ -1,0 +1,25 @@
+use Rattle.std.proofs.Common.{◌∙◌, sym, subst, ap}
+use Rattle.std.specs.Prelude.{MatchResult}
+use Rattle.mr_tree.specs.WellFormed.{WellFormed, HasLayers}
+use Rattle.mr_tree.specs.declared.tree.Tree.TheVariants as tree
+use Rattle.mr_pages.specs.Making.{GivesUp, IsMade}
+use Rattle.mr_pages.specs.PageBytes.{form_of}
+use Rattle.mr_pages.proofs.making.make_in_pieces.Goals as goal
+
+pub make_inner-requires-clause-well : goal.make_inner-requires-clause-well
+make_inner-requires-clause-well g c =
+    subst WellFormed (c.in-Inner.is ∙ ap tree.Inner (sym c.as_slice.ensures)) c.requires.well
+
+pub make_inner-requires-clause-layers : goal.make_inner-requires-clause-layers
+make_inner-requires-clause-layers g c =
+    subst (HasLayers c.args.layout.version) (c.in-Inner.is ∙ ap tree.Inner (sym c.as_slice.ensures)) c.requires.layers
+
+pub returns-in-Inner : goal.returns-in-Inner
+returns-in-Inner g c =
+    let name = c.args.name.now in
+    let before = g.S.Shelf.state c.args.shelf.now in
+    let after = g.S.Shelf.state c.make_inner.new.shelf in
+    subst (λ t. MatchResult c.make_inner.result
+    (λ r. IsMade (form_of c.args.layout) g.H.Hashes.of t name before after r.0 r.1)
+    (GivesUp c.args.layout.size name before after))
+    (sym (c.in-Inner.is ∙ ap tree.Inner (sym c.as_slice.ensures))) c.make_inner.ensures

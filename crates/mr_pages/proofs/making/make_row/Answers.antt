@@ -1,0 +1,121 @@
+use Rattle.std.proofs.Common.{◌≡◌, ◌∙◌, ◌+◌, ◌≤◌, ◌/◌, length, replicate, refl, ap, arith}
+use Rattle.mr_outside.specs.declared.shelf.ShelfErr.TheVariants as shelf
+use Rattle.mr_tree.specs.declared.tree.Tree.TheVariants as tree
+use Rattle.mr_pages.specs.Page.{page_limit}
+use Rattle.mr_pages.specs.PageBytes.{form_of}
+use Rattle.mr_pages.specs.Stands.{pages_of}
+use Rattle.mr_pages.specs.Saved.{numbered}
+use Rattle.mr_pages.proofs.InPieces.{two_pages, row_begun, row_begins, behind_zeros, put_count, row_room, inner_can, row_more}
+use Rattle.mr_pages.proofs.Laying.{child_layers, child_few}
+use Rattle.mr_pages.proofs.Put.{child_can}
+use Rattle.mr_pages.proofs.Written.{given_up, no_memory_more}
+use Rattle.mr_pages.proofs.making.make_row.Goals as goal
+
+pub returns-in_err-begin : goal.returns-in_err-begin
+returns-in_err-begin g c =
+    let size = c.args.layout.size in
+    given_up c.from_residual-in_err-begin.result _ c.in_err-begin.field-0.0 size c.args.name.now
+    (g.S.Shelf.state c.args.shelf.now) (g.S.Shelf.state c.begin.new.shelf) c.from_residual-in_err-begin.ensures.1
+    (c.in_err-begin.ensures size (replicate size 0)
+    (two_pages size c.deref.result.now (c.deref.ensures.value ∙ c.in_ok-front.ensures)))
+
+pub loop-child-init : goal.loop-child-init
+loop-child-init g c =
+    let size = c.args.layout.size in
+    let zeros = two_pages size c.deref.result.now (c.deref.ensures.value ∙ c.in_ok-front.ensures) in
+    row_begun (form_of c.args.layout) g.H.Hashes.of c.args.children.now c.args.name.now
+    (g.S.Shelf.state c.args.shelf.now) (g.S.Shelf.state c.begin.new.shelf) c.deref.result.now c.new-links.result.items
+    (c.in_ok-begin.ensures size (replicate size 0) zeros) zeros c.new-links.ensures.items
+
+pub add_tree-requires-clause-can : goal.add_tree-requires-clause-can
+add_tree-requires-clause-can g c =
+    let ts = c.args.children.now in
+    child_can (tree.Inner ts) ts c.loop-child.child-index c.child-item.result refl (inner_can ts c.requires.well)
+    c.loop-child-test.true c.child-item.is
+
+pub add_tree-requires-clause-layers : goal.add_tree-requires-clause-layers
+add_tree-requires-clause-layers g c =
+    let ts = c.args.children.now in
+    child_layers c.args.layout.version (tree.Inner ts) ts c.loop-child.child-index c.child-item.result refl
+    c.requires.layers c.loop-child-test.true c.child-item.is
+
+pub add_tree-requires-clause-few : goal.add_tree-requires-clause-few
+add_tree-requires-clause-few g c =
+    let ts = c.args.children.now in
+    child_few (tree.Inner ts) ts c.loop-child.child-index c.child-item.result refl c.requires.well.few
+    c.loop-child-test.true c.child-item.is
+
+pub add_tree-requires-clause-room : goal.add_tree-requires-clause-room
+add_tree-requires-clause-room g c =
+    row_room c.args.children.now c.loop-child.child-index c.loop-child.next c.child-item.result c.requires.well
+    c.loop-child-test.true c.child-item.is c.loop-child.invariant.place
+
+pub returns-in_err-add_link : goal.returns-in_err-add_link
+returns-in_err-add_link g c =
+    let form = form_of c.args.layout in
+    let size = c.args.layout.size in
+    let ts = c.args.children.now in
+    let name = c.args.name.now in
+    let i = c.loop-child.child-index in
+    let row = c.loop-child.invariant in
+    let behind = behind_zeros form g.H.Hashes.of ts i in
+    let before = g.S.Shelf.state c.args.shelf.now in
+    let after = g.S.Shelf.state c.add_tree.new.shelf in
+    let begins = row_begins form g.H.Hashes.of ts i row.bytes c.loop-child.links.items row.put in
+    given_up c.from_residual-in_err-add_link.result _ shelf.NoMemory size name before after
+    c.from_residual-in_err-add_link.ensures.1
+    (no_memory_more size name row.bytes behind c.add_tree.new.pages.items before after
+    (c.in_ok-link.ensures.made before row.bytes behind row.made begins) begins)
+
+pub overflow_cast-next : goal.overflow_cast-next
+overflow_cast-next g c =
+    let form = form_of c.args.layout in
+    let size = c.args.layout.size in
+    let next = c.loop-child.next in
+    let one = c.child-item.result in
+    let long : c.len.result ≡ length c.add_tree.new.pages.items =
+    omega (arith, c.len.ensures, c.add_tree.new.pages.ok) in
+    let many : c.len.result / size ≡ length (pages_of (numbered one next)) =
+    ap (λ n. n / size) long
+    ∙ put_count form g.H.Hashes.of one next c.add_tree.new.pages.items c.in_ok-link.link
+    (omega (arith, c.requires.layout.room)) c.in_ok-link.ensures.put in
+    let room : next + length (pages_of (numbered one next)) ≤ page_limit =
+    row_room c.args.children.now c.loop-child.child-index next one c.requires.well c.loop-child-test.true
+    c.child-item.is c.loop-child.invariant.place in
+    omega (arith, many, room)
+
+pub overflow_add-next : goal.overflow_add-next
+overflow_add-next g c =
+    let form = form_of c.args.layout in
+    let size = c.args.layout.size in
+    let next = c.loop-child.next in
+    let one = c.child-item.result in
+    let long : c.len.result ≡ length c.add_tree.new.pages.items =
+    omega (arith, c.len.ensures, c.add_tree.new.pages.ok) in
+    let many : c.len.result / size ≡ length (pages_of (numbered one next)) =
+    ap (λ n. n / size) long
+    ∙ put_count form g.H.Hashes.of one next c.add_tree.new.pages.items c.in_ok-link.link
+    (omega (arith, c.requires.layout.room)) c.in_ok-link.ensures.put in
+    let room : next + length (pages_of (numbered one next)) ≤ page_limit =
+    row_room c.args.children.now c.loop-child.child-index next one c.requires.well c.loop-child-test.true
+    c.child-item.is c.loop-child.invariant.place in
+    omega (arith, many, room)
+
+pub loop-child-preserved : goal.loop-child-preserved
+loop-child-preserved g c =
+    let form = form_of c.args.layout in
+    let size = c.args.layout.size in
+    let ts = c.args.children.now in
+    let i = c.loop-child.child-index in
+    let row = c.loop-child.invariant in
+    let before = g.S.Shelf.state c.args.shelf.now in
+    let pages = c.add_tree.new.pages.items in
+    let long : c.len.result ≡ length c.add_tree.new.pages.items =
+    omega (arith, c.len.ensures, c.add_tree.new.pages.ok) in
+    row_more form g.H.Hashes.of ts i c.args.name.now before (g.S.Shelf.state c.loop-child.shelf)
+    (g.S.Shelf.state c.add_tree.new.shelf) c.loop-child.links.items c.add_link.new.links.items c.child-item.result
+    c.in_ok-link.link c.loop-child.next (c.len.result / size) pages (omega (arith, c.requires.layout.room))
+    c.loop-child-test.true c.child-item.is row c.in_ok-link.ensures.put
+    (c.in_ok-link.ensures.made before row.bytes (behind_zeros form g.H.Hashes.of ts i) row.made
+    (row_begins form g.H.Hashes.of ts i row.bytes c.loop-child.links.items row.put))
+    c.in_ok-add_link.ensures (ap (λ n. n / size) long)

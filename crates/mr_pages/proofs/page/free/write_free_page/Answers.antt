@@ -1,6 +1,0 @@
-use Rattle.std.proofs.Common.{◌∙◌}
-use Rattle.mr_pages.specs.PageBytes.{filled}
-use Rattle.mr_pages.proofs.page.free.write_free_page.Goals as goal
-
-pub returns : goal.returns
-returns c = c.fill.ensures ∙ (λ i. filled (c.told-into i) ((c.as_slice.ensures.bytes ∙ c.encoded-bytes.ensures) i))

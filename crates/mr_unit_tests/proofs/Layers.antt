@@ -1,0 +1,40 @@
+-- The layers of what comes by a batch, and of what stands in a tree.
+use Rattle.std.specs.Prelude.{◌≡◌, All, List}
+use Rattle.std.specs.List.Sorted.{IsPermutation}
+use Rattle.std.proofs.lemmas.List.Sorted.{All-permutation}
+use Rattle.mr_record.specs.Record.{HasLayer}
+use Rattle.mr_record.specs.declared.record.Record.{Record}
+use Rattle.mr_tree.specs.Tree.{records}
+use Rattle.mr_tree.specs.WellFormed.{HasLayers}
+use Rattle.mr_tree.specs.View.{Node, AreTold}
+use Rattle.mr_tree.specs.declared.child.Child.{Child}
+use Rattle.mr_tree.specs.declared.tree.Tree.{Tree}
+use Rattle.mr_tree.specs.declared.tree.Tree.TheOpen.{Leaf, Inner}
+use Rattle.mr_edit.specs.Held.{IsTold}
+use Rattle.mr_edit.proofs.Shown.{leaf_told, inner_told}
+use Rattle.mr_record.specs.declared.version.Version.{Version}
+use Rattle.mr_record.specs.declared.version.Version.TheVariants.{One}
+use Rattle.mr_batch.specs.BatchText.{IsChange, IsBatch}
+use Rattle.mr_batch.specs.Changes.{Changes, IsLayered}
+use Rattle.mr_batch.specs.declared.change.Change.{Change}
+use Rattle.mr_batch.specs.declared.change.Change.TheVariants.{Add, Remove}
+
+-- what comes by a batch that was read lies on a layer that there is
+layered_change : (v : Version) (c : Change) → IsChange v c → IsLayered c
+layered_change v (Add r) is = is.0.layer
+layered_change v (Remove n) is = tt
+
+pub layered : (v : Version) (b : Changes) → IsBatch v b → All IsLayered b.list
+layered v b is = λ k d within. layered_change v _ (is.changes.each k d within)
+
+-- the tree of some records has their layers
+pub packed_layers : (v : Version) (rs : List Record) (t : Tree) → All (HasLayer v) rs → IsPermutation rs (records t)
+    → HasLayers v t
+packed_layers v rs t all same = All-permutation (HasLayer v) rs (records t) same all
+
+-- what a view shows that was made a leaf, or an inner node
+pub leaf_shown : (n : Node) (rs : List Record) → n ≡ Leaf rs → All (HasLayer One) rs → AreTold One n
+leaf_shown n rs is layers = leaf_told n rs is layers
+
+pub inner_shown : (n : Node) (cs : List Child) → n ≡ Inner cs → All (IsTold One) cs → AreTold One n
+inner_shown n cs is told = inner_told n cs is told
