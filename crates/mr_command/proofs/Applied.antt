@@ -15,8 +15,7 @@ use Rattle.mr_tree.specs.Tree.{records}
 use Rattle.mr_tree.specs.WellFormed.{WellFormed}
 use Rattle.mr_tree.specs.declared.nodes.NodesErr.{NodesErr}
 use Rattle.mr_tree.specs.declared.tree.Tree.{Tree}
-use Rattle.mr_pages.specs.Law.{IsMap}
-use Rattle.mr_pages.specs.PageBytes.{first_form}
+use Rattle.mr_pages.specs.Law.{IsMapFile}
 use Rattle.mr_pages.specs.declared.error.MapErr.{MapErr}
 use Rattle.mr_pages.specs.declared.head.MapHead.{MapHead}
 use Rattle.mr_pages.specs.declared.opening.Opened.{Opened}
@@ -31,6 +30,7 @@ use Rattle.mr_batch.specs.Changes.{Changes}
 use Rattle.mr_batch.specs.Directory.{Entries, IsDirectoryOf, HaveNumbers}
 use Rattle.mr_batch.specs.declared.admission.BatchFault.{BatchFault}
 use Rattle.mr_batch.proofs.Replaying.{numbers_of}
+use Rattle.mr_plan.specs.First.{first_map}
 use Rattle.mr_command.specs.Applying.{MayApply, ComesBehind, IsFewOfCopy, IsFewOfChanges, IsFewOfText, IsFewOfFile}
 use Rattle.mr_command.specs.Counting.{nodes_listed, pieces_of, IsFewApplied, IsFewOfBatch, ReadsFew}
 use Rattle.mr_command.specs.Ending.{Comes, ComesBut, with_reads, AreJudged, Blames, Came, Ends, GivesOrStops, GivesUp, GoesOn, Misses, NoneFalls, Reads, SaysRefusal, SaysUntold, Stops, printed_of}
@@ -49,7 +49,7 @@ use Rattle.mr_command.proofs.Batches.{says_applied}
 use Rattle.mr_command.proofs.Counting.{AllowsFrom, OnceFrom, few_stopped, taken_none}
 use Rattle.mr_command.proofs.Drafts.{by_some, at_some, halts_but, behind_given, behind_halted}
 use Rattle.mr_command.proofs.Going.{comes_missed, comes_read, comes_unread, judged_needs}
-use Rattle.mr_command.proofs.Pages.{map_in, HasMap, at_input, few_refused, few_there, file_has, files_told, has_map, refused_blamed, refused_told, told_on, with_same}
+use Rattle.mr_command.proofs.Pages.{map_at, HasMap, at_input, few_refused, few_there, file_has, files_told, has_map, refused_blamed, refused_told, told_on, with_same}
 use Rattle.mr_command.proofs.Plans.{stays}
 use Rattle.mr_command.proofs.Rereading.{comes_told, comes_untold, fetch_blamed, fetch_stopped, says_refused}
 use Rattle.mr_command.proofs.Served.{few_walked}
@@ -104,12 +104,12 @@ module _ (hash : List ℕ → List ℕ) (map new batch : List ℕ) (n n' : List 
       → ComesBehind applies_batch standing (λ m. comes (said_of_batch m)) (few_of_batch mid) before mid result
   unlisted e result cause says = record {
     counts = counts_listed;
-    told = by_some standing.tree (λ t. ComesBut (comes (said_of_batch (map_in standing t))) before mid result)
+    told = by_some standing.tree (λ t. ComesBut (comes (said_of_batch (map_at standing t))) before mid result)
         (λ t told.
         let stop = fetch_stopped map standing t e before mid result told cause says in
-        subst (ComesBut (comes (said_of_batch (map_in standing t))) before mid) (sym stop.is)
-        (halts_but (said_of_batch (map_in standing t)) before mid stop.halt counts_listed stop.stops
-        (stays (said_of_batch (map_in standing t)).written before.files mid.files kept.files)));
+        subst (ComesBut (comes (said_of_batch (map_at standing t))) before mid) (sym stop.is)
+        (halts_but (said_of_batch (map_at standing t)) before mid stop.halt counts_listed stop.stops
+        (stays (said_of_batch (map_at standing t)).written before.files mid.files kept.files)));
     untold = λ none.
         says_refused hash applies_batch map (λ o is. inl is) before mid kept.files (as_map_error e) result
         (fetch_blamed hash standing e before mid cause) says;
@@ -173,13 +173,13 @@ module _ (hash : List ℕ → List ℕ) (map new batch : List ℕ) (n n' : List 
         faults = omega (arith, kept.faults, on.counts.faults);
         reads = omega (arith, kept.reads, on.counts.reads);
       };
-      told = by_some standing.tree (λ t. ComesBut (comes (said_of_batch (map_in standing t))) before after result)
+      told = by_some standing.tree (λ t. ComesBut (comes (said_of_batch (map_at standing t))) before after result)
           (λ t told.
           let own : ComesBut (comes (say_changed hash new h.pages t b)) mid after result =
           at_some standing.tree t (λ t. ComesBut (comes (say_changed hash new h.pages t b)) mid after result)
           told same.told in
           subst (λ o. ComesBut (comes o) before after result)
-          (sym (says_applied hash new h.pages (map_in standing t) b (admissible fine t told)))
+          (sym (says_applied hash new h.pages (map_at standing t) b (admissible fine t told)))
           (subst (λ w. Comes (comes (say_changed hash new h.pages t b)) w after result)
           (with_same after.reads before mid kept.files quiet) own));
       untold = λ none.
@@ -227,9 +227,9 @@ module _ (hash : List ℕ → List ℕ) (map new batch : List ℕ) (s : Standing
       → ComesBehind applies_text s (λ m. comes (said_of_text m)) (few_of_text after) before after result
   batch_read b after result is on = record {
     counts = on.counts;
-    told = by_some s.tree (λ t. ComesBut (comes (said_of_text (map_in s t))) before after result) (λ t told.
-        subst (λ r. ComesBut (comes (say_apply_of hash new pages (map_in s t) r)) before after result) (sym is)
-        (at_some s.tree t (λ t. ComesBut (comes (say_batch hash new pages (map_in s t) b)) before after result) told
+    told = by_some s.tree (λ t. ComesBut (comes (said_of_text (map_at s t))) before after result) (λ t told.
+        subst (λ r. ComesBut (comes (say_apply_of hash new pages (map_at s t) r)) before after result) (sym is)
+        (at_some s.tree t (λ t. ComesBut (comes (say_batch hash new pages (map_at s t) b)) before after result) told
         on.told));
     untold = on.untold;
     few_read = by_some s.tree (few_of_text after) (λ t told.
@@ -249,7 +249,7 @@ module _ (hash : List ℕ → List ℕ) (map new batch : List ℕ) (s : Standing
   batch_bad fault result are is gives =
       behind_given applies_text s said_of_text (few_of_text before) before before counts_none few_none
       (ends BadText (bad_text_line fault))
-      result refl (λ t told. ap (say_apply_of hash new pages (map_in s t)) is)
+      result refl (λ t told. ap (say_apply_of hash new pages (map_at s t)) is)
       (λ none. inr (inr (inl (text, are, (fault, is, refl))))) refl refl gives
 
   pub batch_spent : ComesBehind applies_text s (λ m. comes (said_of_text m)) (few_of_text before) before before
@@ -257,7 +257,7 @@ module _ (hash : List ℕ → List ℕ) (map new batch : List ℕ) (s : Standing
   batch_spent =
       behind_halted applies_text s said_of_text (few_of_text before) before before counts_none few_none
       halts.NoMemory tt
-      (λ t told. stays (said_of_text (map_in s t)).written before.files before.files refl) (λ none. refl)
+      (λ t told. stays (said_of_text (map_at s t)).written before.files before.files refl) (λ none. refl)
 
 -- ---- the file of a batch
 
@@ -270,7 +270,7 @@ module _ (hash : List ℕ → List ℕ) (map batch new : List ℕ) (n n' : List 
   applies_file = applying hash map batch new
 
   abbrev said_of_file : Tree → List ℕ → Outcome
-  said_of_file t text = say_apply_of hash new h.pages (map_in standing_of_file t) (batch_of_text One text)
+  said_of_file t text = say_apply_of hash new h.pages (map_at standing_of_file t) (batch_of_text One text)
 
   abbrev few_of_file : Shelved → Tree → Type 0
   few_of_file after = IsFewOfFile h.pages h.batch before.files batch before.reads after.reads
@@ -291,7 +291,7 @@ module _ (hash : List ℕ → List ℕ) (map batch new : List ℕ) (n n' : List 
       faults = omega (arith, is.counts.faults, on.counts.faults);
       reads = omega (arith, is.counts.reads, on.counts.reads);
     };
-    told = by_some standing_of_file.tree (λ t. ComesBut (say_change hash batch new h.pages (map_in standing_of_file t))
+    told = by_some standing_of_file.tree (λ t. ComesBut (say_change hash batch new h.pages (map_at standing_of_file t))
         before after result)
         (λ t told. comes_read batch (said_of_file t) (with_reads after.reads before) (with_reads after.reads mid)
         after text
@@ -350,7 +350,7 @@ module _ (hash : List ℕ → List ℕ) (map batch new : List ℕ) (n n' : List 
       → Reads batch before mid (Ok read) → Misses batch result → behind_file mid result
   file_missed read result was got misses = record {
     counts = got.counts;
-    told = by_some standing_of_file.tree (λ t. ComesBut (say_change hash batch new h.pages (map_in standing_of_file t))
+    told = by_some standing_of_file.tree (λ t. ComesBut (say_change hash batch new h.pages (map_at standing_of_file t))
         before mid result)
         (λ t told. comes_missed batch (said_of_file t) (with_reads mid.reads before) mid read result was
         (reads_but batch before mid (Ok read) got) misses);
@@ -381,7 +381,7 @@ module _ (hash : List ℕ → List ℕ) (map batch new : List ℕ) (n n' : List 
   pub file_unread : (halt : Halt) → Reads batch before mid (Err halt) → behind_file mid (Err halt)
   file_unread halt got = record {
     counts = got.counts;
-    told = by_some standing_of_file.tree (λ t. ComesBut (say_change hash batch new h.pages (map_in standing_of_file t))
+    told = by_some standing_of_file.tree (λ t. ComesBut (say_change hash batch new h.pages (map_at standing_of_file t))
         before mid (Err halt))
         (λ t told. comes_unread batch (said_of_file t) (with_reads mid.reads before) mid halt
         (reads_but batch before mid (Err halt) got));
@@ -517,7 +517,7 @@ module _ (hash : List ℕ → List ℕ) (sized : (xs : List ℕ) → length (has
         reads = omega (arith, o.more, on.counts.reads);
       }
 
-      few_in : (bytes : List ℕ) (input : Input) (t : Tree) → IsMap first_form hash bytes t standing_opened.batch
+      few_in : (bytes : List ℕ) (input : Input) (t : Tree) → IsMapFile hash bytes (first_map t standing_opened.batch)
           → h.pages ≡ first_pages bytes → mid.reads ≤ before.reads + first_pages bytes
           → (k : ℕ) × (end.reads ≤ mid.reads + pieces_of input + k) × IsFewOfBatch h.pages t h.batch input k
           → (k : ℕ) × (end.reads ≤ before.reads + k) × IsFewApplied hash bytes input k
@@ -564,7 +564,7 @@ module _ (hash : List ℕ → List ℕ) (sized : (xs : List ℕ) → length (has
               let there : file files old ≡ Some has.bytes =
               subst (λ o. IsInput o old (Some has.bytes)) told has.input in
               let own = at_some standing_opened.tree has.tree
-              (λ t. ComesBut (say_change hash batch new h.pages (map_in standing_opened t)) mid end result)
+              (λ t. ComesBut (say_change hash batch new h.pages (map_at standing_opened t)) mid end result)
               has.told on.told in
               let same : h.pages ≡ pages_there (file files old) = pages_are ∙ sym (ap pages_there there) in
               comes_told applies plan before end files told result all.reads (few_applied files told has)

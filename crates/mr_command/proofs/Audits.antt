@@ -32,7 +32,7 @@ use Rattle.mr_command.specs.declared.ending.Halt.{Halt}
 use Rattle.mr_command.specs.declared.ending.Halt.TheVariants as halts
 use Rattle.mr_command.proofs.Counting.{OnceFrom, few_none, once_none}
 use Rattle.mr_command.proofs.Going.{comes_given, comes_read, comes_missed, comes_unread, judged_needs}
-use Rattle.mr_command.proofs.Pages.{HasMap, map_in, few_beside, few_there, at_input, has_map, told_on, with_same}
+use Rattle.mr_command.proofs.Pages.{HasMap, map_at, few_beside, few_there, at_input, has_map, told_on, with_same}
 use Rattle.mr_command.proofs.Rereading.{comes_but, comes_told, comes_untold, fetch_blamed, fetch_stopped, says_refused, stops_with}
 use Rattle.mr_command.proofs.Verdicts.{says_finding, audit_writes, finding_writes}
 
@@ -64,15 +64,15 @@ module _ (hash : List ℕ → List ℕ) (map : List ℕ) (q : Query) (proof byte
   pub found_told : (f : Finding) (result : Result Ending Halt)
       → IfSome s.tree (λ t. f ≡ found (by s.version hash) t s.batch q bytes) → new.faults ≡ old.faults
       → GivesOrStops (say_finding f) result
-      → IfSome s.tree (λ t. ComesBut (comes (say_audit_of hash q (map_in s t) bytes)) old new result)
+      → IfSome s.tree (λ t. ComesBut (comes (say_audit_of hash q (map_at s t) bytes)) old new result)
   found_told f result is quiet gives = by_tree s.tree is
     where
       by_tree : (o : Option Tree) → IfSome o (λ t. f ≡ found (by s.version hash) t s.batch q bytes)
-          → IfSome o (λ t. ComesBut (comes (say_audit_of hash q (map_in s t) bytes)) old new result)
+          → IfSome o (λ t. ComesBut (comes (say_audit_of hash q (map_at s t) bytes)) old new result)
       by_tree None is = tt
       by_tree (Some t) is =
           subst (λ said. ComesBut (comes said) old new result)
-          (says_finding hash q (map_in s t) bytes f
+          (says_finding hash q (map_at s t) bytes f
           (subst (λ v. f ≡ found (by v hash) t s.batch q bytes) first_is is))
           (at_end (say_finding f) result (finding_writes f) quiet gives)
 
@@ -96,16 +96,16 @@ module _ (hash : List ℕ → List ℕ) (map : List ℕ) (q : Query) (proof byte
 
   pub unfetched_told : (e : NodesErr) (result : Result Ending Halt) → HasSomeCause s old.faults new.faults e
       → SaysRefusal map (as_map_error e) result
-      → IfSome s.tree (λ t. ComesBut (comes (say_audit_of hash q (map_in s t) bytes)) old new result)
+      → IfSome s.tree (λ t. ComesBut (comes (say_audit_of hash q (map_at s t) bytes)) old new result)
   unfetched_told e result cause says = by_tree s.tree refl
     where
       by_tree : (o : Option Tree) → s.tree ≡ o
-          → IfSome o (λ t. ComesBut (comes (say_audit_of hash q (map_in s t) bytes)) old new result)
+          → IfSome o (λ t. ComesBut (comes (say_audit_of hash q (map_at s t) bytes)) old new result)
       by_tree None told = tt
       by_tree (Some t) told =
           let stop = fetch_stopped map s t e old new result told cause says in
-          subst (ComesBut (comes (say_audit_of hash q (map_in s t) bytes)) old new) (sym stop.is)
-          (halted (say_audit_of hash q (map_in s t) bytes) stop.halt (audit_writes hash q (map_in s t) bytes)
+          subst (ComesBut (comes (say_audit_of hash q (map_at s t) bytes)) old new) (sym stop.is)
+          (halted (say_audit_of hash q (map_at s t) bytes) stop.halt (audit_writes hash q (map_at s t) bytes)
           stop.stops)
 
   pub unfetched_untold : (e : NodesErr) (result : Result Ending Halt) → HasSomeCause s old.faults new.faults e
@@ -216,7 +216,7 @@ module _ (hash : List ℕ → List ℕ) (q : Query) (s : Standing) (pages : ℕ)
 module _ (hash : List ℕ → List ℕ) (map : List ℕ) (q : Query) (proof : List ℕ) (old mid new : Shelved)
     (s : Standing) where
   abbrev said_of : Tree → List ℕ → Outcome
-  said_of t bytes = say_audit_of hash q (map_in s t) bytes
+  said_of t bytes = say_audit_of hash q (map_at s t) bytes
 
   pub read_told : (bytes : Vec ℕ) (read : Option (Vec ℕ)) (result : Result Ending Halt) → read ≡ Some bytes
       → Reads proof old mid (Ok read)
@@ -304,7 +304,7 @@ module _ (hash : List ℕ → List ℕ) (sized : (xs : List ℕ) → length (has
       IsBeside hash t s.batch q h.pages (file files proof) mid.reads end.reads))) has.told beside)))
 
   pub audited : (result : Result Ending Halt)
-      → IfSome s.tree (λ t. ComesBut (on_map (map_in s t)) mid end result)
+      → IfSome s.tree (λ t. ComesBut (on_map (map_at s t)) mid end result)
       → (mid.files ≡ None → SaysUntold (auditing hash map q proof) mid end result)
       → Comes (rereads (auditing hash map q proof) (needs_map hash map on_map)) before end result
   audited result told_so untold_so = by_files before.files refl
@@ -323,4 +323,4 @@ module _ (hash : List ℕ → List ℕ) (sized : (xs : List ℕ) → length (has
           (few_audited files told has)
           (told_on hash sized map before s mid same quiet answers on_map
           (λ m. judged_needs proof (say_audit_of hash q m) before.files) has end result
-          (subst (λ o. IfSome o (λ t. ComesBut (on_map (map_in s t)) mid end result)) has.told told_so))
+          (subst (λ o. IfSome o (λ t. ComesBut (on_map (map_at s t)) mid end result)) has.told told_so))

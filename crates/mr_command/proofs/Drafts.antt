@@ -12,8 +12,7 @@ use Rattle.mr_tree.specs.View.{IsChild}
 use Rattle.mr_tree.specs.declared.child.Child.{Child}
 use Rattle.mr_tree.specs.Tree.{records}
 use Rattle.mr_tree.specs.declared.tree.Tree.{Tree}
-use Rattle.mr_pages.specs.Law.{IsMap}
-use Rattle.mr_pages.specs.PageBytes.{first_form}
+use Rattle.mr_pages.specs.Law.{IsMapFile, map_root}
 use Rattle.mr_pages.specs.Saved.{IsUnsealed, Leaves}
 use Rattle.mr_pages.specs.Source.{told_bytes}
 use Rattle.mr_pages.specs.declared.error.MapErr.TheVariants as errors
@@ -36,7 +35,7 @@ use Rattle.mr_edit.specs.declared.error.EditErr.{EditErr}
 use Rattle.mr_edit.specs.declared.error.EditErr.TheVariants as edits
 use Rattle.mr_command.specs.Applying.{of_copy, of_edit, SaysSealed, MayApply, ComesBehind, IsFewOfCopy}
 use Rattle.mr_command.specs.Ending.{ComesBut, Gives, GivesOrStops, NoneFalls, SaysRefusal, Stops}
-use Rattle.mr_plan.specs.First.{first}
+use Rattle.mr_plan.specs.First.{first, first_map}
 use Rattle.mr_plan.specs.Lines.{digest_line}
 use Rattle.mr_plan.specs.Outcome.{Outcome, Nothing, IsChangedMap, IsLeft, MayLeave}
 use Rattle.mr_plan.specs.Plan.{comes}
@@ -46,7 +45,7 @@ use Rattle.mr_command.specs.declared.ending.Ending.{Ending}
 use Rattle.mr_command.specs.declared.ending.Halt.{Halt}
 use Rattle.mr_command.specs.declared.ending.Halt.TheVariants as halts
 use Rattle.mr_command.proofs.Counting.{few_none}
-use Rattle.mr_command.proofs.Pages.{map_in}
+use Rattle.mr_command.proofs.Pages.{map_at}
 use Rattle.mr_command.proofs.Rereading.{IsBlamed, IsStopped, page_blamed, says_refused, stops_with}
 
 -- ---- where a tree is told
@@ -204,23 +203,23 @@ module _ (reading : Rereading) (s : Standing) (said : Opened → Outcome) (few :
   behind result = ComesBehind reading s (λ m. comes (said m)) few before after result
 
   pub behind_halted : (halt : Halt) → Stops before after halt
-      → ((t : Tree) → s.tree ≡ Some t → MayLeave (said (map_in s t)).written before.files after.files)
+      → ((t : Tree) → s.tree ≡ Some t → MayLeave (said (map_at s t)).written before.files after.files)
       → (before.files ≡ None → after.files ≡ before.files) → behind (Err halt)
   behind_halted halt stops may gone = record {
     counts = counts;
-    told = by_some s.tree (λ t. ComesBut (comes (said (map_in s t))) before after (Err halt))
-        (λ t told. halts_but (said (map_in s t)) before after halt counts stops (may t told));
+    told = by_some s.tree (λ t. ComesBut (comes (said (map_at s t))) before after (Err halt))
+        (λ t told. halts_but (said (map_at s t)) before after halt counts stops (may t told));
     untold = λ none. (stops, gone none);
     few_read = read;
   }
 
   -- no file was written
   pub behind_given : (one : Outcome) (result : Result Ending Halt) → one.written ≡ Nothing
-      → ((t : Tree) → s.tree ≡ Some t → said (map_in s t) ≡ one) → (before.files ≡ None → MaySay reading one)
+      → ((t : Tree) → s.tree ≡ Some t → said (map_at s t) ≡ one) → (before.files ≡ None → MaySay reading one)
       → after.files ≡ before.files → after.faults ≡ before.faults → GivesOrStops one result → behind result
   behind_given one (Ok ending) writes is may files quiet gives = record {
     counts = counts;
-    told = by_some s.tree (λ t. ComesBut (comes (said (map_in s t))) before after (Ok ending))
+    told = by_some s.tree (λ t. ComesBut (comes (said (map_at s t))) before after (Ok ending))
         (λ t told. subst (λ o. ComesBut (comes o) before after (Ok ending)) (sym (is t told))
         (ends_but one before after ending counts quiet gives
         (subst (λ w. IsLeft w before.files after.files) (sym writes) files)));
@@ -285,7 +284,7 @@ module _ (hash : List ℕ → List ℕ) (map new batch : List ℕ) (name : List 
   uncopied after (edits.Map f) result fails says = absurd fails.cause
   uncopied after edits.Missing result fails says = record {
     counts = record { faults = fails.later; reads = fails.more };
-    told = by_some s.tree (λ t. ComesBut (comes (said (map_in s t))) before after result)
+    told = by_some s.tree (λ t. ComesBut (comes (said (map_at s t))) before after result)
         (λ t told. absurd (none_told (fails.untold refl) t told));
     untold = λ none.
         says_refused hash (applying hash map batch new) map (λ said is. inl is) before after
@@ -336,11 +335,11 @@ module _ (hash : List ℕ → List ℕ) (map new batch : List ℕ) (name : List 
           → SaysRefusal map (of_edit error) result → changes e.shelf result
       unapplied error result cause sound says = record {
         counts = counts;
-        told = by_some s.tree (λ t. ComesBut (comes (said (map_in s t))) before e.shelf result) (λ t told.
+        told = by_some s.tree (λ t. ComesBut (comes (said (map_at s t))) before e.shelf result) (λ t told.
             let stop = shelf_stopped map error before e.shelf result
             (subst (λ n. HasShelfCause n e.shelf.faults error) copies.quiet (sound t (can t told))) says in
-            subst (ComesBut (comes (said (map_in s t))) before e.shelf) (sym stop.is)
-            (halts_but (said (map_in s t)) before e.shelf stop.halt counts stop.stops (may_be t)));
+            subst (ComesBut (comes (said (map_at s t))) before e.shelf) (sym stop.is)
+            (halts_but (said (map_at s t)) before e.shelf stop.halt counts stop.stops (may_be t)));
         untold = λ none.
             says_refused hash (applying hash map batch new) map (λ said is. inl is) before e.shelf (gone none)
             (of_edit error) result
@@ -356,7 +355,7 @@ module _ (hash : List ℕ → List ℕ) (map new batch : List ℕ) (name : List 
             → IsSealed hash e (replay t (b ∷ [])) bytes
             → IsChangedMap hash h.pages (peak t b) (replay t (b ∷ [])) b.number bytes
         is_changed t bytes a is = record {
-          stands = subst (IsMap first_form hash bytes (replay t (b ∷ []))) at_batch is.map;
+          stands = subst (λ n. IsMapFile hash bytes (first_map (replay t (b ∷ [])) n)) at_batch is.map;
           no_fewer = omega (arith, copies.paged, a.no_fewer, is.size);
           no_more = omega (arith, copies.paged, a.no_more, is.size);
         }
@@ -380,11 +379,12 @@ module _ (hash : List ℕ → List ℕ) (map new batch : List ℕ) (name : List 
             → changes after result
         sealed_so digest (Ok ending) seals long some gives = record {
           counts = counts_on (omega (arith, seals.quiet));
-          told = by_some s.tree (λ t. ComesBut (comes (said (map_in s t))) before after (Ok ending)) (λ t told.
+          told = by_some s.tree (λ t. ComesBut (comes (said (map_at s t))) before after (Ok ending)) (λ t told.
               let a = applies t (can t told) in
-              let same : digest ≡ root (first hash) (replay t (b ∷ [])) b.number =
-              subst (λ n. digest ≡ root (first hash) (replay t (b ∷ [])) n) at_batch (seals.digest_is _ a.draft) in
-              ends_but (said (map_in s t)) before after ending (counts_on (omega (arith, seals.quiet)))
+              let same : digest ≡ map_root hash (first_map (replay t (b ∷ [])) b.number) =
+              subst (λ n. digest ≡ map_root hash (first_map (replay t (b ∷ [])) n)) at_batch
+              (seals.digest_is _ a.draft) in
+              ends_but (said (map_at s t)) before after ending (counts_on (omega (arith, seals.quiet)))
               (seals.quiet ∙ quiet ∙ copies.quiet)
               (record {
                 status = gives.status;

@@ -18,7 +18,7 @@ use Rattle.mr_tree.specs.WellFormed.{WellFormed, HasLayers}
 use Rattle.mr_tree.specs.declared.tree.Tree.{Tree}
 use Rattle.mr_pages.specs.Page.{Form}
 use Rattle.mr_pages.specs.PageBytes.{form_by}
-use Rattle.mr_pages.specs.Law.{Agrees, IsMap}
+use Rattle.mr_pages.specs.Law.{Agrees, IsMapFile, map_in}
 use Rattle.mr_pages.specs.Saved.{saved, MayStand, Leaves}
 use Rattle.mr_pages.specs.Opening.{Answers, Fails, MapCauses, OrFails, Tells}
 use Rattle.mr_pages.specs.declared.error.MapErr.{MapErr}
@@ -559,7 +559,7 @@ IsSized hash = (xs : List ℕ) → length (hash xs) ≡ 32
 -- what a save leaves
 module _ (v : Version) (hash : List ℕ → List ℕ) (sized : IsSized hash) (name : List ℕ) (tree : Tree) (batch : ℕ)
     (before after : Shelved) (well : WellFormed tree) (layers : HasLayers v tree) (low : batch < 2 ^ 64) where
-  is_map : IsMap (form_by v) hash (saved (form_by v) hash tree batch) tree batch
+  is_map : IsMapFile hash (saved (form_by v) hash tree batch) (map_in v tree batch)
   is_map =
       let here = subst (λ u. HasLayers u tree) (sym (version_by v)) layers in
       record {
@@ -571,7 +571,7 @@ module _ (v : Version) (hash : List ℕ → List ℕ) (sized : IsSized hash) (na
   laid_out : (bytes : List ℕ) → bytes ≡ saved (form_by v) hash tree batch → IsLaidOut v hash tree batch bytes
   laid_out bytes laid = record {
     laid = laid;
-    stands = subst (λ b. IsMap (form_by v) hash b tree batch) (sym laid) is_map;
+    stands = subst (λ b. IsMapFile hash b (map_in v tree batch)) (sym laid) is_map;
   }
 
   pub saved_so : (done : Unit) → before.faults ≤ after.faults → after.reads ≡ before.reads

@@ -11,7 +11,7 @@ use Rattle.mr_tree.specs.Digest.{by}
 use Rattle.mr_tree.specs.Nodes.{Standing, HasSomeCause}
 use Rattle.mr_tree.specs.declared.nodes.NodesErr.{NodesErr}
 use Rattle.mr_tree.specs.declared.tree.Tree.{Tree}
-use Rattle.mr_pages.specs.Law.{Agrees, IsMap}
+use Rattle.mr_pages.specs.Law.{Agrees, IsMapFile}
 use Rattle.mr_pages.specs.Opening.{Fails, SomeBytes, Tells, pages_in as pages_read}
 use Rattle.mr_pages.specs.PageBytes.{first_form}
 use Rattle.mr_pages.specs.declared.error.MapErr.{MapErr}
@@ -44,8 +44,8 @@ use Rattle.mr_command.proofs.Rereading.{IsBlamed, comes_but, comes_told, comes_u
 use Rattle.mr_command.proofs.Texts.{says_proof}
 
 -- the map of a tree that stands so
-abbrev pub map_in : Standing → Tree → Opened
-map_in s t = first_map t s.batch
+abbrev pub map_at : Standing → Tree → Opened
+map_at s t = first_map t s.batch
 
 -- ---- the bytes of the map's file
 
@@ -202,7 +202,7 @@ module _ (hash : List ℕ → List ℕ) (sized : (xs : List ℕ) → length (has
     pub told : s.tree ≡ Some tree
     pub bytes : List ℕ
     pub input : IsInput before.files map (Some bytes)
-    pub stands : IsMap first_form hash bytes tree s.batch
+    pub stands : IsMapFile hash bytes (first_map tree s.batch)
     pub holds : (n : ℕ) → HoldsMap always_first hash map (with_reads n before) (with_reads n after)
         (first_map tree s.batch)
 
@@ -260,7 +260,7 @@ module _ (hash : List ℕ → List ℕ) (sized : (xs : List ℕ) → length (has
 
 -- so few where a map is opened and its nodes are fetched for a proof
 few_pages : (hash : List ℕ → List ℕ) (q : Query) (h : MapHead) (bytes : List ℕ) (r m e f : ℕ) (t : Tree) (batch : ℕ)
-    → IsMap first_form hash bytes t batch → h.pages ≡ first_pages bytes → m ≤ r + first_pages bytes
+    → IsMapFile hash bytes (first_map t batch) → h.pages ≡ first_pages bytes → m ≤ r + first_pages bytes
     → (h.pages ≤ room + 1 → e ≡ m) → FewFetches m 0 e f → e ≤ max m last_count
     → f ≤ 0 + rounds q * opened (first hash) t q → (n : ℕ) × (e ≤ r + n) × IsFewOf hash q bytes n
 few_pages hash q h bytes r m e f t batch stands pages few still fetched most bound =
@@ -280,7 +280,7 @@ few_pages hash q h bytes r m e f t batch stands pages few still fetched most bou
 
 -- the same beside a proof, whose pieces come on top
 pub few_beside : (hash : List ℕ → List ℕ) (q : Query) (h : MapHead) (bytes : List ℕ) (proof : Input) (r m e : ℕ)
-    (t : Tree) (batch : ℕ) → IsMap first_form hash bytes t batch → h.pages ≡ first_pages bytes
+    (t : Tree) (batch : ℕ) → IsMapFile hash bytes (first_map t batch) → h.pages ≡ first_pages bytes
     → m ≤ r + first_pages bytes → IsBeside hash t batch q h.pages proof m e
     → (n : ℕ) × (e ≤ r + n) × IsFewBeside hash q bytes proof n
 few_beside hash q h bytes proof r m e t batch stands pages few (inl small) = (

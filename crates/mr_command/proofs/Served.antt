@@ -16,8 +16,7 @@ use Rattle.mr_tree.specs.declared.nodes.NodesErr.{NodesErr}
 use Rattle.mr_tree.specs.declared.nodes.Top.{Top}
 use Rattle.mr_tree.specs.declared.stored.Stored.{Stored}
 use Rattle.mr_tree.specs.declared.tree.Tree.{Tree}
-use Rattle.mr_pages.specs.Law.{IsMap}
-use Rattle.mr_pages.specs.PageBytes.{first_form}
+use Rattle.mr_pages.specs.Law.{IsMapFile}
 use Rattle.mr_pages.specs.declared.error.MapErr.{MapErr}
 use Rattle.mr_pages.specs.declared.head.MapHead.{MapHead}
 use Rattle.mr_pages.specs.declared.opening.Opened.{Opened}
@@ -119,7 +118,7 @@ few_walked r r' f f' n none few most bound = elim few [
 
 -- the pages of the map, and the pieces of the script; and the nodes of a large one
 few_script : (hash : List ℕ → List ℕ) (h : MapHead) (bytes : List ℕ) (script : Input) (r m e : ℕ) (t : Tree)
-    (batch : ℕ) → IsMap first_form hash bytes t batch → h.pages ≡ first_pages bytes → m ≤ r + first_pages bytes
+    (batch : ℕ) → IsMapFile hash bytes (first_map t batch) → h.pages ≡ first_pages bytes → m ≤ r + first_pages bytes
     → (h.pages ≤ room + 1 → e ≤ m + pieces_of script) → e ≤ m + length (subtrees t) + pieces_of script
     → (n : ℕ) × (e ≤ r + n) × IsFewServed hash bytes script n
 few_script hash h bytes script r m e t batch stands pages few still nodes =

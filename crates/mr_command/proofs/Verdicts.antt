@@ -21,12 +21,13 @@ use Rattle.mr_clash.specs.Finding.{found}
 use Rattle.mr_clash.specs.declared.finding.Finding.{Finding}
 use Rattle.mr_clash.specs.declared.finding.Finding.TheVariants as findings
 use Rattle.mr_command.specs.Answer.{IsSettled}
-use Rattle.mr_plan.specs.First.{first}
+use Rattle.mr_plan.specs.First.{first, first_map}
 use Rattle.mr_command.specs.Ending.{Gives, printed_of}
 use Rattle.mr_plan.specs.Outcome.{Outcome, Nothing}
 use Rattle.mr_plan.specs.Say.{say_verdict, say_check_of, say_finding, say_audit_of, say_root_of}
 use Rattle.mr_command.specs.declared.ending.Ending.{Ending}
 use Rattle.mr_pages.specs.declared.opening.Opened.{Opened}
+use Rattle.mr_pages.specs.Law.{map_root}
 
 -- the error that it answers, as one of these
 pub checks_as : (hash : List ℕ → List ℕ) (root : List ℕ) (q : Query) (bytes : List ℕ)
@@ -82,7 +83,7 @@ says_finding hash q map bytes f is = ap say_finding is
 
 -- the honest proof is accepted with the answer of a scan
 pub accepted_scan : (hash : List ℕ → List ℕ) (q : Query) (t : Tree) (root bytes : List ℕ)
-    → AcceptsHonest (first hash) q → WellFormed t → HasLayers One t → root ≡ digests.root (first hash) t 0
+    → AcceptsHonest (first hash) q → WellFormed t → HasLayers One t → root ≡ map_root hash (first_map t 0)
     → bytes ≡ proof (first hash) t 0 q
     → verdict hash root q bytes ≡ Ok (scan (records t) q)
 accepted_scan hash q t root bytes accepts well layers roots own =

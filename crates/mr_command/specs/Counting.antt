@@ -10,9 +10,8 @@ use Rattle.mr_tree.specs.Nodes.{subtrees}
 use Rattle.mr_tree.specs.Tree.{records}
 use Rattle.mr_tree.specs.declared.tree.Tree.{Tree}
 use Rattle.mr_record.specs.declared.version.Version.TheVariants.{One}
-use Rattle.mr_pages.specs.Law.{IsMap}
+use Rattle.mr_pages.specs.Law.{IsMapFile}
 use Rattle.mr_pages.specs.Opening.{pages_in}
-use Rattle.mr_pages.specs.PageBytes.{first_form}
 use Rattle.mr_batch.specs.Applied.{IsAdmissible}
 use Rattle.mr_batch.specs.BatchText.{batch_of_text}
 use Rattle.mr_batch.specs.Changes.{Changes}
@@ -25,7 +24,7 @@ use Rattle.mr_clash.specs.Finding.{opened_accepted}
 use Rattle.mr_edit.specs.Reads.{reads_along}
 use Rattle.mr_store.specs.Opening.{first_pages}
 use Rattle.mr_store.specs.Stored.{room}
-use Rattle.mr_plan.specs.First.{first}
+use Rattle.mr_plan.specs.First.{first, first_map}
 use Rattle.mr_plan.specs.Found.{Found, Shows}
 use Rattle.mr_plan.specs.Plan.{Input, Plan, comes, reads, opens, rereads, judges}
 use Rattle.mr_plan.specs.Rereading.{Rereading, proving, auditing, serving, applying}
@@ -48,7 +47,7 @@ IsLarge bytes = room + 1 < first_pages bytes
 -- or twice
 abbrev pub IsFewOf : (List ℕ → List ℕ) → Query → List ℕ → ℕ → Type 0
 IsFewOf hash q bytes n = (n ≤ first_pages bytes)
-    ⊎ (IsLarge bytes × ((t : Tree) × (batch : ℕ) × IsMap first_form hash bytes t batch
+    ⊎ (IsLarge bytes × ((t : Tree) × (batch : ℕ) × IsMapFile hash bytes (first_map t batch)
     × (n ≤ first_pages bytes + rounds q * opened (first hash) t q)))
 
 -- the nodes that a proof opens, where it is there and is accepted against the map
@@ -60,7 +59,7 @@ opened_beside hash t batch q (Some bytes) = opened_accepted (first hash) t batch
 -- where that is large the nodes that the proof opens
 abbrev pub IsFewBeside : (List ℕ → List ℕ) → Query → List ℕ → Input → ℕ → Type 0
 IsFewBeside hash q bytes proof n = (n ≤ first_pages bytes)
-    ⊎ ((t : Tree) × (batch : ℕ) × IsMap first_form hash bytes t batch
+    ⊎ ((t : Tree) × (batch : ℕ) × IsMapFile hash bytes (first_map t batch)
     × ((n ≤ first_pages bytes + pieces_of proof) ⊎ (IsLarge bytes
     × (n ≤ first_pages bytes + pieces_of proof + opened_beside hash t batch q proof))))
 
@@ -68,7 +67,7 @@ IsFewBeside hash q bytes proof n = (n ≤ first_pages bytes)
 -- where that is large each of its nodes once, of which there are fewer than pages
 abbrev pub IsFewServed : (List ℕ → List ℕ) → List ℕ → Input → ℕ → Type 0
 IsFewServed hash bytes script n = (n ≤ first_pages bytes)
-    ⊎ ((t : Tree) × (batch : ℕ) × IsMap first_form hash bytes t batch
+    ⊎ ((t : Tree) × (batch : ℕ) × IsMapFile hash bytes (first_map t batch)
     × ((n ≤ first_pages bytes + pieces_of script) ⊎ (IsLarge bytes
     × (n ≤ first_pages bytes + length (subtrees t) + pieces_of script))))
 
@@ -93,7 +92,7 @@ IsFewOfBatch pages t held (Some text) n = (n ≡ 0)
 -- what is read behind it
 abbrev pub IsFewApplied : (List ℕ → List ℕ) → List ℕ → Input → ℕ → Type 0
 IsFewApplied hash bytes batch n = (n ≤ first_pages bytes)
-    ⊎ ((t : Tree) × (held : ℕ) × IsMap first_form hash bytes t held
+    ⊎ ((t : Tree) × (held : ℕ) × IsMapFile hash bytes (first_map t held)
     × (behind : ℕ) × (n ≤ first_pages bytes + pieces_of batch + behind)
     × IsFewOfBatch (first_pages bytes) t held batch behind)
 

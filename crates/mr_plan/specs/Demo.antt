@@ -6,10 +6,11 @@ use Rattle.mr_tree.specs.Tree.{level, records}
 use Rattle.mr_tree.specs.declared.tree.Tree.{Tree}
 use Rattle.mr_pack.specs.Pack.{pack}
 use Rattle.mr_batch.specs.Workload.{generated, generated_queries}
+use Rattle.mr_pages.specs.Law.{map_root}
 use Rattle.mr_query.specs.Scan.{scan}
 use Rattle.mr_query.specs.declared.query.Query.{Query}
 use Rattle.mr_proof.specs.Honest.{proof}
-use Rattle.mr_plan.specs.First.{first}
+use Rattle.mr_plan.specs.First.{first, first_map}
 use Rattle.mr_plan.specs.Lines.{count_line, digest_line}
 
 -- how many queries there are
@@ -42,7 +43,7 @@ total_lines answers bytes = count_line (codes "answers") answers ++ count_line (
 -- what some queries give on a map
 unfoldable pub tried_lines : (List ℕ → List ℕ) → (count : ℕ) → Tree → List Query → List ℕ
 tried_lines hash count t queries =
-    map_lines count (level t) (root (first hash) t 0) ++ query_lines (length queries)
+    map_lines count (level t) (map_root hash (first_map t 0)) ++ query_lines (length queries)
     ++ total_lines (all_answers t queries) (all_bytes hash t queries)
 
 -- what 64 generated queries give on the map of generated records

@@ -9,7 +9,7 @@ use Rattle.mr_pages.specs.declared.error.MapErr.TheVariants as errors
 use Rattle.mr_pages.specs.PageBytes.{form_by}
 use Rattle.mr_pages.specs.File.{file_of}
 use Rattle.mr_pages.specs.Faults.{mapfault}
-use Rattle.mr_pages.specs.Law.{IsMap}
+use Rattle.mr_pages.specs.Law.{IsMapFile, map_in}
 use Rattle.mr_pages.specs.Rules.{map_rule_name}
 use Rattle.mr_pages.specs.declared.rule.MapRule.{MapRule}
 use Rattle.mr_pages.specs.declared.rule.MapRule.TheVariants as rule
@@ -24,7 +24,7 @@ Found = Result Opened MapFault
 -- fault
 abbrev pub Shows : Version → (List ℕ → List ℕ) → List ℕ → Found → Type 0
 Shows v hash bytes (Ok map) =
-    (map.version ≡ v) × IsMap (form_by v) hash bytes map.tree map.batch
+    (map.version ≡ v) × IsMapFile hash bytes (map_in v map.tree map.batch)
 Shows v hash bytes (Err fault) = mapfault hash (file_of (form_by v) bytes) ≡ Some fault
 
 -- why a node was not fetched, as what it says of the map's file

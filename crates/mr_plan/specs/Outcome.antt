@@ -4,10 +4,10 @@ use Rattle.std.specs.FinMap as map
 use Rattle.mr_outside.specs.Files.{Files}
 use Rattle.mr_record.specs.declared.version.Version.{Version}
 use Rattle.mr_tree.specs.declared.tree.Tree.{Tree}
-use Rattle.mr_pages.specs.PageBytes.{form_by, first_form}
-use Rattle.mr_pages.specs.Law.{IsMap}
+use Rattle.mr_pages.specs.PageBytes.{form_by}
+use Rattle.mr_pages.specs.Law.{IsMapFile, map_in}
 use Rattle.mr_pages.specs.Saved.{saved, IsUnsealed}
-use Rattle.mr_plan.specs.First.{first_pages}
+use Rattle.mr_plan.specs.First.{first_pages, first_map}
 use Rattle.mr_plan.specs.declared.status.Status.{Status}
 
 -- what an output is to hold
@@ -24,13 +24,13 @@ pub data Content : Type 0 where
 pub record IsLaidOut (v : Version) (hash : List ℕ → List ℕ) (tree : Tree) (batch : ℕ)
     (bytes : List ℕ) : Type 0 where
   pub laid : bytes ≡ saved (form_by v) hash tree batch
-  pub stands : IsMap (form_by v) hash bytes tree batch
+  pub stands : IsMapFile hash bytes (map_in v tree batch)
 
 -- a map file of this tree at this batch, whatever its layout, that has no fewer pages than there
 -- were, and no more than there were, or than the most nodes and page 0
 pub record IsChangedMap (hash : List ℕ → List ℕ) (pages most : ℕ) (tree : Tree) (batch : ℕ)
     (bytes : List ℕ) : Type 0 where
-  pub stands : IsMap first_form hash bytes tree batch
+  pub stands : IsMapFile hash bytes (first_map tree batch)
   pub no_fewer : pages ≤ first_pages bytes
   pub no_more : first_pages bytes ≤ max pages (most + 1)
 

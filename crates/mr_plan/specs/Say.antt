@@ -5,7 +5,6 @@ use Rattle.mr_record.specs.declared.text_fault.TextFault.{TextFault}
 use Rattle.mr_record.specs.RecordText.{records_of_text, text_of}
 use Rattle.mr_record.specs.declared.version.Version.{Version}
 use Rattle.mr_record.specs.declared.version.Version.TheVariants.{One, Two}
-use Rattle.mr_tree.specs.Digest.{by, root}
 use Rattle.mr_tree.specs.Tree.{records}
 use Rattle.mr_tree.specs.declared.tree.Tree.{Tree}
 use Rattle.mr_pack.specs.Pack.{pack}
@@ -24,7 +23,7 @@ use Rattle.mr_proof.specs.Honest as honest
 use Rattle.mr_proof.specs.Reading.{verdict}
 use Rattle.mr_clash.specs.Finding.{found}
 use Rattle.mr_plan.specs.Demo.{demo_lines}
-use Rattle.mr_plan.specs.First.{first, first_pages}
+use Rattle.mr_plan.specs.First.{first, first_pages, first_map}
 use Rattle.mr_plan.specs.Found.{Found, bad_map_line}
 use Rattle.mr_plan.specs.Lines.{digest_line, bad_words_line, bad_text_line, bad_batch_line, made_line}
 use Rattle.mr_plan.specs.Outcome.{Outcome, File, map_of, changed}
@@ -36,6 +35,7 @@ pub use Rattle.mr_plan.specs.Saying.{say_serve_of, say_verdicts, say_parts_of}
 use Rattle.mr_plan.specs.Refusal.{refused_line}
 use Rattle.mr_pages.specs.File.{version_of}
 use Rattle.mr_pages.specs.declared.opening.Opened.{Opened}
+use Rattle.mr_pages.specs.Law.{map_root, map_in}
 use Rattle.mr_plan.specs.declared.status.Status.TheVariants.{Done, BadWords, Refused, BadText, BadMap, BadBatch}
 use Rattle.mr_plan.specs.declared.words.Command.{Command}
 use Rattle.mr_plan.specs.declared.words.Command.TheVariants as commands
@@ -80,7 +80,7 @@ needs_sized_map hash name next =
 -- the root of the tree of the records of a text at batch 0, or the text's first fault
 abbrev pub say_root_of : Version → (List ℕ → List ℕ) → Result (List Record) TextFault → Outcome
 say_root_of v hash (Err fault) = ends BadText (bad_text_line fault)
-say_root_of v hash (Ok records) = prints (digest_line (root (by v hash) (pack records) 0))
+say_root_of v hash (Ok records) = prints (digest_line (map_root hash (map_in v (pack records) 0)))
 
 -- `root RECORDS`, in version 2 `root2 RECORDS`: the root of the records of a file
 abbrev pub say_root : Version → (List ℕ → List ℕ) → List ℕ → Plan
@@ -92,7 +92,7 @@ say_root v hash records =
 abbrev pub say_map : Version → (List ℕ → List ℕ) → List ℕ → Tree → ℕ → Outcome
 say_map v hash map tree batch = record {
   status = Done;
-  printed = digest_line (root (by v hash) tree batch);
+  printed = digest_line (map_root hash (map_in v tree batch));
   written = File map (map_of v hash tree batch);
 }
 
@@ -130,7 +130,7 @@ say_changed hash new pages tree batch =
     let after = replay tree (batch ∷ []) in
     record {
       status = Done;
-      printed = digest_line (root (first hash) after batch.number);
+      printed = digest_line (map_root hash (first_map after batch.number));
       written = File new (changed hash pages (peak tree batch) after batch.number);
     }
 

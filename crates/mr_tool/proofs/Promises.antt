@@ -38,8 +38,7 @@ use Rattle.mr_clash.specs.Finding.{finding_of, Collides}
 use Rattle.mr_clash.specs.declared.finding.Finding.{Finding}
 use Rattle.mr_clash.specs.declared.finding.Finding.TheVariants as findings
 use Rattle.mr_pages.specs.File.{version_of}
-use Rattle.mr_pages.specs.PageBytes.{form_by, first_form}
-use Rattle.mr_pages.specs.Law.{IsMap}
+use Rattle.mr_pages.specs.Law.{IsMapFile, map_root, map_in}
 use Rattle.mr_pages.proofs.Answered.{stands_version}
 use Rattle.mr_pages.proofs.PageLaws.{from_bytes}
 use Rattle.mr_batch.specs.Admissible.{batch_fault}
@@ -136,30 +135,23 @@ module _ (name bytes : List ℕ) (before after : Option Files) (status : Status)
   ends_on next ends = subst (λ input. Ends (given name next input) before after status text)
       (input_is before name bytes ends.0 held ends.1) ends.3
 
--- the map of this tree at this batch
-abbrev opened_as : Version → Tree → ℕ → Opened
-opened_as v t batch = record { tree = t; version = v; batch = batch }
-
-abbrev map_at : Tree → ℕ → Opened
-map_at t batch = first_map t batch
-
 -- what is opened is the map that the file stands for
 opened_on : (v : Version) (hash : List ℕ → List ℕ) (name held : List ℕ) (t : Tree) (batch : ℕ)
     (before after : Option Files) (status : Status) (text : List ℕ) → Holds before name held
-    → IsMap (form_by v) hash held t batch
+    → IsMapFile hash held (map_in v t batch)
     → (next : Opened → Plan) → Ends (opens v hash held (given_map next)) before after status text
-    → Ends (next (opened_as v t batch)) before after status text
+    → Ends (next (map_in v t batch)) before after status text
 opened_on v hash name held t batch before after status text holds stands next on =
     let finds = of_told before name held (FindsMap v hash held on.0) holds on.1.1 in
-    subst (λ found. Ends (given_map next found) before after status text) (finds (opened_as v t batch) (refl, stands))
+    subst (λ found. Ends (given_map next found) before after status text) (finds (map_in v t batch) (refl, stands))
     on.3
 
 -- a command that opens this file came to its end by the map that it stands for
 map_on : (version : List ℕ → Version) (hash : List ℕ → List ℕ) (name held : List ℕ) (t : Tree) (batch : ℕ)
     (before after : Option Files) (status : Status) (text : List ℕ) → Holds before name held
-    → IsMap (form_by (version held)) hash held t batch
+    → IsMapFile hash held (map_in (version held) t batch)
     → (next : Opened → Plan) → Ends (needs_map_in version hash name next) before after status text
-    → Ends (next (opened_as (version held) t batch)) before after status text
+    → Ends (next (map_in (version held) t batch)) before after status text
 map_on version hash name held t batch before after status text holds stands next ends =
     opened_on (version held) hash name held t batch before after status text holds stands next
     (ends_on name held before after status text holds (λ bytes. opens (version bytes) hash bytes (given_map next)) ends)
@@ -167,30 +159,31 @@ map_on version hash name held t batch before after status text holds stands next
 -- ---- a proof beside the map
 
 says_found : (hash : List ℕ → List ℕ) (q : Query) (t : Tree) (batch : ℕ) (bytes : List ℕ)
-    (r : Result (List Record) Fault) (o : Option Pair) → verdict hash (digests.root (first hash) t batch) q bytes ≡ r
-    → clash (first hash) t batch bytes ≡ o → say_audit_of hash q (map_at t batch) bytes ≡ say_finding (finding_of r o)
+    (r : Result (List Record) Fault) (o : Option Pair) → verdict hash (map_root hash (first_map t batch)) q bytes ≡ r
+    → clash (first hash) t batch bytes ≡ o →
+    say_audit_of hash q (first_map t batch) bytes ≡ say_finding (finding_of r o)
 says_found hash q t batch bytes r o e d =
-    sym (says_finding hash q (map_at t batch) bytes (finding_of r o) (λ i. finding_of (sym e i) (sym d i)))
+    sym (says_finding hash q (first_map t batch) bytes (finding_of r o) (λ i. finding_of (sym e i) (sym d i)))
 
 module _ (hash : List ℕ → List ℕ) (before after : Option Files) (status : Status) (text : List ℕ) (map : List ℕ)
     (q : Query) (name : List ℕ) (t : Tree) (batch : ℕ) (held bytes : List ℕ) (map_held : Holds before map held)
-    (stands : IsMap first_form hash held t batch) (name_held : Holds before name bytes) where
+    (stands : IsMapFile hash held (first_map t batch)) (name_held : Holds before name bytes) where
   audited_ends : Ends (say_audit hash map q name) before after status text
-      → Ends (comes (say_audit_of hash q (map_at t batch) bytes)) before after status text
+      → Ends (comes (say_audit_of hash q (first_map t batch) bytes)) before after status text
   audited_ends ends =
       let next : Opened → Plan = λ m. needs name (λ bytes. comes (say_audit_of hash q m bytes)) in
       let mapped = map_on always_first hash map held t batch before after status text map_held stands next
       (told_ends before after map held (auditing hash map q name) (needs_map hash map next) status text map_held ends)
       in
       ends_on name bytes before after status text name_held
-      (λ bytes. comes (say_audit_of hash q (map_at t batch) bytes)) mapped
+      (λ bytes. comes (say_audit_of hash q (first_map t batch) bytes)) mapped
 
   audit_done : IsSized hash → IsQuery q → bytes ≡ proof (first hash) t batch q
       → Ends (say_audit hash map q name) before after status text → status ≡ Done
   audit_done sized asked own ends =
       let low = stands.stands.batch_fits in
-      let accepted : verdict hash (digests.root (first hash) t batch) q bytes ≡ Ok (scan (records t) q) =
-      ap (verdict hash (digests.root (first hash) t batch) q) own
+      let accepted : verdict hash (map_root hash (first_map t batch)) q bytes ≡ Ok (scan (records t) q) =
+      ap (verdict hash (map_root hash (first_map t batch)) q) own
       ∙ accepts_honest (first hash) refl sized q asked t batch stands.well stands.layers low in
       let quiet : clash (first hash) t batch bytes ≡ None =
       ap (clash (first hash) t batch) own ∙ honest_quiet (first hash) refl sized q asked t batch stands.well
@@ -209,16 +202,16 @@ whole_of said other before after status text e on printed =
 
 module _ (hash : List ℕ → List ℕ) (before after : World) (status : Status) (map : List ℕ)
     (q : Query) (name : List ℕ) (t : Tree) (batch : ℕ) (held bytes : List ℕ) (answer : List Record)
-    (map_held : Holds before.shelf.files map held) (stands : IsMap first_form hash held t batch)
+    (map_held : Holds before.shelf.files map held) (stands : IsMapFile hash held (first_map t batch))
     (name_held : Holds before.shelf.files name bytes)
-    (accepted : verdict hash (digests.root (first hash) t batch) q bytes ≡ Ok answer) where
+    (accepted : verdict hash (map_root hash (first_map t batch)) q bytes ≡ Ok answer) where
   delivered : (o : Option Pair) (other : Outcome) → clash (first hash) t batch bytes ≡ o
       → say_finding (finding_of (Ok answer) o) ≡ other
       → HasRun (say_audit hash map q name) before after status ⊎ HasStopped before after status
       → Delivers other before after status
   delivered o other d e (inr stop) = inr stop
   delivered o other d e (inl run) =
-      inl (whole_of (say_audit_of hash q (map_at t batch) bytes) other before after status run.text
+      inl (whole_of (say_audit_of hash q (first_map t batch) bytes) other before after status run.text
       (says_found hash q t batch bytes (Ok answer) o accepted d ∙ e)
       (audited_ends hash before.shelf.files after.shelf.files status run.text map q name t batch held bytes map_held
       stands name_held run.ends) run.printed)
@@ -250,7 +243,7 @@ module _ (hash : List ℕ → List ℕ) (sized : IsSized hash) (q : Query) (may 
     (bytes : List ℕ) (well : WellFormed t) (layers : HasLayers One t) (low : batch < 2 ^ 64) (all : AreBytes bytes)
     (before after : Option Files) (status : Status) (text : List ℕ) where
   shown_by : (r : Result (List Record) Fault) (o : Option Pair)
-      → verdict hash (digests.root (first hash) t batch) q bytes ≡ r → clash (first hash) t batch bytes ≡ o
+      → verdict hash (map_root hash (first_map t batch)) q bytes ≡ r → clash (first hash) t batch bytes ≡ o
       → status ≡ Collision
       → Ends (comes (say_finding (finding_of r o))) before after status text → Shown hash text
   shown_by (Err f) o e d is ends = other_status status Refused is ends.0 (λ c. cc)
@@ -262,10 +255,10 @@ module _ (hash : List ℕ → List ℕ) (sized : IsSized hash) (q : Query) (may 
     is = ends.1;
   }
 
-  shown_of : status ≡ Collision → Ends (comes (say_audit_of hash q (map_at t batch) bytes)) before after status text
+  shown_of : status ≡ Collision → Ends (comes (say_audit_of hash q (first_map t batch) bytes)) before after status text
       → Shown hash text
   shown_of is ends =
-      let r = verdict hash (digests.root (first hash) t batch) q bytes in
+      let r = verdict hash (map_root hash (first_map t batch)) q bytes in
       let o = clash (first hash) t batch bytes in
       shown_by r o refl refl is
       (subst (λ said. Ends (comes said) before after status text) (says_found hash q t batch bytes r o refl refl) ends)
@@ -367,41 +360,43 @@ module _ (hash : List ℕ → List ℕ) (before after : Option Files) (status : 
       let next : Opened → Plan = λ map. comes (said map) in
       let mapped = map_on version hash name holds.bytes holds.tree holds.batch before after status text holds.held
       holds.stands next ends in
-      mapped.0 ∙ done (opened_as (version holds.bytes) holds.tree holds.batch)
+      mapped.0 ∙ done (map_in (version holds.bytes) holds.tree holds.batch)
 
   -- what `apply` came to, by the map and the batch
   applied_ends : (old name new : List ℕ) (t : Tree) (batch : ℕ) (bytes beside : List ℕ) (b : Changes)
-      → Holds before old bytes → IsMap first_form hash bytes t batch → Holds before name beside
+      → Holds before old bytes → IsMapFile hash bytes (first_map t batch) → Holds before name beside
       → batch_of_text One beside ≡ Ok b → Ends (say_apply hash old name new) before after status text
-      → Ends (comes (say_batch hash new (first_pages bytes) (map_at t batch) b)) before after status text
+      → Ends (comes (say_batch hash new (first_pages bytes) (first_map t batch) b)) before after status text
   applied_ends old name new t batch bytes beside b held stands there right ends =
       let next : List ℕ → Opened → Plan = λ bytes. say_change hash name new (first_pages bytes) in
       let said : List ℕ → Plan =
-      λ text. comes (say_apply_of hash new (first_pages bytes) (map_at t batch) (batch_of_text One text)) in
+      λ text. comes (say_apply_of hash new (first_pages bytes) (first_map t batch) (batch_of_text One text)) in
       let on = told_ends before after old bytes (applying hash old name new)
       (needs_sized_map hash old (say_change hash name new)) status text held ends in
       let opened = ends_on old bytes before after status text held
       (λ bytes. opens One hash bytes (given_map (next bytes))) on in
       let mapped = opened_on One hash old bytes t batch before after status text held stands (next bytes) opened in
-      subst (λ r. Ends (comes (say_apply_of hash new (first_pages bytes) (map_at t batch) r)) before after status text)
+      subst (λ r. Ends (comes (say_apply_of hash new (first_pages bytes) (first_map t batch) r)) before
+      after status text)
       right (ends_on name beside before after status text there said mapped)
 
   apply_done : (old name new : List ℕ) → HoldsBatch hash before old name
       → Ends (say_apply hash old name new) before after status text → status ≡ Done
   apply_done old name new holds ends =
-      let map = map_at holds.tree holds.batch in
-      let last = applied_ends old name new holds.tree holds.batch holds.bytes holds.text holds.changes holds.held
-      holds.stands holds.beside holds.right ends in
+      let map = first_map holds.on.tree holds.on.batch in
+      let last = applied_ends old name new holds.on.tree holds.on.batch holds.on.bytes holds.text
+      holds.changes holds.on.held
+      holds.on.stands holds.beside holds.right ends in
       last.0
-      ∙ ap (λ (o : Outcome). o.status) (says_applied hash new (first_pages holds.bytes) map holds.changes holds.may)
+      ∙ ap (λ (o : Outcome). o.status) (says_applied hash new (first_pages holds.on.bytes) map holds.changes holds.may)
 
   -- an outcome of `apply` that is done has the map after the batch in the file
   record HasApplied (t : Tree) (batch : ℕ) (b : Changes) (new : List ℕ) : Type 0 where
     may : IsAdmissible (records t) batch b
-    text_is : text ≡ digest_line (digests.root (first hash) (replay t (b ∷ [])) b.number)
+    text_is : text ≡ digest_line (map_root hash (first_map (replay t (b ∷ [])) b.number))
     bytes : List ℕ
     there : Holds after new bytes
-    is : IsMap first_form hash bytes (replay t (b ∷ [])) b.number
+    is : IsMapFile hash bytes (first_map (replay t (b ∷ [])) b.number)
 
   held_after : (files : Files) (name bytes : List ℕ) → before ≡ Some files → IsHeld name bytes before after
       → Holds after name bytes
@@ -411,7 +406,7 @@ module _ (hash : List ℕ → List ℕ) (before after : Option Files) (status : 
 
   has_applied : (t : Tree) (batch : ℕ) (b : Changes) (new : List ℕ) (pages : ℕ) (files : Files)
       → before ≡ Some files → status ≡ Done
-      → Ends (comes (say_batch hash new pages (map_at t batch) b)) before after status text
+      → Ends (comes (say_batch hash new pages (first_map t batch) b)) before after status text
       → HasApplied t batch b new
   has_applied t batch b new pages files told done ends = by_fault (batch_fault (records t) batch b) refl ends
     where
@@ -437,13 +432,13 @@ module _ (hash : List ℕ → List ℕ) (before after : Option Files) (status : 
   serve_done : (map script bundle : List ℕ) → HoldsScript hash before map script
       → Ends (say_serve hash map script bundle) before after status text → status ≡ Done
   serve_done map script bundle holds ends =
-      let held = map_at holds.tree holds.batch in
+      let held = first_map holds.on.tree holds.on.batch in
       let next = say_script hash script bundle in
       let said : List ℕ → Outcome = λ text. say_serve_of hash bundle held (queries_of_text text) in
-      let mapped = map_on always_first hash map holds.bytes holds.tree holds.batch before after status text
-      holds.held holds.stands
-      next (told_ends before after map holds.bytes (serving hash map script bundle) (needs_map hash map next) status
-      text holds.held ends) in
+      let mapped = map_on always_first hash map holds.on.bytes holds.on.tree holds.on.batch before after status text
+      holds.on.held holds.on.stands
+      next (told_ends before after map holds.on.bytes (serving hash map script bundle) (needs_map hash map next) status
+      text holds.on.held ends) in
       let last = ends_on script holds.text before after status text holds.beside (λ text. comes (said text)) mapped in
       last.0 ∙ ap (λ r. (say_serve_of hash bundle held r).status) holds.right
       ∙ served_done hash bundle held holds.queries
@@ -481,8 +476,9 @@ module _ (hash : List ℕ → List ℕ) (before after : Option Files) (status : 
   done sized (commands.Check root q name) each holds ends =
       check_done root q name.now each.1.1.0 holds ends
   done sized (commands.Audit map q name) each holds ends =
-      audit_done hash before after status text map.now q name.now holds.tree holds.batch holds.bytes
-      (proof (first hash) holds.tree holds.batch q) holds.held holds.stands holds.own sized each.1.1.0 refl ends
+      audit_done hash before after status text map.now q name.now holds.on.tree holds.on.batch holds.on.bytes
+      (proof (first hash) holds.on.tree holds.on.batch q) holds.on.held holds.on.stands holds.own sized
+      each.1.1.0 refl ends
   done sized (commands.Serve map script bundle) each holds ends =
       serve_done map.now script.now bundle.now holds ends
   done sized (commands.CheckAll root script bundle) each holds ends =
@@ -505,7 +501,7 @@ not_refused status done refused = absurd (cc)
 module _ (hash : List ℕ → List ℕ) (sized : IsSized hash) (before after : World) (status : Status)
     (t : Tree) (batch : ℕ) (root : List ℕ) (q : Query) (name : List ℕ) (well : WellFormed t)
     (layers : HasLayers One t) (low : batch < 2 ^ 64)
-    (is_root : root ≡ digests.root (first hash) t batch) (asked : IsQuery q)
+    (is_root : root ≡ map_root hash (first_map t batch)) (asked : IsQuery q)
     (run : HasRun (say_check hash root q name) before after status) where
   says_honest : say_check_of hash root q (proof (first hash) t batch q) ≡ prints (text_of One (scan (records t) q))
   says_honest = says_verdict hash root q (proof (first hash) t batch q) (Ok (scan (records t) q))
@@ -529,7 +525,7 @@ module _ (hash : List ℕ → List ℕ) (sized : IsSized hash) (before after : W
 module _ (v : Version) (hash : List ℕ → List ℕ) (sized : IsSized hash) (before after : World) (status : Status)
     (t : Tree) (batch : ℕ) (root : List ℕ) (q : Query) (name : List ℕ) (well : WellFormed t)
     (layers : HasLayers v t) (low : batch < 2 ^ 64)
-    (is_root : root ≡ digests.root (by v hash) t batch) (asked : IsQuery q)
+    (is_root : root ≡ map_root hash (map_in v t batch)) (asked : IsQuery q)
     (run : HasRun (say_check hash root q name) before after status) where
   -- by the verdict on the bytes
   worth_by : (bytes : List ℕ) → AreBytes bytes → status ≡ Done
@@ -539,12 +535,12 @@ module _ (v : Version) (hash : List ℕ → List ℕ) (sized : IsSized hash) (be
   worth_by bytes all done on (Err fault) e =
       not_refused status done (on.0 ∙ ap (λ (o : Outcome). o.status) (says_verdict hash root q bytes (Err fault) e))
   worth_by bytes all done on (Ok answer) e =
-      let accepted : verdict hash (digests.root (by v hash) t batch) q bytes ≡ Ok answer =
+      let accepted : verdict hash (map_root hash (map_in v t batch)) q bytes ≡ Ok answer =
       subst (λ held. verdict hash held q bytes ≡ Ok answer) is_root e in
       let said = ap (λ (o : Outcome). o.printed) (says_verdict hash root q bytes (Ok answer) e) in
       record {
         answer = answer;
-        proves = (accepts_just hash (digests.root (by v hash) t batch) q bytes asked (from_bytes bytes all)
+        proves = (accepts_just hash (map_root hash (map_in v t batch)) q bytes asked (from_bytes bytes all)
             answer).0 accepted;
         worth = none_more hash (clash (by v hash) t batch bytes) (IsHonest (by v hash) t batch q bytes answer)
             (PrintsScan (by v hash) t batch q bytes before after)
@@ -601,7 +597,7 @@ module _ (hash : List ℕ → List ℕ) (words : List (List ℕ)) (before after 
   pub accepted_audited : IsSized hash → AuditsAccepted hash words before after status
   accepted_audited sized t batch map q name held bytes answer spells map_held stands name_held proves =
       says_worth hash before after status map.now q name.now t batch held bytes answer map_held stands name_held
-      (verdict_from hash (digests.root (first hash) t batch) q bytes answer spells.each.1.1.0 proves)
+      (verdict_from hash (map_root hash (first_map t batch)) q bytes answer spells.each.1.1.0 proves)
       (clash (first hash) t batch bytes) refl
       (headline (first hash) sized q bytes spells.each.1.1.0 t batch answer stands.well stands.layers
       stands.stands.batch_fits proves)
@@ -649,7 +645,7 @@ module _ (hash : List ℕ → List ℕ) (words : List (List ℕ)) (before after 
           let next : Opened → Plan = λ map. comes (say_upgrade_of hash new.now map) in
           let on = map_on version_of hash old.now bytes t batch before.shelf.files after.shelf.files
           status run.text held
-          (subst (λ u. IsMap (form_by u) hash bytes t batch) (sym own) stands) next run.ends in
+          (subst (λ u. IsMapFile hash bytes (map_in u t batch)) (sym own) stands) next run.ends in
           record {
             printed = subst (Takes before.sink after.sink) on.1 run.printed;
             bytes = on.2.0;

@@ -3,15 +3,15 @@
 use Rattle.std.specs.Prelude.{◌≡◌, ℕ, List, [], ◌∷◌}
 use Rattle.std.proofs.Common.{sym, subst}
 use Rattle.mr_tree.specs.declared.tree.Tree.{Tree}
-use Rattle.mr_pages.specs.Law.{IsMap}
-use Rattle.mr_pages.specs.PageBytes.{first_form}
+use Rattle.mr_pages.specs.Law.{IsMapFile}
 use Rattle.mr_batch.specs.Changes.{Changes}
 use Rattle.mr_batch.specs.Replay.{replay}
+use Rattle.mr_plan.specs.First.{first_map}
 
 -- whatever map the old bytes stand for, the new ones stand for the map after the batch
 abbrev pub IsAfter : (List ℕ → List ℕ) → (old : List ℕ) → Changes → (new : List ℕ) → Type 0
-IsAfter hash old batch new = (t : Tree) (held : ℕ) → IsMap first_form hash old t held
-    → IsMap first_form hash new (replay t (batch ∷ [])) batch.number
+IsAfter hash old batch new = (t : Tree) (held : ℕ) → IsMapFile hash old (first_map t held)
+    → IsMapFile hash new (first_map (replay t (batch ∷ [])) batch.number)
 
 -- files one after the other, each after one batch more
 abbrev pub IsAfterAll : (List ℕ → List ℕ) → (old : List ℕ) → List Changes → (new : List ℕ) → Type 0
@@ -26,10 +26,11 @@ number_after held (batch ∷ batches) = number_after batch.number batches
 
 -- the last of them stands for the map after all batches
 pub stands_after : (hash : List ℕ → List ℕ) (batches : List Changes) (old new : List ℕ) →
-    IsAfterAll hash old batches new → (t : Tree) (held : ℕ) → IsMap first_form hash old t held →
-    IsMap first_form hash new (replay t batches) (number_after held batches)
+    IsAfterAll hash old batches new → (t : Tree) (held : ℕ) →
+    IsMapFile hash old (first_map t held) →
+    IsMapFile hash new (first_map (replay t batches) (number_after held batches))
 stands_after hash [] old new same t held is =
-    subst (λ bytes. IsMap first_form hash bytes t held) (sym same) is
+    subst (λ bytes. IsMapFile hash bytes (first_map t held)) (sym same) is
 stands_after hash (batch ∷ batches) old new on t held is =
     stands_after hash batches on.0 new on.2 (replay t (batch ∷ [])) batch.number (on.1 t held is)
 
@@ -37,8 +38,8 @@ stands_after hash (batch ∷ batches) old new on t held is =
 -- one root digest.
 pub record StandAlike (hash : List ℕ → List ℕ) (one other : List ℕ) (t : Tree) (batch : ℕ)
     : Type 0 where
-  pub one_is : IsMap first_form hash one t batch
-  pub other_is : IsMap first_form hash other t batch
+  pub one_is : IsMapFile hash one (first_map t batch)
+  pub other_is : IsMapFile hash other (first_map t batch)
 
 pub alike_after : (hash : List ℕ → List ℕ) (batches : List Changes) (one other one' other' : List ℕ)
     (t : Tree) (held : ℕ) → StandAlike hash one other t held → IsAfterAll hash one batches one' →

@@ -15,8 +15,7 @@ use Rattle.mr_tree.specs.Tree.{records}
 use Rattle.mr_tree.specs.WellFormed.{WellFormed, HasLayers}
 use Rattle.mr_tree.specs.declared.tree.Tree.{Tree}
 use Rattle.mr_pages.specs.File.{version_of}
-use Rattle.mr_pages.specs.PageBytes.{form_by, first_form, second_form}
-use Rattle.mr_pages.specs.Law.{IsMap}
+use Rattle.mr_pages.specs.Law.{IsMapFile, map_root, map_in}
 use Rattle.mr_batch.specs.Applied.{IsAdmissible}
 use Rattle.mr_batch.specs.BatchText.{batch_of_text}
 use Rattle.mr_batch.specs.Changes.{Changes}
@@ -30,7 +29,7 @@ use Rattle.mr_proof.specs.Honest as honest
 use Rattle.mr_bundle.specs.Bundle.{parts}
 use Rattle.mr_bundle.specs.Verdicts.{verdicts}
 use Rattle.mr_command.specs.Answer.{World, IsWhole, HasStopped}
-use Rattle.mr_plan.specs.First.{first}
+use Rattle.mr_plan.specs.First.{first, first_map}
 use Rattle.mr_plan.specs.Judged.{IsAccepted}
 use Rattle.mr_plan.specs.Outcome.{Outcome}
 use Rattle.mr_plan.specs.Lines.{digest_line, sound_line, collision_lines}
@@ -60,7 +59,7 @@ pub record HoldsMap (version : List ℕ → Version) (hash : List ℕ → List �
   pub held : Holds told name bytes
   pub tree : Tree
   pub batch : ℕ
-  pub stands : IsMap (form_by (version bytes)) hash bytes tree batch
+  pub stands : IsMapFile hash bytes (map_in (version bytes) tree batch)
 
 -- it proves an answer
 pub record HoldsProof (hash : List ℕ → List ℕ) (told : Option Files) (root : List ℕ) (q : Query)
@@ -73,35 +72,23 @@ pub record HoldsProof (hash : List ℕ → List ℕ) (told : Option Files) (root
 -- a map, and the honest proof of the answer to a query on it
 pub record HoldsHonest (hash : List ℕ → List ℕ) (told : Option Files) (map : List ℕ) (q : Query)
     (name : List ℕ) : Type 0 where
-  pub bytes : List ℕ
-  pub held : Holds told map bytes
-  pub tree : Tree
-  pub batch : ℕ
-  pub stands : IsMap first_form hash bytes tree batch
-  pub own : Holds told name (honest.proof (first hash) tree batch q)
+  pub on : HoldsMap always_first hash told map
+  pub own : Holds told name (honest.proof (first hash) on.tree on.batch q)
 
 -- a map, and a text of a batch without a fault, which may be applied to it
 pub record HoldsBatch (hash : List ℕ → List ℕ) (told : Option Files) (map : List ℕ)
     (name : List ℕ) : Type 0 where
-  pub bytes : List ℕ
-  pub held : Holds told map bytes
-  pub tree : Tree
-  pub batch : ℕ
-  pub stands : IsMap first_form hash bytes tree batch
+  pub on : HoldsMap always_first hash told map
   pub text : List ℕ
   pub beside : Holds told name text
   pub changes : Changes
   pub right : batch_of_text One text ≡ Ok changes
-  pub may : IsAdmissible (records tree) batch changes
+  pub may : IsAdmissible (records on.tree) on.batch changes
 
 -- a map, and a script without a fault
 pub record HoldsScript (hash : List ℕ → List ℕ) (told : Option Files) (map : List ℕ)
     (name : List ℕ) : Type 0 where
-  pub bytes : List ℕ
-  pub held : Holds told map bytes
-  pub tree : Tree
-  pub batch : ℕ
-  pub stands : IsMap first_form hash bytes tree batch
+  pub on : HoldsMap always_first hash told map
   pub text : List ℕ
   pub beside : Holds told name text
   pub queries : List Query
@@ -158,7 +145,7 @@ abbrev pub AnswersHonest : (List ℕ → List ℕ) → List (List ℕ) → World
 AnswersHonest hash words before after status =
     (t : Tree) (batch : ℕ) (root : List ℕ) (q : Query) (proof : Bor (List ℕ))
     → WellFormed t → HasLayers One t → batch < 2 ^ 64
-    → root ≡ digests.root (first hash) t batch → Spells words (commands.Check root q proof)
+    → root ≡ map_root hash (first_map t batch) → Spells words (commands.Check root q proof)
     → Holds before.shelf.files proof.now (honest.proof (first hash) t batch q)
     → Delivers (prints (text_of One (scan (records t) q))) before after status
 
@@ -185,7 +172,7 @@ abbrev pub AcceptsHonestOrCollides : (List ℕ → List ℕ) → List (List ℕ)
 AcceptsHonestOrCollides hash words before after status =
     (v : Version) (t : Tree) (batch : ℕ) (root : List ℕ) (q : Query) (proof : Bor (List ℕ))
     (bytes : List ℕ)
-    → WellFormed t → HasLayers v t → batch < 2 ^ 64 → root ≡ digests.root (by v hash) t batch
+    → WellFormed t → HasLayers v t → batch < 2 ^ 64 → root ≡ map_root hash (map_in v t batch)
     → Spells words (commands.Check root q proof) → Holds before.shelf.files proof.now bytes
     → status ≡ Done → IsWorth (by v hash) t batch q bytes before after
 
@@ -207,8 +194,8 @@ AuditsAccepted hash words before after status =
     (t : Tree) (batch : ℕ) (map : Bor (List ℕ)) (q : Query) (proof : Bor (List ℕ))
     (held bytes : List ℕ) (answer : List Record)
     → Spells words (commands.Audit map q proof) → Holds before.shelf.files map.now held
-    → IsMap first_form hash held t batch → Holds before.shelf.files proof.now bytes
-    → Proves hash (digests.root (first hash) t batch) q bytes answer
+    → IsMapFile hash held (first_map t batch) → Holds before.shelf.files proof.now bytes
+    → Proves hash (map_root hash (first_map t batch)) q bytes answer
     → SaysWorth hash t batch q bytes (clash (first hash) t batch bytes) before after status
 
 -- Two strings that `audit` shows as a collision differ and have one hash, whether files are told or
@@ -227,10 +214,10 @@ pub record IsApplied (hash : List ℕ → List ℕ) (t : Tree) (held : ℕ) (b :
     (before after : World) : Type 0 where
   pub may : IsAdmissible (records t) held b
   pub printed : Takes before.sink after.sink
-      (digest_line (digests.root (first hash) (replay t (b ∷ [])) b.number))
+      (digest_line (map_root hash (first_map (replay t (b ∷ [])) b.number)))
   pub bytes : List ℕ
   pub there : Holds after.shelf.files new bytes
-  pub stands : IsMap first_form hash bytes (replay t (b ∷ [])) b.number
+  pub stands : IsMapFile hash bytes (first_map (replay t (b ∷ [])) b.number)
 
 -- So it does by the map alone, whatever the layout of its file: two files that stand for one map
 -- give one root digest (`alike_after` of Layouts, for more batches than one).
@@ -238,22 +225,22 @@ abbrev pub AppliesAlike : (List ℕ → List ℕ) → List (List ℕ) → World 
 AppliesAlike hash words before after status =
     (t : Tree) (held : ℕ) (old batch new : Bor (List ℕ)) (bytes text : List ℕ) (b : Changes)
     → Spells words (commands.Apply old batch new) → Holds before.shelf.files old.now bytes
-    → IsMap first_form hash bytes t held → Holds before.shelf.files batch.now text
+    → IsMapFile hash bytes (first_map t held) → Holds before.shelf.files batch.now text
     → batch_of_text One text ≡ Ok b → status ≡ Done → IsApplied hash t held b new.now before after
 
 -- what `upgrade` prints and leaves of a map: the root digest of its tree and batch in the second
 -- version is printed, and the new file stands for these in that version
 pub record IsUpgraded (hash : List ℕ → List ℕ) (t : Tree) (batch : ℕ) (new : List ℕ)
     (before after : World) : Type 0 where
-  pub printed : Takes before.sink after.sink (digest_line (digests.root (by Two hash) t batch))
+  pub printed : Takes before.sink after.sink (digest_line (map_root hash (map_in Two t batch)))
   pub bytes : List ℕ
   pub there : Holds after.shelf.files new bytes
-  pub stands : IsMap second_form hash bytes t batch
+  pub stands : IsMapFile hash bytes (map_in Two t batch)
 
 -- so it does of every map, whichever version its file has
 abbrev pub UpgradesAll : (List ℕ → List ℕ) → List (List ℕ) → World → World → Status → Type 0
 UpgradesAll hash words before after status =
     (v : Version) (t : Tree) (batch : ℕ) (old new : Bor (List ℕ)) (bytes : List ℕ)
     → Spells words (commands.Upgrade old new) → Holds before.shelf.files old.now bytes
-    → IsMap (form_by v) hash bytes t batch → status ≡ Done
+    → IsMapFile hash bytes (map_in v t batch) → status ≡ Done
     → IsUpgraded hash t batch new.now before after

@@ -8,7 +8,7 @@ use Rattle.mr_command.specs.Ending.{ComesBut, ReadsOpened}
 use Rattle.mr_plan.specs.Plan.{comes}
 use Rattle.mr_plan.specs.Say.{say_audit_of}
 use Rattle.mr_command.proofs.Audits.{read_told, read_untold, missed_told, missed_untold, unread_told, read_beside, alone_beside}
-use Rattle.mr_command.proofs.Pages.{map_in}
+use Rattle.mr_command.proofs.Pages.{map_at}
 use Rattle.mr_command.proofs.auditing.audit_file.Goals as goal
 
 pub returns-in-Ok-Some-clause-told : goal.returns-in-Ok-Some-clause-told
@@ -22,7 +22,7 @@ returns-in-Ok-Some-clause-told g c =
     let same = c.in-Ok-Some.ensures.same in
     let s = stands_for paged.head (told_bytes old.files (string_bytes paged.name)) in
     let told : Standing → List ℕ → Type 0 = λ s bytes. IfSome s.tree (λ t. ComesBut (comes (say_audit_of hash q
-    (map_in s t) bytes)) mid new c.audit_bytes.result) in
+    (map_at s t) bytes)) mid new c.audit_bytes.result) in
     read_told hash c.args.map.now q c.args.proof.now old mid new s c.in-Ok-Some.bytes c.in-Ok-Some.field-0
     c.audit_bytes.result c.in-Ok-Some.field-0-is c.in-Ok-Some.ensures.reads
     (subst (λ bytes. told s bytes) c.deref.ensures.value
