@@ -1,3 +1,4 @@
 pub mod Digests
+pub mod Reading
 pub mod Spelling
 pub mod BundleLines

@@ -1,161 +1,171 @@
--- Commands by their words.
-use Rattle.std.proofs.Common.{◌≡◌, ◌≢◌, ℕ, ◌^◌, ◌<◌, Bor, List, [], ◌∷◌, length, map, Option, Some, None, Result, Ok, refl, sym, ap, subst, ◌∙◌, arith}
-use Rattle.std.specs.Prelude.{bytes_eq, codes, decimal, false, true}
+-- Commands by their words: the words spell one command at most, and it is the one that is read.
+use Rattle.std.proofs.Common.{◌≡◌, ℕ, ◌≤◌, Bool, true, false, ◌&&◌, leb, get_or, List, [], length, map, Option, Some, None, refl, sym, ap, subst, ◌∙◌}
+use Rattle.std.specs.Prelude.{bytes_eq, codes}
+use Rattle.std.specs.List.{AllByRecursion, list_all}
+use Rattle.std.proofs.lemmas.Bool.{and_parts, both_ways, leb-true}
 use Rattle.std.proofs.lemmas.Slice.Eq.{bytes_eq-Decides}
-use Rattle.hex.specs.Hex.{encode_lower}
-use Rattle.mr_record.specs.Decimal.{u64_of}
 use Rattle.mr_record.specs.declared.version.Version.TheVariants.{One, Two}
-use Rattle.mr_record.proofs.Decimals.{u64_of-decimal}
-use Rattle.mr_query.specs.Word.{IsQuery, query_of, word_of}
 use Rattle.mr_query.specs.declared.query.Query.{Query}
-use Rattle.mr_query.specs.declared.query.QueryFault.{QueryFault}
-use Rattle.mr_query.proofs.Words.{query_read}
+use Rattle.mr_plan.specs.Kinds.{Reading, kinds_of, name_of, no_query, first_word, start, all_next, past_all, is_complete, GivesCommand}
 use Rattle.mr_plan.specs.Say.{say_root, say_build, say_list, say_upgrade, say_apply, say_prove, say_check, say_audit, say_serve, say_check_all, say_make, say_demo}
-use Rattle.mr_plan.specs.Spelling.{IsSpelled, AsksAs, IsAsked, IsBetween, digest_of_word}
-use Rattle.mr_plan.specs.Words.{IsDigest, Spells}
+use Rattle.mr_plan.specs.Spelling.{IsSpelled, AsksAs}
+use Rattle.mr_plan.specs.Words.{Word, key, file, digest, query, number, spelled, words_of, IsWord, file_names, Spells}
 use Rattle.mr_plan.specs.declared.words.Command.{Command}
 use Rattle.mr_plan.specs.declared.words.Command.TheVariants as commands
-use Rattle.mr_plan.proofs.Digests.{digest_read}
+use Rattle.mr_plan.proofs.Reading.{AreNew, is_low, stand, read_again, read_whole, apart_new, new_apart, names_named}
 
-same_some : (a b : List ℕ) → ◌≡◌ {A = Option (List ℕ)} (Some a) (Some b) → a ≡ b
-same_some a b e = cc
+-- ---- the table: what is known of each command
 
-same_ok : (a b : Query) → ◌≡◌ {A = Result Query QueryFault} (Ok a) (Ok b) → a ≡ b
-same_ok a b e = cc
+-- what stands at a place of some words, by what it stands for
+abbrev bytes_in : Word → List ℕ
+bytes_in (key name) = name
+bytes_in (file name) = name
+bytes_in (digest bytes) = bytes
+bytes_in (query asked) = []
+bytes_in (number least most value) = []
 
--- two digests with one word are one
-one_digest : (a b : List ℕ) → IsDigest a → IsDigest b → encode_lower a ≡ encode_lower b → a ≡ b
-one_digest a b is_a is_b e = same_some a b (sym (digest_read a is_a) ∙ ap digest_of_word e
-    ∙ digest_read b is_b)
+abbrev query_in : Word → Query
+query_in (query asked) = asked
+query_in word = no_query
 
--- two queries with one word are one
-one_query : (a b : Query) → IsQuery a → IsQuery b → word_of a ≡ word_of b → a ≡ b
-one_query a b is_a is_b e = same_ok a b (sym (query_read a is_a) ∙ ap query_of e
-    ∙ query_read b is_b)
+abbrev value_in : Word → ℕ
+value_in (number least most value) = value
+value_in word = 0
 
-same_number : (a b : ℕ) → ◌≡◌ {A = Option ℕ} (Some a) (Some b) → a ≡ b
-same_number a b e = cc
+abbrev bytes_at : ℕ → List Word → List ℕ
+bytes_at place words = bytes_in (get_or words place (key []))
 
--- two numbers of 64 bits with one word are one
-one_number : (a b : ℕ) → a < 2 ^ 64 → b < 2 ^ 64 → decimal a ≡ decimal b → a ≡ b
-one_number a b low_a low_b e = same_number a b (sym (u64_of-decimal a low_a) ∙ ap u64_of e
-    ∙ u64_of-decimal b low_b)
+abbrev query_at : ℕ → List Word → Query
+query_at place words = query_in (get_or words place (key []))
 
--- words that begin with different words differ
-other_key : {A : Type 0} (a b : List ℕ) (xs ys : List (List ℕ)) → bytes_eq a b ≡ false
-    → a ∷ xs ≡ b ∷ ys → A
-other_key a b xs ys differ e =
-    let same : a ≡ b = cc in
-    let equal : bytes_eq a b ≡ true = (bytes_eq-Decides a b).1 same in
-    absurd cc
+abbrev value_at : ℕ → List Word → ℕ
+value_at place words = value_in (get_or words place (key []))
 
-second : (k l x y : List ℕ) → k ∷ x ∷ [] ≡ l ∷ y ∷ [] → x ≡ y
-second k l x y e = cc
+other_name : {A : Type 0} (a b : List ℕ) → bytes_eq a b ≡ false → a ≡ b → A
+other_name a b differ same = absurd (both_ways (bytes_eq a b) differ ((bytes_eq-Decides a b).1 same))
 
-second_of_two : (k l a b x y : List ℕ) → k ∷ a ∷ b ∷ [] ≡ l ∷ x ∷ y ∷ [] → a ≡ x
-second_of_two k l a b x y e = cc
+-- two commands of one name have words of the same kinds, and ask for the same if these are the same
+record Matches (a b : Command) : Type 0 where
+  kinds : kinds_of a ≡ kinds_of b
+  asks : words_of a ≡ words_of b → AsksAs (Some a) (Some b)
 
-third_of_two : (k l a b x y : List ℕ) → k ∷ a ∷ b ∷ [] ≡ l ∷ x ∷ y ∷ [] → b ≡ y
-third_of_two k l a b x y e = cc
+matching : (a b : Command) → name_of a ≡ name_of b → Matches a b
+matching (commands.Root a) (commands.Root b) name = record {
+  kinds = refl;
+  asks = λ e hash i. say_root One hash (bytes_at 1 (e i));
+}
+matching (commands.Root2 a) (commands.Root2 b) name = record {
+  kinds = refl;
+  asks = λ e hash i. say_root Two hash (bytes_at 1 (e i));
+}
+matching (commands.Build a b) (commands.Build x y) name = record {
+  kinds = refl;
+  asks = λ e hash i. say_build One hash (bytes_at 1 (e i)) (bytes_at 2 (e i));
+}
+matching (commands.Build2 a b) (commands.Build2 x y) name = record {
+  kinds = refl;
+  asks = λ e hash i. say_build Two hash (bytes_at 1 (e i)) (bytes_at 2 (e i));
+}
+matching (commands.List a) (commands.List b) name = record {
+  kinds = refl;
+  asks = λ e hash i. say_list hash (bytes_at 1 (e i));
+}
+matching (commands.Upgrade a b) (commands.Upgrade x y) name = record {
+  kinds = refl;
+  asks = λ e hash i. say_upgrade hash (bytes_at 1 (e i)) (bytes_at 2 (e i));
+}
+matching (commands.Apply a b c) (commands.Apply x y z) name = record {
+  kinds = refl;
+  asks = λ e hash i. say_apply hash (bytes_at 1 (e i)) (bytes_at 2 (e i)) (bytes_at 3 (e i));
+}
+matching (commands.Prove a b c) (commands.Prove x y z) name = record {
+  kinds = refl;
+  asks = λ e hash i. say_prove hash (bytes_at 1 (e i)) (query_at 2 (e i)) (bytes_at 3 (e i));
+}
+matching (commands.Check a b c) (commands.Check x y z) name = record {
+  kinds = refl;
+  asks = λ e hash i. say_check hash (bytes_at 1 (e i)) (query_at 2 (e i)) (bytes_at 3 (e i));
+}
+matching (commands.Audit a b c) (commands.Audit x y z) name = record {
+  kinds = refl;
+  asks = λ e hash i. say_audit hash (bytes_at 1 (e i)) (query_at 2 (e i)) (bytes_at 3 (e i));
+}
+matching (commands.Serve a b c) (commands.Serve x y z) name = record {
+  kinds = refl;
+  asks = λ e hash i. say_serve hash (bytes_at 1 (e i)) (bytes_at 2 (e i)) (bytes_at 3 (e i));
+}
+matching (commands.CheckAll a b c) (commands.CheckAll x y z) name = record {
+  kinds = refl;
+  asks = λ e hash i. say_check_all hash (bytes_at 1 (e i)) (bytes_at 2 (e i)) (bytes_at 3 (e i));
+}
+matching (commands.Make a b c) (commands.Make x y z) name = record {
+  kinds = refl;
+  asks = λ e hash i. say_make (value_at 1 (e i)) (value_at 2 (e i)) (bytes_at 3 (e i));
+}
+matching (commands.Demo a b) (commands.Demo x y) name = record {
+  kinds = refl;
+  asks = λ e hash i. say_demo hash (value_at 1 (e i)) (value_at 2 (e i));
+}
+matching a b name = other_name _ _ refl name
 
-second_of : (k l a b c x y z : List ℕ) → k ∷ a ∷ b ∷ c ∷ [] ≡ l ∷ x ∷ y ∷ z ∷ [] → a ≡ x
-second_of k l a b c x y z e = cc
+-- the first word is the name of no command
+pub no_command : (old new : Reading) (name : List ℕ) → name ≡ first_word old.words
+    → (name ≡ codes "root" → ⊥)
+    → (name ≡ codes "root2" → ⊥)
+    → (name ≡ codes "build" → ⊥)
+    → (name ≡ codes "build2" → ⊥)
+    → (name ≡ codes "list" → ⊥)
+    → (name ≡ codes "upgrade" → ⊥)
+    → (name ≡ codes "apply" → ⊥)
+    → (name ≡ codes "prove" → ⊥)
+    → (name ≡ codes "check" → ⊥)
+    → (name ≡ codes "audit" → ⊥)
+    → (name ≡ codes "serve" → ⊥)
+    → (name ≡ codes "check-all" → ⊥)
+    → (name ≡ codes "make" → ⊥)
+    → (name ≡ codes "demo" → ⊥)
+    → GivesCommand old None new
+no_command old new name same a b c d e f g h j k l m n o (commands.Root records) is = a (same ∙ sym is)
+no_command old new name same a b c d e f g h j k l m n o command is = search (same ∙ sym is)
 
-third_of : (k l a b c x y z : List ℕ) → k ∷ a ∷ b ∷ c ∷ [] ≡ l ∷ x ∷ y ∷ z ∷ [] → b ≡ y
-third_of k l a b c x y z e = cc
+-- ---- for all commands
 
-fourth_of : (k l a b c x y z : List ℕ) → k ∷ a ∷ b ∷ c ∷ [] ≡ l ∷ x ∷ y ∷ z ∷ [] → c ≡ z
-fourth_of k l a b c x y z e = cc
+-- a command has three files at most, and its numbers fit 64 bits
+abbrev is_plain : List Word → Bool
+is_plain words = leb (length (file_names words)) 3 && list_all is_low words
+
+plain : (command : Command) → is_plain (words_of command) ≡ true
+plain (commands.Root records) = refl
+plain command = refl
+
+few_files : (command : Command) → length (file_names (words_of command)) ≤ 3
+few_files command = leb-true _ _ (and_parts _ _ (plain command)).0
+
+low_numbers : (command : Command) → list_all is_low (words_of command) ≡ true
+low_numbers command = (and_parts _ _ (plain command)).1
+
+-- words that spell a command are read as its words
+found_words : (words : List (List ℕ)) (command : Command) → Spells words command
+    → all_next (kinds_of command) (start words) ≡ words_of command
+found_words words command spells =
+    subst (λ ws. all_next (kinds_of command) (start ws) ≡ words_of command) (sym spells.spelled)
+    (read_again (words_of command) [] [] true (low_numbers command) spells.each)
+
+-- and each of them is what it has to be
+found_whole : (words : List (List ℕ)) (command : Command) → Spells words command
+    → is_complete (past_all (kinds_of command) (start words)) ≡ true
+found_whole words command spells =
+    subst (λ ws. is_complete (past_all (kinds_of command) (start ws)) ≡ true) (sym spells.spelled)
+    (read_whole (words_of command) [] [] true refl (low_numbers command) spells.each
+    (new_apart (file_names (words_of command)) (few_files command) (names_named (words_of command) spells.each)
+    spells.apart))
 
 ask_same : (words : List (List ℕ)) (a b : Command) → Spells words a → Spells words b
     → AsksAs (Some a) (Some b)
-ask_same words (commands.Root a) (commands.Root b) spells_a spells_b =
-    let e = sym spells_a.spelled ∙ spells_b.spelled in
-    λ hash. ap (say_root One hash) (second _ _ _ _ e)
-ask_same words (commands.Root2 a) (commands.Root2 b) spells_a spells_b =
-    let e = sym spells_a.spelled ∙ spells_b.spelled in
-    λ hash. ap (say_root Two hash) (second _ _ _ _ e)
-ask_same words (commands.Check root_a query_a proof_a) (commands.Check root_b query_b proof_b)
-    spells_a spells_b =
-    let e = sym spells_a.spelled ∙ spells_b.spelled in
-    let roots : root_a ≡ root_b = one_digest root_a root_b spells_a.each.1.0 spells_b.each.1.0
-    (second_of _ _ _ _ _ _ _ _ e) in
-    let queries : query_a ≡ query_b = one_query query_a query_b spells_a.each.1.1.0
-    spells_b.each.1.1.0 (third_of _ _ _ _ _ _ _ _ e) in
-    let proofs : proof_a.now ≡ proof_b.now = fourth_of _ _ _ _ _ _ _ _ e in
-    λ hash i. say_check hash (roots i) (queries i) (proofs i)
-ask_same words (commands.Prove map_a query_a proof_a) (commands.Prove map_b query_b proof_b)
-    spells_a spells_b =
-    let e = sym spells_a.spelled ∙ spells_b.spelled in
-    let maps : map_a.now ≡ map_b.now = second_of _ _ _ _ _ _ _ _ e in
-    let queries : query_a ≡ query_b = one_query query_a query_b spells_a.each.1.1.0
-    spells_b.each.1.1.0 (third_of _ _ _ _ _ _ _ _ e) in
-    let proofs : proof_a.now ≡ proof_b.now = fourth_of _ _ _ _ _ _ _ _ e in
-    λ hash i. say_prove hash (maps i) (queries i) (proofs i)
-ask_same words (commands.Apply old_a batch_a new_a) (commands.Apply old_b batch_b new_b) spells_a spells_b =
-    let e = sym spells_a.spelled ∙ spells_b.spelled in
-    let olds : old_a.now ≡ old_b.now = second_of _ _ _ _ _ _ _ _ e in
-    let batches : batch_a.now ≡ batch_b.now = third_of _ _ _ _ _ _ _ _ e in
-    let news : new_a.now ≡ new_b.now = fourth_of _ _ _ _ _ _ _ _ e in
-    λ hash i. say_apply hash (olds i) (batches i) (news i)
-ask_same words (commands.Audit map_a query_a proof_a) (commands.Audit map_b query_b proof_b)
-    spells_a spells_b =
-    let e = sym spells_a.spelled ∙ spells_b.spelled in
-    let maps : map_a.now ≡ map_b.now = second_of _ _ _ _ _ _ _ _ e in
-    let queries : query_a ≡ query_b = one_query query_a query_b spells_a.each.1.1.0
-    spells_b.each.1.1.0 (third_of _ _ _ _ _ _ _ _ e) in
-    let proofs : proof_a.now ≡ proof_b.now = fourth_of _ _ _ _ _ _ _ _ e in
-    λ hash i. say_audit hash (maps i) (queries i) (proofs i)
-ask_same words (commands.Serve map_a script_a bundle_a) (commands.Serve map_b script_b bundle_b) spells_a spells_b =
-    let e = sym spells_a.spelled ∙ spells_b.spelled in
-    let maps : map_a.now ≡ map_b.now = second_of _ _ _ _ _ _ _ _ e in
-    let scripts : script_a.now ≡ script_b.now = third_of _ _ _ _ _ _ _ _ e in
-    let bundles : bundle_a.now ≡ bundle_b.now = fourth_of _ _ _ _ _ _ _ _ e in
-    λ hash i. say_serve hash (maps i) (scripts i) (bundles i)
-ask_same words (commands.CheckAll root_a script_a bundle_a) (commands.CheckAll root_b script_b bundle_b)
-    spells_a spells_b =
-    let e = sym spells_a.spelled ∙ spells_b.spelled in
-    let roots : root_a ≡ root_b = one_digest root_a root_b spells_a.each.1.0 spells_b.each.1.0
-    (second_of _ _ _ _ _ _ _ _ e) in
-    let scripts : script_a.now ≡ script_b.now = third_of _ _ _ _ _ _ _ _ e in
-    let bundles : bundle_a.now ≡ bundle_b.now = fourth_of _ _ _ _ _ _ _ _ e in
-    λ hash i. say_check_all hash (roots i) (scripts i) (bundles i)
-ask_same words (commands.Build map_a records_a) (commands.Build map_b records_b) spells_a spells_b =
-    let e = sym spells_a.spelled ∙ spells_b.spelled in
-    let maps : map_a.now ≡ map_b.now = second_of_two _ _ _ _ _ _ e in
-    let records : records_a.now ≡ records_b.now = third_of_two _ _ _ _ _ _ e in
-    λ hash i. say_build One hash (maps i) (records i)
-ask_same words (commands.Build2 map_a records_a) (commands.Build2 map_b records_b) spells_a spells_b =
-    let e = sym spells_a.spelled ∙ spells_b.spelled in
-    let maps : map_a.now ≡ map_b.now = second_of_two _ _ _ _ _ _ e in
-    let records : records_a.now ≡ records_b.now = third_of_two _ _ _ _ _ _ e in
-    λ hash i. say_build Two hash (maps i) (records i)
-ask_same words (commands.Upgrade old_a new_a) (commands.Upgrade old_b new_b) spells_a spells_b =
-    let e = sym spells_a.spelled ∙ spells_b.spelled in
-    let olds : old_a.now ≡ old_b.now = second_of_two _ _ _ _ _ _ e in
-    let news : new_a.now ≡ new_b.now = third_of_two _ _ _ _ _ _ e in
-    λ hash i. say_upgrade hash (olds i) (news i)
-ask_same words (commands.List a) (commands.List b) spells_a spells_b =
-    let e = sym spells_a.spelled ∙ spells_b.spelled in
-    λ hash. ap (say_list hash) (second _ _ _ _ e)
-ask_same words (commands.Make count_a seed_a file_a) (commands.Make count_b seed_b file_b)
-    spells_a spells_b =
-    let e = sym spells_a.spelled ∙ spells_b.spelled in
-    let counts : count_a ≡ count_b = one_number count_a count_b (omega (arith, spells_a.each.1.0.1))
-    (omega (arith, spells_b.each.1.0.1)) (second_of _ _ _ _ _ _ _ _ e) in
-    let seeds : seed_a ≡ seed_b = one_number seed_a seed_b (omega (arith, spells_a.each.1.1.0.1))
-    (omega (arith, spells_b.each.1.1.0.1)) (third_of _ _ _ _ _ _ _ _ e) in
-    let files : file_a.now ≡ file_b.now = fourth_of _ _ _ _ _ _ _ _ e in
-    λ hash i. say_make (counts i) (seeds i) (files i)
-ask_same words (commands.Demo count_a seed_a) (commands.Demo count_b seed_b) spells_a spells_b =
-    let e = sym spells_a.spelled ∙ spells_b.spelled in
-    let counts : count_a ≡ count_b = one_number count_a count_b (omega (arith, spells_a.each.1.0.1))
-    (omega (arith, spells_b.each.1.0.1)) (second_of_two _ _ _ _ _ _ e) in
-    let seeds : seed_a ≡ seed_b = one_number seed_a seed_b (omega (arith, spells_a.each.1.1.0.1))
-    (omega (arith, spells_b.each.1.1.0.1)) (third_of_two _ _ _ _ _ _ e) in
-    λ hash i. say_demo hash (counts i) (seeds i)
-ask_same words a b spells_a spells_b = other_key _ _ _ _ refl
-    (sym spells_a.spelled ∙ spells_b.spelled)
+ask_same words a b spells_a spells_b =
+    let alike = matching a b (ap first_word (sym spells_a.spelled ∙ spells_b.spelled)) in
+    alike.asks (sym (found_words words a spells_a) ∙ ap (λ kinds. all_next kinds (start words)) alike.kinds
+    ∙ found_words words b spells_b)
 
 -- the words spell one command at most
 pub one_command : (words : List (List ℕ)) (a b : Option Command) → IsSpelled words a
@@ -165,297 +175,50 @@ one_command words (Some a) (Some b) spelled_a spelled_b = ask_same words a b spe
 one_command words (Some a) None spelled_a spelled_b = absurd (spelled_b a spelled_a)
 one_command words None (Some b) spelled_a spelled_b = absurd (spelled_a b spelled_b)
 
--- ---- words that spell no command
-
-pub no_name : (name : List ℕ) → length name ≡ 0 → IsSpelled (codes "root" ∷ name ∷ []) None
-no_name name none (commands.Root records) spells =
-    let same : name ≡ records.now = second _ _ _ _ spells.spelled in
-    let named = spells.each.1.0 in
-    absurd (omega (arith, ap length same, named, none))
-no_name name none command spells = absurd (other_key _ _ _ _ refl spells.spelled)
-
-pub no_root2 : (name : List ℕ) → length name ≡ 0 → IsSpelled (codes "root2" ∷ name ∷ []) None
-no_root2 name none (commands.Root2 records) spells =
-    let same : name ≡ records.now = second _ _ _ _ spells.spelled in
-    let named = spells.each.1.0 in
-    absurd (omega (arith, ap length same, named, none))
-no_root2 name none command spells = absurd (other_key _ _ _ _ refl spells.spelled)
-
-pub no_list : (name : List ℕ) → length name ≡ 0 → IsSpelled (codes "list" ∷ name ∷ []) None
-no_list name none (commands.List map) spells =
-    let same : name ≡ map.now = second _ _ _ _ spells.spelled in
-    let named = spells.each.1.0 in
-    absurd (omega (arith, ap length same, named, none))
-no_list name none command spells = absurd (other_key _ _ _ _ refl spells.spelled)
-
--- where it names the two files of a map and of records, they have names, which differ
-pub no_build : (map records : List ℕ) → (0 < length map → 0 < length records → map ≢ records → ⊥)
-    → IsSpelled (codes "build" ∷ map ∷ records ∷ []) None
-no_build map records none (commands.Build m r) spells =
-    let maps : map ≡ m.now = second_of_two _ _ _ _ _ _ spells.spelled in
-    let texts : records ≡ r.now = third_of_two _ _ _ _ _ _ spells.spelled in
-    absurd (none (subst (λ n. 0 < length n) (sym maps) spells.each.1.0)
-    (subst (λ n. 0 < length n) (sym texts) spells.each.1.1.0)
-    (λ same. spells.apart.0.0 (sym maps ∙ same ∙ texts)))
-no_build map records none command spells = absurd (other_key _ _ _ _ refl spells.spelled)
-
-pub no_build2 : (map records : List ℕ) → (0 < length map → 0 < length records → map ≢ records → ⊥)
-    → IsSpelled (codes "build2" ∷ map ∷ records ∷ []) None
-no_build2 map records none (commands.Build2 m r) spells =
-    let maps : map ≡ m.now = second_of_two _ _ _ _ _ _ spells.spelled in
-    let texts : records ≡ r.now = third_of_two _ _ _ _ _ _ spells.spelled in
-    absurd (none (subst (λ n. 0 < length n) (sym maps) spells.each.1.0)
-    (subst (λ n. 0 < length n) (sym texts) spells.each.1.1.0)
-    (λ same. spells.apart.0.0 (sym maps ∙ same ∙ texts)))
-no_build2 map records none command spells = absurd (other_key _ _ _ _ refl spells.spelled)
-
--- where it names the two files of a map and of the new one, they have names, which differ
-pub no_upgrade : (old new : List ℕ) → (0 < length old → 0 < length new → old ≢ new → ⊥)
-    → IsSpelled (codes "upgrade" ∷ old ∷ new ∷ []) None
-no_upgrade old new none (commands.Upgrade o n) spells =
-    let olds : old ≡ o.now = second_of_two _ _ _ _ _ _ spells.spelled in
-    let news : new ≡ n.now = third_of_two _ _ _ _ _ _ spells.spelled in
-    absurd (none (subst (λ n. 0 < length n) (sym olds) spells.each.1.0)
-    (subst (λ n. 0 < length n) (sym news) spells.each.1.1.0)
-    (λ same. spells.apart.0.0 (sym olds ∙ same ∙ news)))
-no_upgrade old new none command spells = absurd (other_key _ _ _ _ refl spells.spelled)
-
--- a name of a command that has two words
-pub not_two : (name a : List ℕ) → (name ≡ codes "root" → ⊥) → (name ≡ codes "root2" → ⊥)
-    → (name ≡ codes "list" → ⊥) → IsSpelled (name ∷ a ∷ []) None
-not_two name a not_root not_root2 not_list (commands.Root records) spells =
-    let same : name ≡ codes "root" = cc in absurd (not_root same)
-not_two name a not_root not_root2 not_list (commands.Root2 records) spells =
-    let same : name ≡ codes "root2" = cc in absurd (not_root2 same)
-not_two name a not_root not_root2 not_list (commands.List map) spells =
-    let same : name ≡ codes "list" = cc in absurd (not_list same)
-not_two name a not_root not_root2 not_list command spells =
-    let long = ap length spells.spelled in absurd (omega (arith, long))
-
-pub not_three : (name a b : List ℕ) → (name ≡ codes "build" → ⊥) → (name ≡ codes "build2" → ⊥)
-    → (name ≡ codes "upgrade" → ⊥) → (name ≡ codes "demo" → ⊥) → IsSpelled (name ∷ a ∷ b ∷ []) None
-not_three name a b not_build not_build2 not_upgrade not_demo (commands.Build map records) spells =
-    let same : name ≡ codes "build" = cc in absurd (not_build same)
-not_three name a b not_build not_build2 not_upgrade not_demo (commands.Build2 map records) spells =
-    let same : name ≡ codes "build2" = cc in absurd (not_build2 same)
-not_three name a b not_build not_build2 not_upgrade not_demo (commands.Upgrade old new) spells =
-    let same : name ≡ codes "upgrade" = cc in absurd (not_upgrade same)
-not_three name a b not_build not_build2 not_upgrade not_demo (commands.Demo count seed) spells =
-    let same : name ≡ codes "demo" = cc in absurd (not_demo same)
-not_three name a b not_build not_build2 not_upgrade not_demo command spells =
-    let long = ap length spells.spelled in absurd (omega (arith, long))
-
-pub not_four : (name a b c : List ℕ) → (name ≡ codes "apply" → ⊥) → (name ≡ codes "prove" → ⊥)
-    → (name ≡ codes "check" → ⊥) → (name ≡ codes "audit" → ⊥) → (name ≡ codes "serve" → ⊥)
-    → (name ≡ codes "check-all" → ⊥) → (name ≡ codes "make" → ⊥)
-    → IsSpelled (name ∷ a ∷ b ∷ c ∷ []) None
-not_four name a b c not_apply not_prove not_check not_audit not_serve not_all not_make (commands.Apply old batch new)
-    spells = let same : name ≡ codes "apply" = cc in absurd (not_apply same)
-not_four name a b c not_apply not_prove not_check not_audit not_serve not_all not_make (commands.Prove map asked proof)
-    spells = let same : name ≡ codes "prove" = cc in absurd (not_prove same)
-not_four name a b c not_apply not_prove not_check not_audit not_serve not_all not_make (commands.Check root asked proof)
-    spells = let same : name ≡ codes "check" = cc in absurd (not_check same)
-not_four name a b c not_apply not_prove not_check not_audit not_serve not_all not_make (commands.Audit map asked proof)
-    spells = let same : name ≡ codes "audit" = cc in absurd (not_audit same)
-not_four name a b c not_apply not_prove not_check not_audit not_serve not_all not_make
-    (commands.Serve map script bundle) spells = let same : name ≡ codes "serve" = cc in absurd (not_serve same)
-not_four name a b c not_apply not_prove not_check not_audit not_serve not_all not_make
-    (commands.CheckAll root script bundle) spells = let same : name ≡ codes "check-all" = cc in absurd (not_all same)
-not_four name a b c not_apply not_prove not_check not_audit not_serve not_all not_make (commands.Make count seed file)
-    spells = let same : name ≡ codes "make" = cc in absurd (not_make same)
-not_four name a b c not_apply not_prove not_check not_audit not_serve not_all not_make command spells =
-    let long = ap length spells.spelled in absurd (omega (arith, long))
-
--- where it names the three files of a map, of a batch and of the map after it, they have names, which differ
-pub no_apply : (old batch new : List ℕ)
-    → (0 < length old → 0 < length batch → 0 < length new → (old ≢ batch) × (old ≢ new) × (batch ≢ new) → ⊥)
-    → IsSpelled (codes "apply" ∷ old ∷ batch ∷ new ∷ []) None
-no_apply old batch new none (commands.Apply o b n) spells =
-    let olds : old ≡ o.now = second_of _ _ _ _ _ _ _ _ spells.spelled in
-    let batches : batch ≡ b.now = third_of _ _ _ _ _ _ _ _ spells.spelled in
-    let news : new ≡ n.now = fourth_of _ _ _ _ _ _ _ _ spells.spelled in
-    absurd (none (subst (λ n. 0 < length n) (sym olds) spells.each.1.0)
-    (subst (λ n. 0 < length n) (sym batches) spells.each.1.1.0)
-    (subst (λ n. 0 < length n) (sym news) spells.each.1.1.1.0) (
-      (λ same. spells.apart.0.0 (sym olds ∙ same ∙ batches)),
-      (λ same. spells.apart.0.1.0 (sym olds ∙ same ∙ news)),
-      (λ same. spells.apart.1.0.0 (sym batches ∙ same ∙ news)),
-    ))
-no_apply old batch new none command spells = absurd (other_key _ _ _ _ refl spells.spelled)
-
--- the command `apply` of these words
-pub is_apply : (old batch new : List ℕ) (a b c : Bor (List ℕ)) → a.now ≡ old → b.now ≡ batch → c.now ≡ new
-    → 0 < length old → 0 < length batch → 0 < length new → (old ≢ batch) × (old ≢ new) × (batch ≢ new)
-    → Spells (codes "apply" ∷ old ∷ batch ∷ new ∷ []) (commands.Apply a b c)
-is_apply old batch new a b c is_a is_b is_c some_old some_batch some_new apart = record {
-  each = (
-    tt,
-    (
-      subst (λ n. 0 < length n) (sym is_a) some_old,
-      (subst (λ n. 0 < length n) (sym is_b) some_batch, (subst (λ n. 0 < length n) (sym is_c) some_new, tt)),
-    ),
-  );
-  apart = (
-    ((λ same. apart.0 (sym is_a ∙ same ∙ is_b)), ((λ same. apart.1 (sym is_a ∙ same ∙ is_c)), tt)),
-    (((λ same. apart.2 (sym is_b ∙ same ∙ is_c)), tt), (tt, tt)),
-  );
-  spelled = λ i. codes "apply" ∷ sym is_a i ∷ sym is_b i ∷ sym is_c i ∷ [];
-}
-
--- the same for the three files of a map, of a script and of a bundle
-pub no_serve : (map script bundle : List ℕ)
-    → (0 < length map → 0 < length script → 0 < length bundle → (map ≢ script) × (map ≢ bundle) × (script ≢ bundle) → ⊥)
-    → IsSpelled (codes "serve" ∷ map ∷ script ∷ bundle ∷ []) None
-no_serve map script bundle none (commands.Serve o b n) spells =
-    let maps : map ≡ o.now = second_of _ _ _ _ _ _ _ _ spells.spelled in
-    let scripts : script ≡ b.now = third_of _ _ _ _ _ _ _ _ spells.spelled in
-    let bundles : bundle ≡ n.now = fourth_of _ _ _ _ _ _ _ _ spells.spelled in
-    absurd (none (subst (λ n. 0 < length n) (sym maps) spells.each.1.0)
-    (subst (λ n. 0 < length n) (sym scripts) spells.each.1.1.0)
-    (subst (λ n. 0 < length n) (sym bundles) spells.each.1.1.1.0) (
-      (λ same. spells.apart.0.0 (sym maps ∙ same ∙ scripts)),
-      (λ same. spells.apart.0.1.0 (sym maps ∙ same ∙ bundles)),
-      (λ same. spells.apart.1.0.0 (sym scripts ∙ same ∙ bundles)),
-    ))
-no_serve map script bundle none command spells = absurd (other_key _ _ _ _ refl spells.spelled)
-
--- the command `serve` of these words
-pub is_serve : (map script bundle : List ℕ) (a b c : Bor (List ℕ)) → a.now ≡ map → b.now ≡ script → c.now ≡ bundle
-    → 0 < length map → 0 < length script → 0 < length bundle → (map ≢ script) × (map ≢ bundle) × (script ≢ bundle)
-    → Spells (codes "serve" ∷ map ∷ script ∷ bundle ∷ []) (commands.Serve a b c)
-is_serve map script bundle a b c is_a is_b is_c some_map some_script some_bundle apart = record {
-  each = (
-    tt,
-    (
-      subst (λ n. 0 < length n) (sym is_a) some_map,
-      (subst (λ n. 0 < length n) (sym is_b) some_script, (subst (λ n. 0 < length n) (sym is_c) some_bundle, tt)),
-    ),
-  );
-  apart = (
-    ((λ same. apart.0 (sym is_a ∙ same ∙ is_b)), ((λ same. apart.1 (sym is_a ∙ same ∙ is_c)), tt)),
-    (((λ same. apart.2 (sym is_b ∙ same ∙ is_c)), tt), (tt, tt)),
-  );
-  spelled = λ i. codes "serve" ∷ sym is_a i ∷ sym is_b i ∷ sym is_c i ∷ [];
-}
-
--- words of `prove` or `audit` have a query between two files
-between : (k l map asked proof : List ℕ) (m p : Bor (List ℕ)) (q : Query)
-    → k ∷ map ∷ asked ∷ proof ∷ [] ≡ l ∷ m.now ∷ word_of q ∷ p.now ∷ [] → 0 < length m.now → IsQuery q
-    → 0 < length p.now → m.now ≢ p.now → IsBetween map asked proof q
-between k l map asked proof m p q e map_named is proof_named apart =
-    let maps : map ≡ m.now = second_of _ _ _ _ _ _ _ _ e in
-    let proofs : proof ≡ p.now = fourth_of _ _ _ _ _ _ _ _ e in
-    record {
-      query = is;
-      spelled = third_of _ _ _ _ _ _ _ _ e;
-      map_named = subst (λ n. 0 < length n) (sym maps) map_named;
-      proof_named = subst (λ n. 0 < length n) (sym proofs) proof_named;
-      apart = λ same. apart (sym maps ∙ same ∙ proofs);
-    }
-
-pub no_prove : (map asked proof : List ℕ) → IsAsked map asked proof None
-    → IsSpelled (codes "prove" ∷ map ∷ asked ∷ proof ∷ []) None
-no_prove map asked proof none (commands.Prove m q p) spells =
-    none q (between _ _ map asked proof m p q spells.spelled spells.each.1.0 spells.each.1.1.0 spells.each.1.1.1.0
-    spells.apart.0.0)
-no_prove map asked proof none command spells = absurd (other_key _ _ _ _ refl spells.spelled)
-
-pub no_audit : (map asked proof : List ℕ) → IsAsked map asked proof None
-    → IsSpelled (codes "audit" ∷ map ∷ asked ∷ proof ∷ []) None
-no_audit map asked proof none (commands.Audit m q p) spells =
-    none q (between _ _ map asked proof m p q spells.spelled spells.each.1.0 spells.each.1.1.0 spells.each.1.1.1.0
-    spells.apart.0.0)
-no_audit map asked proof none command spells = absurd (other_key _ _ _ _ refl spells.spelled)
-
-pub no_check : (root asked proof : List ℕ)
-    → ((d : List ℕ) → IsDigest d → root ≡ encode_lower d → (q : Query) → IsQuery q → asked ≡ word_of
-    q → 0 < length proof → ⊥)
-    → IsSpelled (codes "check" ∷ root ∷ asked ∷ proof ∷ []) None
-no_check root asked proof none (commands.Check d q name) spells =
-    let same : proof ≡ name.now = fourth_of _ _ _ _ _ _ _ _ spells.spelled in
-    let named : 0 < length proof = subst (λ n. 0 < length n) (sym same) spells.each.1.1.1.0 in
-    absurd (none d spells.each.1.0 (second_of _ _ _ _ _ _ _ _ spells.spelled) q spells.each.1.1.0
-    (third_of _ _ _ _ _ _ _ _ spells.spelled) named)
-no_check root asked proof none command spells = absurd (other_key _ _ _ _ refl spells.spelled)
-
-pub no_check_all : (root script bundle : List ℕ)
-    → ((d : List ℕ) → IsDigest d → root ≡ encode_lower d → 0 < length script → 0 < length bundle → script ≢ bundle → ⊥)
-    → IsSpelled (codes "check-all" ∷ root ∷ script ∷ bundle ∷ []) None
-no_check_all root script bundle none (commands.CheckAll d s b) spells =
-    let scripts : script ≡ s.now = third_of _ _ _ _ _ _ _ _ spells.spelled in
-    let bundles : bundle ≡ b.now = fourth_of _ _ _ _ _ _ _ _ spells.spelled in
-    none d spells.each.1.0 (second_of _ _ _ _ _ _ _ _ spells.spelled)
-    (subst (λ n. 0 < length n) (sym scripts) spells.each.1.1.0)
-    (subst (λ n. 0 < length n) (sym bundles) spells.each.1.1.1.0)
-    (λ same. spells.apart.0.0 (sym scripts ∙ same ∙ bundles))
-no_check_all root script bundle none command spells = absurd (other_key _ _ _ _ refl spells.spelled)
-
--- no command has so many words
-pub no_length : (words : List (List ℕ)) → (length words ≡ 2 → ⊥) → (length words ≡ 3 → ⊥) → (length words ≡ 4 → ⊥)
+-- no word stands for a command
+none_named : (words : List (List ℕ)) (old new : Reading) → old ≡ start words → GivesCommand old None new
     → IsSpelled words None
-no_length words not_2 not_3 not_4 (commands.Root records) spells = not_2 (ap length spells.spelled)
-no_length words not_2 not_3 not_4 (commands.Root2 records) spells = not_2 (ap length spells.spelled)
-no_length words not_2 not_3 not_4 (commands.List map) spells = not_2 (ap length spells.spelled)
-no_length words not_2 not_3 not_4 (commands.Build map records) spells = not_3 (ap length spells.spelled)
-no_length words not_2 not_3 not_4 (commands.Build2 map records) spells = not_3 (ap length spells.spelled)
-no_length words not_2 not_3 not_4 (commands.Upgrade old new) spells = not_3 (ap length spells.spelled)
-no_length words not_2 not_3 not_4 (commands.Apply old batch new) spells = not_4 (ap length spells.spelled)
-no_length words not_2 not_3 not_4 (commands.Prove map asked proof) spells = not_4
-    (ap length spells.spelled)
-no_length words not_2 not_3 not_4 (commands.Check root asked proof) spells = not_4
-    (ap length spells.spelled)
-no_length words not_2 not_3 not_4 (commands.Audit map asked proof) spells = not_4
-    (ap length spells.spelled)
-no_length words not_2 not_3 not_4 (commands.Serve map script bundle) spells = not_4 (ap length spells.spelled)
-no_length words not_2 not_3 not_4 (commands.CheckAll root script bundle) spells = not_4 (ap length spells.spelled)
-no_length words not_2 not_3 not_4 (commands.Make count seed records) spells = not_4
-    (ap length spells.spelled)
-no_length words not_2 not_3 not_4 (commands.Demo count seed) spells = not_3 (ap length spells.spelled)
+none_named words old new is gives = λ command spells.
+    gives command (sym (ap first_word spells.spelled) ∙ ap (λ (r : Reading). first_word r.words) (sym is))
 
-pub no_digest : (root asked proof : List ℕ) → digest_of_word root ≡ None
-    → IsSpelled (codes "check" ∷ root ∷ asked ∷ proof ∷ []) None
-no_digest root asked proof none = no_check root asked proof
-    (λ d is e q isq eq named. none_some d (sym none ∙ ap digest_of_word e ∙ digest_read d is))
-  where
-    none_some : (d : List ℕ) → ◌≡◌ {A = Option (List ℕ)} None (Some d) → ⊥
-    none_some d e = absurd cc
-
-pub no_root : (root script bundle : List ℕ) → digest_of_word root ≡ None
-    → IsSpelled (codes "check-all" ∷ root ∷ script ∷ bundle ∷ []) None
-no_root root script bundle none = no_check_all root script bundle
-    (λ d is e named_script named_bundle apart. none_some d (sym none ∙ ap digest_of_word e ∙ digest_read d is))
-  where
-    none_some : (d : List ℕ) → ◌≡◌ {A = Option (List ℕ)} None (Some d) → ⊥
-    none_some d e = absurd cc
-
--- the command `check` of these words
-pub is_check : (root asked proof d : List ℕ) (q : Query) (name : Bor (List ℕ)) → IsDigest d
-    × (root ≡ encode_lower d) → IsQuery q × (asked ≡ word_of q) → 0 < length proof
-    → name.now ≡ proof
-    → Spells (codes "check" ∷ root ∷ asked ∷ proof ∷ []) (commands.Check d q name)
-is_check root asked proof d q name d_is q_is named is =
-    let kept : 0 < length name.now = subst (λ n. 0 < length n) (sym is) named in
+-- words that were read as they have to be spell the command
+read_right : (words : List (List ℕ)) (old new : Reading) (command : Command) → old ≡ start words
+    → GivesCommand old (Some command) new → is_complete new ≡ true → Spells words command
+read_right words old new command is gives whole =
+    let past : new ≡ past_all (kinds_of command) (start words) =
+    gives.goes_past ∙ ap (past_all (kinds_of command)) is in
+    let all = stand (kinds_of command) words [] [] true (sym (ap is_complete past) ∙ whole) in
+    let same : words_of command ≡ all_next (kinds_of command) (start words) =
+    gives.are_next ∙ ap (all_next (kinds_of command)) is in
     record {
-      each = (tt, (d_is.0, (q_is.0, (kept, tt))));
-      apart = (tt, tt);
-      spelled = λ i. codes "check" ∷ d_is.1 i ∷ q_is.1 i ∷ sym is i ∷ [];
+      each = subst (λ ws. AllByRecursion IsWord ws) (sym same) all.each;
+      apart = apart_new (file_names (words_of command)) (few_files command)
+          (subst (λ ws. AreNew [] [] (file_names ws)) (sym same) all.new);
+      spelled = all.spelled_so ∙ ap (map spelled) (sym same);
     }
 
--- the command `check-all` of these words
-pub is_check_all : (root script bundle d : List ℕ) (s b : Bor (List ℕ)) → IsDigest d × (root ≡ encode_lower d)
-    → 0 < length script → 0 < length bundle → script ≢ bundle → s.now ≡ script → b.now ≡ bundle
-    → Spells (codes "check-all" ∷ root ∷ script ∷ bundle ∷ []) (commands.CheckAll d s b)
-is_check_all root script bundle d s b d_is named_script named_bundle apart is_script is_bundle = record {
-  each = (
-    tt,
-    (
-      d_is.0,
-      (
-        subst (λ n. 0 < length n) (sym is_script) named_script,
-        (subst (λ n. 0 < length n) (sym is_bundle) named_bundle, tt),
-      ),
-    ),
-  );
-  apart = (((λ same. apart (sym is_script ∙ same ∙ is_bundle)), tt), (tt, tt));
-  spelled = λ i. codes "check-all" ∷ d_is.1 i ∷ sym is_script i ∷ sym is_bundle i ∷ [];
-}
+-- others spell no command
+read_wrong : (words : List (List ℕ)) (old new : Reading) (read : Command) → old ≡ start words
+    → GivesCommand old (Some read) new → is_complete new ≡ false → IsSpelled words None
+read_wrong words old new read is gives broken = λ command spells.
+    let name : name_of command ≡ name_of read = sym (ap first_word spells.spelled)
+    ∙ ap (λ (r : Reading). first_word r.words) (sym is) ∙ sym gives.bears_name in
+    let kinds = (matching command read name).kinds in
+    let past : new ≡ past_all (kinds_of command) (start words) = gives.goes_past
+    ∙ ap (past_all (kinds_of read)) is ∙ ap (λ k. past_all k (start words)) (sym kinds) in
+    both_ways (is_complete new) broken (ap is_complete past ∙ found_whole words command spells)
+
+-- what was read is what the words spell, if they were read as they have to be, and else they spell nothing
+pub spelled_whole : (words : List (List ℕ)) (old new : Reading) (command : Option Command) (whole : Bool)
+    → old ≡ start words → GivesCommand old command new → whole ≡ is_complete new → whole ≡ true
+    → IsSpelled words command
+spelled_whole words old new None whole is gives e right = none_named words old new is gives
+spelled_whole words old new (Some command) whole is gives e right =
+    read_right words old new command is gives (sym e ∙ right)
+
+pub spelled_not : (words : List (List ℕ)) (old new : Reading) (command : Option Command) (whole : Bool)
+    → old ≡ start words → GivesCommand old command new → whole ≡ is_complete new → whole ≡ false
+    → IsSpelled words None
+spelled_not words old new None whole is gives e wrong = none_named words old new is gives
+spelled_not words old new (Some command) whole is gives e wrong =
+    read_wrong words old new command is gives (sym e ∙ wrong)

@@ -12,3 +12,4 @@ pub mod Plan
 pub mod Demo
 pub mod Say
 pub mod Spelling
+pub mod Kinds

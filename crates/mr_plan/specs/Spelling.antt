@@ -1,13 +1,12 @@
 -- The command that words spell, if any.
-use Rattle.std.specs.Prelude.{◌≡◌, ◌≢◌, ℕ, ◌<◌, ◌≤◌, nat_eq, ◌&&◌, if◌then◌else◌, List, length, decimal, ⊤, Option, Some, None}
+use Rattle.std.specs.Prelude.{◌≡◌, ◌≢◌, ℕ, ◌≤◌, nat_eq, ◌&&◌, if◌then◌else◌, List, length, ⊤, Option, Some, None}
 use Rattle.std.specs.List.{list_all}
 use Rattle.hex.specs.Hex.{decode_of}
 use Rattle.mr_record.specs.RecordText.{is_lower_digit, ok_bytes}
 use Rattle.mr_plan.specs.Say.{say}
 use Rattle.mr_plan.specs.Words.{Spells, demo_limit}
 use Rattle.mr_tree.specs.Limits.{count_limit}
-use Rattle.mr_query.specs.Word.{IsAskable, IsQuery, word_of}
-use Rattle.mr_query.specs.declared.query.Query.{Query}
+use Rattle.mr_query.specs.Word.{IsAskable}
 use Rattle.mr_plan.specs.declared.words.Command.{Command}
 use Rattle.mr_plan.specs.declared.words.Command.TheVariants as commands
 
@@ -32,24 +31,6 @@ MayBeAsked (commands.Audit map q proof) = IsAskable q
 MayBeAsked (commands.Make count seed records) = count ≤ count_limit
 MayBeAsked (commands.Demo count seed) = count ≤ demo_limit
 MayBeAsked _ = ⊤
-
--- the word of this query stands between the names of two different files, of a map and of a proof
-pub record IsBetween (map asked proof : List ℕ) (q : Query) : Type 0 where
-  pub query : IsQuery q
-  pub spelled : asked ≡ word_of q
-  pub map_named : 0 < length map
-  pub proof_named : 0 < length proof
-  pub apart : map ≢ proof
-
--- the query there, or none
-abbrev pub IsAsked : (map asked proof : List ℕ) → Option Query → Type 0
-IsAsked map asked proof (Some q) = IsBetween map asked proof q
-IsAsked map asked proof None = (q : Query) → IsBetween map asked proof q → ⊥
-
--- the number from `least` to `most` that the word writes in decimal, if it writes one
-abbrev pub IsNumberOf : (word : List ℕ) (least most : ℕ) → Option ℕ → Type 0
-IsNumberOf word least most (Some n) = (word ≡ decimal n) × (least ≤ n) × (n ≤ most)
-IsNumberOf word least most None = (n : ℕ) → word ≡ decimal n → least ≤ n → n ≤ most → ⊥
 
 -- the digest that 64 lower-case hexadecimal digits write
 unfoldable pub digest_of_word : List ℕ → Option (List ℕ)

@@ -4,6 +4,7 @@
 
 mod judged;
 mod lines;
+mod reader;
 mod status;
 mod text;
 mod unfetched;
