@@ -21,13 +21,13 @@ use crate::fetching::unfetched;
 use crate::input::{are_bytes, bad_text, missing};
 use crate::opening::unopened;
 use mr_batch::{Batch, BatchFault, Directory, admit, read_batch};
-use mr_draft::{copy_map, directory};
+use mr_draft::copy_map;
 use mr_edit::EditErr;
 use mr_outside::Shelf;
 use mr_pages::MapErr;
 use mr_plan::{Status, bad_batch_line, digest_line};
 use mr_record::TextErr;
-use mr_store::Paged;
+use mr_store::{Paged, directory};
 use mr_tree::{Hash32, Nodes};
 use std::alloc::Global;
 

@@ -1,5 +1,3 @@
-pub mod Listings
-pub mod Gathering
 pub mod Overwrites
 pub mod ZeroPages
 pub mod Filed

@@ -1,4 +1,3 @@
-pub mod Listing
 pub mod Sheets
 pub mod SheetLaws
 pub mod Draft

@@ -1,15 +1,13 @@
-//! A map that is changed on a copy of its file: the directory of its records, the copy, the pages
-//! of the draft on a shelf, and its seal, before which the file is no map.
+//! A map that is changed on a copy of its file: the copy, the pages of the draft on a shelf, and
+//! its seal, before which the file is no map.
 #![tactic(auto)]
 
 mod copying;
 mod draft;
 mod keeping;
-mod listing;
 mod pages;
 mod sealing;
 mod sheets;
 
 pub use draft::{Draft, copy_map};
-pub use listing::directory;
 pub use sheets::Sheets;

@@ -1,6 +1,6 @@
 -- Why a copy of a map stops: what is told of a map breaks no rule.
 use Rattle.std.proofs.Common.{◌≡◌, ℕ, zero, suc, ◌<◌, ◌≤◌, Bool, true, false, List, [], ◌∷◌, ◌++◌, length, map, get_or, take, drop, inl, inr, refl, sym, ap, subst, ◌∙◌, arith}
-use Rattle.std.specs.Prelude.{sum, fold, bit_or, not, Option, Some, None, IfSome, IsSome, IsSomeAnd, Result, Ok, Err, IfOk, IfErr}
+use Rattle.std.specs.Prelude.{sum, fold, bit_or, not, Option, Some, None, IfSome, IsSome, IsSomeAnd, Result, Ok, Err, IfOk, IfErr, OnOk}
 use Rattle.std.specs.List.{flat_map, AllByRecursion}
 use Rattle.std.proofs.lemmas.Bool.{ltb-false, le-ltb}
 use Rattle.std.proofs.lemmas.List.{length-map, map-append}
@@ -40,7 +40,7 @@ use Rattle.mr_store.specs.declared.stop.Stop.{Stop}
 use Rattle.mr_store.specs.declared.stop.Stop.TheVariants as stops
 use Rattle.mr_store.proofs.Copies.{first_same, rest_same, some_same, some_of, told_leaf}
 
-both : (b : Bool) → b ≡ true → b ≡ false → ⊥
+pub both : (b : Bool) → b ≡ true → b ≡ false → ⊥
 both true p q = cc
 both false p q = cc
 
@@ -344,6 +344,10 @@ if_ok (Err e) P Q f h = tt
 pub if_err : {A E : Type 0} (r : Result A E) (P Q : E → Type 0) → ((e : E) → P e → Q e) → IfErr r P → IfErr r Q
 if_err (Ok a) P Q f h = tt
 if_err (Err e) P Q f h = f e h
+
+pub on_ok : {A E : Type 0} (r : Result A E) (P Q : Type 0) → (P → Q) → OnOk r P → OnOk r Q
+on_ok (Ok a) P Q f h = f h
+on_ok (Err e) P Q f h = tt
 
 -- ---- in a fetch's own words
 

@@ -287,7 +287,7 @@ none_copied hash s old seen linked = record {
   same = λ told. refl;
 }
 
-adds_more : (a b c : Seen) (xs ys : List Record) → Adds a b xs → Adds b c ys → Adds a c (xs ++ ys)
+pub adds_more : (a b c : Seen) (xs ys : List Record) → Adds a b xs → Adds b c ys → Adds a c (xs ++ ys)
 adds_more a b c xs ys f g = λ pages ns saw.
     let p = f pages ns saw in
     let q = g pages (ns ++ numbers_of xs) p.1 in

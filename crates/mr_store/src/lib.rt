@@ -1,10 +1,12 @@
-//! Maps on disk whose nodes are fetched page by page, with a cache of node pages.
+//! Maps on disk whose nodes are fetched page by page, with a cache of node pages; a whole map in
+//! memory, and the directory of its records, as its nodes are fetched.
 #![tactic(auto)]
 
 mod cache;
 mod copying;
 mod fetching;
 mod kept;
+mod listing;
 mod memory;
 mod opening;
 mod paged;
@@ -14,6 +16,7 @@ mod stop;
 
 pub use cache::{recall, remember};
 pub use kept::Kept;
+pub use listing::directory;
 pub use opening::empty_cache;
 pub use paged::Paged;
 pub use paging::Paging;

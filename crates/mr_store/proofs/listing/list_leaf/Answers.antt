@@ -1,6 +1,6 @@
 use Rattle.std.proofs.Common.{[], refl, sym, ◌∙◌}
 use Rattle.mr_store.proofs.Copies.{adds_of}
-use Rattle.mr_draft.proofs.listing.list_leaf.Goals as goal
+use Rattle.mr_store.proofs.listing.list_leaf.Goals as goal
 
 pub returns-in-Ok-true-clause-twice : goal.returns-in-Ok-true-clause-twice
 returns-in-Ok-true-clause-twice c =

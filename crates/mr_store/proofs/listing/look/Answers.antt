@@ -1,8 +1,8 @@
 use Rattle.std.proofs.Common.{Option, Some, sym, ap, ◌∙◌}
 use Rattle.mr_geom.specs.Rectangle.{Rectangle}
 use Rattle.mr_pages.specs.Faults.{same_rect}
-use Rattle.mr_draft.proofs.Listings.{off_refuses, few_refuses}
-use Rattle.mr_draft.proofs.listing.look.Goals as goal
+use Rattle.mr_store.proofs.Listings.{off_refuses, few_refuses}
+use Rattle.mr_store.proofs.listing.look.Goals as goal
 
 pub returns-then-not-is_said-clause-cause : goal.returns-then-not-is_said-clause-cause
 returns-then-not-is_said-clause-cause g c =

@@ -18,7 +18,7 @@ use Rattle.mr_pages.specs.Faults.{numbers_of}
 use Rattle.mr_pages.proofs.AsRead.{numbers_apart}
 use Rattle.mr_batch.specs.Directory.{Entries, rect_in}
 use Rattle.mr_batch.proofs.Directories.{rect_in-absent}
-use Rattle.mr_draft.specs.Listing.{entry_of, AreApart, Gathers}
+use Rattle.mr_store.specs.Listing.{entry_of, AreApart, Gathers}
 
 apart_rest : (r : Record) (rs : List Record) → AreApart (r ∷ rs) → AreApart rs
 apart_rest r rs apart = λ i j d low high. apart (suc i) (suc j) d (omega (arith, low)) (omega (arith, high))

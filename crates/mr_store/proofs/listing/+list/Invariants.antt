@@ -2,8 +2,8 @@ use Rattle.std.proofs.Common.{◌≡◌, ◌+◌, ◌≤◌, take}
 use Rattle.std.specs.Prelude.{IsSome}
 use Rattle.mr_outside.specs.Faults.{next_count}
 use Rattle.mr_store.specs.Copying.{nodes_in}
-use Rattle.mr_draft.specs.Listing.{ListsAll}
-use Rattle.mr_draft.proofs.listing.+list.Given as goal
+use Rattle.mr_store.specs.Listing.{ListsAll}
+use Rattle.mr_store.proofs.listing.+list.Given as goal
 
 abbrev pub decreases-list : goal.decreases-list
 decreases-list g l = l.child.now.level

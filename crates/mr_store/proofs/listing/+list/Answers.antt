@@ -4,12 +4,12 @@ use Rattle.std.proofs.lemmas.Result.{err_from_is_err_and}
 use Rattle.mr_tree.specs.Nodes.{Shows}
 use Rattle.mr_tree.specs.declared.tree.Tree.TheOpen.{Leaf, Inner}
 use Rattle.mr_store.specs.Copying.{CanCopy}
-use Rattle.mr_draft.specs.Listing.{ListsAll}
-use Rattle.mr_draft.proofs.Listings.{lists_leaf, lists_none, lists_more, lists_inner, refuses_along, twice_refuses, next_can}
-use Rattle.mr_edit.proofs.Results.{if_err, on_ok}
+use Rattle.mr_store.specs.Listing.{ListsAll}
+use Rattle.mr_store.proofs.Listings.{lists_leaf, lists_none, lists_more, lists_inner, refuses_along, twice_refuses, next_can}
+use Rattle.mr_store.proofs.Blames.{if_err, on_ok}
 use Rattle.mr_outside.specs.Faults.{next_count}
 use Rattle.mr_store.proofs.Counted.{one_fetch, some_fetches, fetched_more}
-use Rattle.mr_draft.proofs.listing.+list.Goals as goal
+use Rattle.mr_store.proofs.listing.+list.Goals as goal
 
 pub returns-in_err-list-clause-cause : goal.returns-in_err-list-clause-cause
 returns-in_err-list-clause-cause g t c =

@@ -19,20 +19,19 @@ use Rattle.mr_tree.specs.declared.tree.Tree.{Tree}
 use Rattle.mr_tree.specs.declared.tree.Tree.TheVariants as tree
 use Rattle.mr_tree.specs.declared.tree.Tree.TheOpen.{Leaf, Inner}
 use Rattle.mr_tree.specs.declared.tree.Tree.TheViews.{out-Tree}
-use Rattle.mr_tree.proofs.Equations.{records-Leaf}
-use Rattle.mr_grow.proofs.Kept.{records_below}
+use Rattle.mr_tree.proofs.Equations.{records-Leaf, records-Inner}
 use Rattle.mr_pages.specs.Faults.{numbers_of, repeats}
 use Rattle.mr_pages.specs.Judging.{Fills}
 use Rattle.mr_pages.specs.Walking.{Saw}
 use Rattle.mr_pages.specs.declared.seen.Seen.{Seen}
 use Rattle.mr_pages.proofs.AsRead.{numbers_apart, records_apart}
-use Rattle.mr_pages.proofs.Building.{FilledAs}
-use Rattle.mr_pages.proofs.Lists.{Fresh, apart_fresh, fresh_apart, fresh_append, fresh_repeats}
-use Rattle.mr_store.specs.Copying.{is_round, Adds, IsFull, CanCopy}
-use Rattle.mr_store.proofs.Copies.{some_same, some_of, told_leaf, told_inner}
-use Rattle.mr_store.proofs.Blames.{round_told, full_told, split_list, split_some, InRow, in_row}
+use Rattle.mr_pages.proofs.Building.{FilledAs, of_images}
+use Rattle.mr_pages.proofs.Lists.{Fresh, apart_fresh, fresh_apart, fresh_repeats}
 use Rattle.mr_batch.specs.Directory.{Entries, IsDirectoryOf}
-use Rattle.mr_draft.specs.Listing.{entry_of, AreApart, Lists, ListsBelow, ListsAll, ListsAt, Gathers, HasAt, HasSeenNone, CanList, CanListAll, Refuses, IsTwice}
+use Rattle.mr_store.specs.Copying.{is_round, IsFull, CanCopy}
+use Rattle.mr_store.specs.Listing.{entry_of, AreApart, Lists, ListsBelow, ListsAll, ListsAt, Gathers, HasAt, HasSeenNone, CanList, CanListAll, Refuses, IsTwice}
+use Rattle.mr_store.proofs.Copies.{some_same, some_of, told_leaf, told_inner, adds_more}
+use Rattle.mr_store.proofs.Blames.{both, round_told, full_told, split_list, split_some, InRow, in_row}
 
 -- ---- the records of a leaf
 
@@ -68,15 +67,6 @@ lists_none s before met = λ told. (
   },
 )
 
-adds_more : (a b c : Seen) (xs ys : List Record) → Adds a b xs → Adds b c ys → Adds a c (xs ++ ys)
-adds_more a b c xs ys f g = λ pages ns saw.
-    let p = f pages ns saw in
-    let q = g pages (ns ++ numbers_of xs) p.1 in
-    let both = map-append (λ (r : Record). r.number) xs ys in (
-      subst (Fresh ns) (sym both) (fresh_append ns (numbers_of xs) (numbers_of ys) p.0 q.0),
-      subst (Saw pages c []) (append_assoc ns (numbers_of xs) (numbers_of ys) ∙ ap (λ zs. ns ++ zs) (sym both)) q.1,
-    )
-
 both_listed : (before old new : Entries) (a b c : Seen) (xs ys : List Record) → Lists before old a b xs →
     Lists old new b c ys → Lists before new a c (xs ++ ys)
 both_listed before old new a b c xs ys f g = record {
@@ -111,7 +101,7 @@ lists_inner hash s c cs before after met now may shows all = λ told.
     let a = all told in (
       tree.Inner a.0,
       told_inner s (s.node c.id) cs a.0 (some_of (s.node c.id) _ (may.known told)) shows.node a.1,
-      subst (Lists before after met now) (sym (records_below a.0)) a.2,
+      subst (Lists before after met now) (sym (records-Inner a.0 ∙ of_images a.0)) a.2,
     )
 
 -- ---- why it stops
@@ -147,10 +137,6 @@ fetch_refuses hash s c a b P (errors.Outside page) may h = h
 fetch_refuses hash s c a b P errors.Missing may h = h
 fetch_refuses hash s c a b P errors.Fault may h = h
 fetch_refuses hash s c a b P errors.NoMemory may h = h
-
-both : (b : Bool) → b ≡ true → b ≡ false → ⊥
-both true p q = cc
-both false p q = cc
 
 pub off_refuses : (hash : List ℕ → List ℕ) (s : Standing) (c : Child) (n : view.Node) (a b : ℕ) (P : Type 0) →
     MayFetch hash s c → Shows hash s c n → b ≡ a → is_round c n ≡ false → Refuses s a b P (errors.Page c.id)

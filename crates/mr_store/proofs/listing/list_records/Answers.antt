@@ -1,6 +1,6 @@
 use Rattle.std.proofs.Common.{◌∙◌}
-use Rattle.mr_draft.proofs.Listings.{listed_more}
-use Rattle.mr_draft.proofs.listing.list_records.Goals as goal
+use Rattle.mr_store.proofs.Listings.{listed_more}
+use Rattle.mr_store.proofs.listing.list_records.Goals as goal
 
 pub loop-one-preserved : goal.loop-one-preserved
 loop-one-preserved c =

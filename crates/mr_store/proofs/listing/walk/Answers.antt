@@ -1,9 +1,9 @@
 use Rattle.std.proofs.Common.{true}
 use Rattle.std.proofs.lemmas.Result.{err_from_is_err_and}
 use Rattle.mr_store.specs.Copying.{CanCopy}
-use Rattle.mr_draft.specs.Listing.{CanList}
-use Rattle.mr_draft.proofs.Listings.{can_begin, lists_at, refuses_as}
-use Rattle.mr_draft.proofs.listing.walk.Goals as goal
+use Rattle.mr_store.specs.Listing.{CanList}
+use Rattle.mr_store.proofs.Listings.{can_begin, lists_at, refuses_as}
+use Rattle.mr_store.proofs.listing.walk.Goals as goal
 
 pub returns-in_err-list-clause-cause : goal.returns-in_err-list-clause-cause
 returns-in_err-list-clause-cause g c =

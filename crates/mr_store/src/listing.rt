@@ -10,7 +10,7 @@ ghost use Rattle.mr_batch.specs.Directory.{IsDirectoryOf};
 ghost use Rattle.mr_outside.specs.Faults.{next_count};
 ghost use Rattle.mr_pages.specs.Judging.{Fills};
 ghost use Rattle.mr_store.specs.Copying.{CanCopy, IsFull, is_round, nodes_at};
-ghost use Rattle.mr_draft.specs.Listing.{entry_of, Lists, Gathers, ListsBelow, ListsAt, HasAt, HasSeenNone, Blames, CanList, CanListAll, Refuses, IsTwice};
+ghost use Rattle.mr_store.specs.Listing.{entry_of, Lists, Gathers, ListsBelow, ListsAt, HasAt, HasSeenNone, Blames, CanList, CanListAll, Refuses, IsTwice};
 
 use mr_batch::Directory;
 use mr_geom::Rect;

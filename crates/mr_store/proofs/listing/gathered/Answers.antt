@@ -1,7 +1,7 @@
 use Rattle.std.proofs.Common.{sym, subst}
-use Rattle.mr_draft.specs.Listing.{Gathers}
-use Rattle.mr_draft.proofs.Gathering.{made_gathers}
-use Rattle.mr_draft.proofs.listing.gathered.Goals as goal
+use Rattle.mr_store.specs.Listing.{Gathers}
+use Rattle.mr_store.proofs.Gathering.{made_gathers}
+use Rattle.mr_store.proofs.listing.gathered.Goals as goal
 
 pub returns-in-Ok-clause-lists : goal.returns-in-Ok-clause-lists
 returns-in-Ok-clause-lists c =

@@ -1,6 +1,6 @@
 use Rattle.std.proofs.Common.{◌≡◌, ◌++◌, map, take}
-use Rattle.mr_draft.specs.Listing.{entry_of}
-use Rattle.mr_draft.proofs.listing.list_records.Given as goal
+use Rattle.mr_store.specs.Listing.{entry_of}
+use Rattle.mr_store.proofs.listing.list_records.Given as goal
 
 -- the first ones are listed
 abbrev pub invariant-loop-one : goal.invariant-loop-one

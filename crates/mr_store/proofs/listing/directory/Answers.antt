@@ -1,7 +1,7 @@
-use Rattle.mr_draft.proofs.Listings.{all_refuses, all_listed}
-use Rattle.mr_edit.proofs.Results.{if_ok, if_err}
+use Rattle.mr_store.proofs.Listings.{all_refuses, all_listed}
+use Rattle.mr_store.proofs.Blames.{if_ok, if_err}
 use Rattle.mr_store.proofs.Wholes.{none_fetched, root_fetched}
-use Rattle.mr_draft.proofs.listing.directory.Goals as goal
+use Rattle.mr_store.proofs.listing.directory.Goals as goal
 
 pub returns-in-Some-clause-cause : goal.returns-in-Some-clause-cause
 returns-in-Some-clause-cause g c =
