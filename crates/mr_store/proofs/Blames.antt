@@ -1,6 +1,6 @@
 -- Why a copy of a map stops: what is told of a map breaks no rule.
-use Rattle.std.proofs.Common.{◌≡◌, ℕ, zero, suc, ◌<◌, ◌≤◌, Bool, true, false, List, [], ◌∷◌, ◌++◌, length, map, get_or, take, drop, inl, inr, refl, sym, ap, subst, ◌∙◌, arith}
-use Rattle.std.specs.Prelude.{sum, fold, bit_or, not, Option, Some, None, IfSome, IsSome, IsSomeAnd, Result, Ok, Err, IfOk, IfErr, OnOk}
+use Rattle.std.proofs.Common.{◌≡◌, ℕ, zero, suc, ◌<◌, ◌≤◌, Bool, true, false, List, [], ◌∷◌, ◌++◌, length, map, get_or, take, drop, refl, sym, ap, subst, ◌∙◌, arith}
+use Rattle.std.specs.Prelude.{◌&&◌, sum, fold, bit_or, not, Option, Some, None, IfSome, IsSome, IsSomeAnd, Result, Ok, Err, IfOk, IfErr, OnOk}
 use Rattle.std.specs.List.{flat_map, AllByRecursion}
 use Rattle.std.proofs.lemmas.Bool.{ltb-false, le-ltb}
 use Rattle.std.proofs.lemmas.List.{length-map, map-append}
@@ -33,9 +33,10 @@ use Rattle.mr_pages.specs.declared.seen.Seen.{Seen}
 use Rattle.mr_pages.proofs.Building.{FilledAs, leaf_filled, inner_filled, filled_below, of_images}
 use Rattle.mr_pages.proofs.Judged.{entry_same}
 use Rattle.mr_pages.proofs.Lists.{Fresh, all_right, fresh_left, fresh_right, fresh_repeats}
+use Rattle.mr_pages.proofs.PageLaws.{both_true}
 use Rattle.mr_pages.proofs.Rules.{same_rect_is, same_rect_self}
 use Rattle.mr_store.specs.Told.{level_known}
-use Rattle.mr_store.specs.Copying.{is_round, IsJudged, IsUnfit, Suits, IsFull, CanCopy, trees_in, AreCopied, Stops, StopsAll, IsHandedOn, IsTwice, IsRefusal}
+use Rattle.mr_store.specs.Copying.{is_round, fits_entry, IsJudged, IsUnfit, Suits, IsFull, CanCopy, trees_in, AreCopied, Stops, StopsAll, IsHandedOn, IsTwice, IsRefusal}
 use Rattle.mr_store.specs.declared.stop.Stop.{Stop}
 use Rattle.mr_store.specs.declared.stop.Stop.TheVariants as stops
 use Rattle.mr_store.proofs.Copies.{first_same, rest_same, some_same, some_of, told_leaf}
@@ -98,6 +99,14 @@ none_told hash (Inner cs) told =
     let all = recursion_from_All Tells cs told.children in
     record { mask = no_masks cs all; count = no_counts cs all }
 
+first_of_both : (a b : Bool) → (a && b) ≡ true → a ≡ true
+first_of_both true b e = refl
+first_of_both false b e = e
+
+second_of_both : (a b : Bool) → (a && b) ≡ true → b ≡ true
+second_of_both true b e = e
+second_of_both false b e = cc
+
 -- what was judged, and fetched, suits
 pub suits_of : (hash : List ℕ → List ℕ) (s : Standing) (root : Bool) (c : Child) (n m : view.Node) →
     s.version ≡ One → Tells c → Shows hash s c n → IsJudged root c n m → Suits hash root c m
@@ -114,12 +123,13 @@ suits_of hash s root c n m one tells shows j =
       told = told;
       known = λ i. record {
         level = (sym shows.level ∙ level_over hash n) i;
-        rect = (sym (rect_known (by One hash) n ∙ same_rect_is (view.rect_of n) (Some c.rect) j.rect)) i;
+        rect = (sym (rect_known (by One hash) n ∙ same_rect_is (view.rect_of n) (Some c.rect)
+            (first_of_both (is_round c n) (Fills root n) j.entry))) i;
         mask = (mask ∙ sym none.mask) i;
         count = (count ∙ sym none.count) i;
         digest = (sym shows.digest ∙ ap (λ v. hash (view.preimage_of v n)) one) i;
       };
-      full = ltb-false _ _ (not_true _ j.full);
+      full = ltb-false _ _ (not_true _ (second_of_both (is_round c n) (Fills root n) j.entry));
     })
 
 -- ---- what is told breaks no rule
@@ -152,7 +162,7 @@ all_known : (hash : List ℕ → List ℕ) (s : Standing) → IsSome s.tree → 
 all_known hash s told [] may = tt
 all_known hash s told (c ∷ cs) may = (may.0.known told, all_known hash s told cs may.1)
 
-pub round_told : (hash : List ℕ → List ℕ) (s : Standing) (c : Child) (n : view.Node) → IsSome s.tree →
+round_told : (hash : List ℕ → List ℕ) (s : Standing) (c : Child) (n : view.Node) → IsSome s.tree →
     MayFetch hash s c → Shows hash s c n → is_round c n ≡ true
 round_told hash s c n told may shows = at (s.node c.id) (may.known told) shows.node
   where
@@ -178,7 +188,7 @@ filled_told root s t (Inner cs) is f =
     ∙ sym (length-map cs child_link) in
     ap not (le-ltb _ _ (inner_filled root (map child_link cs) is.0 count (subst (FilledAs root) is.1 f)))
 
-pub full_told : (hash : List ℕ → List ℕ) (s : Standing) (root : Bool) (c : Child) (n : view.Node) → IsSome s.tree →
+full_told : (hash : List ℕ → List ℕ) (s : Standing) (root : Bool) (c : Child) (n : view.Node) → IsSome s.tree →
     MayFetch hash s c → Shows hash s c n → IsFull s root c → Fills root n ≡ true
 full_told hash s root c n told may shows full = at (s.node c.id) refl (may.known told) shows.node
   where
@@ -186,6 +196,12 @@ full_told hash s root c n told may shows full = at (s.node c.id) refl (may.known
         IfSome o (λ t. IsNodeOf s t n) → Fills root n ≡ true
     at None e known node = absurd known
     at (Some t) e known node = filled_told root s t n node (full t e)
+
+pub fit_told : (hash : List ℕ → List ℕ) (s : Standing) (root : Bool) (c : Child) (n : view.Node) → IsSome s.tree →
+    MayFetch hash s c → Shows hash s c n → IsFull s root c → fits_entry root c n ≡ true
+fit_told hash s root c n told may shows full =
+    both_true (is_round c n) (Fills root n) (round_told hash s c n told may shows)
+    (full_told hash s root c n told may shows full)
 
 -- ---- why it stops
 
@@ -206,10 +222,7 @@ unfit_stops hash s a b root c n (stops.Nodes e) may shows quiet u = absurd u
 unfit_stops hash s a b root c n (stops.Broken page) may shows quiet u = (
   subst (IsId s) (sym u.0) (may.positive, may.within),
   quiet,
-  λ told full. elim u.1 [
-    | inl off ↦ both (is_round c n) (round_told hash s c n told may shows) off
-    | inr few ↦ both (Fills root n) (full_told hash s root c n told may shows full) few
-  ],
+  λ told full. both (fits_entry root c n) (fit_told hash s root c n told may shows full) u.1,
 )
 unfit_stops hash s a b root c n stops.NoMemory may shows quiet u = tt
 

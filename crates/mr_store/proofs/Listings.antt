@@ -21,17 +21,16 @@ use Rattle.mr_tree.specs.declared.tree.Tree.TheOpen.{Leaf, Inner}
 use Rattle.mr_tree.specs.declared.tree.Tree.TheViews.{out-Tree}
 use Rattle.mr_tree.proofs.Equations.{records-Leaf, records-Inner}
 use Rattle.mr_pages.specs.Faults.{numbers_of, repeats}
-use Rattle.mr_pages.specs.Judging.{Fills}
 use Rattle.mr_pages.specs.Walking.{Saw}
 use Rattle.mr_pages.specs.declared.seen.Seen.{Seen}
 use Rattle.mr_pages.proofs.AsRead.{numbers_apart, records_apart}
 use Rattle.mr_pages.proofs.Building.{FilledAs, of_images}
 use Rattle.mr_pages.proofs.Lists.{Fresh, apart_fresh, fresh_apart, fresh_repeats}
 use Rattle.mr_batch.specs.Directory.{Entries, IsDirectoryOf}
-use Rattle.mr_store.specs.Copying.{is_round, IsFull, CanCopy}
+use Rattle.mr_store.specs.Copying.{fits_entry, IsFull, CanCopy}
 use Rattle.mr_store.specs.Listing.{entry_of, AreApart, Lists, ListsBelow, ListsAll, ListsAt, Gathers, HasAt, HasSeenNone, CanList, CanListAll, Refuses, IsTwice}
 use Rattle.mr_store.proofs.Copies.{some_same, some_of, told_leaf, told_inner, adds_more}
-use Rattle.mr_store.proofs.Blames.{both, round_told, full_told, split_list, split_some, InRow, in_row}
+use Rattle.mr_store.proofs.Blames.{both, fit_told, split_list, split_some, InRow, in_row}
 
 -- ---- the records of a leaf
 
@@ -138,18 +137,13 @@ fetch_refuses hash s c a b P errors.Missing may h = h
 fetch_refuses hash s c a b P errors.Fault may h = h
 fetch_refuses hash s c a b P errors.NoMemory may h = h
 
-pub off_refuses : (hash : List ℕ → List ℕ) (s : Standing) (c : Child) (n : view.Node) (a b : ℕ) (P : Type 0) →
-    MayFetch hash s c → Shows hash s c n → b ≡ a → is_round c n ≡ false → Refuses s a b P (errors.Page c.id)
-off_refuses hash s c n a b P may shows quiet off =
-    ((may.positive, may.within), quiet, λ told p. both (is_round c n) (round_told hash s c n told may shows) off)
-
-pub few_refuses : (hash : List ℕ → List ℕ) (s : Standing) (root : Bool) (c : Child) (n : view.Node) (a b : ℕ) →
-    MayFetch hash s c → Shows hash s c n → b ≡ a → Fills root n ≡ false →
+pub unfit_refuses : (hash : List ℕ → List ℕ) (s : Standing) (root : Bool) (c : Child) (n : view.Node) (a b : ℕ) →
+    MayFetch hash s c → Shows hash s c n → b ≡ a → fits_entry root c n ≡ false →
     Refuses s a b (IsFull s root c) (errors.Page c.id)
-few_refuses hash s root c n a b may shows quiet few = (
+unfit_refuses hash s root c n a b may shows quiet unfit = (
   (may.positive, may.within),
   quiet,
-  λ told full. both (Fills root n) (full_told hash s root c n told may shows full) few,
+  λ told full. both (fits_entry root c n) (fit_told hash s root c n told may shows full) unfit,
 )
 
 pub memory_refuses : (s : Standing) (a b : ℕ) (P : Type 0) (e : NodesErr) → e ≡ errors.NoMemory → Refuses s a b P e

@@ -1,6 +1,6 @@
 -- What a copy of a map into memory knows on its way. Nothing of this has to be believed: no public
 -- contract cites it.
-use Rattle.std.specs.Prelude.{◌≡◌, ◌≢◌, ◌⊎◌, ⊤, ℕ, ◌+◌, ◌≤◌, Bool, true, false, List, [], ◌∷◌, ◌++◌, map, length, All, Option, Some, None, IsSome, IsNone}
+use Rattle.std.specs.Prelude.{◌≡◌, ◌≢◌, ◌&&◌, ⊤, ℕ, ◌+◌, ◌≤◌, Bool, true, false, List, [], ◌∷◌, ◌++◌, map, length, All, Option, Some, None, IsSome, IsNone}
 use Rattle.std.specs.List.{flat_map, sum_by, AllByRecursion}
 use Rattle.mr_record.specs.Record.{IsRecord}
 use Rattle.mr_record.specs.declared.record.Record.{Record}
@@ -33,18 +33,20 @@ use Rattle.mr_store.specs.declared.stop.Stop.TheVariants as stops
 abbrev pub is_round : Child → view.Node → Bool
 is_round c n = same_rect (view.rect_of n) (Some c.rect)
 
+-- and it has as many entries as it has to, as a root or below it
+abbrev pub fits_entry : (root : Bool) → Child → view.Node → Bool
+fits_entry root c n = is_round c n && Fills root n
+
 -- what was judged of a node that is shown
 pub record IsJudged (root : Bool) (c : Child) (n m : view.Node) : Type 0 where
   pub same : m ≡ n
   pub fits : view.IsView n
-  pub rect : is_round c n ≡ true
-  pub full : Fills root n ≡ true
+  pub entry : fits_entry root c n ≡ true
 
 -- its page is to blame
 abbrev pub IsUnfit : Bool → Child → view.Node → Stop → Type 0
 IsUnfit root c n (stops.Nodes e) = ⊥
-IsUnfit root c n (stops.Broken page) = (page ≡ c.id)
-    × ((is_round c n ≡ false) ⊎ (Fills root n ≡ false))
+IsUnfit root c n (stops.Broken page) = (page ≡ c.id) × (fits_entry root c n ≡ false)
 IsUnfit root c n stops.NoMemory = ⊤
 
 -- a node that breaks no rule by itself: what is said of it is its entry, and it is full, as a root

@@ -13,9 +13,10 @@ ghost use Rattle.mr_store.specs.Copying.{IsJudged, IsUnfit, Suits, IsFull, CanCo
 ghost use Rattle.mr_store.specs.Stored.{IsSaid, StandsFor};
 ghost use Rattle.mr_store.specs.declared.stop.Stop.TheVariants as stops;
 
+use crate::judging::is_fit;
 use crate::stop::Stop;
 use mr_outside::Items;
-use mr_pages::{Node, Seen, is_full, is_said};
+use mr_pages::{Node, Seen};
 use mr_record::Record;
 use mr_tree::{Child, NodeView, Nodes, Snapshot, Stored, Top, is_view};
 use std::alloc::{AllocError, Global};
@@ -26,10 +27,7 @@ fn judged(alloc: Global, child: &Child, root: bool, view: &NodeView) -> Result<N
     ensures unfit { IfErr result (IsUnfit root child.now view.now) }
 {
     is_view(view);
-    if !is_said(view.rect(), child.rect) {
-        return Err(Stop::Broken(child.id));
-    }
-    if !is_full(view, root) {
+    if !is_fit(view, child, root) {
         return Err(Stop::Broken(child.id));
     }
     Ok(Node::of(alloc, view)?)

@@ -5,6 +5,7 @@
 mod cache;
 mod copying;
 mod fetching;
+mod judging;
 mod kept;
 mod listing;
 mod memory;

@@ -8,13 +8,13 @@ ghost use Rattle.mr_tree.specs.declared.nodes.NodesErr.TheVariants as errors;
 ghost use Rattle.mr_tree.specs.Nodes.{MayFetch, Shows, HasSomeCause, TellsRefusal, subtrees};
 ghost use Rattle.mr_batch.specs.Directory.{IsDirectoryOf};
 ghost use Rattle.mr_outside.specs.Faults.{next_count};
-ghost use Rattle.mr_pages.specs.Judging.{Fills};
-ghost use Rattle.mr_store.specs.Copying.{CanCopy, IsFull, is_round, nodes_at};
+ghost use Rattle.mr_store.specs.Copying.{CanCopy, IsFull, fits_entry, nodes_at};
 ghost use Rattle.mr_store.specs.Listing.{entry_of, Lists, Gathers, ListsBelow, ListsAt, HasAt, HasSeenNone, Blames, CanList, CanListAll, Refuses, IsTwice};
 
+use crate::judging::is_fit;
 use mr_batch::Directory;
 use mr_geom::Rect;
-use mr_pages::{Seen, is_full, is_said};
+use mr_pages::Seen;
 use mr_record::Record;
 use mr_tree::{COUNT_LIMIT, Child, LEAF_LIMIT, NodeView, Nodes, NodesErr};
 use std::alloc::{AllocError, Global};
@@ -30,8 +30,7 @@ fn look<N: Nodes>(
     requires { MayFetch N.Hash.of (N.stands nodes.old) child.now }
     ensures kept { N.kept nodes.old nodes.new }
     ensures shows { OnOk result (Shows N.Hash.of (N.stands nodes.old) child.now view.new) }
-    ensures round { OnOk result (is_round child.now view.new ≡ true) }
-    ensures full { OnOk result (Fills root view.new ≡ true) }
+    ensures fit { OnOk result (fits_entry root child.now view.new ≡ true) }
     ensures blames { IfErr result (Blames child.now.id) }
     ensures counted { N.fetches nodes.new ≡ next_count (N.fetches nodes.old) }
     ensures quiet { OnOk result (N.faults nodes.new ≡ N.faults nodes.old) }
@@ -40,10 +39,7 @@ fn look<N: Nodes>(
         (N.faults nodes.new) (IsFull (N.stands nodes.old) root child.now)) }
 {
     nodes.fetch(child, view)?;
-    if !is_said(view.rect(), child.rect) {
-        return Err(NodesErr::Page { page: child.id });
-    }
-    if !is_full(view, root) {
+    if !is_fit(view, child, root) {
         return Err(NodesErr::Page { page: child.id });
     }
     Ok(())
