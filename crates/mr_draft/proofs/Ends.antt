@@ -129,7 +129,7 @@ blames_none P before after errors.NoMemory p cause never = tt
 
 module _ (hash : List ℕ → List ℕ) (d : Drawn) (dir : Directed) (b : Changes) where
   pub can_replay : (t : Tree) → CanApply hash d dir b t →
-      CanReplay hash (book_on d.shelf.files d.name d.pages) d.free d.root dir b
+      CanReplay (by One hash) (book_on d.shelf.files d.name d.pages) d.free d.root dir b
   can_replay t can = record {
     map = record { tree = t; draft = can.draft.drafted; well = can.draft.well; directory = can.directory };
     held = d.batch;

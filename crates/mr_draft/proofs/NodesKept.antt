@@ -208,10 +208,11 @@ pub if_ok : {A E P Q : Type 0} (r : Result A E) → (P → Q) → OnOk r P → O
 if_ok (Ok a) f p = f p
 if_ok (Err e) f p = tt
 
-pub said_level : (hash : List ℕ → List ℕ) (c : Child) (n : view.Node) → IsEntryOf hash c n → view.level_of n ≡ c.level
+pub said_level : (hash : List ℕ → List ℕ) (c : Child) (n : view.Node) → IsEntryOf (by One hash) c n →
+    view.level_of n ≡ c.level
 said_level hash c n said = level_known hash n ∙ sym (ap (λ (l : Link). l.entry.level) said)
 
-pub said_digest : (hash : List ℕ → List ℕ) (c : Child) (n : view.Node) → IsEntryOf hash c n →
+pub said_digest : (hash : List ℕ → List ℕ) (c : Child) (n : view.Node) → IsEntryOf (by One hash) c n →
     hash (view.preimage_of One n) ≡ c.digest
 said_digest hash c n said = digest_known hash n ∙ sym (ap (λ (l : Link). l.entry.digest) said)
 
@@ -306,7 +307,7 @@ module _ (pages : ℕ) (hash : List ℕ → List ℕ) where
       }
 
   is_there : (told : Option Book) (c : Child) → ((b : Book) → told ≡ Some b → b.size ≡ pages) →
-      CanRead hash told c → IsThere told c
+      CanRead (by One hash) told c → IsThere told c
   is_there told c size can =
       let whole = size can.book can.is in
       subst (λ o. IsThere o c) (sym can.is)
@@ -315,7 +316,7 @@ module _ (pages : ℕ) (hash : List ℕ → List ℕ) where
 
   -- what is outside is no child that can be read
   pub outside_none : (told : Option Book) (c : Child) → ((b : Book) → told ≡ Some b → b.size ≡ pages) →
-      (c.id ≡ 0) ⊎ (pages ≤ c.id) → CanRead hash told c → ⊥
+      (c.id ≡ 0) ⊎ (pages ≤ c.id) → CanRead (by One hash) told c → ⊥
   outside_none told c size out can =
       let t = is_there told c size can in
       elim out [ inl zero_id ↦ omega (arith, zero_id, t.positive) | inr far ↦ omega (arith, far, t.within) ]
@@ -339,10 +340,10 @@ module _ (pages : ℕ) (hash : List ℕ → List ℕ) where
       (n : view.Node) → ((b : Book) → told ≡ Some b → b.size ≡ pages) →
       IfSome told (λ b. b.sheet c.id ≡ sheet_of p) →
       ((m : Node) → first_form.node_in p ≡ Some m → IsSaid hash pages c m → TellsNode {A = A} m (Err e) n) →
-      r ≡ blamed e → NeverMap r (CanRead hash told c)
+      r ≡ blamed e → NeverMap r (CanRead (by One hash) told c)
   never_blamed A told c p e r n size sheet tells is =
-      subst (λ x. NeverMap x (CanRead hash told c)) (sym is)
-      (tells_none A e n (CanRead hash told c) (λ can.
+      subst (λ x. NeverMap x (CanRead (by One hash) told c)) (sym is)
+      (tells_none A e n (CanRead (by One hash) told c) (λ can.
       let t = is_there told c size can in
       (t.node, tells t.node (spelled told can.book c.id p t.node can.is sheet t.there) t.said)))
 

@@ -3,6 +3,7 @@
 ghost use Rattle.std.specs.Prelude.{◌≡◌, ◌+◌, ◌<◌, ◌≤◌, nat_eq, option_map, IsOk, IfErr, OnOk, IfSome};
 ghost use Rattle.std.specs.Map.{remove_entry};
 ghost use Rattle.mr_record.specs.declared.version.Version.TheVariants.{One};
+ghost use Rattle.mr_tree.specs.Digest.{by};
 ghost use Rattle.mr_tree.specs.View.{AreTold, size, level_of};
 ghost use Rattle.mr_pages.specs.Walking.{page_node};
 ghost use Rattle.mr_edit.specs.Book.{HasNode, node_sheet, free_sheet, with_sheet};
@@ -78,7 +79,7 @@ fn read_node<H: Hashes, S: Shelf>(
     ensures cause { IfErr result (HasEditCause (S.state shelf.old).faults
         (S.state shelf.new).faults) }
     ensures sound { IfErr result (λ e. NeverMap e
-        (CanRead H.of (book_on (S.state shelf.old).files name.now pages) child.now)) }
+        (CanRead (by One H.of) (book_on (S.state shelf.old).files name.now pages) child.now)) }
 {
     let page = read_bytes(shelf, name, pages, child.id)?;
     match judge::<H>(&page, pages, child, into) {
@@ -123,7 +124,7 @@ fn show_inside<H: Hashes, S: Shelf>(
     ensures cause { IfErr result (HasEditCause (S.state shelf.old).faults
         (S.state shelf.new).faults) }
     ensures sound { IfErr result (λ e. NeverMap e
-        (CanRead H.of (book_on (S.state shelf.old).files name.now pages) child.now)) }
+        (CanRead (by One H.of) (book_on (S.state shelf.old).files name.now pages) child.now)) }
 {
     if recall(cache, child, into) {
         return Ok(());
@@ -168,7 +169,7 @@ pub(crate) fn show_node<H: Hashes, S: Shelf>(
     ensures cause { IfErr result (HasEditCause (S.state shelf.old).faults
         (S.state shelf.new).faults) }
     ensures sound { IfErr result (λ e. NeverMap e
-        (CanRead H.of (book_on (S.state shelf.old).files name.now pages) child.now)) }
+        (CanRead (by One H.of) (book_on (S.state shelf.old).files name.now pages) child.now)) }
 {
     if child.id == 0 || child.id >= pages {
         return Err(EditErr::Map(MapFault {
@@ -193,7 +194,7 @@ pub(crate) fn write_node<H: Hashes, S: Shelf>(
         cache.old.cap }
     requires page { 1 ≤ child.now.id }
     requires some { 1 ≤ size view.now }
-    requires said { IsEntryOf H.of child.now view.now }
+    requires said { IsEntryOf (by One H.of) child.now view.now }
     requires shown { AreTold One view.now }
     ensures sheets { IsSheets H.of (S.state shelf.new).files name.now pages cache.new.entries
         cache.new.cap }

@@ -4,6 +4,7 @@ ghost use Rattle.std.specs.Prelude.{◌≡◌, ◌+◌, ◌<◌, ◌≤◌, opti
 ghost use Rattle.std.specs.String.{string_bytes};
 ghost use Rattle.std.proofs.Props.{props};
 ghost use Rattle.mr_record.specs.declared.version.Version.TheVariants.{One};
+ghost use Rattle.mr_tree.specs.Digest.{by};
 ghost use Rattle.mr_tree.specs.View.{AreTold, size, level_of};
 ghost use Rattle.mr_pages.specs.Walking.{page_node};
 ghost use Rattle.mr_edit.specs.Book.{HasNode, node_sheet, with_sheet};
@@ -18,6 +19,7 @@ use crate::pages::{add_page, next_free};
 use lru::LruCache;
 use mr_edit::{EditErr, PageFile};
 use mr_outside::Shelf;
+use mr_pages::{FIRST, child_on};
 use mr_store::Kept;
 use mr_tree::{Child, Hashes, NodeView};
 use std::alloc::Global;
@@ -37,9 +39,12 @@ pub struct Sheets<S: Shelf, H: Hashes> {
 }
 
 impl<S: Shelf, H: Hashes> PageFile for Sheets<S, H> {
+    ghost use Rattle.std.specs.Prelude.{refl};
     ghost use Rattle.mr_draft.specs.SheetLaws.{sheets_self, sheets_on};
 
-    type Hash = H;
+    ghost scheme = { by One H.of };
+
+    ghost first = { refl };
 
     ghost told = { λ s. book_on (S.state s.shelf).files (string_bytes s.name) s.pages };
 
@@ -49,6 +54,10 @@ impl<S: Shelf, H: Hashes> PageFile for Sheets<S, H> {
 
     ghost kept = { λ s t. KeepsSheets (string_bytes s.name) (string_bytes t.name) s.pages t.pages
         (S.state s.shelf) (S.state t.shelf) };
+
+    fn entry(&self, view: &NodeView, page: u32) -> Child {
+        child_on::<H>(FIRST, view, page)
+    }
 
     fn read(&mut self, child: &Child, into: &mut NodeView) -> Result<(), EditErr>
         ensures same { book_on (S.state self.new.shelf).files (string_bytes self.new.name)
@@ -68,7 +77,7 @@ impl<S: Shelf, H: Hashes> PageFile for Sheets<S, H> {
             ((S.state self.new.shelf).faults ≡ (S.state self.old.shelf).faults) }
         ensures cause { IfErr result (HasEditCause (S.state self.old.shelf).faults
             (S.state self.new.shelf).faults) }
-        ensures sound { IfErr result (λ e. NeverMap e (CanRead H.of
+        ensures sound { IfErr result (λ e. NeverMap e (CanRead (by One H.of)
             (book_on (S.state self.old.shelf).files (string_bytes self.old.name) self.old.pages)
             child.now)) }
         ensures given { IfErr result (RefusesRead H.of self.old.pages child.now) }
@@ -97,7 +106,7 @@ impl<S: Shelf, H: Hashes> PageFile for Sheets<S, H> {
     fn write(&mut self, child: &Child, view: &NodeView) -> Result<(), EditErr>
         requires page { 1 ≤ child.now.id }
         requires some { 1 ≤ size view.now }
-        requires said { IsEntryOf H.of child.now view.now }
+        requires said { IsEntryOf (by One H.of) child.now view.now }
         requires shown { AreTold One view.now }
         ensures sound { IfErr result (λ e. NeverMap e (CanWrite
             (book_on (S.state self.old.shelf).files (string_bytes self.old.name) self.old.pages)

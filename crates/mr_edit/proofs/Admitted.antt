@@ -5,8 +5,7 @@ use Rattle.std.proofs.lemmas.Bool.{ltb-true}
 use Rattle.mr_geom.specs.Rectangle.{Rectangle}
 use Rattle.mr_record.specs.RecordText.{has_number}
 use Rattle.mr_record.specs.declared.record.Record.{Record}
-use Rattle.mr_record.specs.declared.version.Version.TheVariants.{One}
-use Rattle.mr_tree.specs.Digest.{by}
+use Rattle.mr_tree.specs.Digest.{Scheme}
 use Rattle.mr_tree.specs.Tree.{records}
 use Rattle.mr_tree.specs.declared.child.Child.{Child}
 use Rattle.mr_grow.proofs.Sizes.{well_rooted}
@@ -26,9 +25,9 @@ use Rattle.mr_edit.proofs.Once.{once_apart}
 use Rattle.mr_edit.proofs.Turns.{ReplaysFirst, room_part}
 
 -- a record that may be added can be put in
-pub add_insert : (hash : List ℕ → List ℕ) (told : Option Book) (free : ℕ) (root : Option Child) (dir : Entries)
-    (one : Record) → CanChange hash told free root dir (Add one) → CanInsert hash told free root 1
-add_insert hash told free root dir one k =
+pub add_insert : (scheme : Scheme) (told : Option Book) (free : ℕ) (root : Option Child) (dir : Entries)
+    (one : Record) → CanChange scheme told free root dir (Add one) → CanInsert scheme told free root 1
+add_insert scheme told free root dir one k =
     let room : length (records k.map.tree) < 2 ^ 20 = ltb-true (length (records k.map.tree)) (2 ^ 20)
     (room_part (has_number one.number (records k.map.tree)) (nat_lt (length (records k.map.tree)) (2 ^ 20)) k.may) in
     record {
@@ -39,9 +38,9 @@ add_insert hash told free root dir one k =
     }
 
 -- a number that may be removed is in the directory
-pub lists_number : (hash : List ℕ → List ℕ) (told : Option Book) (free : ℕ) (root : Option Child) (dir : Entries)
-    (n : ℕ) → rect_at dir n ≡ None → CanChange hash told free root dir (Remove n) → ⊥
-lists_number hash told free root dir n none k =
+pub lists_number : (scheme : Scheme) (told : Option Book) (free : ℕ) (root : Option Child) (dir : Entries)
+    (n : ℕ) → rect_at dir n ≡ None → CanChange scheme told free root dir (Remove n) → ⊥
+lists_number scheme told free root dir n none k =
     let here : is_some (rect_at dir n) ≡ true =
     (numbers_of dir (records k.map.tree) k.map.well.distinct k.map.directory).same n ∙ k.may in
     no (sym (ap (λ (o : Option Rectangle). is_some o) none) ∙ here)
@@ -50,10 +49,10 @@ lists_number hash told free root dir n none k =
     no e = cc
 
 -- and its record can be deleted by the rectangle that stands there
-pub remove_delete : (hash : List ℕ → List ℕ) (told : Option Book) (free : ℕ) (root : Option Child) (dir : Entries)
-    (n : ℕ) (rect : Rectangle) → rect_at dir n ≡ Some rect → CanChange hash told free root dir (Remove n) →
-    CanDelete hash told free root n rect
-remove_delete hash told free root dir n rect known k =
+pub remove_delete : (scheme : Scheme) (told : Option Book) (free : ℕ) (root : Option Child) (dir : Entries)
+    (n : ℕ) (rect : Rectangle) → rect_at dir n ≡ Some rect → CanChange scheme told free root dir (Remove n) →
+    CanDelete scheme told free root n rect
+remove_delete scheme told free root dir n rect known k =
     let m = k.map in
     record {
       tree = m.tree;
@@ -66,19 +65,19 @@ remove_delete hash told free root dir n rect known k =
     }
 
 -- where all nodes can be looked at
-pub remove_known : (hash : List ℕ → List ℕ) (told : Option Book) (free : ℕ) (root : Option Child) (dir : Entries)
-    (n : ℕ) (rect : Rectangle) → rect_at dir n ≡ Some rect → CanChange hash told free root dir (Remove n) →
-    KnowsRoot hash told free root
-remove_known hash told free root dir n rect known k c is =
-    (root_sought hash told free c n rect (subst (λ o. CanDelete hash told free o n rect) is
-    (remove_delete hash told free root dir n rect known k))).below
+pub remove_known : (scheme : Scheme) (told : Option Book) (free : ℕ) (root : Option Child) (dir : Entries)
+    (n : ℕ) (rect : Rectangle) → rect_at dir n ≡ Some rect → CanChange scheme told free root dir (Remove n) →
+    KnowsRoot scheme told free root
+remove_known scheme told free root dir n rect known k c is =
+    (root_sought scheme told free c n rect (subst (λ o. CanDelete scheme told free o n rect) is
+    (remove_delete scheme told free root dir n rect known k))).below
 
 -- the next change of a batch that may be applied may be made
-pub next_change : (hash : List ℕ → List ℕ) (told told1 : Option Book) (free free1 : ℕ) (root root1 : Option Child)
+pub next_change : (scheme : Scheme) (told told1 : Option Book) (free free1 : ℕ) (root root1 : Option Child)
     (dir dir1 : Entries) (b : Changes) (i : ℕ) (c : Change) → i < length b.list → c ≡ get_or b.list i c →
-    ReplaysFirst (by One hash) told free root dir told1 free1 root1 dir1 b i →
-    CanReplay hash told free root dir b → CanChange hash told1 free1 root1 dir1 c
-next_change hash told told1 free free1 root root1 dir dir1 b i c within here first k =
+    ReplaysFirst scheme told free root dir told1 free1 root1 dir1 b i →
+    CanReplay scheme told free root dir b → CanChange scheme told1 free1 root1 dir1 c
+next_change scheme told told1 free free1 root root1 dir dir1 b i c within here first k =
     let t = k.map.tree in
     let h = first t k.held 0 k.map.draft.book.size 0 (record {
       reaches = record { draft = k.map.draft; no_fewer = omega arith; no_more = omega arith };

@@ -11,8 +11,7 @@ use Rattle.mr_geom.specs.Rectangle.{Rectangle}
 use Rattle.mr_record.specs.Sorting.{sorted_by, sorted_by_key}
 use Rattle.mr_record.specs.declared.record.Record.{Record}
 use Rattle.mr_record.proofs.Sorting.{sorted_mixes}
-use Rattle.mr_record.specs.declared.version.Version.TheVariants.{One}
-use Rattle.mr_tree.specs.Digest.{by}
+use Rattle.mr_tree.specs.Digest.{Scheme}
 use Rattle.mr_tree.specs.Tree.{records}
 use Rattle.mr_tree.specs.WellFormed.{HasOneLevel}
 use Rattle.mr_tree.specs.declared.child.Child.{Child}
@@ -40,33 +39,33 @@ use Rattle.mr_edit.proofs.Places.{same_owned}
 use Rattle.mr_edit.proofs.Roots.{start_counts}
 
 -- there is a root
-pub no_root : (hash : List ℕ → List ℕ) (told : Option Book) (free n : ℕ) (r : Rectangle) →
-    CanDelete hash told free None n r → ⊥
-no_root hash told free n r k = at k.draft.placed k.draft.tree k.draft.root_is
+pub no_root : (scheme : Scheme) (told : Option Book) (free n : ℕ) (r : Rectangle) →
+    CanDelete scheme told free None n r → ⊥
+no_root scheme told free n r k = at k.draft.placed k.draft.tree k.draft.root_is
   where
     at : (o : Option Placed) → whole_tree o ≡ k.tree → ◌≡◌ {A = Option Link} None
-        (option_map (link_of (by One hash)) o) → ⊥
+        (option_map (link_of scheme) o) → ⊥
     at None is root =
         let no : false ≡ true = sym (ap (has n) records-Empty) ∙ ap (λ t. has n (records t)) is ∙ k.there in cc
     at (Some P) is root = cc
 
 -- the tree of the root's entry
-pub record Root (hash : List ℕ → List ℕ) (b : Book) (chain : List ℕ) (c : Child) (t : Tree) : Type 0 where
+pub record Root (scheme : Scheme) (b : Book) (chain : List ℕ) (c : Child) (t : Tree) : Type 0 where
   pub placed : Placed
   pub is : tree_of placed ≡ t
-  pub names : Names (by One hash) b c placed
+  pub names : Names scheme b c placed
   pub owned : Owned b.size (pages_of placed ++ (chain ++ 0 ∷ []))
 
-root_of : (hash : List ℕ → List ℕ) (told : Option Book) (free : ℕ) (c : Child) (t : Tree)
-    (d : Drafted (by One hash) told free (Some c) t) → Root hash d.book d.chain c t
-root_of hash told free c t d = at d.placed d.tree d.root_is d.written d.owned
+root_of : (scheme : Scheme) (told : Option Book) (free : ℕ) (c : Child) (t : Tree)
+    (d : Drafted scheme told free (Some c) t) → Root scheme d.book d.chain c t
+root_of scheme told free c t d = at d.placed d.tree d.root_is d.written d.owned
   where
     at : (o : Option Placed) → whole_tree o ≡ t → ◌≡◌ {A = Option Link} (Some (child_link c))
-        (option_map (link_of (by One hash)) o) → IfSome o (IsWritten (by One hash) (HasNode d.book)) →
-        Owned d.book.size (0 ∷ (whole_pages o ++ d.chain)) → Root hash d.book d.chain c t
+        (option_map (link_of scheme) o) → IfSome o (IsWritten scheme (HasNode d.book)) →
+        Owned d.book.size (0 ∷ (whole_pages o ++ d.chain)) → Root scheme d.book d.chain c t
     at None is root written owned = cc
     at (Some P) is root written owned =
-        let said : child_link c ≡ link_of (by One hash) P = cc in
+        let said : child_link c ≡ link_of scheme P = cc in
         record {
           placed = P;
           is = is;
@@ -76,11 +75,11 @@ root_of hash told free c t d = at d.placed d.tree d.root_is d.written d.owned
         }
 
 -- below which the record can be searched
-pub root_sought : (hash : List ℕ → List ℕ) (told : Option Book) (free : ℕ) (c : Child) (n : ℕ) (r : Rectangle) →
-    CanDelete hash told free (Some c) n r → CanTakeOut hash true told free c n r
-root_sought hash told free c n r k =
+pub root_sought : (scheme : Scheme) (told : Option Book) (free : ℕ) (c : Child) (n : ℕ) (r : Rectangle) →
+    CanDelete scheme told free (Some c) n r → CanTakeOut scheme true told free c n r
+root_sought scheme told free c n r k =
     let d = k.draft in
-    let o = root_of hash told free c k.tree d in
+    let o = root_of scheme told free c k.tree d in
     record {
       below = record {
         book = d.book;
@@ -100,11 +99,11 @@ root_sought hash told free c n r k =
     }
 
 -- and is found
-pub none_lacks : (hash : List ℕ → List ℕ) (told : Option Book) (free : ℕ) (c : Child) (n : ℕ) (r : Rectangle) →
-    Lacks (by One hash) told c n r → CanDelete hash told free (Some c) n r → ⊥
-none_lacks hash told free c n r lacks k =
+pub none_lacks : (scheme : Scheme) (told : Option Book) (free : ℕ) (c : Child) (n : ℕ) (r : Rectangle) →
+    Lacks scheme told c n r → CanDelete scheme told free (Some c) n r → ⊥
+none_lacks scheme told free c n r lacks k =
     let d = k.draft in
-    let o = root_of hash told free c k.tree d in
+    let o = root_of scheme told free c k.tree d in
     let none : has n (records (tree_of o.placed)) ≡ false = lacks d.book o.placed d.is o.names
     (subst (λ t. HaveRect n r (records t)) (sym o.is) k.rects) in
     let no : true ≡ false = sym k.there ∙ ap (λ t. has n (records t)) (sym o.is) ∙ none in cc
@@ -124,15 +123,15 @@ sorted_length rs =
     ∙ ap length (singles rs)
 
 -- what was set aside can go in again
-pub left_inserts : (hash : List ℕ → List ℕ) (told told1 : Option Book) (free free1 : ℕ) (c : Child) (n : ℕ)
+pub left_inserts : (scheme : Scheme) (told told1 : Option Book) (free free1 : ℕ) (c : Child) (n : ℕ)
     (r : Rectangle) (entry : Option Child) (aside sorted : List Record) →
-    Removes (by One hash) true told free told1 free1 c n r (option_to_list entry) aside →
-    sorted ≡ sorted_by_key (λ (x : Record). x.number) aside → CanDelete hash told free (Some c) n r →
-    CanInsert hash told1 free1 entry (length sorted)
-left_inserts hash told told1 free free1 c n r entry aside sorted removes sorts k =
+    Removes scheme true told free told1 free1 c n r (option_to_list entry) aside →
+    sorted ≡ sorted_by_key (λ (x : Record). x.number) aside → CanDelete scheme told free (Some c) n r →
+    CanInsert scheme told1 free1 entry (length sorted)
+left_inserts scheme told told1 free free1 c n r entry aside sorted removes sorts k =
     let t = k.tree in
     let rest = shrunk n t in
-    let x = taken_out (by One hash) told told1 free free1 c n r entry aside removes t k.draft k.rects k.once in
+    let x = taken_out scheme told told1 free free1 c n r entry aside removes t k.draft k.rects k.once in
     let p = shrunk_parted n t k.there in
     let all = length_permutation (records t) (p.one ∷ (records rest.tree ++ rest.aside)) p.mixes in
     record {

@@ -5,8 +5,7 @@ use Rattle.std.specs.Option.{option_to_list}
 use Rattle.std.proofs.lemmas.List.{length-append, length-map, length-take, take-map, drop-map}
 use Rattle.std.proofs.lemmas.List.Sorted.{length_permutation}
 use Rattle.mr_record.specs.declared.record.Record.{Record}
-use Rattle.mr_record.specs.declared.version.Version.TheVariants.{One}
-use Rattle.mr_tree.specs.Digest.{Scheme, by}
+use Rattle.mr_tree.specs.Digest.{Scheme}
 use Rattle.mr_tree.specs.Tree.{records, level}
 use Rattle.mr_tree.specs.WellFormed.{IsFilled, IsFilledRoot}
 use Rattle.mr_tree.specs.declared.child.Child.{Child}
@@ -50,14 +49,14 @@ use Rattle.mr_edit.proofs.Roots.{start_counts, last_counts, raise_counts, move_c
 -- ---- below an entry
 
 -- a leaf that was read can be put on its page with one record more
-pub leaf_put : (hash : List ℕ → List ℕ) (root : Bool) (told told1 : Option Book) (free : ℕ) (c : Child) (one : Record)
+pub leaf_put : (scheme : Scheme) (root : Bool) (told told1 : Option Book) (free : ℕ) (c : Child) (one : Record)
     (rs : List Record) → told1 ≡ told → IfSome told (λ b. HasNode b c.id (node.Leaf rs)) →
-    CanGrow hash root told free c one → CanPut told1 free c.id
-leaf_put hash root told told1 free c one rs same reads k =
+    CanGrow scheme root told free c one → CanPut told1 free c.id
+leaf_put scheme root told told1 free c one rs same reads k =
     let b = k.below in
     let has : HasNode b.book c.id (node.Leaf rs) =
     subst (λ o. IfSome o (λ x. HasNode x c.id (node.Leaf rs))) b.is reads in
-    let here : b.placed ≡ Leaf c.id rs = opens_leaf (by One hash) b.book c rs b.placed b.names has in
+    let here : b.placed ≡ Leaf c.id rs = opens_leaf scheme b.book c rs b.placed b.names has in
     record {
       book = b.book;
       is = same ∙ b.is;
@@ -74,31 +73,31 @@ leaf_put hash root told told1 free c one rs same reads k =
       );
     }
 
-module _ (hash : List ℕ → List ℕ) (root : Bool) (told told1 : Option Book) (free : ℕ) (c : Child) (one : Record)
+module _ (scheme : Scheme) (root : Bool) (told told1 : Option Book) (free : ℕ) (c : Child) (one : Record)
     (at : ℕ) (cs : List Child) (d : Child) where
-  abbrev Goes : CanGrow hash root told free c one → Type 0
-  Goes k = Step (by One hash) k.below.book k.below.chain k.below.others k.below.placed c cs at d
+  abbrev Goes : CanGrow scheme root told free c one → Type 0
+  Goes k = Step scheme k.below.book k.below.chain k.below.others k.below.placed c cs at d
 
   goes : IfSome told (λ b. HasNode b c.id (node.Inner (map child_link cs))) → at < length cs → d ≡ get_or cs at d →
-      (k : CanGrow hash root told free c one) → Goes k
+      (k : CanGrow scheme root told free c one) → Goes k
   goes reads within is_d k =
       let b = k.below in
       let has : HasNode b.book c.id (node.Inner (map child_link cs)) =
       subst (λ o. IfSome o (λ x. HasNode x c.id (node.Inner (map child_link cs)))) b.is reads in
-      step_down (by One hash) b.book b.chain b.others b.placed c cs at d b.names has within is_d b.owned
+      step_down scheme b.book b.chain b.others b.placed c cs at d b.names has within is_d b.owned
 
   -- what the node would become, by the trees of its children
-  all_grown : (k : CanGrow hash root told free c one) (s : Goes k) →
+  all_grown : (k : CanGrow scheme root told free c one) (s : Goes k) →
       all_nodes (grown one (tree_of k.below.placed)) ≡ all_nodes (grown one (tree.Inner (trees s.parts)))
   all_grown k s = ap (λ Q. all_nodes (grown one (tree_of Q))) s.is
       ∙ ap (λ ts. all_nodes (grown one (tree.Inner ts))) (row_trees s.parts)
 
-  chosen_tree : (k : CanGrow hash root told free c one) (s : Goes k) →
+  chosen_tree : (k : CanGrow scheme root told free c one) (s : Goes k) →
       at ≡ choose (map (λ (e : Child). e.rect) cs) one.rect → at ≡ choose (map outline (trees s.parts)) one.rect
   chosen_tree k s chosen = chosen
-      ∙ ap (λ rects. choose rects one.rect) (outlines_are (by One hash) k.below.book cs s.parts s.named)
+      ∙ ap (λ rects. choose rects one.rect) (outlines_are scheme k.below.book cs s.parts s.named)
 
-  child_filled : (k : CanGrow hash root told free c one) (s : Goes k) → every-Tree IsFilled (tree_of s.child)
+  child_filled : (k : CanGrow scheme root told free c one) (s : Goes k) → every-Tree IsFilled (tree_of s.child)
   child_filled k s =
       let ts = trees s.parts in
       let whole : FilledAs root (tree.Inner ts) = subst (λ us. FilledAs root (tree.Inner us)) (row_trees s.parts)
@@ -110,7 +109,7 @@ module _ (hash : List ℕ → List ℕ) (root : Bool) (told told1 : Option Book)
   -- the record can be put into the subtree of the child that takes it
   pub child_grow : told1 ≡ told → IfSome told (λ b. HasNode b c.id (node.Inner (map child_link cs))) →
       at ≡ choose (map (λ (e : Child). e.rect) cs) one.rect → at < length cs → d ≡ get_or cs at d →
-      CanGrow hash root told free c one → CanGrow hash false told1 free d one
+      CanGrow scheme root told free c one → CanGrow scheme false told1 free d one
   child_grow same reads chosen within is_d k =
       let b = k.below in
       let s = goes reads within is_d k in
@@ -149,7 +148,7 @@ module _ (hash : List ℕ → List ℕ) (root : Bool) (told told1 : Option Book)
   pub inner_put : (told2 : Option Book) (free2 : ℕ) (new : List Child) → told1 ≡ told →
       IfSome told (λ b. HasNode b c.id (node.Inner (map child_link cs))) →
       at ≡ choose (map (λ (e : Child). e.rect) cs) one.rect → at < length cs → d ≡ get_or cs at d →
-      Grows (by One hash) told1 free told2 free2 d one new → CanGrow hash root told free c one →
+      Grows scheme told1 free told2 free2 d one new → CanGrow scheme root told free c one →
       CanPut told2 free2 c.id
   inner_put told2 free2 new same reads chosen within is_d grows k =
       let b = k.below in
@@ -214,21 +213,21 @@ raise_write told told1 free free1 page level takes k = add_write told told1 free
 -- ---- the root
 
 -- what is known of a map's tree: it stands below the root, and page 0 alone is another's
-record KnowsRoot (hash : List ℕ → List ℕ) (told : Option Book) (free : ℕ) (c : Child) (t : Tree) : Type 0 where
-  below : KnowsBelow hash true told free c
+record KnowsRoot (scheme : Scheme) (told : Option Book) (free : ℕ) (c : Child) (t : Tree) : Type 0 where
+  below : KnowsBelow scheme true told free c
   tree : tree_of below.placed ≡ t
   others : below.others ≡ 0 ∷ []
 
-root_known : (hash : List ℕ → List ℕ) (told : Option Book) (free : ℕ) (c : Child) (t : Tree) →
-    Drafted (by One hash) told free (Some c) t → IsFilledRoot (out-Tree t) → KnowsRoot hash told free c t
-root_known hash told free c t d filled = at d.placed d.tree d.root_is d.written d.owned
+root_known : (scheme : Scheme) (told : Option Book) (free : ℕ) (c : Child) (t : Tree) →
+    Drafted scheme told free (Some c) t → IsFilledRoot (out-Tree t) → KnowsRoot scheme told free c t
+root_known scheme told free c t d filled = at d.placed d.tree d.root_is d.written d.owned
   where
     at : (o : Option Placed) → whole_tree o ≡ t → ◌≡◌ {A = Option Link} (Some (child_link c))
-        (option_map (link_of (by One hash)) o) → IfSome o (IsWritten (by One hash) (HasNode d.book)) →
-        Owned d.book.size (0 ∷ (whole_pages o ++ d.chain)) → KnowsRoot hash told free c t
+        (option_map (link_of scheme) o) → IfSome o (IsWritten scheme (HasNode d.book)) →
+        Owned d.book.size (0 ∷ (whole_pages o ++ d.chain)) → KnowsRoot scheme told free c t
     at None is root written owned = cc
     at (Some P) is root written owned =
-        let said : child_link c ≡ link_of (by One hash) P = cc in
+        let said : child_link c ≡ link_of scheme P = cc in
         record {
           below = record {
             book = d.book;
@@ -258,10 +257,10 @@ few_after one t rooted few = omega (
   few,
 )
 
-pub root_grow : (hash : List ℕ → List ℕ) (told : Option Book) (free : ℕ) (c : Child) (one : Record) →
-    CanInsert hash told free (Some c) 1 → CanGrow hash true told free c one
-root_grow hash told free c one k =
-    let r = root_known hash told free c k.tree k.draft k.rooted.filled in
+pub root_grow : (scheme : Scheme) (told : Option Book) (free : ℕ) (c : Child) (one : Record) →
+    CanInsert scheme told free (Some c) 1 → CanGrow scheme true told free c one
+root_grow scheme told free c one k =
+    let r = root_known scheme told free c k.tree k.draft k.rooted.filled in
     record {
       below = r.below;
       room = omega (
@@ -273,11 +272,11 @@ root_grow hash told free c one k =
     }
 
 -- the first record
-pub first_add : (hash : List ℕ → List ℕ) (told : Option Book) (free : ℕ) → CanInsert hash told free None 1 →
+pub first_add : (scheme : Scheme) (told : Option Book) (free : ℕ) → CanInsert scheme told free None 1 →
     CanAdd told free
-first_add hash told free k =
+first_add scheme told free k =
     let d = k.draft in
-    let none = none_placed (by One hash) d.placed d.root_is in
+    let none = none_placed scheme d.placed d.root_is in
     let owned : Owned d.book.size (0 ∷ ([] ++ d.chain)) = subst
     (λ o. Owned d.book.size (0 ∷ (whole_pages o ++ d.chain))) none d.owned in
     record {
@@ -298,12 +297,11 @@ first_low scheme b x y (P ∷ Ps) named =
     ∙ ap (λ n. n + 1) (sym (ap (λ (l : Link). l.entry.level) named.0.said ∙ entry_level scheme (tree_of P)))
 
 -- a root can be put above the two nodes of a root that was split
-pub root_raise : (hash : List ℕ → List ℕ) (told told1 : Option Book) (free free1 : ℕ) (c : Child) (one : Record)
-    (s : Stand) (second : Child) → s.second ≡ Some second → Grows (by One hash) told free told1 free1 c one (entries s)
+pub root_raise : (scheme : Scheme) (told told1 : Option Book) (free free1 : ℕ) (c : Child) (one : Record)
+    (s : Stand) (second : Child) → s.second ≡ Some second → Grows scheme told free told1 free1 c one (entries s)
     →
-    CanInsert hash told free (Some c) 1 → CanRaise told1 free1 s.first.level
-root_raise hash told told1 free free1 c one s second some grows k =
-    let scheme = by One hash in
+    CanInsert scheme told free (Some c) 1 → CanRaise told1 free1 s.first.level
+root_raise scheme told told1 free free1 c one s second some grows k =
     let d = k.draft in
     let t = k.tree in
     let cs : List Child = s.first ∷ second ∷ [] in
@@ -341,11 +339,11 @@ root_raise hash told told1 free free1 c one s second some grows k =
 -- ---- records one after another
 
 -- the next one can be put in as well
-pub next_insert : (hash : List ℕ → List ℕ) (told told1 : Option Book) (free free1 : ℕ) (root root1 : Option Child)
+pub next_insert : (scheme : Scheme) (told told1 : Option Book) (free free1 : ℕ) (root root1 : Option Child)
     (rs : List Record) (i : ℕ) → i < length rs →
-    InsertsAll (by One hash) told free root told1 free1 root1 (take i rs) →
-    CanInsert hash told free root (length rs) → CanInsert hash told1 free1 root1 1
-next_insert hash told told1 free free1 root root1 rs i within inserts k =
+    InsertsAll scheme told free root told1 free1 root1 (take i rs) →
+    CanInsert scheme told free root (length rs) → CanInsert scheme told1 free1 root1 1
+next_insert scheme told told1 free free1 root root1 rs i within inserts k =
     let first = take i rs in
     let r = inserts k.tree 0 k.draft.book.size 0 (record {
       draft = k.draft;
@@ -368,6 +366,6 @@ next_insert hash told told1 free free1 root root1 rs i within inserts k =
     }
 
 -- the root that is told, by its kind
-pub at_root : (hash : List ℕ → List ℕ) (told : Option Book) (free count : ℕ) (root root1 : Option Child) →
-    root ≡ root1 → CanInsert hash told free root count → CanInsert hash told free root1 count
-at_root hash told free count root root1 is = subst (λ r. CanInsert hash told free r count) is
+pub at_root : (scheme : Scheme) (told : Option Book) (free count : ℕ) (root root1 : Option Child) →
+    root ≡ root1 → CanInsert scheme told free root count → CanInsert scheme told free root1 count
+at_root scheme told free count root root1 is = subst (λ r. CanInsert scheme told free r count) is

@@ -1,5 +1,5 @@
 -- What stands in a node's place after something was taken out of it.
-use Rattle.std.proofs.Common.{◌≡◌, ◌≢◌, ℕ, ◌<◌, ◌≤◌, true, false, List, [], ◌∷◌, ◌++◌, length, map, get_or, refl, sym, ap, subst, ◌∙◌, arith}
+use Rattle.std.proofs.Common.{◌≡◌, ◌≢◌, ℕ, ◌<◌, ◌≤◌, Bool, true, false, List, [], ◌∷◌, ◌++◌, length, map, get_or, refl, sym, ap, subst, ◌∙◌, arith}
 use Rattle.std.specs.Prelude.{if◌then◌else◌, Option, Some, IfSome}
 use Rattle.std.proofs.lemmas.Bool.{lt-ltb, le-ltb}
 use Rattle.std.proofs.lemmas.List.{append-nil, length-map}
@@ -76,7 +76,7 @@ stayed scheme a chain told free others r c aside full o is = record {
   aside_is = is ∙ sym (ap (λ b. if b then records r.tree ++ r.aside else r.aside) full);
 }
 
-pub leaf_gone : (scheme : Scheme) (told told' : Option Book) (free free' page : ℕ) (rs : List Record) → length rs < 6 →
+leaf_gone : (scheme : Scheme) (told told' : Option Book) (free free' page : ℕ) (rs : List Record) → length rs < 6 →
     FreesPage told free told' free' page →
     LeavesLeaf scheme false told free told' free' page rs [] rs
 leaf_gone scheme told told' free free' page rs few frees a chain others told_is linked owned =
@@ -84,7 +84,7 @@ leaf_gone scheme told told' free free' page rs few frees a chain others told_is 
     others told_is linked owned)
     (sym (append-nil (records (tree.Leaf rs)) ∙ records-Leaf rs))
 
-pub leaf_stayed : (scheme : Scheme) (told told' : Option Book) (free free' page : ℕ) (rs aside : List Record)
+leaf_stayed : (scheme : Scheme) (told told' : Option Book) (free free' page : ℕ) (rs aside : List Record)
     (c : Child) → 6 ≤ length rs → aside ≡ [] →
     Writes scheme told free told' free' page (node.Leaf rs) c →
     LeavesLeaf scheme false told free told' free' page rs (c ∷ []) aside
@@ -173,7 +173,7 @@ topped_one = tree_induction (λ t. (u : Tree) → topped t ≡ u ∷ [] → t �
     one : (t u : Tree) → t ∷ [] ≡ u ∷ [] → t ≡ u
     one t u e = cc
 
-pub top_leaf_gone : (scheme : Scheme) (told told' : Option Book) (free free' page : ℕ) (rs aside : List Record) →
+top_leaf_gone : (scheme : Scheme) (told told' : Option Book) (free free' page : ℕ) (rs aside : List Record) →
     length rs ≡ 0 → aside ≡ [] → FreesPage told free told' free' page →
     LeavesLeaf scheme true told free told' free' page rs [] aside
 top_leaf_gone scheme told told' free free' page rs aside none is frees a chain others told_is linked owned =
@@ -195,7 +195,7 @@ top_leaf_gone scheme told told' free free' page rs aside none is frees a chain o
       aside_is = is;
     }
 
-pub top_leaf_stayed : (scheme : Scheme) (told told' : Option Book) (free free' page : ℕ) (rs aside : List Record)
+top_leaf_stayed : (scheme : Scheme) (told told' : Option Book) (free free' page : ℕ) (rs aside : List Record)
     (c : Child) → length rs ≢ 0 → aside ≡ [] →
     Writes scheme told free told' free' page (node.Leaf rs) c →
     LeavesLeaf scheme true told free told' free' page rs (c ∷ []) aside
@@ -207,6 +207,28 @@ top_leaf_stayed scheme told told' free free' page rs aside c some is w a chain o
       (leaf_written scheme told told' free free' page rs c w a chain others told_is linked owned));
   aside_is = is;
 }
+
+no_records : (rs : List Record) → length rs < 1 → rs ≡ []
+no_records [] few = refl
+no_records (r ∷ rs) few = absurd (omega (arith, few))
+
+-- of a leaf, as the root or below it
+pub any_leaf_gone : (scheme : Scheme) (root : Bool) (told told' : Option Book) (free free' page : ℕ)
+    (rs : List Record) → length rs < (if root then 1 else 6) → FreesPage told free told' free' page →
+    LeavesLeaf scheme root told free told' free' page rs [] rs
+any_leaf_gone scheme true told told' free free' page rs few frees =
+    top_leaf_gone scheme told told' free free' page rs rs (omega (arith, few)) (no_records rs few) frees
+any_leaf_gone scheme false told told' free free' page rs few frees =
+    leaf_gone scheme told told' free free' page rs few frees
+
+pub any_leaf_stayed : (scheme : Scheme) (root : Bool) (told told' : Option Book) (free free' page : ℕ)
+    (rs aside : List Record) (c : Child) → (if root then 1 else 6) ≤ length rs → aside ≡ [] →
+    Writes scheme told free told' free' page (node.Leaf rs) c →
+    LeavesLeaf scheme root told free told' free' page rs (c ∷ []) aside
+any_leaf_stayed scheme true told told' free free' page rs aside c many is w =
+    top_leaf_stayed scheme told told' free free' page rs aside c (λ none. omega (arith, many, none)) is w
+any_leaf_stayed scheme false told told' free free' page rs aside c many is w =
+    leaf_stayed scheme told told' free free' page rs aside c many is w
 
 pub top_inner_stayed : (scheme : Scheme) (told told' : Option Book) (free free' page : ℕ) (cs : List Child)
     (before : List Record) (c : Child) → length cs ≢ 1 →

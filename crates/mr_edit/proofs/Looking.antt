@@ -4,7 +4,7 @@ use Rattle.std.specs.Prelude.{◌==◌, ◌&&◌, ◌||◌, not, nat_lt, Option,
 use Rattle.std.proofs.lemmas.Bool.{le-ltb}
 use Rattle.mr_geom.specs.Rectangle.{union_of}
 use Rattle.mr_record.specs.declared.version.Version.TheVariants.{One}
-use Rattle.mr_tree.specs.Digest.{Scheme, by}
+use Rattle.mr_tree.specs.Digest.{Scheme}
 use Rattle.mr_tree.specs.View as view
 use Rattle.mr_tree.specs.declared.entry.Entry.{Entry}
 use Rattle.mr_tree.specs.declared.child.Child.{Child}
@@ -79,16 +79,16 @@ nothing_said false found said a b x y =
     ap (λ m. (m == said.mask) && (found.count == said.count)) a ∙ ap (λ m. (0 == m) && (found.count == said.count)) x
     ∙ ap (λ m. m == said.count) b ∙ ap (λ m. 0 == m) y
 
-sums : (hash : List ℕ → List ℕ) (root : Bool) (b : Book) (c : Child) (P : Placed) (n : view.Node) (found : Entry) →
-    Names (by One hash) b c P → HasNode b c.id (page_node n) → view.AreTold One n → found.mask ≡ 0 →
-    found.count ≡ 0 → same_sums root found (child_link c).entry ≡ true
-sums hash root b c P n found names has told mask count =
-    let is : view.entry_over (by One hash) n ≡ view.entry_of c = entry_same (by One hash) n
-    ∙ ap (entry_of (by One hash)) (node_there (by One hash) b c P (page_node n) names has)
-    ∙ node_said (by One hash) c P names.said in
+sums : (scheme : Scheme) → scheme.version ≡ One → (root : Bool) (b : Book) (c : Child) (P : Placed) (n : view.Node)
+    (found : Entry) → Names scheme b c P → HasNode b c.id (page_node n) → view.AreTold scheme.version n →
+    found.mask ≡ 0 → found.count ≡ 0 → same_sums root found (child_link c).entry ≡ true
+sums scheme first root b c P n found names has told mask count =
+    let is : view.entry_over scheme n ≡ view.entry_of c = entry_same scheme n
+    ∙ ap (entry_of scheme) (node_there scheme b c P (page_node n) names has)
+    ∙ node_said scheme c P names.said in
     nothing_said root found (child_link c).entry mask count
-    (sym (ap (λ (e : Entry). e.mask) is) ∙ no_mask hash n told)
-    (sym (ap (λ (e : Entry). e.count) is) ∙ no_count hash n told)
+    (sym (ap (λ (e : Entry). e.mask) is) ∙ no_mask scheme first n told)
+    (sym (ap (λ (e : Entry). e.count) is) ∙ no_count scheme first n told)
 
 same_as : (root : Bool) (found e said : Entry) → e.mask ≡ found.mask → e.count ≡ found.count →
     same_sums root found said ≡ true → same_sums root e said ≡ true
@@ -96,12 +96,12 @@ same_as root found e said masks counts same =
     ap (λ m. (m == said.mask) && (root || e.count == said.count)) masks
     ∙ ap (λ k. (found.mask == said.mask) && (root || k == said.count)) counts ∙ same
 
-pub sums_shown : (hash : List ℕ → List ℕ) (root : Bool) (n : view.Node) (found said : Entry) → view.AreTold One n →
-    found.mask ≡ 0 → found.count ≡ 0 → same_sums root found said ≡ true →
-    same_sums root (view.entry_over (by One hash) n) said ≡ true
-sums_shown hash root n found said told mask count same =
-    same_as root found (view.entry_over (by One hash) n) said (no_mask hash n told ∙ sym mask)
-    (no_count hash n told ∙ sym count) same
+pub sums_shown : (scheme : Scheme) → scheme.version ≡ One → (root : Bool) (n : view.Node) (found said : Entry) →
+    view.AreTold scheme.version n → found.mask ≡ 0 → found.count ≡ 0 → same_sums root found said ≡ true →
+    same_sums root (view.entry_over scheme n) said ≡ true
+sums_shown scheme first root n found said told mask count same =
+    same_as root found (view.entry_over scheme n) said (no_mask scheme first n told ∙ sym mask)
+    (no_count scheme first n told ∙ sym count) same
 
 -- ---- how full it is
 
@@ -124,24 +124,26 @@ reads_in : (told : Option Book) (b : Book) (c : Child) (n : view.Node) → told 
     IfSome told (λ x. HasNode x c.id (page_node n)) → HasNode b c.id (page_node n)
 reads_in told b c n is reads = subst (λ o. IfSome o (λ x. HasNode x c.id (page_node n))) is reads
 
-pub off_blames : (hash : List ℕ → List ℕ) (root : Bool) (told : Option Book) (c : Child) (n : view.Node) →
+pub off_blames : (scheme : Scheme) (root : Bool) (told : Option Book) (c : Child) (n : view.Node) →
     IfSome told (λ b. HasNode b c.id (page_node n)) → same_rect (view.rect_of n) (Some c.rect) ≡ false
-    → CanLook hash root told c → ⊥
-off_blames hash root told c n reads off k =
-    both (same_rect (view.rect_of n) (Some c.rect)) (round (by One hash) k.read.book c k.read.placed n k.read.names
+    → CanLook scheme root told c → ⊥
+off_blames scheme root told c n reads off k =
+    both (same_rect (view.rect_of n) (Some c.rect)) (round scheme k.read.book c k.read.placed n k.read.names
     (reads_in told k.read.book c n k.read.is reads)) off
 
-pub sums_blames : (hash : List ℕ → List ℕ) (root : Bool) (told : Option Book) (c : Child) (n : view.Node)
-    (found : Entry) → IfSome told (λ b. HasNode b c.id (page_node n)) → view.AreTold One n → found.mask ≡ 0 →
-    found.count ≡ 0 → same_sums root found (child_link c).entry ≡ false → CanLook hash root told c → ⊥
-sums_blames hash root told c n found reads shown mask count off k =
-    both (same_sums root found (child_link c).entry) (sums hash root k.read.book c k.read.placed n found k.read.names
+pub sums_blames : (scheme : Scheme) → scheme.version ≡ One →
+    (root : Bool) (told : Option Book) (c : Child) (n : view.Node)
+    (found : Entry) → IfSome told (λ b. HasNode b c.id (page_node n)) → view.AreTold scheme.version n → found.mask ≡ 0 →
+    found.count ≡ 0 → same_sums root found (child_link c).entry ≡ false → CanLook scheme root told c → ⊥
+sums_blames scheme first root told c n found reads shown mask count off k =
+    both (same_sums root found (child_link c).entry)
+    (sums scheme first root k.read.book c k.read.placed n found k.read.names
     (reads_in told k.read.book c n k.read.is reads) shown mask count) off
 
-pub few_blames : (hash : List ℕ → List ℕ) (root : Bool) (told : Option Book) (c : Child) (n : view.Node) →
-    IfSome told (λ b. HasNode b c.id (page_node n)) → Fills root n ≡ false → CanLook hash root told c → ⊥
-few_blames hash root told c n reads few k =
-    both (Fills root n) (fills (by One hash) root k.read.book c k.read.placed n k.read.names k.filled
+pub few_blames : (scheme : Scheme) (root : Bool) (told : Option Book) (c : Child) (n : view.Node) →
+    IfSome told (λ b. HasNode b c.id (page_node n)) → Fills root n ≡ false → CanLook scheme root told c → ⊥
+few_blames scheme root told c n reads few k =
+    both (Fills root n) (fills scheme root k.read.book c k.read.placed n k.read.names k.filled
     (reads_in told k.read.book c n k.read.is reads)) few
 
 -- ---- what is known of a subtree
@@ -156,9 +158,9 @@ no_head size mine chain others owned head zero some =
     absurd (omega (arith, some, all, rest, head, owned.each 0 within))
 no_head size mine chain others owned head (suc q) some = omega arith
 
-can_read_below : (hash : List ℕ → List ℕ) (root : Bool) (told : Option Book) (free : ℕ) (c : Child) →
-    KnowsBelow hash root told free c → CanRead hash told c
-can_read_below hash root told free c k = record {
+can_read_below : (scheme : Scheme) (root : Bool) (told : Option Book) (free : ℕ) (c : Child) →
+    KnowsBelow scheme root told free c → CanRead scheme told c
+can_read_below scheme root told free c k = record {
   book = k.book;
   is = k.is;
   placed = k.placed;
@@ -170,7 +172,7 @@ can_read_below hash root told free c k = record {
   );
 }
 
-pub can_look : (hash : List ℕ → List ℕ) (root : Bool) (told : Option Book) (free : ℕ) (c : Child) →
-    KnowsBelow hash root told free c → CanLook hash root told c
+pub can_look : (scheme : Scheme) (root : Bool) (told : Option Book) (free : ℕ) (c : Child) →
+    KnowsBelow scheme root told free c → CanLook scheme root told c
 unfolding can_read_below
-can_look hash root told free c k = record { read = can_read_below hash root told free c k; filled = k.filled }
+can_look scheme root told free c k = record { read = can_read_below scheme root told free c k; filled = k.filled }

@@ -5,8 +5,7 @@ use Rattle.std.specs.List.{AllByRecursion}
 use Rattle.std.proofs.lemmas.List.{append-nil}
 use Rattle.std.proofs.lemmas.List.Concat.{flat_map-append}
 use Rattle.mr_record.specs.declared.record.Record.{Record}
-use Rattle.mr_record.specs.declared.version.Version.TheVariants.{One}
-use Rattle.mr_tree.specs.Digest.{by}
+use Rattle.mr_tree.specs.Digest.{Scheme}
 use Rattle.mr_tree.specs.WellFormed.{IsFilled}
 use Rattle.mr_tree.specs.declared.child.Child.{Child}
 use Rattle.mr_tree.specs.declared.tree.Tree.{Tree}
@@ -39,20 +38,20 @@ root_page (Leaf p rs) = times_first p []
 root_page (Inner p R) = times_first p (all_pages R)
 
 -- the page that an entry names is one of the tree's
-pub named_page : (hash : List ℕ → List ℕ) (a : Book) (c : Child) (P : Placed) → Names (by One hash) a c P →
+pub named_page : (scheme : Scheme) (a : Book) (c : Child) (P : Placed) → Names scheme a c P →
     0 < times c.id (pages_of P)
-named_page hash a c P names = subst (λ q. 0 < times q (pages_of P)) (sym (ap (λ (l : Link). l.page) names.said))
+named_page scheme a c P names = subst (λ q. 0 < times q (pages_of P)) (sym (ap (λ (l : Link). l.page) names.said))
     (root_page P)
 
 -- ---- one subtree below a root
 
-pub one_below : (hash : List ℕ → List ℕ) (told : Option Book) (free : ℕ) (c : Child) →
-    CanFree hash told free (c ∷ []) → KnowsBelow hash false told free c
-one_below hash told free c k = at k.parts k.named k.owned k.filled
+pub one_below : (scheme : Scheme) (told : Option Book) (free : ℕ) (c : Child) →
+    CanFree scheme told free (c ∷ []) → KnowsBelow scheme false told free c
+one_below scheme told free c k = at k.parts k.named k.owned k.filled
   where
-    at : (Ps : List Placed) → Name (by One hash) k.book (c ∷ []) Ps →
+    at : (Ps : List Placed) → Name scheme k.book (c ∷ []) Ps →
         Owned k.book.size (pages Ps ++ (k.chain ++ k.others)) → AllByRecursion (every-Tree IsFilled) (trees Ps) →
-        KnowsBelow hash false told free c
+        KnowsBelow scheme false told free c
     at [] named owned filled = absurd named
     at (P ∷ Q ∷ Ps) named owned filled = absurd named.1
     at (P ∷ []) named owned filled = record {
@@ -69,24 +68,24 @@ one_below hash told free c k = at k.parts k.named k.owned k.filled
     }
 
 -- its page can be written
-pub known_writes : (hash : List ℕ → List ℕ) (root : Bool) (told told1 : Option Book) (free : ℕ) (c : Child) →
-    told1 ≡ told → KnowsBelow hash root told free c → CanWrite told1 c.id
-known_writes hash root told told1 free c same k =
-    let r = (can_look hash root told free c k).read in
+pub known_writes : (scheme : Scheme) (root : Bool) (told told1 : Option Book) (free : ℕ) (c : Child) →
+    told1 ≡ told → KnowsBelow scheme root told free c → CanWrite told1 c.id
+known_writes scheme root told told1 free c same k =
+    let r = (can_look scheme root told free c k).read in
     subst (λ x. IsSomeAnd x (λ b. c.id < b.size)) (sym (same ∙ r.is))
-    (r.inside c.id (named_page hash r.book c r.placed r.names)).1
+    (r.inside c.id (named_page scheme r.book c r.placed r.names)).1
 
 -- ---- after a page was freed
 
 -- the subtrees whose pages were left alone
-freed_below : (hash : List ℕ → List ℕ) (a : Book) (told : Option Book) (free : ℕ) (cs : List Child) (Ps : List Placed)
-    (others : List ℕ) → Name (by One hash) a cs Ps → Freed a told free (pages Ps ++ others) → 0 < times 0 others →
-    AllByRecursion (every-Tree IsFilled) (trees Ps) → CanFree hash told free cs
-freed_below hash a told free cs Ps others named f head filled = record {
+freed_below : (scheme : Scheme) (a : Book) (told : Option Book) (free : ℕ) (cs : List Child) (Ps : List Placed)
+    (others : List ℕ) → Name scheme a cs Ps → Freed a told free (pages Ps ++ others) → 0 < times 0 others →
+    AllByRecursion (every-Tree IsFilled) (trees Ps) → CanFree scheme told free cs
+freed_below scheme a told free cs Ps others named f head filled = record {
   book = f.book;
   is = f.is;
   parts = Ps;
-  named = frame_all (by One hash) a f.book cs Ps (agree_left a f.book (pages Ps) others f.kept) named;
+  named = frame_all scheme a f.book cs Ps (agree_left a f.book (pages Ps) others f.kept) named;
   chain = f.chain;
   linked = f.linked;
   others = others;
@@ -97,25 +96,25 @@ freed_below hash a told free cs Ps others named f head filled = record {
 }
 
 -- the children of a node whose page was freed
-pub left_below : (hash : List ℕ → List ℕ) (told told1 : Option Book) (free free1 page : ℕ) (cs : List Child) →
-    FreesPage told free told1 free1 page → CanLeave hash told free page cs → CanFree hash told1 free1 cs
-left_below hash told told1 free free1 page cs frees k =
-    freed_below hash k.book told1 free1 cs k.parts k.others k.named
+pub left_below : (scheme : Scheme) (told told1 : Option Book) (free free1 page : ℕ) (cs : List Child) →
+    FreesPage told free told1 free1 page → CanLeave scheme told free page cs → CanFree scheme told1 free1 cs
+left_below scheme told told1 free free1 page cs frees k =
+    freed_below scheme k.book told1 free1 cs k.parts k.others k.named
     (frees k.book k.chain (pages k.parts ++ k.others) k.is k.linked
     (same_owned k.book.size (page ∷ (pages k.parts ++ (k.chain ++ k.others))) _
     (λ q. turn_counts q page (pages k.parts) k.chain k.others) k.owned)) k.head k.filled
 
 -- a node beside its children can be written
-pub leave_writes : (hash : List ℕ → List ℕ) (told : Option Book) (free page : ℕ) (cs : List Child) →
-    CanLeave hash told free page cs → CanWrite told page
-leave_writes hash told free page cs k =
+pub leave_writes : (scheme : Scheme) (told : Option Book) (free page : ℕ) (cs : List Child) →
+    CanLeave scheme told free page cs → CanWrite told page
+leave_writes scheme told free page cs k =
     let rest = pages k.parts ++ (k.chain ++ k.others) in
     subst (λ x. IsSomeAnd x (λ b. page < b.size)) (sym k.is)
     (owned_within k.book.size page (page ∷ rest) k.owned (times_first page rest))
 
-pub leave_some : (hash : List ℕ → List ℕ) (told : Option Book) (free page : ℕ) (cs : List Child) → length cs ≡ 0 →
-    CanLeave hash told free page cs → ⊥
-leave_some hash told free page cs none k = omega (arith, none, k.some)
+pub leave_some : (scheme : Scheme) (told : Option Book) (free page : ℕ) (cs : List Child) → length cs ≡ 0 →
+    CanLeave scheme told free page cs → ⊥
+leave_some scheme told free page cs none k = omega (arith, none, k.some)
 
 pub one_item : {X : Type 0} (xs : List X) (d : X) → length xs ≡ 1 → d ≡ get_or xs 0 d → xs ≡ d ∷ []
 one_item [] d one is = absurd (omega (arith, one))
@@ -123,25 +122,25 @@ one_item (x ∷ []) d one is = ap (λ y. y ∷ []) (sym is)
 one_item (x ∷ y ∷ xs) d one is = absurd (omega (arith, one))
 
 -- the only one
-pub only_below : (hash : List ℕ → List ℕ) (told : Option Book) (free : ℕ) (cs : List Child) (d : Child) →
-    length cs ≡ 1 → d ≡ get_or cs 0 d → CanFree hash told free cs → KnowsBelow hash false told free d
-only_below hash told free cs d one is k =
-    one_below hash told free d (subst (CanFree hash told free) (one_item cs d one is) k)
+pub only_below : (scheme : Scheme) (told : Option Book) (free : ℕ) (cs : List Child) (d : Child) →
+    length cs ≡ 1 → d ≡ get_or cs 0 d → CanFree scheme told free cs → KnowsBelow scheme false told free d
+only_below scheme told free cs d one is k =
+    one_below scheme told free d (subst (CanFree scheme told free) (one_item cs d one is) k)
 
-pub children_below : (hash : List ℕ → List ℕ) (told told1 told2 : Option Book) (free free2 : ℕ) (c : Child)
+pub children_below : (scheme : Scheme) (told told1 told2 : Option Book) (free free2 : ℕ) (c : Child)
     (cs : List Child) → told1 ≡ told → IfSome told (λ b. HasNode b c.id (node.Inner (map child_link cs))) →
-    FreesPage told1 free told2 free2 c.id → KnowsBelow hash false told free c → CanFree hash told2 free2 cs
-children_below hash told told1 told2 free free2 c cs same reads frees o =
+    FreesPage told1 free told2 free2 c.id → KnowsBelow scheme false told free c → CanFree scheme told2 free2 cs
+children_below scheme told told1 told2 free free2 c cs same reads frees o =
     let a = o.book in
     let has : HasNode a c.id (node.Inner (map child_link cs)) =
     subst (λ x. IfSome x (λ b. HasNode b c.id (node.Inner (map child_link cs)))) o.is reads in
-    let op = opens_inner (by One hash) a c cs o.placed o.names has in
+    let op = opens_inner scheme a c cs o.placed o.names has in
     let Ps = op.parts in
     let mine : pages_of o.placed ≡ c.id ∷ pages Ps = ap pages_of op.is ∙ ap (λ ps. c.id ∷ ps) (row_pages Ps) in
     let had : Owned a.size (c.id ∷ (pages Ps ++ (o.chain ++ o.others))) =
     subst (λ ps. Owned a.size (ps ++ (o.chain ++ o.others))) mine o.owned in
     let what : tree_of o.placed ≡ tree.Inner (trees Ps) = ap tree_of op.is ∙ ap tree.Inner (row_trees Ps) in
-    freed_below hash a told2 free2 cs Ps o.others op.named
+    freed_below scheme a told2 free2 cs Ps o.others op.named
     (frees a o.chain (pages Ps ++ o.others) (same ∙ o.is) o.linked
     (same_owned a.size (c.id ∷ (pages Ps ++ (o.chain ++ o.others))) _
     (λ q. turn_counts q c.id (pages Ps) o.chain o.others) had)) o.head
@@ -174,25 +173,25 @@ next_counts q l x r f o whole is = omega (
 )
 
 -- the next one, once those before it are free
-pub next_below : (hash : List ℕ → List ℕ) (told told1 : Option Book) (free free1 : ℕ) (cs : List Child) (i : ℕ)
+pub next_below : (scheme : Scheme) (told told1 : Option Book) (free free1 : ℕ) (cs : List Child) (i : ℕ)
     (d : Child) (before so_far : List Record) → i < length cs → d ≡ get_or cs i d →
-    Frees (by One hash) told free told1 free1 (take i cs) before so_far → CanFree hash told free cs →
-    CanFree hash told1 free1 (d ∷ [])
-next_below hash told told1 free free1 cs i d before so_far within is frees k =
+    Frees scheme told free told1 free1 (take i cs) before so_far → CanFree scheme told free cs →
+    CanFree scheme told1 free1 (d ∷ [])
+next_below scheme told told1 free free1 cs i d before so_far within is frees k =
     let a = k.book in
     let Ps = k.parts in
     let none : Placed = Leaf 0 [] in
-    let low : i < length Ps = omega (arith, within, same_length (Names (by One hash) a) cs Ps k.named) in
+    let low : i < length Ps = omega (arith, within, same_length (Names scheme a) cs Ps k.named) in
     let x : Placed = get_or Ps i none in
     let r = pages (drop (suc i) Ps) in
     let whole : pages Ps ≡ pages (take i Ps) ++ (pages_of x ++ r) = ap pages (around Ps i none low)
     ∙ flat_map-append pages_of (take i Ps) (x ∷ drop (suc i) Ps) in
-    let mine : Names (by One hash) a d x = subst (λ e. Names (by One hash) a e x) (sym is)
-    (zip_at (Names (by One hash) a) cs Ps i d none k.named within) in
+    let mine : Names scheme a d x = subst (λ e. Names scheme a e x) (sym is)
+    (zip_at (Names scheme a) cs Ps i d none k.named within) in
     let f = (frees a k.chain (take i Ps) (pages_of x ++ (r ++ k.others)) k.is
-    (zip_take (Names (by One hash) a) i cs Ps k.named) k.linked
+    (zip_take (Names scheme a) i cs Ps k.named) k.linked
     (same_owned a.size (pages Ps ++ (k.chain ++ k.others)) _
     (λ q. next_counts q (pages (take i Ps)) (pages_of x) r k.chain k.others (pages Ps) whole) k.owned)).0 in
-    freed_below hash a told1 free1 (d ∷ []) (x ∷ []) (r ++ k.others) (mine, tt)
+    freed_below scheme a told1 free1 (d ∷ []) (x ∷ []) (r ++ k.others) (mine, tt)
     (subst (λ ps. Freed a told1 free1 (ps ++ (r ++ k.others))) (sym (append-nil (pages_of x))) f)
     (apart_from r k.others k.head) (each_tree (every-Tree IsFilled) Ps i none low k.filled, tt)

@@ -8,14 +8,16 @@ use Rattle.std.proofs.lemmas.List.Sums.{sum_by-cons}
 use Rattle.mr_record.specs.Record.{HasLayer}
 use Rattle.mr_record.specs.Sorting.{put_in, sorted_by, sorted_by_key}
 use Rattle.mr_record.specs.declared.record.Record.{Record}
+use Rattle.mr_record.specs.declared.version.Version.{Version}
 use Rattle.mr_record.specs.declared.version.Version.TheVariants.{One}
-use Rattle.mr_tree.specs.Digest.{by}
-use Rattle.mr_tree.specs.Tree.{mask_of, layer_bit}
+use Rattle.mr_tree.specs.Digest.{Scheme}
+use Rattle.mr_tree.specs.Tree.{mask_of, mask_step, count_step, layer_bit}
 use Rattle.mr_tree.specs.View as view
 use Rattle.mr_tree.specs.View.{AreTold, MayTell, HasCount}
 use Rattle.mr_tree.specs.declared.child.Child.{Child}
 use Rattle.mr_tree.specs.declared.entry.Entry.{Entry}
-use Rattle.mr_tree.specs.declared.tree.Tree.TheOpen.{Empty, Leaf, Inner}
+use Rattle.mr_tree.specs.declared.tree.Tree.TheOpen.{Tree-F, Empty, Leaf, Inner}
+use Rattle.mr_tree.specs.declared.tree.Tree.TheFolds.{map-Tree}
 use Rattle.mr_tree.proofs.Masks.{mask_of-cons}
 use Rattle.mr_pages.specs.Page.{Link, entry_of}
 use Rattle.mr_pages.specs.Walking.{child_link, page_node}
@@ -34,6 +36,12 @@ masks cs = map (λ (e : Entry). e.mask) (map view.entry_of cs)
 abbrev counts : List Child → List ℕ
 counts cs = map (λ (e : Entry). e.count) (map view.entry_of cs)
 
+abbrev entry_masks : view.Node → Tree-F ℕ
+entry_masks n = map-Tree Entry ℕ (λ (e : Entry). e.mask) (view.over_entries n)
+
+abbrev entry_counts : view.Node → Tree-F ℕ
+entry_counts n = map-Tree Entry ℕ (λ (e : Entry). e.count) (view.over_entries n)
+
 no_masks : (cs : List Child) → AllByRecursion (IsTold One) cs → mask_of (masks cs) ≡ 0
 no_masks [] told = refl
 no_masks (c ∷ cs) told =
@@ -47,15 +55,25 @@ no_counts (c ∷ cs) told =
     let all = sum_by-cons (λ n. n) c.count (counts cs) in
     omega (arith, told.0.few, rest, all)
 
-pub no_mask : (hash : List ℕ → List ℕ) (n : view.Node) → AreTold One n → (view.entry_over (by One hash) n).mask ≡ 0
-no_mask hash Empty told = refl
-no_mask hash (Leaf rs) told = no_layers rs
-no_mask hash (Inner cs) told = no_masks cs (recursion_from_All (IsTold One) cs told.children)
+none_masked : (n : view.Node) → AreTold One n → mask_step One (entry_masks n) ≡ 0
+none_masked Empty told = refl
+none_masked (Leaf rs) told = no_layers rs
+none_masked (Inner cs) told = no_masks cs (recursion_from_All (IsTold One) cs told.children)
 
-pub no_count : (hash : List ℕ → List ℕ) (n : view.Node) → AreTold One n → (view.entry_over (by One hash) n).count ≡ 0
-no_count hash Empty told = refl
-no_count hash (Leaf rs) told = refl
-no_count hash (Inner cs) told = no_counts cs (recursion_from_All (IsTold One) cs told.children)
+none_counted : (n : view.Node) → AreTold One n → count_step One (entry_counts n) ≡ 0
+none_counted Empty told = refl
+none_counted (Leaf rs) told = refl
+none_counted (Inner cs) told = no_counts cs (recursion_from_All (IsTold One) cs told.children)
+
+pub no_mask : (scheme : Scheme) → scheme.version ≡ One → (n : view.Node) → AreTold scheme.version n →
+    (view.entry_over scheme n).mask ≡ 0
+no_mask scheme first n =
+    subst (λ v. AreTold v n → mask_step v (entry_masks n) ≡ 0) (sym first) (none_masked n)
+
+pub no_count : (scheme : Scheme) → scheme.version ≡ One → (n : view.Node) → AreTold scheme.version n →
+    (view.entry_over scheme n).count ≡ 0
+no_count scheme first n =
+    subst (λ v. AreTold v n → count_step v (entry_counts n) ≡ 0) (sym first) (none_counted n)
 
 -- ---- what is said of a node that is written
 
@@ -67,21 +85,23 @@ nothing mask count none few = record {
   few = omega (arith, few);
 }
 
-pub child_told : (hash : List ℕ → List ℕ) (n : view.Node) (c : Child) (page : ℕ) → AreTold One n →
-    child_link c ≡ record { page = page; entry = entry_of (by One hash) (page_node n) } → IsTold One c
-child_told hash n c page told said =
-    let is : view.entry_of c ≡ view.entry_over (by One hash) n =
-    ap (λ (l : Link). l.entry) said ∙ sym (entry_same (by One hash) n) in
-    nothing c.mask c.count (ap (λ (e : Entry). e.mask) is ∙ no_mask hash n told)
-    (ap (λ (e : Entry). e.count) is ∙ no_count hash n told)
+pub child_told : (scheme : Scheme) → scheme.version ≡ One → (n : view.Node) (c : Child) (page : ℕ) →
+    AreTold scheme.version n → child_link c ≡ record { page = page; entry = entry_of scheme (page_node n) } →
+    IsTold scheme.version c
+child_told scheme first n c page told said =
+    let is : view.entry_of c ≡ view.entry_over scheme n =
+    ap (λ (l : Link). l.entry) said ∙ sym (entry_same scheme n) in
+    subst (λ v. IsTold v c) (sym first)
+    (nothing c.mask c.count (ap (λ (e : Entry). e.mask) is ∙ no_mask scheme first n told)
+    (ap (λ (e : Entry). e.count) is ∙ no_count scheme first n told))
 
-pub leaf_told : (n : view.Node) (rs : List Record) → n ≡ Leaf rs → All (HasLayer One) rs → AreTold One n
-leaf_told n rs is layers = subst (AreTold One) (sym is)
-    (record { layers = layers; children = All-nil (IsTold One) })
+pub leaf_told : (v : Version) (n : view.Node) (rs : List Record) → n ≡ Leaf rs → All (HasLayer v) rs → AreTold v n
+leaf_told v n rs is layers = subst (AreTold v) (sym is)
+    (record { layers = layers; children = All-nil (IsTold v) })
 
-pub inner_told : (n : view.Node) (cs : List Child) → n ≡ Inner cs → All (IsTold One) cs → AreTold One n
-inner_told n cs is told = subst (AreTold One) (sym is)
-    (record { layers = All-nil (HasLayer One); children = told })
+pub inner_told : (v : Version) (n : view.Node) (cs : List Child) → n ≡ Inner cs → All (IsTold v) cs → AreTold v n
+inner_told v n cs is told = subst (AreTold v) (sym is)
+    (record { layers = All-nil (HasLayer v); children = told })
 
 -- ---- lists
 
@@ -104,9 +124,9 @@ module _ {X : Type 0} (P : X → Type 0) (before : X → X → Bool) where
   sorted_all [] all = tt
   sorted_all (x ∷ xs) all = placed_all x (sorted_by before xs) all.0 (sorted_all xs all.1)
 
-pub layers_sorted : (key : Record → ℕ) (rs sorted : List Record) → sorted ≡ sorted_by_key key rs →
-    All (HasLayer One) rs → All (HasLayer One) sorted
-layers_sorted key rs sorted is layers =
-    subst (All (HasLayer One)) (sym is)
-    (All-from_recursion (HasLayer One) (sorted_by_key key rs)
-    (sorted_all (HasLayer One) _ rs (recursion_from_All (HasLayer One) rs layers)))
+pub layers_sorted : (v : Version) (key : Record → ℕ) (rs sorted : List Record) → sorted ≡ sorted_by_key key rs →
+    All (HasLayer v) rs → All (HasLayer v) sorted
+layers_sorted v key rs sorted is layers =
+    subst (All (HasLayer v)) (sym is)
+    (All-from_recursion (HasLayer v) (sorted_by_key key rs)
+    (sorted_all (HasLayer v) _ rs (recursion_from_All (HasLayer v) rs layers)))

@@ -5,8 +5,7 @@ use Rattle.std.specs.List.{AllByRecursion, flat_map}
 use Rattle.std.proofs.lemmas.List.{length-map, length-append}
 use Rattle.mr_geom.specs.Rectangle.{Rectangle}
 use Rattle.mr_record.specs.declared.record.Record.{Record}
-use Rattle.mr_record.specs.declared.version.Version.TheVariants.{One}
-use Rattle.mr_tree.specs.Digest.{by}
+use Rattle.mr_tree.specs.Digest.{Scheme}
 use Rattle.mr_tree.specs.Tree.{records, level}
 use Rattle.mr_tree.specs.WellFormed.{HasOneLevel, IsFilled, IsFilledRoot}
 use Rattle.mr_tree.specs.declared.child.Child.{Child}
@@ -37,12 +36,11 @@ use Rattle.mr_edit.proofs.Removed.{rejoined, records_opened}
 
 -- ---- a child
 
-pub known_child : (hash : List ℕ → List ℕ) (root : Bool) (told told1 : Option Book) (free free1 : ℕ) (c : Child)
+pub known_child : (scheme : Scheme) (root : Bool) (told told1 : Option Book) (free free1 : ℕ) (c : Child)
     (at : ℕ) (cs : List Child) (d : Child) → told1 ≡ told → free1 ≡ free →
     IfSome told (λ b. HasNode b c.id (node.Inner (map child_link cs))) → at < length cs → d ≡ get_or cs at d →
-    KnowsBelow hash root told free c → KnowsBelow hash false told1 free1 d
-known_child hash root told told1 free free1 c at cs d same same_free reads within is_d k =
-    let scheme = by One hash in
+    KnowsBelow scheme root told free c → KnowsBelow scheme false told1 free1 d
+known_child scheme root told told1 free free1 c at cs d same same_free reads within is_d k =
     let a = k.book in
     let P = k.placed in
     let has_node : HasNode a c.id (node.Inner (map child_link cs)) =
@@ -67,13 +65,12 @@ known_child hash root told told1 free free1 c at cs d same same_free reads withi
       head = among_others 0 c.id (pages (take at Ps)) (pages (drop (suc at) Ps)) k.others k.head;
     }
 
-pub sought_below : (hash : List ℕ → List ℕ) (root : Bool) (told told1 : Option Book) (free free1 : ℕ) (c : Child)
+pub sought_below : (scheme : Scheme) (root : Bool) (told told1 : Option Book) (free free1 : ℕ) (c : Child)
     (n : ℕ) (r : Rectangle) (at : ℕ) (cs : List Child) (d : Child) → told1 ≡ told → free1 ≡ free →
     IfSome told (λ b. HasNode b c.id (node.Inner (map child_link cs))) → at < length cs → d ≡ get_or cs at d →
-    CanTakeOut hash root told free c n r → CanTakeOut hash false told1 free1 d n r
+    CanTakeOut scheme root told free c n r → CanTakeOut scheme false told1 free1 d n r
 unfolding known_child
-sought_below hash root told told1 free free1 c n r at cs d same same_free reads within is_d t =
-    let scheme = by One hash in
+sought_below scheme root told told1 free free1 c n r at cs d same same_free reads within is_d t =
     let k = t.below in
     let a = k.book in
     let P = k.placed in
@@ -88,7 +85,7 @@ sought_below hash root told told1 free free1 c n r at cs d same same_free reads 
     let each : HaveRect n r (flat_map records (trees Ps)) =
     subst (HaveRect n r) (records_opened P c.id Ps st.is) t.rects in
     record {
-      below = known_child hash root told told1 free free1 c at cs d same same_free reads within is_d k;
+      below = known_child scheme root told told1 free free1 c at cs d same same_free reads within is_d k;
       one_level = subst (every-Tree HasOneLevel) (sym t_is) (all_at (every-Tree HasOneLevel) at (trees Ps) (tree_of x)
           size (every_child HasOneLevel (trees Ps) (subst (every-Tree HasOneLevel) what t.one_level)));
       rects = subst (λ u. HaveRect n r (records u)) (sym t_is)
@@ -142,15 +139,14 @@ one_stays n [] ys within many = absurd (omega (arith, within))
 one_stays zero (x ∷ xs) ys within many = omega (arith, many, length-append ys xs)
 one_stays (suc n) (x ∷ xs) ys within many = omega arith
 
-pub leave_left : (hash : List ℕ → List ℕ) (root : Bool) (told told1 told2 : Option Book) (free free1 free2 : ℕ)
+pub leave_left : (scheme : Scheme) (root : Bool) (told told1 told2 : Option Book) (free free1 free2 : ℕ)
     (c : Child) (n : ℕ) (r : Rectangle) (at : ℕ) (cs new : List Child) (before : List Record) (d : Child) →
     told1 ≡ told → free1 ≡ free → IfSome told (λ b. HasNode b c.id (node.Inner (map child_link cs))) →
-    at < length cs → d ≡ get_or cs at d → Removes (by One hash) false told1 free1 told2 free2 d n r new before →
-    CanTakeOut hash root told free c n r →
-    CanLeave hash told2 free2 c.id (take at cs ++ (new ++ drop (suc at) cs))
-leave_left hash root told told1 told2 free free1 free2 c n r at cs new before d same same_free reads within is_d
+    at < length cs → d ≡ get_or cs at d → Removes scheme false told1 free1 told2 free2 d n r new before →
+    CanTakeOut scheme root told free c n r →
+    CanLeave scheme told2 free2 c.id (take at cs ++ (new ++ drop (suc at) cs))
+leave_left scheme root told told1 told2 free free1 free2 c n r at cs new before d same same_free reads within is_d
     removes t =
-    let scheme = by One hash in
     let k = t.below in
     let j = rejoined scheme told told1 told2 free free1 free2 c n r at cs new before d same same_free reads within is_d
     removes k.book k.chain k.placed k.others k.is k.names k.linked k.owned t.rects t.once in

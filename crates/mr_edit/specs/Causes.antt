@@ -1,7 +1,6 @@
 -- Why a change of pages is refused.
 use Rattle.std.specs.Prelude.{◌≡◌, ◌≢◌, ⊤, ℕ, ◌<◌, ◌≤◌, Bool, true, List, ◌++◌, Option, Some}
-use Rattle.mr_record.specs.declared.version.Version.TheVariants.{One}
-use Rattle.mr_tree.specs.Digest.{by}
+use Rattle.mr_tree.specs.Digest.{Scheme}
 use Rattle.mr_tree.specs.declared.child.Child.{Child}
 use Rattle.mr_outside.specs.Faults.{Rose}
 use Rattle.mr_pages.proofs.Building.{FilledAs}
@@ -31,36 +30,36 @@ HasEditCause before after errors.NoMemory = ⊤
 
 -- the node that an entry names can be read: where the pages are told, the entry is that of a tree
 -- whose nodes stand on pages of the file, none of them on page 0
-pub record CanRead (hash : List ℕ → List ℕ) (told : Option Book) (c : Child) : Type 0 where
+pub record CanRead (scheme : Scheme) (told : Option Book) (c : Child) : Type 0 where
   pub book : Book
   pub is : told ≡ Some book
   pub placed : Placed
-  pub names : Names (by One hash) book c placed
+  pub names : Names scheme book c placed
   pub inside : (q : ℕ) → 0 < times q (pages_of placed) → (1 ≤ q) × (q < book.size)
 
 -- and its nodes are as full as they have to be, as a root or below it
-pub record CanLook (hash : List ℕ → List ℕ) (root : Bool) (told : Option Book) (c : Child)
+pub record CanLook (scheme : Scheme) (root : Bool) (told : Option Book) (c : Child)
     : Type 0 where
-  pub read : CanRead hash told c
+  pub read : CanRead scheme told c
   pub filled : FilledAs root (tree_of read.placed)
 
 -- What is known of the subtree below an entry that a change comes to, of the root or of a node
 -- below it: where the pages are told, the entry is that of a tree whose nodes are as full as they
 -- have to be, and each page has one owner, page 0 another one than the tree.
-pub record KnowsBelow (hash : List ℕ → List ℕ) (root : Bool) (told : Option Book) (free : ℕ)
+pub record KnowsBelow (scheme : Scheme) (root : Bool) (told : Option Book) (free : ℕ)
     (c : Child) : Type 0 where
   pub book : Book
   pub is : told ≡ Some book
   pub chain : List ℕ
   pub linked : IsChain (HasFree book) free chain
   pub placed : Placed
-  pub names : Names (by One hash) book c placed
+  pub names : Names scheme book c placed
   pub filled : FilledAs root (tree_of placed)
   pub others : List ℕ
   pub owned : Owned book.size (pages_of placed ++ (chain ++ others))
   pub head : 0 < times 0 others
 
 -- the same of a whole map, where it has a root
-abbrev pub KnowsRoot : (List ℕ → List ℕ) → (told : Option Book) → (free : ℕ) → Option Child → Type 0
-KnowsRoot hash told free root =
-    (c : Child) → root ≡ Some c → KnowsBelow hash true told free c
+abbrev pub KnowsRoot : Scheme → (told : Option Book) → (free : ℕ) → Option Child → Type 0
+KnowsRoot scheme told free root =
+    (c : Child) → root ≡ Some c → KnowsBelow scheme true told free c

@@ -1,7 +1,6 @@
 -- What the changes of a batch need to know of a draft whose pages are told, so that none is blamed.
 use Rattle.std.specs.Prelude.{◌≡◌, ℕ, true, List, Option}
-use Rattle.mr_record.specs.declared.version.Version.TheVariants.{One}
-use Rattle.mr_tree.specs.Digest.{by}
+use Rattle.mr_tree.specs.Digest.{Scheme}
 use Rattle.mr_tree.specs.Tree.{records}
 use Rattle.mr_tree.specs.WellFormed.{WellFormed}
 use Rattle.mr_tree.specs.declared.child.Child.{Child}
@@ -14,22 +13,22 @@ use Rattle.mr_edit.specs.Book.{Book}
 use Rattle.mr_edit.specs.Drafted.{Drafted}
 
 -- the draft stands for a map, and the directory has its records
-pub record KnowsMap (hash : List ℕ → List ℕ) (told : Option Book) (free : ℕ) (root : Option Child)
+pub record KnowsMap (scheme : Scheme) (told : Option Book) (free : ℕ) (root : Option Child)
     (dir : Entries) : Type 0 where
   pub tree : Tree
-  pub draft : Drafted (by One hash) told free root tree
+  pub draft : Drafted scheme told free root tree
   pub well : WellFormed tree
   pub directory : IsDirectoryOf dir (records tree)
 
 -- the change may be made
-pub record CanChange (hash : List ℕ → List ℕ) (told : Option Book) (free : ℕ) (root : Option Child)
+pub record CanChange (scheme : Scheme) (told : Option Book) (free : ℕ) (root : Option Child)
     (dir : Entries) (c : Change) : Type 0 where
-  pub map : KnowsMap hash told free root dir
+  pub map : KnowsMap scheme told free root dir
   pub may : may_make (records map.tree) c ≡ true
 
 -- the batch may be applied
-pub record CanReplay (hash : List ℕ → List ℕ) (told : Option Book) (free : ℕ) (root : Option Child)
+pub record CanReplay (scheme : Scheme) (told : Option Book) (free : ℕ) (root : Option Child)
     (dir : Entries) (b : Changes) : Type 0 where
-  pub map : KnowsMap hash told free root dir
+  pub map : KnowsMap scheme told free root dir
   pub held : ℕ
   pub admissible : IsAdmissible (records map.tree) held b

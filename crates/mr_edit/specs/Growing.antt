@@ -1,8 +1,7 @@
 -- What an insertion needs to know of a draft whose pages are told, so that none is blamed.
 use Rattle.std.specs.Prelude.{◌≡◌, ℕ, ◌+◌, ◌<◌, ◌≤◌, Bool, List, ◌++◌, length, map, sum, Option, Some}
 use Rattle.mr_record.specs.declared.record.Record.{Record}
-use Rattle.mr_record.specs.declared.version.Version.TheVariants.{One}
-use Rattle.mr_tree.specs.Digest.{by}
+use Rattle.mr_tree.specs.Digest.{Scheme}
 use Rattle.mr_tree.specs.Limits.{count_limit, level_limit}
 use Rattle.mr_tree.specs.Tree.{records, nodes}
 use Rattle.mr_tree.specs.declared.child.Child.{Child}
@@ -32,15 +31,15 @@ pub record CanRaise (told : Option Book) (free level : ℕ) : Type 0 where
 
 -- a record can be put into the subtree below an entry: with the nodes that it has afterwards, and
 -- the pages of others, there are few
-pub record CanGrow (hash : List ℕ → List ℕ) (root : Bool) (told : Option Book) (free : ℕ)
+pub record CanGrow (scheme : Scheme) (root : Bool) (told : Option Book) (free : ℕ)
     (c : Child) (one : Record) : Type 0 where
-  pub below : KnowsBelow hash root told free c
+  pub below : KnowsBelow scheme root told free c
   pub room : sum (map nodes (grown one (tree_of below.placed))) + length below.others < page_limit
 
 -- so many records can be put into the map that a draft stands for
-pub record CanInsert (hash : List ℕ → List ℕ) (told : Option Book) (free : ℕ) (root : Option Child)
+pub record CanInsert (scheme : Scheme) (told : Option Book) (free : ℕ) (root : Option Child)
     (count : ℕ) : Type 0 where
   pub tree : Tree
-  pub draft : Drafted (by One hash) told free root tree
+  pub draft : Drafted scheme told free root tree
   pub rooted : IsRooted tree
   pub few : length (records tree) + count ≤ count_limit

@@ -3,8 +3,7 @@ use Rattle.std.specs.Prelude.{◌≡◌, ℕ, List, ◌∷◌, map}
 use Rattle.std.specs.List.{flat_map, AllZip}
 use Rattle.std.specs.Option.{option_to_list}
 use Rattle.mr_record.specs.declared.version.Version.{Version}
-use Rattle.mr_record.specs.declared.version.Version.TheVariants.{One}
-use Rattle.mr_tree.specs.Digest.{Scheme, by}
+use Rattle.mr_tree.specs.Digest.{Scheme}
 use Rattle.mr_tree.specs.View as view
 use Rattle.mr_tree.specs.declared.child.Child.{Child}
 use Rattle.mr_tree.specs.declared.tree.Tree.{Tree}
@@ -24,9 +23,9 @@ abbrev pub IsTold : Version → Child → Type 0
 IsTold v c = view.MayTell v c.mask c.count
 
 -- the entry is that of the node that a view shows
-abbrev pub IsEntryOf : (List ℕ → List ℕ) → Child → view.Node → Type 0
-IsEntryOf hash c n =
-    child_link c ≡ record { page = c.id; entry = entry_of (by One hash) (page_node n) }
+abbrev pub IsEntryOf : Scheme → Child → view.Node → Type 0
+IsEntryOf scheme c n =
+    child_link c ≡ record { page = c.id; entry = entry_of scheme (page_node n) }
 
 -- each entry is that of its tree
 abbrev pub Name : Scheme → Book → List Child → List Placed → Type 0

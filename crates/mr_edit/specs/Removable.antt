@@ -3,8 +3,7 @@
 use Rattle.std.specs.Prelude.{◌≡◌, ℕ, ◌<◌, ◌≤◌, Bool, true, List, ◌∷◌, ◌++◌, length, Option, Some}
 use Rattle.std.specs.List.{AllByRecursion}
 use Rattle.mr_geom.specs.Rectangle.{Rectangle}
-use Rattle.mr_record.specs.declared.version.Version.TheVariants.{One}
-use Rattle.mr_tree.specs.Digest.{by}
+use Rattle.mr_tree.specs.Digest.{Scheme}
 use Rattle.mr_tree.specs.Tree.{records}
 use Rattle.mr_tree.specs.Limits.{count_limit}
 use Rattle.mr_tree.specs.WellFormed.{HasOneLevel, IsFilled}
@@ -21,12 +20,12 @@ use Rattle.mr_edit.specs.Drafted.{Drafted}
 use Rattle.mr_edit.specs.Removal.{HaveRect, IsOnce}
 
 -- these entries stand for subtrees below a root; page 0 is neither theirs nor free
-pub record CanFree (hash : List ℕ → List ℕ) (told : Option Book) (free : ℕ) (cs : List Child)
+pub record CanFree (scheme : Scheme) (told : Option Book) (free : ℕ) (cs : List Child)
     : Type 0 where
   pub book : Book
   pub is : told ≡ Some book
   pub parts : List Placed
-  pub named : Name (by One hash) book cs parts
+  pub named : Name scheme book cs parts
   pub chain : List ℕ
   pub linked : IsChain (HasFree book) free chain
   pub others : List ℕ
@@ -35,12 +34,12 @@ pub record CanFree (hash : List ℕ → List ℕ) (told : Option Book) (free : �
   pub filled : AllByRecursion (every-Tree IsFilled) (trees parts)
 
 -- the same beside a page, on which they are to be written
-pub record CanLeave (hash : List ℕ → List ℕ) (told : Option Book) (free page : ℕ)
+pub record CanLeave (scheme : Scheme) (told : Option Book) (free page : ℕ)
     (cs : List Child) : Type 0 where
   pub book : Book
   pub is : told ≡ Some book
   pub parts : List Placed
-  pub named : Name (by One hash) book cs parts
+  pub named : Name scheme book cs parts
   pub chain : List ℕ
   pub linked : IsChain (HasFree book) free chain
   pub others : List ℕ
@@ -51,18 +50,18 @@ pub record CanLeave (hash : List ℕ → List ℕ) (told : Option Book) (free pa
 
 -- a record can be searched below an entry, as a root or below it, where the number has this
 -- rectangle
-pub record CanTakeOut (hash : List ℕ → List ℕ) (root : Bool) (told : Option Book) (free : ℕ)
+pub record CanTakeOut (scheme : Scheme) (root : Bool) (told : Option Book) (free : ℕ)
     (c : Child) (n : ℕ) (rect : Rectangle) : Type 0 where
-  pub below : KnowsBelow hash root told free c
+  pub below : KnowsBelow scheme root told free c
   pub one_level : every-Tree HasOneLevel (tree_of below.placed)
   pub rects : HaveRect n rect (records (tree_of below.placed))
   pub once : IsOnce n (records (tree_of below.placed))
 
 -- the draft stands for a tree that has a record with the number, which has this rectangle
-pub record CanDelete (hash : List ℕ → List ℕ) (told : Option Book) (free : ℕ)
+pub record CanDelete (scheme : Scheme) (told : Option Book) (free : ℕ)
     (root : Option Child) (n : ℕ) (rect : Rectangle) : Type 0 where
   pub tree : Tree
-  pub draft : Drafted (by One hash) told free root tree
+  pub draft : Drafted scheme told free root tree
   pub rooted : IsRooted tree
   pub few : length (records tree) ≤ count_limit
   pub there : has n (records tree) ≡ true

@@ -2,8 +2,6 @@
 
 ghost use Rattle.std.specs.Prelude.{◌≡◌, ◌+◌, ◌*◌, ◌≤◌, length, All, IfOk, IfErr, IfSome, OnOk};
 ghost use Rattle.mr_record.specs.Record.{HasLayer};
-ghost use Rattle.mr_record.specs.declared.version.Version.TheVariants.{One};
-ghost use Rattle.mr_tree.specs.Digest.{by};
 ghost use Rattle.mr_edit.specs.Causes.{HasEditCause};
 ghost use Rattle.mr_edit.specs.Counted.{DeletesTwice};
 ghost use Rattle.mr_edit.specs.Held.{IsTold};
@@ -30,17 +28,18 @@ fn put_all<F: PageFile>(
     mut root: Option<Child>,
     records: &[Record],
 ) -> Result<Option<Child>, EditErr>
-    requires { All (HasLayer One) records.now }
-    ensures inserts { IfOk result (λ r. InsertsAll (by One F.Hash.of) (F.told desk.old.file)
+    requires { All (HasLayer F.scheme.version) records.now }
+    ensures inserts { IfOk result (λ r. InsertsAll F.scheme (F.told desk.old.file)
         desk.old.free root (F.told desk.new.file) desk.new.free r records.now) }
     ensures sound { IfErr result (λ e. NeverMap e
-        (CanInsert F.Hash.of (F.told desk.old.file) desk.old.free root (length records.now))) }
+        (CanInsert F.scheme (F.told desk.old.file) desk.old.free root (length records.now))) }
     ensures kept { F.kept desk.old.file desk.new.file }
     ensures reads { F.reads desk.new.file
         ≤ F.reads desk.old.file + length records.now * insertion_reads }
     ensures quiet { OnOk result (F.faults desk.new.file ≡ F.faults desk.old.file) }
     ensures low { IfOk result (λ r. IsLow root → IsLow r) }
-    ensures told { IfOk result (λ r. IfSome root (IsTold One) → IfSome r (IsTold One)) }
+    ensures told { IfOk result
+        (λ r. IfSome root (IsTold F.scheme.version) → IfSome r (IsTold F.scheme.version)) }
     ensures cause { IfErr result (HasEditCause (F.faults desk.old.file) (F.faults desk.new.file)) }
 {
     for one in records {
@@ -63,16 +62,16 @@ pub(crate) fn delete<F: PageFile>(
     rect: &Rect,
     way: &Way,
 ) -> Result<Option<Child>, EditErr>
-    ensures deletes { IfOk result (λ r. Deletes (by One F.Hash.of) (F.told desk.old.file)
+    ensures deletes { IfOk result (λ r. Deletes F.scheme (F.told desk.old.file)
         desk.old.free root (F.told desk.new.file) desk.new.free r number rect.now) }
     ensures sound { IfErr result (λ e. NeverMap e
-        (CanDelete F.Hash.of (F.told desk.old.file) desk.old.free root number rect.now)) }
+        (CanDelete F.scheme (F.told desk.old.file) desk.old.free root number rect.now)) }
     ensures kept { F.kept desk.old.file desk.new.file }
-    ensures twice { DeletesTwice (by One F.Hash.of) (F.told desk.old.file) desk.old.free root number
+    ensures twice { DeletesTwice F.scheme (F.told desk.old.file) desk.old.free root number
         rect.now (F.reads desk.old.file) (F.reads desk.new.file) }
     ensures quiet { OnOk result (F.faults desk.new.file ≡ F.faults desk.old.file) }
     ensures low { IfOk result IsLow }
-    ensures told { IfOk result (λ r. IfSome r (IsTold One)) }
+    ensures told { IfOk result (λ r. IfSome r (IsTold F.scheme.version)) }
     ensures cause { IfErr result (HasEditCause (F.faults desk.old.file) (F.faults desk.new.file)) }
 {
     let Some(child) = root else {

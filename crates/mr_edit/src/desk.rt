@@ -1,8 +1,6 @@
 //! A file under edit and its free pages.
 
 ghost use Rattle.std.specs.Prelude.{◌≡◌, ◌≤◌, ◌+◌, true, Some, length, map, All, IfSome, IfOk, IfErr, OnOk};
-ghost use Rattle.mr_record.specs.declared.version.Version.TheVariants.{One};
-ghost use Rattle.mr_tree.specs.Digest.{by};
 ghost use Rattle.mr_tree.specs.declared.child.Child as child_types;
 ghost use Rattle.mr_tree.specs.declared.tree.Tree.TheOpen.{Leaf, Inner};
 ghost use Rattle.mr_record.specs.Record.{HasLayer};
@@ -18,7 +16,7 @@ ghost use Rattle.mr_tree.specs.Limits.{inner_limit, leaf_limit};
 
 use crate::hints::Hints;
 use crate::{EditErr, PageFile};
-use mr_pages::{FIRST, MapFault, MapRule, child_on, has_sums, is_full, is_said};
+use mr_pages::{MapFault, MapRule, has_sums, is_full, is_said};
 use mr_record::Record;
 use mr_tree::{Child, Entry, NodeView};
 use std::alloc::Global;
@@ -70,11 +68,11 @@ pub(crate) fn look<F: PageFile>(
     ensures page { OnOk result (1 ≤ child.now.id) }
     ensures level { OnOk result (level_of into.new ≡ child.now.level) }
     ensures some { OnOk result (1 ≤ size into.new) }
-    ensures shown { OnOk result (AreTold One into.new) }
+    ensures shown { OnOk result (AreTold F.scheme.version into.new) }
     ensures node { OnOk result (IfSome (F.told file.old)
         (λ b. HasNode b child.now.id (page_node into.new))) }
     ensures round { OnOk result (same_rect (rect_of into.new) (Some child.now.rect) ≡ true) }
-    ensures sums { OnOk result (same_sums root (entry_over (by One F.Hash.of) into.new)
+    ensures sums { OnOk result (same_sums root (entry_over F.scheme into.new)
         (child_link child.now).entry ≡ true) }
     ensures full { OnOk result (Fills root into.new ≡ true) }
     ensures kept { F.kept file.old file.new }
@@ -82,7 +80,7 @@ pub(crate) fn look<F: PageFile>(
     ensures quiet { OnOk result (F.faults file.new ≡ F.faults file.old) }
     ensures cause { IfErr result (HasEditCause (F.faults file.old) (F.faults file.new)) }
     ensures sound { IfErr result (λ e. NeverMap e
-        (CanLook F.Hash.of root (F.told file.old) child.now)) }
+        (CanLook F.scheme root (F.told file.old) child.now)) }
 {
     file.read(child, into)?;
     if !is_said(into.rect(), child.rect) {
@@ -135,11 +133,11 @@ pub(crate) fn write_leaf<F: PageFile>(
     requires page { 1 ≤ page }
     requires some { 1 ≤ length records.now }
     requires few { length records.now ≤ leaf_limit }
-    requires layers { All (HasLayer One) records.now }
-    ensures writes { IfOk result (λ c. Writes (by One F.Hash.of) (F.told desk.old.file)
+    requires layers { All (HasLayer F.scheme.version) records.now }
+    ensures writes { IfOk result (λ c. Writes F.scheme (F.told desk.old.file)
         desk.old.free (F.told desk.new.file) desk.new.free page (Leaf records.now) c) }
     ensures level { IfOk result (λ c. c.level ≡ 0) }
-    ensures told { IfOk result (IsTold One) }
+    ensures told { IfOk result (IsTold F.scheme.version) }
     ensures sound { IfErr result (λ e. NeverMap e (CanWrite (F.told desk.old.file) page)) }
     ensures kept { F.kept desk.old.file desk.new.file }
     ensures reads { F.reads desk.new.file ≡ F.reads desk.old.file }
@@ -148,7 +146,7 @@ pub(crate) fn write_leaf<F: PageFile>(
 {
     let mut view = NodeView::new();
     view.set_leaf(records);
-    let child = child_on::<F::Hash>(FIRST, &view, page);
+    let child = desk.file.entry(&view, page);
     desk.hints.saw_leaf(page, records)?;
     desk.file.write(&child, &view)?;
     Ok(child)
@@ -166,12 +164,12 @@ pub(crate) fn write_inner<F: PageFile>(
     requires some { 1 ≤ length children.now }
     requires few { length children.now ≤ inner_limit }
     requires below { All (λ (c : child_types.Child). c.level + 1 ≡ level) children.now }
-    requires told { All (IsTold One) children.now }
-    ensures writes { IfOk result (λ c. Writes (by One F.Hash.of) (F.told desk.old.file)
+    requires told { All (IsTold F.scheme.version) children.now }
+    ensures writes { IfOk result (λ c. Writes F.scheme (F.told desk.old.file)
         desk.old.free (F.told desk.new.file) desk.new.free page
         (Inner (map child_link children.now)) c) }
     ensures level { IfOk result (λ c. c.level ≡ level) }
-    ensures told { IfOk result (IsTold One) }
+    ensures told { IfOk result (IsTold F.scheme.version) }
     ensures sound { IfErr result (λ e. NeverMap e (CanWrite (F.told desk.old.file) page)) }
     ensures kept { F.kept desk.old.file desk.new.file }
     ensures reads { F.reads desk.new.file ≡ F.reads desk.old.file }
@@ -180,7 +178,7 @@ pub(crate) fn write_inner<F: PageFile>(
 {
     let mut view = NodeView::new();
     view.set_inner(level, children);
-    let child = child_on::<F::Hash>(FIRST, &view, page);
+    let child = desk.file.entry(&view, page);
     desk.hints.saw_children(page, children)?;
     desk.file.write(&child, &view)?;
     Ok(child)

@@ -1,21 +1,26 @@
 //! The pages of a map file under edit.
 
-ghost use Rattle.std.specs.Prelude.{◌≡◌, ℕ, ◌+◌, ◌<◌, ◌≤◌, Option, option_map, IfSome, IsSomeAnd, IfOk, IfErr, OnOk};
+ghost use Rattle.std.specs.Prelude.{◌≡◌, ℕ, ◌+◌, ◌<◌, ◌≤◌, Option, option_map, All, IfSome, IsSomeAnd, IfOk, IfErr, OnOk};
 ghost use Rattle.mr_record.specs.declared.version.Version.TheVariants.{One};
-ghost use Rattle.mr_tree.specs.View.{size, level_of, AreTold};
-ghost use Rattle.mr_pages.specs.Page.{page_limit};
-ghost use Rattle.mr_pages.specs.Walking.{page_node};
+ghost use Rattle.mr_tree.specs.Digest.{Scheme};
+ghost use Rattle.mr_tree.specs.View.{size, level_of, children_in, AreTold, HasCount};
+ghost use Rattle.mr_pages.specs.Page.{page_limit, entry_of};
+ghost use Rattle.mr_pages.specs.Walking.{child_link, page_node};
 ghost use Rattle.mr_edit.specs.Book.{Book, HasNode, HasFree, with_sheet, node_sheet, free_sheet, longer};
 ghost use Rattle.mr_edit.specs.Held.{IsEntryOf};
 ghost use Rattle.mr_edit.specs.Causes.{HasEditCause, CanRead};
 ghost use Rattle.mr_edit.specs.Outcome.{NeverMap, CanWrite};
 
 use crate::EditErr;
-use mr_tree::{Child, Hashes, NodeView};
+use mr_tree::{Child, NodeView};
 
 /// A file whose page 0 is left alone, page by page, behind a cache.
 pub trait PageFile {
-    type Hash: Hashes;
+    // the hash function and the version of the map that it is of
+    ghost scheme: { Scheme };
+
+    // which is the first one so far
+    ghost first: { scheme.version ≡ One };
 
     // its pages, where they are told
     ghost told: { Self → Option Book };
@@ -29,13 +34,22 @@ pub trait PageFile {
     // what a call leaves of the object, from what it was before it
     ghost kept: { Self → Self → Type 0 };
 
+    /// What is said of the node that a view shows, where it stands on this page.
+    fn entry(&self, view: &NodeView, page: u32) -> Child
+        requires some { 1 ≤ size view.now }
+        requires counts { All HasCount (children_in view.now) }
+        ensures { child_link result ≡ record {
+          page = page;
+          entry = entry_of scheme (page_node view.now);
+        } };
+
     /// Reads the node of which the child is the entry, and checks it against that.
     fn read(&mut self, child: &Child, into: &mut NodeView) -> Result<(), EditErr>
         ensures same { told self.new ≡ told self.old }
         ensures page { OnOk result (1 ≤ child.now.id) }
         ensures level { OnOk result (level_of into.new ≡ child.now.level) }
         ensures some { OnOk result (1 ≤ size into.new) }
-        ensures shown { OnOk result (AreTold One into.new) }
+        ensures shown { OnOk result (AreTold scheme.version into.new) }
         ensures node { OnOk result (IfSome (told self.old)
             (λ b. HasNode b child.now.id (page_node into.new))) }
         ensures kept { kept self.old self.new }
@@ -43,7 +57,7 @@ pub trait PageFile {
         ensures quiet { OnOk result (faults self.new ≡ faults self.old) }
         ensures cause { IfErr result (HasEditCause (faults self.old) (faults self.new)) }
         ensures sound { IfErr result (λ e. NeverMap e
-            (CanRead Self.Hash.of (told self.old) child.now)) };
+            (CanRead scheme (told self.old) child.now)) };
 
     /// The page that a free page names.
     fn read_free(&mut self, page: u32) -> Result<u32, EditErr>
@@ -61,8 +75,8 @@ pub trait PageFile {
     fn write(&mut self, child: &Child, view: &NodeView) -> Result<(), EditErr>
         requires page { 1 ≤ child.now.id }
         requires some { 1 ≤ size view.now }
-        requires said { IsEntryOf Self.Hash.of child.now view.now }
-        requires shown { AreTold One view.now }
+        requires said { IsEntryOf scheme child.now view.now }
+        requires shown { AreTold scheme.version view.now }
         ensures sound { IfErr result (λ e. NeverMap e (CanWrite (told self.old) child.now.id)) }
         ensures put { OnOk result (told self.new
             ≡ option_map (with_sheet child.now.id (node_sheet (page_node view.now)))

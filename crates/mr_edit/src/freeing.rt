@@ -2,8 +2,6 @@
 
 ghost use Rattle.std.specs.Prelude.{◌≡◌, ◌≤◌, ◌∷◌, [], All, IfErr, OnOk};
 ghost use Rattle.mr_record.specs.Record.{HasLayer};
-ghost use Rattle.mr_record.specs.declared.version.Version.TheVariants.{One};
-ghost use Rattle.mr_tree.specs.Digest.{by};
 ghost use Rattle.mr_edit.specs.Causes.{HasEditCause};
 ghost use Rattle.mr_edit.specs.Counted.{FreesOnce};
 ghost use Rattle.mr_edit.specs.Outcome.{NeverMap, CanWrite};
@@ -37,18 +35,19 @@ fn free_subtree<F: PageFile>(
     child: &Child,
     list: &mut Vec<Record>,
 ) -> Result<(), EditErr>
-    ensures frees { OnOk result (Frees (by One F.Hash.of) (F.told desk.old.file) desk.old.free
+    ensures frees { OnOk result (Frees F.scheme (F.told desk.old.file) desk.old.free
         (F.told desk.new.file) desk.new.free (child.now ∷ []) list.old.items list.new.items) }
     ensures layers { OnOk result
-        (All (HasLayer One) list.old.items → All (HasLayer One) list.new.items) }
+        (All (HasLayer F.scheme.version) list.old.items
+        → All (HasLayer F.scheme.version) list.new.items) }
     ensures kept { F.kept desk.old.file desk.new.file }
-    ensures once { FreesOnce (by One F.Hash.of) (F.told desk.old.file) desk.old.free
+    ensures once { FreesOnce F.scheme (F.told desk.old.file) desk.old.free
         (child.now ∷ [])
         (F.reads desk.old.file) (F.reads desk.new.file) }
     ensures quiet { OnOk result (F.faults desk.new.file ≡ F.faults desk.old.file) }
     ensures cause { IfErr result (HasEditCause (F.faults desk.old.file) (F.faults desk.new.file)) }
     ensures sound { IfErr result (λ e. NeverMap e
-        (CanFree F.Hash.of (F.told desk.old.file) desk.old.free (child.now ∷ []))) }
+        (CanFree F.scheme (F.told desk.old.file) desk.old.free (child.now ∷ []))) }
 {
     let mut view = NodeView::new();
     look::<F>(&mut desk.file, child, false, &mut view)?;
@@ -70,17 +69,18 @@ pub(crate) fn free_subtrees<F: PageFile>(
     children: &[Child],
     list: &mut Vec<Record>,
 ) -> Result<(), EditErr>
-    ensures frees { OnOk result (Frees (by One F.Hash.of) (F.told desk.old.file) desk.old.free
+    ensures frees { OnOk result (Frees F.scheme (F.told desk.old.file) desk.old.free
         (F.told desk.new.file) desk.new.free children.now list.old.items list.new.items) }
     ensures layers { OnOk result
-        (All (HasLayer One) list.old.items → All (HasLayer One) list.new.items) }
+        (All (HasLayer F.scheme.version) list.old.items
+        → All (HasLayer F.scheme.version) list.new.items) }
     ensures kept { F.kept desk.old.file desk.new.file }
-    ensures once { FreesOnce (by One F.Hash.of) (F.told desk.old.file) desk.old.free children.now
+    ensures once { FreesOnce F.scheme (F.told desk.old.file) desk.old.free children.now
         (F.reads desk.old.file) (F.reads desk.new.file) }
     ensures quiet { OnOk result (F.faults desk.new.file ≡ F.faults desk.old.file) }
     ensures cause { IfErr result (HasEditCause (F.faults desk.old.file) (F.faults desk.new.file)) }
     ensures sound { IfErr result (λ e. NeverMap e
-        (CanFree F.Hash.of (F.told desk.old.file) desk.old.free children.now)) }
+        (CanFree F.scheme (F.told desk.old.file) desk.old.free children.now)) }
 {
     for child in children {
         free_subtree::<F>(desk, child, list)?;

@@ -1,8 +1,6 @@
 //! A look at all nodes of a map, to note where its records stand.
 
 ghost use Rattle.std.specs.Prelude.{◌≡◌, true, IfErr, OnOk};
-ghost use Rattle.mr_record.specs.declared.version.Version.TheVariants.{One};
-ghost use Rattle.mr_tree.specs.Digest.{by};
 ghost use Rattle.mr_edit.specs.Causes.{HasEditCause, KnowsBelow, KnowsRoot};
 ghost use Rattle.mr_edit.specs.Counted.{ReadsOnce, LearnsOnce};
 ghost use Rattle.mr_edit.specs.Outcome.{NeverMap};
@@ -16,12 +14,12 @@ fn learn<F: PageFile>(desk: &mut Desk<F>, child: &Child, root: bool) -> Result<(
     ensures same { F.told desk.new.file ≡ F.told desk.old.file }
     ensures free { desk.new.free ≡ desk.old.free }
     ensures kept { F.kept desk.old.file desk.new.file }
-    ensures once { ReadsOnce (by One F.Hash.of) (F.told desk.old.file) child.now
+    ensures once { ReadsOnce F.scheme (F.told desk.old.file) child.now
         (F.reads desk.old.file) (F.reads desk.new.file) }
     ensures quiet { OnOk result (F.faults desk.new.file ≡ F.faults desk.old.file) }
     ensures cause { IfErr result (HasEditCause (F.faults desk.old.file) (F.faults desk.new.file)) }
     ensures sound { IfErr result (λ e. NeverMap e
-        (KnowsBelow F.Hash.of root (F.told desk.old.file) desk.old.free child.now)) }
+        (KnowsBelow F.scheme root (F.told desk.old.file) desk.old.free child.now)) }
 {
     let mut view = NodeView::new();
     look::<F>(&mut desk.file, child, root, &mut view)?;
@@ -47,12 +45,12 @@ pub(crate) fn learn_once<F: PageFile>(
     ensures same { F.told desk.new.file ≡ F.told desk.old.file }
     ensures free { desk.new.free ≡ desk.old.free }
     ensures kept { F.kept desk.old.file desk.new.file }
-    ensures once { LearnsOnce (by One F.Hash.of) (F.told desk.old.file) desk.old.free root.now
+    ensures once { LearnsOnce F.scheme (F.told desk.old.file) desk.old.free root.now
         learned.old learned.new (F.reads desk.old.file) (F.reads desk.new.file) }
     ensures quiet { OnOk result (F.faults desk.new.file ≡ F.faults desk.old.file) }
     ensures cause { IfErr result (HasEditCause (F.faults desk.old.file) (F.faults desk.new.file)) }
     ensures sound { IfErr result (λ e. NeverMap e
-        (KnowsRoot F.Hash.of (F.told desk.old.file) desk.old.free root.now)) }
+        (KnowsRoot F.scheme (F.told desk.old.file) desk.old.free root.now)) }
 {
     if *learned {
         return Ok(());

@@ -4,8 +4,6 @@ ghost use Rattle.std.specs.Prelude.{◌≡◌, ◌≤◌, ◌<◌, ◌+◌, ◌*
 ghost use Rattle.std.specs.List.{AllByRecursion};
 ghost use Rattle.mr_record.specs.Record.{HasLayer};
 ghost use Rattle.mr_record.specs.declared.record.Record as record_types;
-ghost use Rattle.mr_record.specs.declared.version.Version.TheVariants.{One};
-ghost use Rattle.mr_tree.specs.Digest.{by};
 ghost use Rattle.mr_tree.specs.Limits.{level_limit, leaf_fill, leaf_limit, inner_fill, inner_limit};
 ghost use Rattle.mr_tree.specs.declared.child.Child as child_types;
 ghost use Rattle.mr_split.specs.Choice.{choose as chosen};
@@ -105,12 +103,12 @@ fn put_leaf<F: PageFile>(
     requires page { 1 ≤ page }
     requires some { 1 ≤ length records.items }
     requires few { length records.items ≤ 17 }
-    requires layers { All (HasLayer One) records.items }
-    ensures puts { IfOk result (λ s. PutsLeaf (by One F.Hash.of) (F.told desk.old.file)
+    requires layers { All (HasLayer F.scheme.version) records.items }
+    ensures puts { IfOk result (λ s. PutsLeaf F.scheme (F.told desk.old.file)
         desk.old.free (F.told desk.new.file) desk.new.free page records.items (entries s)) }
     ensures level { IfOk result
         (λ s. AllByRecursion (λ (c : child_types.Child). c.level ≡ 0) (entries s)) }
-    ensures told { IfOk result (λ s. AllByRecursion (IsTold One) (entries s)) }
+    ensures told { IfOk result (λ s. AllByRecursion (IsTold F.scheme.version) (entries s)) }
     ensures sound { IfErr result (λ e. NeverMap e
         (CanPut (F.told desk.old.file) desk.old.free page)) }
     ensures kept { F.kept desk.old.file desk.new.file }
@@ -150,12 +148,12 @@ fn put_inner<F: PageFile>(
     requires few { length children.items ≤ 65 }
     requires below { AllByRecursion (λ (c : child_types.Child). c.level + 1 ≡ level)
         children.items }
-    requires told { AllByRecursion (IsTold One) children.items }
-    ensures puts { IfOk result (λ s. PutsInner (by One F.Hash.of) (F.told desk.old.file)
+    requires told { AllByRecursion (IsTold F.scheme.version) children.items }
+    ensures puts { IfOk result (λ s. PutsInner F.scheme (F.told desk.old.file)
         desk.old.free (F.told desk.new.file) desk.new.free page children.items (entries s)) }
     ensures level { IfOk result
         (λ s. AllByRecursion (λ (c : child_types.Child). c.level ≡ level) (entries s)) }
-    ensures told { IfOk result (λ s. AllByRecursion (IsTold One) (entries s)) }
+    ensures told { IfOk result (λ s. AllByRecursion (IsTold F.scheme.version) (entries s)) }
     ensures sound { IfErr result (λ e. NeverMap e
         (CanPut (F.told desk.old.file) desk.old.free page)) }
     ensures kept { F.kept desk.old.file desk.new.file }
@@ -189,14 +187,14 @@ pub(crate) fn put_into<F: PageFile>(
     root: bool,
     one: &Record,
 ) -> Result<Stand, EditErr>
-    requires layer { HasLayer One one.now }
-    ensures grows { IfOk result (λ s. Grows (by One F.Hash.of) (F.told desk.old.file) desk.old.free
+    requires layer { HasLayer F.scheme.version one.now }
+    ensures grows { IfOk result (λ s. Grows F.scheme (F.told desk.old.file) desk.old.free
         (F.told desk.new.file) desk.new.free child.now one.now (entries s)) }
     ensures level { IfOk result
         (λ s. AllByRecursion (λ (c : child_types.Child). c.level ≡ child.now.level) (entries s)) }
-    ensures told { IfOk result (λ s. AllByRecursion (IsTold One) (entries s)) }
+    ensures told { IfOk result (λ s. AllByRecursion (IsTold F.scheme.version) (entries s)) }
     ensures sound { IfErr result (λ e. NeverMap e
-        (CanGrow F.Hash.of root (F.told desk.old.file) desk.old.free child.now one.now)) }
+        (CanGrow F.scheme root (F.told desk.old.file) desk.old.free child.now one.now)) }
     ensures kept { F.kept desk.old.file desk.new.file }
     ensures reads { F.reads desk.new.file
         ≤ F.reads desk.old.file + 2 * (min child.now.level level_limit + 1) }

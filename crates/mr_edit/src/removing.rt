@@ -5,8 +5,6 @@ ghost use Rattle.std.specs.List.{AllByRecursion};
 ghost use Rattle.std.specs.Option.{option_to_list};
 ghost use Rattle.mr_geom.specs.Rectangle.{union};
 ghost use Rattle.mr_record.specs.Record.{HasLayer};
-ghost use Rattle.mr_record.specs.declared.version.Version.TheVariants.{One};
-ghost use Rattle.mr_tree.specs.Digest.{by};
 ghost use Rattle.mr_tree.specs.declared.child.Child as child_types;
 ghost use Rattle.mr_edit.specs.Causes.{HasEditCause, KnowsBelow};
 ghost use Rattle.mr_edit.specs.Counted.{FreesOnce, LeavesOnce, ReadsTwice, TakesTwice};
@@ -14,7 +12,7 @@ ghost use Rattle.mr_edit.specs.Held.{IsTold};
 ghost use Rattle.mr_edit.specs.Outcome.{NeverMap, CanWrite, IsLow};
 ghost use Rattle.mr_edit.specs.Removal.{LeavesLeaf, LeavesInner, Shortens, Searches};
 ghost use Rattle.mr_edit.specs.Removable.{CanLeave, CanTakeOut};
-ghost use Rattle.mr_tree.specs.Limits.{inner_limit, leaf_limit};
+ghost use Rattle.mr_tree.specs.Limits.{inner_limit, leaf_fill, leaf_limit};
 
 use crate::desk::{look, write_inner, write_leaf};
 use crate::freeing::{free_page, free_subtrees};
@@ -35,80 +33,11 @@ fn may_hold(child: &Child, rect: &Rect) -> bool
     child.rect.union(rect) == child.rect
 }
 
-// Writes what is left of a leaf below the root, or sets it aside.
-fn leave_leaf<F: PageFile>(
-    alloc: Global,
-    desk: &mut Desk<F>,
-    page: u32,
-    records: Vec<Record>,
-) -> Result<Left, EditErr>
-    requires page { 1 ≤ page }
-    requires few { length records.items ≤ leaf_limit }
-    requires layers { All (HasLayer One) records.items }
-    ensures leaves { IfOk result (λ l. LeavesLeaf (by One F.Hash.of) false (F.told desk.old.file)
-        desk.old.free (F.told desk.new.file) desk.new.free page records.items
-        (option_to_list l.entry) l.aside.items) }
-    ensures level { IfOk result
-        (λ l. AllByRecursion (λ (c : child_types.Child). c.level ≡ 0) (option_to_list l.entry)) }
-    ensures kept { F.kept desk.old.file desk.new.file }
-    ensures reads { F.reads desk.new.file ≡ F.reads desk.old.file }
-    ensures quiet { OnOk result (F.faults desk.new.file ≡ F.faults desk.old.file) }
-    ensures low { IfOk result (λ l. IsLow l.entry) }
-    ensures told { IfOk result (λ l. IfSome l.entry (IsTold One)) }
-    ensures layers { IfOk result (λ l. All (HasLayer One) l.aside.items) }
-    ensures cause { IfErr result (HasEditCause (F.faults desk.old.file) (F.faults desk.new.file)) }
-    ensures sound { IfErr result (λ e. NeverMap e (CanWrite (F.told desk.old.file) page)) }
+// With how many records a leaf keeps its page, as the root or below it.
+fn least_records(root: bool) -> usize
+    ensures { result ≡ (if root then 1 else leaf_fill) }
 {
-    if records.len() < LEAF_FILL as usize {
-        free_page(desk, page)?;
-        Ok(Left {
-            entry: None,
-            aside: records,
-        })
-    } else {
-        let entry = write_leaf::<F>(desk, page, &records)?;
-        Ok(Left {
-            entry: Some(entry),
-            aside: Vec::new(alloc),
-        })
-    }
-}
-
-// Writes what is left of a leaf that is the root.
-fn leave_top_leaf<F: PageFile>(
-    alloc: Global,
-    desk: &mut Desk<F>,
-    page: u32,
-    records: Vec<Record>,
-) -> Result<Left, EditErr>
-    requires page { 1 ≤ page }
-    requires few { length records.items ≤ leaf_limit }
-    requires layers { All (HasLayer One) records.items }
-    ensures leaves { IfOk result (λ l. LeavesLeaf (by One F.Hash.of) true (F.told desk.old.file)
-        desk.old.free (F.told desk.new.file) desk.new.free page records.items
-        (option_to_list l.entry) l.aside.items) }
-    ensures kept { F.kept desk.old.file desk.new.file }
-    ensures reads { F.reads desk.new.file ≡ F.reads desk.old.file }
-    ensures quiet { OnOk result (F.faults desk.new.file ≡ F.faults desk.old.file) }
-    ensures low { IfOk result (λ l. IsLow l.entry) }
-    ensures told { IfOk result (λ l. IfSome l.entry (IsTold One)) }
-    ensures layers { IfOk result (λ l. All (HasLayer One) l.aside.items) }
-    ensures cause { IfErr result (HasEditCause (F.faults desk.old.file) (F.faults desk.new.file)) }
-    ensures sound { IfErr result (λ e. NeverMap e (CanWrite (F.told desk.old.file) page)) }
-{
-    if records.len() == 0 {
-        free_page(desk, page)?;
-        Ok(Left {
-            entry: None,
-            aside: Vec::new(alloc),
-        })
-    } else {
-        let entry = write_leaf::<F>(desk, page, &records)?;
-        Ok(Left {
-            entry: Some(entry),
-            aside: Vec::new(alloc),
-        })
-    }
+    if root { 1 } else { LEAF_FILL as usize }
 }
 
 // Writes what is left of an inner node below the root, or sets all records below it aside.
@@ -125,25 +54,25 @@ fn leave_inner<F: PageFile>(
     requires few { length children.now ≤ inner_limit }
     requires below { AllByRecursion (λ (c : child_types.Child). c.level + 1 ≡ level)
         children.now }
-    requires told { AllByRecursion (IsTold One) children.now }
-    requires layers { All (HasLayer One) aside.items }
-    ensures leaves { IfOk result (λ l. LeavesInner (by One F.Hash.of) false (F.told desk.old.file)
+    requires told { AllByRecursion (IsTold F.scheme.version) children.now }
+    requires layers { All (HasLayer F.scheme.version) aside.items }
+    ensures leaves { IfOk result (λ l. LeavesInner F.scheme false (F.told desk.old.file)
         desk.old.free (F.told desk.new.file) desk.new.free page children.now aside.items
         (option_to_list l.entry) l.aside.items) }
     ensures level { IfOk result (λ l. AllByRecursion (λ (c : child_types.Child). c.level ≡ level)
         (option_to_list l.entry)) }
     ensures kept { F.kept desk.old.file desk.new.file }
-    ensures once { LeavesOnce (by One F.Hash.of) (F.told desk.old.file) desk.old.free page
+    ensures once { LeavesOnce F.scheme (F.told desk.old.file) desk.old.free page
         children.now (F.reads desk.old.file) (F.reads desk.new.file) }
     ensures still { IfOk result (λ l. IfSome l.entry
         (λ c. F.reads desk.new.file ≡ F.reads desk.old.file)) }
     ensures quiet { OnOk result (F.faults desk.new.file ≡ F.faults desk.old.file) }
     ensures low { IfOk result (λ l. IsLow l.entry) }
-    ensures told { IfOk result (λ l. IfSome l.entry (IsTold One)) }
-    ensures layers { IfOk result (λ l. All (HasLayer One) l.aside.items) }
+    ensures told { IfOk result (λ l. IfSome l.entry (IsTold F.scheme.version)) }
+    ensures layers { IfOk result (λ l. All (HasLayer F.scheme.version) l.aside.items) }
     ensures cause { IfErr result (HasEditCause (F.faults desk.old.file) (F.faults desk.new.file)) }
     ensures sound { IfErr result (λ e. NeverMap e
-        (CanLeave F.Hash.of (F.told desk.old.file) desk.old.free page children.now)) }
+        (CanLeave F.scheme (F.told desk.old.file) desk.old.free page children.now)) }
 {
     if children.len() < INNER_FILL as usize {
         let mut records = Vec::new(alloc);
@@ -165,19 +94,19 @@ fn leave_inner<F: PageFile>(
 
 // The root that a node gives way to: itself, unless it has one child.
 fn shorten<F: PageFile>(desk: &mut Desk<F>, child: &Child) -> Result<Child, EditErr>
-    requires { IsTold One child.now }
-    ensures shortens { IfOk result (λ c. Shortens (by One F.Hash.of) (F.told desk.old.file)
+    requires { IsTold F.scheme.version child.now }
+    ensures shortens { IfOk result (λ c. Shortens F.scheme (F.told desk.old.file)
         desk.old.free (F.told desk.new.file) desk.new.free child.now c) }
     ensures kept { F.kept desk.old.file desk.new.file }
-    ensures once { FreesOnce (by One F.Hash.of) (F.told desk.old.file) desk.old.free
+    ensures once { FreesOnce F.scheme (F.told desk.old.file) desk.old.free
         (child.now ∷ [])
         (F.reads desk.old.file) (F.reads desk.new.file) }
     ensures quiet { OnOk result (F.faults desk.new.file ≡ F.faults desk.old.file) }
     ensures low { IfOk result (λ c. IsLow (Some c)) }
-    ensures told { IfOk result (IsTold One) }
+    ensures told { IfOk result (IsTold F.scheme.version) }
     ensures cause { IfErr result (HasEditCause (F.faults desk.old.file) (F.faults desk.new.file)) }
     ensures sound { IfErr result (λ e. NeverMap e
-        (KnowsBelow F.Hash.of false (F.told desk.old.file) desk.old.free child.now)) }
+        (KnowsBelow F.scheme false (F.told desk.old.file) desk.old.free child.now)) }
 {
     let mut view = NodeView::new();
     look::<F>(&mut desk.file, child, false, &mut view)?;
@@ -206,21 +135,21 @@ fn leave_top_inner<F: PageFile>(
     requires few { length children.now ≤ inner_limit }
     requires below { AllByRecursion (λ (c : child_types.Child). c.level + 1 ≡ level)
         children.now }
-    requires told { AllByRecursion (IsTold One) children.now }
-    requires layers { All (HasLayer One) aside.items }
-    ensures leaves { IfOk result (λ l. LeavesInner (by One F.Hash.of) true (F.told desk.old.file)
+    requires told { AllByRecursion (IsTold F.scheme.version) children.now }
+    requires layers { All (HasLayer F.scheme.version) aside.items }
+    ensures leaves { IfOk result (λ l. LeavesInner F.scheme true (F.told desk.old.file)
         desk.old.free (F.told desk.new.file) desk.new.free page children.now aside.items
         (option_to_list l.entry) l.aside.items) }
     ensures kept { F.kept desk.old.file desk.new.file }
-    ensures once { LeavesOnce (by One F.Hash.of) (F.told desk.old.file) desk.old.free page
+    ensures once { LeavesOnce F.scheme (F.told desk.old.file) desk.old.free page
         children.now (F.reads desk.old.file) (F.reads desk.new.file) }
     ensures quiet { OnOk result (F.faults desk.new.file ≡ F.faults desk.old.file) }
     ensures low { IfOk result (λ l. IsLow l.entry) }
-    ensures told { IfOk result (λ l. IfSome l.entry (IsTold One)) }
-    ensures layers { IfOk result (λ l. All (HasLayer One) l.aside.items) }
+    ensures told { IfOk result (λ l. IfSome l.entry (IsTold F.scheme.version)) }
+    ensures layers { IfOk result (λ l. All (HasLayer F.scheme.version) l.aside.items) }
     ensures cause { IfErr result (HasEditCause (F.faults desk.old.file) (F.faults desk.new.file)) }
     ensures sound { IfErr result (λ e. NeverMap e
-        (CanLeave F.Hash.of (F.told desk.old.file) desk.old.free page children.now)) }
+        (CanLeave F.scheme (F.told desk.old.file) desk.old.free page children.now)) }
 {
     if children.is_empty() {
         return Err(EditErr::Map(MapFault {
@@ -244,7 +173,7 @@ fn leave_top_inner<F: PageFile>(
     }
 }
 
-// The same by whether it is the root.
+// Writes what is left of an inner node, as the root or below it.
 fn leave<F: PageFile>(
     alloc: Global,
     desk: &mut Desk<F>,
@@ -259,25 +188,25 @@ fn leave<F: PageFile>(
     requires few { length children.now ≤ inner_limit }
     requires below { AllByRecursion (λ (c : child_types.Child). c.level + 1 ≡ level)
         children.now }
-    requires told { AllByRecursion (IsTold One) children.now }
-    requires layers { All (HasLayer One) aside.items }
-    ensures leaves { IfOk result (λ l. LeavesInner (by One F.Hash.of) root (F.told desk.old.file)
+    requires told { AllByRecursion (IsTold F.scheme.version) children.now }
+    requires layers { All (HasLayer F.scheme.version) aside.items }
+    ensures leaves { IfOk result (λ l. LeavesInner F.scheme root (F.told desk.old.file)
         desk.old.free (F.told desk.new.file) desk.new.free page children.now aside.items
         (option_to_list l.entry) l.aside.items) }
     ensures level { IfOk result (λ l. root ≡ false → AllByRecursion
         (λ (c : child_types.Child). c.level ≡ level) (option_to_list l.entry)) }
     ensures kept { F.kept desk.old.file desk.new.file }
-    ensures once { LeavesOnce (by One F.Hash.of) (F.told desk.old.file) desk.old.free page
+    ensures once { LeavesOnce F.scheme (F.told desk.old.file) desk.old.free page
         children.now (F.reads desk.old.file) (F.reads desk.new.file) }
     ensures still { IfOk result (λ l. root ≡ false → IfSome l.entry
         (λ c. F.reads desk.new.file ≡ F.reads desk.old.file)) }
     ensures quiet { OnOk result (F.faults desk.new.file ≡ F.faults desk.old.file) }
     ensures low { IfOk result (λ l. IsLow l.entry) }
-    ensures told { IfOk result (λ l. IfSome l.entry (IsTold One)) }
-    ensures layers { IfOk result (λ l. All (HasLayer One) l.aside.items) }
+    ensures told { IfOk result (λ l. IfSome l.entry (IsTold F.scheme.version)) }
+    ensures layers { IfOk result (λ l. All (HasLayer F.scheme.version) l.aside.items) }
     ensures cause { IfErr result (HasEditCause (F.faults desk.old.file) (F.faults desk.new.file)) }
     ensures sound { IfErr result (λ e. NeverMap e
-        (CanLeave F.Hash.of (F.told desk.old.file) desk.old.free page children.now)) }
+        (CanLeave F.scheme (F.told desk.old.file) desk.old.free page children.now)) }
 {
     if root {
         leave_top_inner::<F>(desk, page, level, children, aside)
@@ -286,7 +215,7 @@ fn leave<F: PageFile>(
     }
 }
 
-// The same of a leaf.
+// Writes what is left of a leaf, or sets it aside.
 fn leave_records<F: PageFile>(
     alloc: Global,
     desk: &mut Desk<F>,
@@ -296,8 +225,8 @@ fn leave_records<F: PageFile>(
 ) -> Result<Left, EditErr>
     requires page { 1 ≤ page }
     requires few { length records.items ≤ leaf_limit }
-    requires layers { All (HasLayer One) records.items }
-    ensures leaves { IfOk result (λ l. LeavesLeaf (by One F.Hash.of) root (F.told desk.old.file)
+    requires layers { All (HasLayer F.scheme.version) records.items }
+    ensures leaves { IfOk result (λ l. LeavesLeaf F.scheme root (F.told desk.old.file)
         desk.old.free (F.told desk.new.file) desk.new.free page records.items
         (option_to_list l.entry) l.aside.items) }
     ensures level { IfOk result (λ l. root ≡ false → AllByRecursion
@@ -306,15 +235,23 @@ fn leave_records<F: PageFile>(
     ensures reads { F.reads desk.new.file ≡ F.reads desk.old.file }
     ensures quiet { OnOk result (F.faults desk.new.file ≡ F.faults desk.old.file) }
     ensures low { IfOk result (λ l. IsLow l.entry) }
-    ensures told { IfOk result (λ l. IfSome l.entry (IsTold One)) }
-    ensures layers { IfOk result (λ l. All (HasLayer One) l.aside.items) }
+    ensures told { IfOk result (λ l. IfSome l.entry (IsTold F.scheme.version)) }
+    ensures layers { IfOk result (λ l. All (HasLayer F.scheme.version) l.aside.items) }
     ensures cause { IfErr result (HasEditCause (F.faults desk.old.file) (F.faults desk.new.file)) }
     ensures sound { IfErr result (λ e. NeverMap e (CanWrite (F.told desk.old.file) page)) }
 {
-    if root {
-        leave_top_leaf::<F>(alloc, desk, page, records)
+    if records.len() < least_records(root) {
+        free_page(desk, page)?;
+        Ok(Left {
+            entry: None,
+            aside: records,
+        })
     } else {
-        leave_leaf::<F>(alloc, desk, page, records)
+        let entry = write_leaf::<F>(desk, page, &records)?;
+        Ok(Left {
+            entry: Some(entry),
+            aside: Vec::new(alloc),
+        })
     }
 }
 
@@ -362,22 +299,24 @@ pub(crate) fn take_out<F: PageFile>(
     way: &Way,
     root: bool,
 ) -> Result<Option<Left>, EditErr>
-    ensures searches { IfOk result (λ found. Searches (by One F.Hash.of) root (F.told desk.old.file)
+    ensures searches { IfOk result (λ found. Searches F.scheme root (F.told desk.old.file)
         desk.old.free (F.told desk.new.file) desk.new.free child.now number rect.now found) }
     ensures level { IfOk result (λ found. root ≡ false → IfSome found
         (λ l. AllByRecursion (λ (c : child_types.Child). c.level ≡ child.now.level)
         (option_to_list l.entry))) }
     ensures kept { F.kept desk.old.file desk.new.file }
-    ensures twice { ReadsTwice (by One F.Hash.of) (F.told desk.old.file) desk.old.free child.now
+    ensures twice { ReadsTwice F.scheme (F.told desk.old.file) desk.old.free child.now
         number rect.now (F.reads desk.old.file) (F.reads desk.new.file) }
-    ensures takes { IfOk result (TakesTwice (by One F.Hash.of) root (F.told desk.old.file)
+    ensures takes { IfOk result (TakesTwice F.scheme root (F.told desk.old.file)
         desk.old.free child.now number rect.now (F.reads desk.old.file) (F.reads desk.new.file)) }
     ensures quiet { OnOk result (F.faults desk.new.file ≡ F.faults desk.old.file) }
     ensures low { IfOk result (λ found. IfSome found (λ l. IsLow l.entry)) }
-    ensures told { IfOk result (λ found. IfSome found (λ l. IfSome l.entry (IsTold One))) }
-    ensures layers { IfOk result (λ found. IfSome found (λ l. All (HasLayer One) l.aside.items)) }
+    ensures told { IfOk result
+        (λ found. IfSome found (λ l. IfSome l.entry (IsTold F.scheme.version))) }
+    ensures layers { IfOk result
+        (λ found. IfSome found (λ l. All (HasLayer F.scheme.version) l.aside.items)) }
     ensures cause { IfErr result (HasEditCause (F.faults desk.old.file) (F.faults desk.new.file)) }
-    ensures sound { IfErr result (λ e. NeverMap e (CanTakeOut F.Hash.of root
+    ensures sound { IfErr result (λ e. NeverMap e (CanTakeOut F.scheme root
         (F.told desk.old.file) desk.old.free child.now number rect.now)) }
 {
     let mut view = NodeView::new();

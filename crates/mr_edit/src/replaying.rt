@@ -2,8 +2,6 @@
 
 ghost use Rattle.std.specs.Prelude.{◌≡◌, ◌+◌, ◌≤◌, All, IfOk, IfErr, IfSome, OnOk};
 ghost use Rattle.mr_record.specs.Record.{HasLayer};
-ghost use Rattle.mr_record.specs.declared.version.Version.TheVariants.{One};
-ghost use Rattle.mr_tree.specs.Digest.{by};
 ghost use Rattle.mr_batch.specs.declared.change.Change.TheVariants as changes;
 ghost use Rattle.mr_edit.specs.Causes.{HasEditCause};
 ghost use Rattle.mr_edit.specs.Changing.{CanChange, CanReplay};
@@ -30,18 +28,18 @@ fn add<F: PageFile>(
     dir: &mut Directory,
     one: &Record,
 ) -> Result<Option<Child>, EditErr>
-    requires { HasLayer One one.now }
-    ensures changes { IfOk result (λ r. ChangesOne (by One F.Hash.of) (F.told desk.old.file)
+    requires { HasLayer F.scheme.version one.now }
+    ensures changes { IfOk result (λ r. ChangesOne F.scheme (F.told desk.old.file)
         desk.old.free root dir.old (F.told desk.new.file) desk.new.free r dir.new
         (changes.Add one.now)) }
     ensures kept { F.kept desk.old.file desk.new.file }
     ensures reads { F.reads desk.new.file ≤ F.reads desk.old.file + insertion_reads }
     ensures quiet { OnOk result (F.faults desk.new.file ≡ F.faults desk.old.file) }
     ensures low { IfOk result IsLow }
-    ensures told { IfOk result (λ r. IfSome r (IsTold One)) }
+    ensures told { IfOk result (λ r. IfSome r (IsTold F.scheme.version)) }
     ensures cause { IfErr result (HasEditCause (F.faults desk.old.file)
         (F.faults desk.new.file)) }
-    ensures sound { IfErr result (λ e. NeverMap e (CanChange F.Hash.of (F.told desk.old.file)
+    ensures sound { IfErr result (λ e. NeverMap e (CanChange F.scheme (F.told desk.old.file)
         desk.old.free root dir.old (changes.Add one.now))) }
 {
     is_record(one);
@@ -59,18 +57,18 @@ fn remove<F: PageFile>(
     learned: &mut bool,
     number: u64,
 ) -> Result<Option<Child>, EditErr>
-    ensures changes { IfOk result (λ r. ChangesOne (by One F.Hash.of) (F.told desk.old.file)
+    ensures changes { IfOk result (λ r. ChangesOne F.scheme (F.told desk.old.file)
         desk.old.free root dir.old (F.told desk.new.file) desk.new.free r dir.new
         (changes.Remove number)) }
     ensures kept { F.kept desk.old.file desk.new.file }
-    ensures within { ChangesWithin (by One F.Hash.of) (F.told desk.old.file) desk.old.free root
+    ensures within { ChangesWithin F.scheme (F.told desk.old.file) desk.old.free root
         dir.old (changes.Remove number) learned.old learned.new (F.reads desk.old.file)
         (F.reads desk.new.file) }
     ensures quiet { OnOk result (F.faults desk.new.file ≡ F.faults desk.old.file) }
     ensures low { IfOk result IsLow }
-    ensures told { IfOk result (λ r. IfSome r (IsTold One)) }
+    ensures told { IfOk result (λ r. IfSome r (IsTold F.scheme.version)) }
     ensures cause { IfErr result (HasEditCause (F.faults desk.old.file) (F.faults desk.new.file)) }
-    ensures sound { IfErr result (λ e. NeverMap e (CanChange F.Hash.of (F.told desk.old.file)
+    ensures sound { IfErr result (λ e. NeverMap e (CanChange F.scheme (F.told desk.old.file)
         desk.old.free root dir.old (changes.Remove number))) }
 {
     let Some(rect) = dir.rect(number) else {
@@ -96,18 +94,18 @@ fn make_change<F: PageFile>(
     learned: &mut bool,
     change: &Change,
 ) -> Result<Option<Child>, EditErr>
-    requires { IsOfVersion One change.now }
-    ensures changes { IfOk result (λ r. ChangesOne (by One F.Hash.of) (F.told desk.old.file)
+    requires { IsOfVersion F.scheme.version change.now }
+    ensures changes { IfOk result (λ r. ChangesOne F.scheme (F.told desk.old.file)
         desk.old.free root dir.old (F.told desk.new.file) desk.new.free r dir.new change.now) }
     ensures kept { F.kept desk.old.file desk.new.file }
-    ensures within { ChangesWithin (by One F.Hash.of) (F.told desk.old.file) desk.old.free root
+    ensures within { ChangesWithin F.scheme (F.told desk.old.file) desk.old.free root
         dir.old change.now learned.old learned.new (F.reads desk.old.file)
         (F.reads desk.new.file) }
     ensures quiet { OnOk result (F.faults desk.new.file ≡ F.faults desk.old.file) }
     ensures low { IfOk result IsLow }
-    ensures told { IfOk result (λ r. IfSome r (IsTold One)) }
+    ensures told { IfOk result (λ r. IfSome r (IsTold F.scheme.version)) }
     ensures cause { IfErr result (HasEditCause (F.faults desk.old.file) (F.faults desk.new.file)) }
-    ensures sound { IfErr result (λ e. NeverMap e (CanChange F.Hash.of (F.told desk.old.file)
+    ensures sound { IfErr result (λ e. NeverMap e (CanChange F.scheme (F.told desk.old.file)
         desk.old.free root dir.old change.now)) }
 {
     match change {
@@ -126,19 +124,20 @@ pub fn replay<F: PageFile>(
     dir: &mut Directory,
     batch: &Batch,
 ) -> Result<Option<Child>, EditErr>
-    requires { All (IsOfVersion One) batch.now.list }
-    ensures replays { IfOk result (λ r. Replays (by One F.Hash.of) (F.told desk.old.file)
+    requires { All (IsOfVersion F.scheme.version) batch.now.list }
+    ensures replays { IfOk result (λ r. Replays F.scheme (F.told desk.old.file)
         desk.old.free root dir.old (F.told desk.new.file) desk.new.free r dir.new batch.now) }
     ensures kept { F.kept desk.old.file desk.new.file }
-    ensures within { ReplaysWithin (by One F.Hash.of) (F.told desk.old.file) desk.old.free root
+    ensures within { ReplaysWithin F.scheme (F.told desk.old.file) desk.old.free root
         dir.old batch.now (F.reads desk.old.file) (F.reads desk.new.file) }
     ensures quiet { OnOk result (F.faults desk.new.file ≡ F.faults desk.old.file) }
     // Told or not, the root is no higher than a map's may be.
     ensures low { IfOk result (λ r. IsLow root → IsLow r) }
     // Nor does it tell more than one of version 1 may.
-    ensures told { IfOk result (λ r. IfSome root (IsTold One) → IfSome r (IsTold One)) }
+    ensures told { IfOk result
+        (λ r. IfSome root (IsTold F.scheme.version) → IfSome r (IsTold F.scheme.version)) }
     ensures cause { IfErr result (HasEditCause (F.faults desk.old.file) (F.faults desk.new.file)) }
-    ensures sound { IfErr result (λ e. NeverMap e (CanReplay F.Hash.of (F.told desk.old.file)
+    ensures sound { IfErr result (λ e. NeverMap e (CanReplay F.scheme (F.told desk.old.file)
         desk.old.free root dir.old batch.now)) }
 {
     let mut learned = false;

@@ -2,8 +2,6 @@
 
 ghost use Rattle.std.specs.Prelude.{◌≡◌, ◌+◌, ◌≤◌, IfOk, IfErr, OnOk, Some, None};
 ghost use Rattle.mr_record.specs.Record.{HasLayer};
-ghost use Rattle.mr_record.specs.declared.version.Version.TheVariants.{One};
-ghost use Rattle.mr_tree.specs.Digest.{by};
 ghost use Rattle.mr_edit.specs.Causes.{HasEditCause};
 ghost use Rattle.mr_edit.specs.Held.{IsTold};
 ghost use Rattle.mr_edit.specs.Outcome.{Raises, NeverMap, IsAlike, IsLow, root_page, IsOfRoot};
@@ -22,15 +20,15 @@ use std::alloc::Global;
 
 // The root of a map of one record.
 fn first_root<F: PageFile>(desk: &mut Desk<F>, one: &Record) -> Result<Child, EditErr>
-    requires { HasLayer One one.now }
-    ensures inserts { IfOk result (λ c. Inserts (by One F.Hash.of) (F.told desk.old.file)
+    requires { HasLayer F.scheme.version one.now }
+    ensures inserts { IfOk result (λ c. Inserts F.scheme (F.told desk.old.file)
         desk.old.free None (F.told desk.new.file) desk.new.free c one.now) }
     ensures sound { IfErr result (λ e. NeverMap e (CanAdd (F.told desk.old.file) desk.old.free)) }
     ensures kept { F.kept desk.old.file desk.new.file }
     ensures reads { F.reads desk.new.file ≤ F.reads desk.old.file + 1 }
     ensures quiet { OnOk result (F.faults desk.new.file ≡ F.faults desk.old.file) }
     ensures low { IfOk result (λ c. IsLow (Some c)) }
-    ensures told { IfOk result (IsTold One) }
+    ensures told { IfOk result (IsTold F.scheme.version) }
     ensures cause { IfErr result (HasEditCause (F.faults desk.old.file) (F.faults desk.new.file)) }
 {
     let page = take_page(desk)?;
@@ -40,8 +38,8 @@ fn first_root<F: PageFile>(desk: &mut Desk<F>, one: &Record) -> Result<Child, Ed
 // A root above two nodes.
 fn raise<F: PageFile>(desk: &mut Desk<F>, first: Child, second: Child) -> Result<Child, EditErr>
     requires alike { second.level ≡ first.level }
-    requires told { IsTold One first × IsTold One second }
-    ensures raises { IfOk result (λ c. Raises (by One F.Hash.of) (F.told desk.old.file)
+    requires told { IsTold F.scheme.version first × IsTold F.scheme.version second }
+    ensures raises { IfOk result (λ c. Raises F.scheme (F.told desk.old.file)
         desk.old.free (F.told desk.new.file) desk.new.free first second c) }
     ensures sound { IfErr result (λ e. NeverMap e
         (CanRaise (F.told desk.old.file) desk.old.free first.level)) }
@@ -49,7 +47,7 @@ fn raise<F: PageFile>(desk: &mut Desk<F>, first: Child, second: Child) -> Result
     ensures reads { F.reads desk.new.file ≤ F.reads desk.old.file + 1 }
     ensures quiet { OnOk result (F.faults desk.new.file ≡ F.faults desk.old.file) }
     ensures low { IfOk result (λ c. IsLow (Some c)) }
-    ensures told { IfOk result (IsTold One) }
+    ensures told { IfOk result (IsTold F.scheme.version) }
     ensures cause { IfErr result (HasEditCause (F.faults desk.old.file) (F.faults desk.new.file)) }
 {
     if first.level >= LEVEL_LIMIT {
@@ -97,16 +95,16 @@ fn put_below<F: PageFile>(
     root: &Child,
     one: &Record,
 ) -> Result<Child, EditErr>
-    requires { HasLayer One one.now }
-    ensures inserts { IfOk result (λ c. Inserts (by One F.Hash.of) (F.told desk.old.file)
+    requires { HasLayer F.scheme.version one.now }
+    ensures inserts { IfOk result (λ c. Inserts F.scheme (F.told desk.old.file)
         desk.old.free (Some root.now) (F.told desk.new.file) desk.new.free c one.now) }
     ensures sound { IfErr result (λ e. NeverMap e
-        (CanInsert F.Hash.of (F.told desk.old.file) desk.old.free (Some root.now) 1)) }
+        (CanInsert F.scheme (F.told desk.old.file) desk.old.free (Some root.now) 1)) }
     ensures kept { F.kept desk.old.file desk.new.file }
     ensures reads { F.reads desk.new.file ≤ F.reads desk.old.file + insertion_reads }
     ensures quiet { OnOk result (F.faults desk.new.file ≡ F.faults desk.old.file) }
     ensures low { IfOk result (λ c. IsLow (Some c)) }
-    ensures told { IfOk result (IsTold One) }
+    ensures told { IfOk result (IsTold F.scheme.version) }
     ensures cause { IfErr result (HasEditCause (F.faults desk.old.file) (F.faults desk.new.file)) }
 {
     let Stand { first, second } = put_into::<F>(alloc, desk, root, true, one)?;
@@ -127,18 +125,18 @@ pub fn insert<F: PageFile>(
     root: Option<Child>,
     one: &Record,
 ) -> Result<Child, EditErr>
-    requires { HasLayer One one.now }
-    ensures inserts { IfOk result (λ c. Inserts (by One F.Hash.of) (F.told desk.old.file)
+    requires { HasLayer F.scheme.version one.now }
+    ensures inserts { IfOk result (λ c. Inserts F.scheme (F.told desk.old.file)
         desk.old.free root (F.told desk.new.file) desk.new.free c one.now) }
     ensures sound { IfErr result (λ e. NeverMap e
-        (CanInsert F.Hash.of (F.told desk.old.file) desk.old.free root 1)) }
+        (CanInsert F.scheme (F.told desk.old.file) desk.old.free root 1)) }
     ensures page { IfErr result (IsOfRoot (root_page root)) }
     ensures kept { F.kept desk.old.file desk.new.file }
     ensures reads { F.reads desk.new.file ≤ F.reads desk.old.file + insertion_reads }
     ensures quiet { OnOk result (F.faults desk.new.file ≡ F.faults desk.old.file) }
     // Told or not, the root is no higher than a map's may be.
     ensures low { IfOk result (λ c. IsLow (Some c)) }
-    ensures told { IfOk result (IsTold One) }
+    ensures told { IfOk result (IsTold F.scheme.version) }
     ensures cause { IfErr result (HasEditCause (F.faults desk.old.file) (F.faults desk.new.file)) }
 {
     match root {

@@ -34,7 +34,7 @@ packed_layers v rs t all same = All-permutation (HasLayer v) rs (records t) same
 
 -- what a view shows that was made a leaf, or an inner node
 pub leaf_shown : (n : Node) (rs : List Record) → n ≡ Leaf rs → All (HasLayer One) rs → AreTold One n
-leaf_shown n rs is layers = leaf_told n rs is layers
+leaf_shown n rs is layers = leaf_told One n rs is layers
 
 pub inner_shown : (n : Node) (cs : List Child) → n ≡ Inner cs → All (IsTold One) cs → AreTold One n
-inner_shown n cs is told = inner_told n cs is told
+inner_shown n cs is told = inner_told One n cs is told

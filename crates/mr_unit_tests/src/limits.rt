@@ -4,13 +4,15 @@
 ghost use Rattle.std.specs.Prelude.{◌≡◌, ◌≤◌, ◌+◌, ⊤, None, All, true};
 ghost use Rattle.mr_record.specs.Record.{HasLayer};
 ghost use Rattle.mr_record.specs.declared.version.Version.TheVariants.{One, Two};
+ghost use Rattle.mr_tree.specs.Digest.{by};
+ghost use Rattle.mr_tree.specs.Hash.{xor_of};
 ghost use Rattle.mr_tree.specs.View.{AreTold};
 ghost use Rattle.mr_tree.specs.declared.child.Child as types;
 ghost use Rattle.mr_edit.specs.Held.{IsTold};
 
 use crate::assertions::holds;
 use mr_edit::{Desk, EditErr, PageFile, insert};
-use mr_pages::{MapFault, MapRule};
+use mr_pages::{FIRST, MapFault, MapRule, child_on};
 use mr_record::Record;
 use mr_tree::{Child, NodeView, XorHash};
 use std::alloc::Global;
@@ -97,9 +99,11 @@ fn show(level: u8, into: &mut NodeView) -> bool
 }
 
 impl PageFile for Full {
-    ghost use Rattle.std.proofs.Common.{arith};
+    ghost use Rattle.std.proofs.Common.{arith, refl};
 
-    type Hash = XorHash;
+    ghost scheme = { by One xor_of };
+
+    ghost first = { refl };
 
     ghost told = { λ s. None };
 
@@ -108,6 +112,10 @@ impl PageFile for Full {
     ghost reads = { λ s. 0 };
 
     ghost kept = { λ s t. ⊤ };
+
+    fn entry(&self, view: &NodeView, page: u32) -> Child {
+        child_on::<XorHash>(FIRST, view, page)
+    }
 
     fn read(&mut self, child: &Child, into: &mut NodeView) -> Result<(), EditErr> {
         if !show(child.level, into) {

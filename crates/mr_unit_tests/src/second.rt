@@ -28,24 +28,24 @@ const HEAD: &[u8] = b"MRMP\x02\0\0\0\0\0\0\0\0\x09\0\0\0\0\0\0\0\x01\0\0\0\x02\0
     \0\0\0\0\0\0\0\0\0\0\0\0\0\0\0\0\0\0\0\0\0\0\0\x20";
 
 // Whether line and bytes of a record are these.
-fn is_written(alloc: Global, record: &Record) -> bool
-    requires { HasLayer Two record.now }
+fn is_written(alloc: Global, one: &Record) -> bool
+    requires { HasLayer Two one.now }
 {
     let mut line = MemSink::new(alloc, Vec::new(alloc));
     let mut bytes = MemSink::new(alloc, Vec::new(alloc));
-    let are_taken = write_line2(&mut line, record).is_ok();
+    let are_taken = write_line2(&mut line, one).is_ok();
     are_taken
-        && write_record2(&mut bytes, record).is_ok()
+        && write_record2(&mut bytes, one).is_ok()
         && line.bytes() == LINE
         && bytes.bytes() == BYTES
 }
 
 // Whether a leaf of one record goes to a page and back.
-fn is_paged(record: &Record) -> bool
-    requires { HasLayer Two record.now }
+fn is_paged(one: &Record) -> bool
+    requires { HasLayer Two one.now }
 {
     let (mut page, mut view) = ([7; SECOND_SIZE], NodeView::new());
-    view.set_leaf(&[*record]);
+    view.set_leaf(&[*one]);
     write_page2(&view, &mut page);
     let (front, behind) = page.split_at(28);
     read_page2(&page, 0, &mut view)

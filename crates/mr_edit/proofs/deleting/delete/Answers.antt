@@ -6,8 +6,6 @@ use Rattle.mr_edit.specs.Outcome.{IsLow}
 use Rattle.std.proofs.lemmas.Result.{IfOk-weaker}
 use Rattle.mr_record.specs.Record.{HasLayer}
 use Rattle.mr_record.specs.declared.record.Record.{Record}
-use Rattle.mr_record.specs.declared.version.Version.TheVariants.{One}
-use Rattle.mr_tree.specs.Digest.{by}
 use Rattle.mr_edit.specs.Removal.{Searches}
 use Rattle.mr_edit.specs.Deleted.{Deletes}
 use Rattle.mr_edit.specs.Removable.{CanDelete}
@@ -23,15 +21,15 @@ pub returns-clause-deletes : goal.returns-clause-deletes
 returns-clause-deletes g c =
     let l = c.in-Some-found.left in
     IfOk-weaker c.put_all.result _ _
-    (λ r h. subst (λ x. Deletes (by One g.F.Hash.Hashes.of) (g.F.PageFile.told c.args.desk.now.file)
+    (λ r h. subst (λ x. Deletes g.F.PageFile.scheme (g.F.PageFile.told c.args.desk.now.file)
     c.args.desk.now.free x
     (g.F.PageFile.told c.put_all.new.desk.file) c.put_all.new.desk.free r c.args.number c.args.rect.now)
     (sym c.in-Some.is)
-    (deleted (by One g.F.Hash.Hashes.of) (g.F.PageFile.told c.args.desk.now.file)
+    (deleted g.F.PageFile.scheme (g.F.PageFile.told c.args.desk.now.file)
     (g.F.PageFile.told c.take_out.new.desk.file) (g.F.PageFile.told c.put_all.new.desk.file) c.args.desk.now.free
     c.take_out.new.desk.free c.put_all.new.desk.free
     c.in-Some.child c.args.number c.args.rect.now l.entry r l.aside.items c.deref.result.now
-    (subst (Searches (by One g.F.Hash.Hashes.of) true (g.F.PageFile.told c.args.desk.now.file) c.args.desk.now.free
+    (subst (Searches g.F.PageFile.scheme true (g.F.PageFile.told c.args.desk.now.file) c.args.desk.now.free
     (g.F.PageFile.told c.take_out.new.desk.file) c.take_out.new.desk.free c.in-Some.child c.args.number
     c.args.rect.now) c.in-Some-found.is c.in_ok-found.ensures.searches)
     (c.deref.ensures.value ∙ c.in_ok-sort_by_number.ensures) h))
@@ -39,28 +37,28 @@ returns-clause-deletes g c =
 
 pub returns-in_default-clause-sound : goal.returns-in_default-clause-sound
 returns-in_default-clause-sound g c = λ k.
-    no_root g.F.Hash.Hashes.of (g.F.PageFile.told c.args.desk.now.file) c.args.desk.now.free c.args.number
-    c.args.rect.now (subst (λ x. CanDelete g.F.Hash.Hashes.of (g.F.PageFile.told c.args.desk.now.file)
+    no_root g.F.PageFile.scheme (g.F.PageFile.told c.args.desk.now.file) c.args.desk.now.free c.args.number
+    c.args.rect.now (subst (λ x. CanDelete g.F.PageFile.scheme (g.F.PageFile.told c.args.desk.now.file)
     c.args.desk.now.free x c.args.number c.args.rect.now) c.in_default.is k)
 
 pub returns-in_err-found-clause-sound : goal.returns-in_err-found-clause-sound
 returns-in_err-found-clause-sound g c =
     handed c.from_residual.result c.in_err-found.field-0.0
-    (CanDelete g.F.Hash.Hashes.of (g.F.PageFile.told c.args.desk.now.file) c.args.desk.now.free c.args.root
+    (CanDelete g.F.PageFile.scheme (g.F.PageFile.told c.args.desk.now.file) c.args.desk.now.free c.args.root
     c.args.number c.args.rect.now) c.from_residual.ensures.1
     (never c.in_err-found.field-0.0 _ _
-    (λ k. root_sought g.F.Hash.Hashes.of (g.F.PageFile.told c.args.desk.now.file) c.args.desk.now.free
+    (λ k. root_sought g.F.PageFile.scheme (g.F.PageFile.told c.args.desk.now.file) c.args.desk.now.free
     c.in-Some.child c.args.number c.args.rect.now
-    (subst (λ x. CanDelete g.F.Hash.Hashes.of (g.F.PageFile.told c.args.desk.now.file)
+    (subst (λ x. CanDelete g.F.PageFile.scheme (g.F.PageFile.told c.args.desk.now.file)
     c.args.desk.now.free x c.args.number c.args.rect.now) c.in-Some.is k)) c.in_err-found.ensures.sound)
 
 pub returns-in_default-found-clause-sound : goal.returns-in_default-found-clause-sound
 returns-in_default-found-clause-sound g c = λ k.
-    let s = subst (Searches (by One g.F.Hash.Hashes.of) true (g.F.PageFile.told c.args.desk.now.file)
+    let s = subst (Searches g.F.PageFile.scheme true (g.F.PageFile.told c.args.desk.now.file)
     c.args.desk.now.free (g.F.PageFile.told c.take_out.new.desk.file) c.take_out.new.desk.free c.in-Some.child
     c.args.number c.args.rect.now) c.in_default-found.is c.in_ok-found.ensures.searches in
-    none_lacks g.F.Hash.Hashes.of (g.F.PageFile.told c.args.desk.now.file) c.args.desk.now.free c.in-Some.child
-    c.args.number c.args.rect.now s.2 (subst (λ x. CanDelete g.F.Hash.Hashes.of
+    none_lacks g.F.PageFile.scheme (g.F.PageFile.told c.args.desk.now.file) c.args.desk.now.free c.in-Some.child
+    c.args.number c.args.rect.now s.2 (subst (λ x. CanDelete g.F.PageFile.scheme
     (g.F.PageFile.told c.args.desk.now.file) c.args.desk.now.free x c.args.number c.args.rect.now) c.in-Some.is k)
 
 pub returns-clause-sound : goal.returns-clause-sound
@@ -68,65 +66,67 @@ returns-clause-sound g c =
     let l = c.in-Some-found.left in
     if_err c.put_all.result _ _
     (λ e h. never e _ _
-    (λ k. left_inserts g.F.Hash.Hashes.of (g.F.PageFile.told c.args.desk.now.file)
+    (λ k. left_inserts g.F.PageFile.scheme (g.F.PageFile.told c.args.desk.now.file)
     (g.F.PageFile.told c.take_out.new.desk.file) c.args.desk.now.free c.take_out.new.desk.free c.in-Some.child
     c.args.number c.args.rect.now l.entry l.aside.items c.deref.result.now
-    (subst (Searches (by One g.F.Hash.Hashes.of) true (g.F.PageFile.told c.args.desk.now.file) c.args.desk.now.free
+    (subst (Searches g.F.PageFile.scheme true (g.F.PageFile.told c.args.desk.now.file) c.args.desk.now.free
     (g.F.PageFile.told c.take_out.new.desk.file) c.take_out.new.desk.free c.in-Some.child c.args.number
     c.args.rect.now) c.in-Some-found.is c.in_ok-found.ensures.searches)
     (c.deref.ensures.value ∙ c.in_ok-sort_by_number.ensures)
-    (subst (λ x. CanDelete g.F.Hash.Hashes.of (g.F.PageFile.told c.args.desk.now.file)
+    (subst (λ x. CanDelete g.F.PageFile.scheme (g.F.PageFile.told c.args.desk.now.file)
     c.args.desk.now.free x c.args.number c.args.rect.now) c.in-Some.is k)) h)
     c.put_all.ensures.sound
 
 pub returns-in_default-clause-twice : goal.returns-in_default-clause-twice
 returns-in_default-clause-twice g c =
-    deletes_none (by One g.F.Hash.Hashes.of) (g.F.PageFile.told c.args.desk.now.file) c.args.desk.now.free c.args.root
+    deletes_none g.F.PageFile.scheme (g.F.PageFile.told c.args.desk.now.file) c.args.desk.now.free c.args.root
     c.args.number c.args.rect.now (g.F.PageFile.reads c.args.desk.now.file) (g.F.PageFile.reads c.args.desk.now.file)
     refl
 
 pub returns-in_err-found-clause-twice : goal.returns-in_err-found-clause-twice
 returns-in_err-found-clause-twice g c =
-    deletes_stopped (by One g.F.Hash.Hashes.of) (g.F.PageFile.told c.args.desk.now.file) c.args.desk.now.free
+    deletes_stopped g.F.PageFile.scheme (g.F.PageFile.told c.args.desk.now.file) c.args.desk.now.free
     c.args.root c.in-Some.child c.args.number c.args.rect.now (g.F.PageFile.reads c.args.desk.now.file)
     (g.F.PageFile.reads c.take_out.new.desk.file) c.in-Some.is c.take_out.ensures.twice
 
 pub returns-in_default-found-clause-twice : goal.returns-in_default-found-clause-twice
 returns-in_default-found-clause-twice g c =
-    deletes_stopped (by One g.F.Hash.Hashes.of) (g.F.PageFile.told c.args.desk.now.file) c.args.desk.now.free
+    deletes_stopped g.F.PageFile.scheme (g.F.PageFile.told c.args.desk.now.file) c.args.desk.now.free
     c.args.root c.in-Some.child c.args.number c.args.rect.now (g.F.PageFile.reads c.args.desk.now.file)
     (g.F.PageFile.reads c.take_out.new.desk.file) c.in-Some.is c.take_out.ensures.twice
 
 pub returns-in_err-sort_by_number-clause-twice : goal.returns-in_err-sort_by_number-clause-twice
 returns-in_err-sort_by_number-clause-twice g c =
-    deletes_stopped (by One g.F.Hash.Hashes.of) (g.F.PageFile.told c.args.desk.now.file) c.args.desk.now.free
+    deletes_stopped g.F.PageFile.scheme (g.F.PageFile.told c.args.desk.now.file) c.args.desk.now.free
     c.args.root c.in-Some.child c.args.number c.args.rect.now (g.F.PageFile.reads c.args.desk.now.file)
     (g.F.PageFile.reads c.take_out.new.desk.file) c.in-Some.is c.take_out.ensures.twice
 
 pub returns-clause-twice : goal.returns-clause-twice
 returns-clause-twice g c =
     let l = c.in-Some-found.left in
-    deletes_twice (by One g.F.Hash.Hashes.of) (g.F.PageFile.told c.args.desk.now.file)
+    deletes_twice g.F.PageFile.scheme (g.F.PageFile.told c.args.desk.now.file)
     (g.F.PageFile.told c.take_out.new.desk.file) c.args.desk.now.free c.take_out.new.desk.free c.args.root
     c.in-Some.child c.args.number c.args.rect.now l.entry l.aside.items c.deref.result.now
     (g.F.PageFile.reads c.args.desk.now.file) (g.F.PageFile.reads c.take_out.new.desk.file)
     (g.F.PageFile.reads c.put_all.new.desk.file) c.in-Some.is
-    (subst (Searches (by One g.F.Hash.Hashes.of) true (g.F.PageFile.told c.args.desk.now.file) c.args.desk.now.free
+    (subst (Searches g.F.PageFile.scheme true (g.F.PageFile.told c.args.desk.now.file) c.args.desk.now.free
     (g.F.PageFile.told c.take_out.new.desk.file) c.take_out.new.desk.free c.in-Some.child c.args.number
     c.args.rect.now) c.in-Some-found.is c.in_ok-found.ensures.searches)
     (c.deref.ensures.value ∙ c.in_ok-sort_by_number.ensures) c.take_out.ensures.twice c.put_all.ensures.reads
 
 pub put_all-requires : goal.put_all-requires
 put_all-requires g c =
-    layers_sorted (λ (r : Record). r.number) c.in-Some-found.left.aside.items c.deref.result.now
+    layers_sorted g.F.PageFile.scheme.version (λ (r : Record). r.number) c.in-Some-found.left.aside.items
+    c.deref.result.now
     (c.deref.ensures.value ∙ c.in_ok-sort_by_number.ensures)
-    (subst (λ o. IfSome o (λ (l : Left). All (HasLayer One) l.aside.items)) c.in-Some-found.is
+    (subst (λ o. IfSome o (λ (l : Left). All (HasLayer g.F.PageFile.scheme.version) l.aside.items)) c.in-Some-found.is
     c.in_ok-found.ensures.layers)
 
 pub returns-clause-told : goal.returns-clause-told
 returns-clause-told g c =
     IfOk-weaker c.put_all.result _ _
-    (λ r h. h (subst (λ o. IfSome o (λ (l : Left). IfSome l.entry (IsTold One))) c.in-Some-found.is
+    (λ r h. h (subst (λ o. IfSome o (λ (l : Left). IfSome l.entry (IsTold g.F.PageFile.scheme.version)))
+    c.in-Some-found.is
     c.in_ok-found.ensures.told)) c.put_all.ensures.told
 
 pub returns-clause-low : goal.returns-clause-low

@@ -1,7 +1,5 @@
 use Rattle.std.proofs.Common.{◌+◌, arith, length, refl, subst, ◌∙◌}
 use Rattle.std.proofs.lemmas.List.{take_all}
-use Rattle.mr_record.specs.declared.version.Version.TheVariants.{One}
-use Rattle.mr_tree.specs.Digest.{by}
 use Rattle.mr_edit.specs.Deleted.{InsertsAll}
 use Rattle.mr_edit.specs.Growing.{CanInsert}
 use Rattle.mr_edit.proofs.Dropped.{inserts_none, inserts_more}
@@ -12,7 +10,7 @@ use Rattle.mr_edit.proofs.deleting.put_all.Goals as goal
 
 pub loop-one-init : goal.loop-one-init
 loop-one-init g c = record {
-  inserts = inserts_none (by One g.F.Hash.Hashes.of) (g.F.PageFile.told c.args.desk.now.file) c.args.desk.now.free
+  inserts = inserts_none g.F.PageFile.scheme (g.F.PageFile.told c.args.desk.now.file) c.args.desk.now.free
       c.args.root;
   reads = omega arith;
   low = λ is. is;
@@ -23,7 +21,7 @@ loop-one-init g c = record {
 
 pub loop-one-preserved : goal.loop-one-preserved
 loop-one-preserved g c = record {
-  inserts = inserts_more (by One g.F.Hash.Hashes.of) (g.F.PageFile.told c.args.desk.now.file)
+  inserts = inserts_more g.F.PageFile.scheme (g.F.PageFile.told c.args.desk.now.file)
       (g.F.PageFile.told c.loop-one.desk.file) (g.F.PageFile.told c.insert.new.desk.file) c.args.desk.now.free
       c.loop-one.desk.free c.insert.new.desk.free
       c.args.root c.loop-one.root c.in_ok-child.child c.args.records.now c.loop-one.one-index c.one-item.result
@@ -43,19 +41,19 @@ loop-one-preserved g c = record {
 
 pub returns-clause-inserts : goal.returns-clause-inserts
 returns-clause-inserts g c =
-    subst (InsertsAll (by One g.F.Hash.Hashes.of) (g.F.PageFile.told c.args.desk.now.file) c.args.desk.now.free
+    subst (InsertsAll g.F.PageFile.scheme (g.F.PageFile.told c.args.desk.now.file) c.args.desk.now.free
     c.args.root
     (g.F.PageFile.told c.loop-one.desk.file) c.loop-one.desk.free c.loop-one.root)
     (take_all c.loop-one.one-index c.args.records.now c.loop-one-test.false) c.loop-one.invariant.inserts
 
 pub returns-in_err-child-clause-sound : goal.returns-in_err-child-clause-sound
 returns-in_err-child-clause-sound g c =
-    let hash = g.F.Hash.Hashes.of in
+    let scheme = g.F.PageFile.scheme in
     let told = g.F.PageFile.told c.args.desk.now.file in
     handed c.from_residual.result c.in_err-child.field-0.0
-    (CanInsert hash told c.args.desk.now.free c.args.root (length c.args.records.now)) c.from_residual.ensures.1
+    (CanInsert scheme told c.args.desk.now.free c.args.root (length c.args.records.now)) c.from_residual.ensures.1
     (never c.in_err-child.field-0.0 _ _
-    (next_insert hash told (g.F.PageFile.told c.loop-one.desk.file) c.args.desk.now.free c.loop-one.desk.free
+    (next_insert scheme told (g.F.PageFile.told c.loop-one.desk.file) c.args.desk.now.free c.loop-one.desk.free
     c.args.root c.loop-one.root c.args.records.now c.loop-one.one-index c.loop-one-test.true
     c.loop-one.invariant.inserts)
     c.in_err-child.ensures.sound)

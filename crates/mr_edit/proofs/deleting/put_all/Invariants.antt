@@ -1,7 +1,5 @@
 use Rattle.std.proofs.Common.{◌≡◌, ◌+◌, ◌*◌, ◌≤◌, length, take}
 use Rattle.std.specs.Prelude.{IfSome}
-use Rattle.mr_record.specs.declared.version.Version.TheVariants.{One}
-use Rattle.mr_tree.specs.Digest.{by}
 use Rattle.mr_edit.specs.Deleted.{InsertsAll}
 use Rattle.mr_edit.specs.Held.{IsTold}
 use Rattle.mr_edit.specs.Outcome.{IsLow}
@@ -11,12 +9,13 @@ use Rattle.mr_edit.proofs.deleting.put_all.Given as goal
 -- the first ones went in
 abbrev pub invariant-loop-one : goal.invariant-loop-one
 invariant-loop-one g l = record {
-  inserts : InsertsAll (by One g.F.Hash.Hashes.of) (g.F.PageFile.told l.initial.desk.file) l.initial.desk.free
+  inserts : InsertsAll g.F.PageFile.scheme (g.F.PageFile.told l.initial.desk.file) l.initial.desk.free
       l.initial.root (g.F.PageFile.told l.desk.file) l.desk.free l.root (take l.one-index l.records);
   reads : g.F.PageFile.reads l.desk.file
       ≤ g.F.PageFile.reads l.initial.desk.file + length (take l.one-index l.records) * insertion_reads;
   low : IsLow l.initial.root → IsLow l.root;
-  told : IfSome l.initial.root (IsTold One) → IfSome l.root (IsTold One);
+  told : IfSome l.initial.root (IsTold g.F.PageFile.scheme.version) →
+      IfSome l.root (IsTold g.F.PageFile.scheme.version);
   kept : g.F.PageFile.kept l.initial.desk.file l.desk.file;
   quiet : g.F.PageFile.faults l.desk.file ≡ g.F.PageFile.faults l.initial.desk.file;
 }

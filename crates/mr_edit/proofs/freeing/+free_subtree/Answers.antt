@@ -1,8 +1,6 @@
 use Rattle.std.proofs.Common.{◌≡◌, false, refl, ◌+◌, ◌<◌, [], ◌∷◌, ◌++◌, take, sym, ap, subst, ◌∙◌, arith}
 use Rattle.std.specs.Prelude.{IfSome}
 use Rattle.std.proofs.lemmas.List.{take_all}
-use Rattle.mr_record.specs.declared.version.Version.TheVariants.{One}
-use Rattle.mr_tree.specs.Digest.{by}
 use Rattle.mr_tree.specs.View.{records_in}
 use Rattle.mr_tree.specs.declared.tree.Tree.TheOpen as node
 use Rattle.mr_pages.specs.Walking.{page_node}
@@ -19,14 +17,14 @@ use Rattle.mr_edit.proofs.freeing.+free_subtree.Goals as goal
 
 pub loop-one-preserved : goal.loop-one-preserved
 loop-one-preserved g t c = record {
-  frees = frees_more (by One g.F.Hash.Hashes.of) (g.F.PageFile.told c.free_page.new.desk.file)
+  frees = frees_more g.F.PageFile.scheme (g.F.PageFile.told c.free_page.new.desk.file)
       (g.F.PageFile.told c.loop-one.desk.file) (g.F.PageFile.told c.free_subtree.new.desk.file)
       c.free_page.new.desk.free c.loop-one.desk.free c.free_subtree.new.desk.free
       c.children-one-items.result.now c.loop-one.one-index c.one-item.result c.args.list.now.items
       c.loop-one.list.items c.free_subtree.new.list.items c.loop-one-test.true c.one-item.is
       c.loop-one.invariant.frees c.in_ok-free_subtree.ensures.frees;
   layers = λ all. c.in_ok-free_subtree.ensures.layers (c.loop-one.invariant.layers all);
-  once = frees_next (by One g.F.Hash.Hashes.of) (g.F.PageFile.told c.free_page.new.desk.file)
+  once = frees_next g.F.PageFile.scheme (g.F.PageFile.told c.free_page.new.desk.file)
       (g.F.PageFile.told c.loop-one.desk.file) c.free_page.new.desk.free c.loop-one.desk.free
       c.children-one-items.result.now c.loop-one.one-index c.one-item.result c.args.list.now.items
       c.loop-one.list.items (g.F.PageFile.reads c.free_page.new.desk.file) (g.F.PageFile.reads c.loop-one.desk.file)
@@ -42,7 +40,7 @@ returns-in_ok-extend_from_slice-clause-frees g t c =
     let view = c.look.new.into in
     let rs = records_in view in
     let is = c.records.ensures.leaf (sym c.level.ensures.value ∙ c.if-level-eq0.true) in
-    frees_leaf (by One g.F.Hash.Hashes.of) (g.F.PageFile.told c.args.desk.now.file) (g.F.PageFile.told c.look.new.file)
+    frees_leaf g.F.PageFile.scheme (g.F.PageFile.told c.args.desk.now.file) (g.F.PageFile.told c.look.new.file)
     (g.F.PageFile.told c.free_page.new.desk.file) c.args.desk.now.free c.free_page.new.desk.free
     c.args.child.now rs c.args.list.now.items c.extend_from_slice.new.self.items c.in_ok-look.ensures.same
     (subst (λ n. IfSome (g.F.PageFile.told c.args.desk.now.file) (λ b. HasNode b c.args.child.now.id (page_node n))) is
@@ -57,14 +55,14 @@ returns-after-loop-one-clause-frees g t c =
     let high : 0 < c.level.result = omega (arith, c.if-level-eq0.false) in
     let is = c.children-one-items.ensures.inner (subst (λ n. 0 < n) c.level.ensures.value high) in
     let all : take c.loop-one.one-index cs ≡ cs = take_all c.loop-one.one-index cs c.loop-one-test.false in
-    frees_inner (by One g.F.Hash.Hashes.of) (g.F.PageFile.told c.args.desk.now.file) (g.F.PageFile.told c.look.new.file)
+    frees_inner g.F.PageFile.scheme (g.F.PageFile.told c.args.desk.now.file) (g.F.PageFile.told c.look.new.file)
     (g.F.PageFile.told c.free_page.new.desk.file) (g.F.PageFile.told c.loop-one.desk.file) c.args.desk.now.free
     c.free_page.new.desk.free c.loop-one.desk.free
     c.args.child.now cs c.args.list.now.items c.loop-one.list.items c.in_ok-look.ensures.same
     (subst (λ n. IfSome (g.F.PageFile.told c.args.desk.now.file) (λ b. HasNode b c.args.child.now.id (page_node n))) (is
     ∙ ap node.Inner (sym c.children-one-items.ensures.value)) c.in_ok-look.ensures.node)
     c.in_ok-free_page.ensures.frees
-    (subst (λ us. Frees (by One g.F.Hash.Hashes.of) (g.F.PageFile.told c.free_page.new.desk.file)
+    (subst (λ us. Frees g.F.PageFile.scheme (g.F.PageFile.told c.free_page.new.desk.file)
     c.free_page.new.desk.free
     (g.F.PageFile.told c.loop-one.desk.file) c.loop-one.desk.free us c.args.list.now.items c.loop-one.list.items)
     all c.loop-one.invariant.frees)
@@ -72,22 +70,22 @@ returns-after-loop-one-clause-frees g t c =
 pub returns-in_err-look-clause-sound : goal.returns-in_err-look-clause-sound
 returns-in_err-look-clause-sound g t c =
     handed c.from_residual.result c.in_err-look.field-0.0
-    (CanFree g.F.Hash.Hashes.of (g.F.PageFile.told c.args.desk.now.file) c.args.desk.now.free
+    (CanFree g.F.PageFile.scheme (g.F.PageFile.told c.args.desk.now.file) c.args.desk.now.free
     (c.args.child.now ∷ [])) c.from_residual.ensures.1
     (never c.in_err-look.field-0.0 _ _
-    (λ k. can_look g.F.Hash.Hashes.of false (g.F.PageFile.told c.args.desk.now.file) c.args.desk.now.free
-    c.args.child.now (one_below g.F.Hash.Hashes.of (g.F.PageFile.told c.args.desk.now.file) c.args.desk.now.free
+    (λ k. can_look g.F.PageFile.scheme false (g.F.PageFile.told c.args.desk.now.file) c.args.desk.now.free
+    c.args.child.now (one_below g.F.PageFile.scheme (g.F.PageFile.told c.args.desk.now.file) c.args.desk.now.free
     c.args.child.now k)) c.in_err-look.ensures.sound)
 
 pub returns-in_err-free_page-clause-sound : goal.returns-in_err-free_page-clause-sound
 returns-in_err-free_page-clause-sound g t c =
     handed c.from_residual-in_err-free_page.result c.in_err-free_page.field-0.0
-    (CanFree g.F.Hash.Hashes.of (g.F.PageFile.told c.args.desk.now.file) c.args.desk.now.free
+    (CanFree g.F.PageFile.scheme (g.F.PageFile.told c.args.desk.now.file) c.args.desk.now.free
     (c.args.child.now ∷ [])) c.from_residual-in_err-free_page.ensures.1
     (never c.in_err-free_page.field-0.0 _ _
-    (λ k. known_writes g.F.Hash.Hashes.of false (g.F.PageFile.told c.args.desk.now.file)
+    (λ k. known_writes g.F.PageFile.scheme false (g.F.PageFile.told c.args.desk.now.file)
     (g.F.PageFile.told c.look.new.file) c.args.desk.now.free c.args.child.now c.in_ok-look.ensures.same
-    (one_below g.F.Hash.Hashes.of (g.F.PageFile.told c.args.desk.now.file) c.args.desk.now.free
+    (one_below g.F.PageFile.scheme (g.F.PageFile.told c.args.desk.now.file) c.args.desk.now.free
     c.args.child.now k)) c.in_err-free_page.ensures.sound)
 
 pub returns-in_err-free_subtree-clause-kept : goal.returns-in_err-free_subtree-clause-kept
@@ -113,29 +111,29 @@ returns-in_err-free_subtree-clause-sound g t c =
     let high : 0 < c.level.result = omega (arith, c.if-level-eq0.false) in
     let is = c.children-one-items.ensures.inner (subst (λ n. 0 < n) c.level.ensures.value high) in
     handed c.from_residual-in_err-free_subtree.result c.in_err-free_subtree.field-0.0
-    (CanFree g.F.Hash.Hashes.of (g.F.PageFile.told c.args.desk.now.file) c.args.desk.now.free
+    (CanFree g.F.PageFile.scheme (g.F.PageFile.told c.args.desk.now.file) c.args.desk.now.free
     (c.args.child.now ∷ [])) c.from_residual-in_err-free_subtree.ensures.1
     (never c.in_err-free_subtree.field-0.0 _ _
-    (λ k. next_below g.F.Hash.Hashes.of (g.F.PageFile.told c.free_page.new.desk.file)
+    (λ k. next_below g.F.PageFile.scheme (g.F.PageFile.told c.free_page.new.desk.file)
     (g.F.PageFile.told c.loop-one.desk.file) c.free_page.new.desk.free c.loop-one.desk.free cs
     c.loop-one.one-index c.one-item.result c.args.list.now.items c.loop-one.list.items
     c.loop-one-test.true c.one-item.is c.loop-one.invariant.frees
-    (children_below g.F.Hash.Hashes.of (g.F.PageFile.told c.args.desk.now.file) (g.F.PageFile.told c.look.new.file)
+    (children_below g.F.PageFile.scheme (g.F.PageFile.told c.args.desk.now.file) (g.F.PageFile.told c.look.new.file)
     (g.F.PageFile.told c.free_page.new.desk.file) c.args.desk.now.free c.free_page.new.desk.free c.args.child.now cs
     c.in_ok-look.ensures.same
     (subst (λ n. IfSome (g.F.PageFile.told c.args.desk.now.file) (λ b. HasNode b c.args.child.now.id (page_node n)))
     (is ∙ ap node.Inner (sym c.children-one-items.ensures.value)) c.in_ok-look.ensures.node)
     c.in_ok-free_page.ensures.frees
-    (one_below g.F.Hash.Hashes.of (g.F.PageFile.told c.args.desk.now.file) c.args.desk.now.free
+    (one_below g.F.PageFile.scheme (g.F.PageFile.told c.args.desk.now.file) c.args.desk.now.free
     c.args.child.now k)))
     c.in_err-free_subtree.ensures.sound)
 
 pub loop-one-init : goal.loop-one-init
 loop-one-init g t c = record {
-  frees = frees_none (by One g.F.Hash.Hashes.of) (g.F.PageFile.told c.free_page.new.desk.file)
+  frees = frees_none g.F.PageFile.scheme (g.F.PageFile.told c.free_page.new.desk.file)
       c.free_page.new.desk.free c.args.list.now.items;
   layers = λ all. all;
-  once = frees_nothing (by One g.F.Hash.Hashes.of) (g.F.PageFile.told c.free_page.new.desk.file)
+  once = frees_nothing g.F.PageFile.scheme (g.F.PageFile.told c.free_page.new.desk.file)
       c.free_page.new.desk.free (g.F.PageFile.reads c.free_page.new.desk.file);
   kept = g.met.F.PageFile.kept_self c.free_page.new.desk.file;
   quiet = refl;
@@ -143,25 +141,25 @@ loop-one-init g t c = record {
 
 pub returns-in_err-look-clause-once : goal.returns-in_err-look-clause-once
 returns-in_err-look-clause-once g t c =
-    frees_looked (by One g.F.Hash.Hashes.of) (g.F.PageFile.told c.args.desk.now.file) c.args.desk.now.free
+    frees_looked g.F.PageFile.scheme (g.F.PageFile.told c.args.desk.now.file) c.args.desk.now.free
     c.args.child.now (g.F.PageFile.reads c.args.desk.now.file) (g.F.PageFile.reads c.look.new.file)
     (omega (arith, c.look.ensures.reads))
 
 pub returns-in_err-free_page-clause-once : goal.returns-in_err-free_page-clause-once
 returns-in_err-free_page-clause-once g t c =
-    frees_looked (by One g.F.Hash.Hashes.of) (g.F.PageFile.told c.args.desk.now.file) c.args.desk.now.free
+    frees_looked g.F.PageFile.scheme (g.F.PageFile.told c.args.desk.now.file) c.args.desk.now.free
     c.args.child.now (g.F.PageFile.reads c.args.desk.now.file) (g.F.PageFile.reads c.free_page.new.desk.file)
     (omega (arith, c.look.ensures.reads, c.free_page.ensures.reads))
 
 pub returns-in_err-extend_from_slice-clause-once : goal.returns-in_err-extend_from_slice-clause-once
 returns-in_err-extend_from_slice-clause-once g t c =
-    frees_looked (by One g.F.Hash.Hashes.of) (g.F.PageFile.told c.args.desk.now.file) c.args.desk.now.free
+    frees_looked g.F.PageFile.scheme (g.F.PageFile.told c.args.desk.now.file) c.args.desk.now.free
     c.args.child.now (g.F.PageFile.reads c.args.desk.now.file) (g.F.PageFile.reads c.free_page.new.desk.file)
     (omega (arith, c.look.ensures.reads, c.free_page.ensures.reads))
 
 pub returns-in_ok-extend_from_slice-clause-once : goal.returns-in_ok-extend_from_slice-clause-once
 returns-in_ok-extend_from_slice-clause-once g t c =
-    frees_looked (by One g.F.Hash.Hashes.of) (g.F.PageFile.told c.args.desk.now.file) c.args.desk.now.free
+    frees_looked g.F.PageFile.scheme (g.F.PageFile.told c.args.desk.now.file) c.args.desk.now.free
     c.args.child.now (g.F.PageFile.reads c.args.desk.now.file) (g.F.PageFile.reads c.free_page.new.desk.file)
     (omega (arith, c.look.ensures.reads, c.free_page.ensures.reads))
 
@@ -171,17 +169,17 @@ returns-in_err-free_subtree-clause-once g t c =
     let cs = c.children-one-items.result.now in
     let high : 0 < c.level.result = omega (arith, c.if-level-eq0.false) in
     let is = c.children-one-items.ensures.inner (subst (λ n. 0 < n) c.level.ensures.value high) in
-    frees_below (by One g.F.Hash.Hashes.of) (g.F.PageFile.told c.args.desk.now.file) (g.F.PageFile.told c.look.new.file)
+    frees_below g.F.PageFile.scheme (g.F.PageFile.told c.args.desk.now.file) (g.F.PageFile.told c.look.new.file)
     (g.F.PageFile.told c.free_page.new.desk.file) c.args.desk.now.free c.free_page.new.desk.free c.args.child.now cs
     (g.F.PageFile.reads c.args.desk.now.file) (g.F.PageFile.reads c.free_page.new.desk.file)
     (g.F.PageFile.reads c.free_subtree.new.desk.file) c.in_ok-look.ensures.same
     (subst (λ n. IfSome (g.F.PageFile.told c.args.desk.now.file) (λ b. HasNode b c.args.child.now.id (page_node n))) (is
     ∙ ap node.Inner (sym c.children-one-items.ensures.value)) c.in_ok-look.ensures.node)
     c.in_ok-free_page.ensures.frees (omega (arith, c.look.ensures.reads, c.free_page.ensures.reads))
-    (frees_part (by One g.F.Hash.Hashes.of) (g.F.PageFile.told c.free_page.new.desk.file) c.free_page.new.desk.free cs
+    (frees_part g.F.PageFile.scheme (g.F.PageFile.told c.free_page.new.desk.file) c.free_page.new.desk.free cs
     (c.loop-one.one-index + 1) (g.F.PageFile.reads c.free_page.new.desk.file)
     (g.F.PageFile.reads c.free_subtree.new.desk.file)
-    (frees_next (by One g.F.Hash.Hashes.of) (g.F.PageFile.told c.free_page.new.desk.file)
+    (frees_next g.F.PageFile.scheme (g.F.PageFile.told c.free_page.new.desk.file)
     (g.F.PageFile.told c.loop-one.desk.file) c.free_page.new.desk.free c.loop-one.desk.free cs c.loop-one.one-index
     c.one-item.result c.args.list.now.items c.loop-one.list.items (g.F.PageFile.reads c.free_page.new.desk.file)
     (g.F.PageFile.reads c.loop-one.desk.file) (g.F.PageFile.reads c.free_subtree.new.desk.file) c.loop-one-test.true
@@ -193,13 +191,13 @@ returns-after-loop-one-clause-once g t c =
     let cs = c.children-one-items.result.now in
     let high : 0 < c.level.result = omega (arith, c.if-level-eq0.false) in
     let is = c.children-one-items.ensures.inner (subst (λ n. 0 < n) c.level.ensures.value high) in
-    frees_below (by One g.F.Hash.Hashes.of) (g.F.PageFile.told c.args.desk.now.file) (g.F.PageFile.told c.look.new.file)
+    frees_below g.F.PageFile.scheme (g.F.PageFile.told c.args.desk.now.file) (g.F.PageFile.told c.look.new.file)
     (g.F.PageFile.told c.free_page.new.desk.file) c.args.desk.now.free c.free_page.new.desk.free c.args.child.now cs
     (g.F.PageFile.reads c.args.desk.now.file) (g.F.PageFile.reads c.free_page.new.desk.file)
     (g.F.PageFile.reads c.loop-one.desk.file) c.in_ok-look.ensures.same
     (subst (λ n. IfSome (g.F.PageFile.told c.args.desk.now.file) (λ b. HasNode b c.args.child.now.id (page_node n))) (is
     ∙ ap node.Inner (sym c.children-one-items.ensures.value)) c.in_ok-look.ensures.node)
     c.in_ok-free_page.ensures.frees (omega (arith, c.look.ensures.reads, c.free_page.ensures.reads))
-    (frees_part (by One g.F.Hash.Hashes.of) (g.F.PageFile.told c.free_page.new.desk.file) c.free_page.new.desk.free cs
+    (frees_part g.F.PageFile.scheme (g.F.PageFile.told c.free_page.new.desk.file) c.free_page.new.desk.free cs
     c.loop-one.one-index (g.F.PageFile.reads c.free_page.new.desk.file) (g.F.PageFile.reads c.loop-one.desk.file)
     c.loop-one.invariant.once)

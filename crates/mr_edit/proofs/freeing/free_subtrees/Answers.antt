@@ -1,7 +1,5 @@
 use Rattle.std.proofs.Common.{◌+◌, refl, ◌∙◌, subst}
 use Rattle.std.proofs.lemmas.List.{take_all}
-use Rattle.mr_record.specs.declared.version.Version.TheVariants.{One}
-use Rattle.mr_tree.specs.Digest.{by}
 use Rattle.mr_edit.specs.Removal.{Frees}
 use Rattle.mr_edit.specs.Removable.{CanFree}
 use Rattle.mr_edit.proofs.Caused.{handed_cause}
@@ -13,14 +11,14 @@ use Rattle.mr_edit.proofs.freeing.free_subtrees.Goals as goal
 
 pub loop-child-preserved : goal.loop-child-preserved
 loop-child-preserved g c = record {
-  frees = frees_more (by One g.F.Hash.Hashes.of) (g.F.PageFile.told c.args.desk.now.file)
+  frees = frees_more g.F.PageFile.scheme (g.F.PageFile.told c.args.desk.now.file)
       (g.F.PageFile.told c.loop-child.desk.file) (g.F.PageFile.told c.free_subtree.new.desk.file) c.args.desk.now.free
       c.loop-child.desk.free c.free_subtree.new.desk.free
       c.args.children.now c.loop-child.child-index c.child-item.result c.args.list.now.items c.loop-child.list.items
       c.free_subtree.new.list.items c.loop-child-test.true c.child-item.is c.loop-child.invariant.frees
       c.in_ok-free_subtree.ensures.frees;
   layers = λ all. c.in_ok-free_subtree.ensures.layers (c.loop-child.invariant.layers all);
-  once = frees_next (by One g.F.Hash.Hashes.of) (g.F.PageFile.told c.args.desk.now.file)
+  once = frees_next g.F.PageFile.scheme (g.F.PageFile.told c.args.desk.now.file)
       (g.F.PageFile.told c.loop-child.desk.file) c.args.desk.now.free c.loop-child.desk.free c.args.children.now
       c.loop-child.child-index c.child-item.result c.args.list.now.items c.loop-child.list.items
       (g.F.PageFile.reads c.args.desk.now.file) (g.F.PageFile.reads c.loop-child.desk.file)
@@ -46,10 +44,10 @@ returns-in_err-free_subtree-clause-cause g c =
 pub returns-in_err-free_subtree-clause-sound : goal.returns-in_err-free_subtree-clause-sound
 returns-in_err-free_subtree-clause-sound g c =
     handed c.from_residual.result c.in_err-free_subtree.field-0.0
-    (CanFree g.F.Hash.Hashes.of (g.F.PageFile.told c.args.desk.now.file) c.args.desk.now.free c.args.children.now)
+    (CanFree g.F.PageFile.scheme (g.F.PageFile.told c.args.desk.now.file) c.args.desk.now.free c.args.children.now)
     c.from_residual.ensures.1
     (never c.in_err-free_subtree.field-0.0 _ _
-    (λ k. next_below g.F.Hash.Hashes.of (g.F.PageFile.told c.args.desk.now.file)
+    (λ k. next_below g.F.PageFile.scheme (g.F.PageFile.told c.args.desk.now.file)
     (g.F.PageFile.told c.loop-child.desk.file) c.args.desk.now.free c.loop-child.desk.free c.args.children.now
     c.loop-child.child-index c.child-item.result c.args.list.now.items c.loop-child.list.items
     c.loop-child-test.true c.child-item.is c.loop-child.invariant.frees k)
@@ -57,17 +55,17 @@ returns-in_err-free_subtree-clause-sound g c =
 
 pub returns-clause-frees : goal.returns-clause-frees
 returns-clause-frees g c =
-    subst (λ us. Frees (by One g.F.Hash.Hashes.of) (g.F.PageFile.told c.args.desk.now.file) c.args.desk.now.free
+    subst (λ us. Frees g.F.PageFile.scheme (g.F.PageFile.told c.args.desk.now.file) c.args.desk.now.free
     (g.F.PageFile.told c.loop-child.desk.file) c.loop-child.desk.free us c.args.list.now.items
     c.loop-child.list.items) (take_all c.loop-child.child-index c.args.children.now c.loop-child-test.false)
     c.loop-child.invariant.frees
 
 pub loop-child-init : goal.loop-child-init
 loop-child-init g c = record {
-  frees = frees_none (by One g.F.Hash.Hashes.of) (g.F.PageFile.told c.args.desk.now.file) c.args.desk.now.free
+  frees = frees_none g.F.PageFile.scheme (g.F.PageFile.told c.args.desk.now.file) c.args.desk.now.free
       c.args.list.now.items;
   layers = λ all. all;
-  once = frees_nothing (by One g.F.Hash.Hashes.of) (g.F.PageFile.told c.args.desk.now.file) c.args.desk.now.free
+  once = frees_nothing g.F.PageFile.scheme (g.F.PageFile.told c.args.desk.now.file) c.args.desk.now.free
       (g.F.PageFile.reads c.args.desk.now.file);
   kept = g.met.F.PageFile.kept_self c.args.desk.now.file;
   quiet = refl;
@@ -75,10 +73,10 @@ loop-child-init g c = record {
 
 pub returns-in_err-free_subtree-clause-once : goal.returns-in_err-free_subtree-clause-once
 returns-in_err-free_subtree-clause-once g c =
-    frees_part (by One g.F.Hash.Hashes.of) (g.F.PageFile.told c.args.desk.now.file) c.args.desk.now.free
+    frees_part g.F.PageFile.scheme (g.F.PageFile.told c.args.desk.now.file) c.args.desk.now.free
     c.args.children.now (c.loop-child.child-index + 1) (g.F.PageFile.reads c.args.desk.now.file)
     (g.F.PageFile.reads c.free_subtree.new.desk.file)
-    (frees_next (by One g.F.Hash.Hashes.of) (g.F.PageFile.told c.args.desk.now.file)
+    (frees_next g.F.PageFile.scheme (g.F.PageFile.told c.args.desk.now.file)
     (g.F.PageFile.told c.loop-child.desk.file) c.args.desk.now.free c.loop-child.desk.free c.args.children.now
     c.loop-child.child-index c.child-item.result c.args.list.now.items c.loop-child.list.items
     (g.F.PageFile.reads c.args.desk.now.file) (g.F.PageFile.reads c.loop-child.desk.file)
@@ -87,6 +85,6 @@ returns-in_err-free_subtree-clause-once g c =
 
 pub returns-clause-once : goal.returns-clause-once
 returns-clause-once g c =
-    frees_part (by One g.F.Hash.Hashes.of) (g.F.PageFile.told c.args.desk.now.file) c.args.desk.now.free
+    frees_part g.F.PageFile.scheme (g.F.PageFile.told c.args.desk.now.file) c.args.desk.now.free
     c.args.children.now c.loop-child.child-index (g.F.PageFile.reads c.args.desk.now.file)
     (g.F.PageFile.reads c.loop-child.desk.file) c.loop-child.invariant.once

@@ -7,8 +7,6 @@ use Rattle.mr_edit.specs.Causes.{KnowsBelow}
 use Rattle.mr_edit.proofs.Looking.{can_look}
 use Rattle.mr_edit.proofs.Sought.{known_child}
 use Rattle.mr_edit.proofs.Sound.{never, handed}
-use Rattle.mr_record.specs.declared.version.Version.TheVariants.{One}
-use Rattle.mr_tree.specs.Digest.{by}
 use Rattle.mr_edit.specs.Counted.{ReadsOnce}
 use Rattle.mr_edit.proofs.FreeReads.{once_looked}
 use Rattle.mr_edit.proofs.SearchReads.{once_seen}
@@ -17,16 +15,16 @@ use Rattle.mr_edit.proofs.learning.+learn.Goals as goal
 
 pub returns-in_err-look-clause-sound : goal.returns-in_err-look-clause-sound
 returns-in_err-look-clause-sound g t c =
-    let hash = g.F.Hash.Hashes.of in
+    let scheme = g.F.PageFile.scheme in
     let told = g.F.PageFile.told c.args.desk.now.file in
     handed c.from_residual.result c.in_err-look.field-0.0
-    (KnowsBelow hash c.args.root told c.args.desk.now.free c.args.child.now) c.from_residual.ensures.1
+    (KnowsBelow scheme c.args.root told c.args.desk.now.free c.args.child.now) c.from_residual.ensures.1
     (never c.in_err-look.field-0.0 _ _
-    (λ k. can_look hash c.args.root told c.args.desk.now.free c.args.child.now k) c.in_err-look.ensures.sound)
+    (λ k. can_look scheme c.args.root told c.args.desk.now.free c.args.child.now k) c.in_err-look.ensures.sound)
 
 pub returns-in_err-learn-clause-sound : goal.returns-in_err-learn-clause-sound
 returns-in_err-learn-clause-sound g t c =
-    let hash = g.F.Hash.Hashes.of in
+    let scheme = g.F.PageFile.scheme in
     let told = g.F.PageFile.told c.args.desk.now.file in
     let cs = c.children-one-items.result.now in
     let high : 0 < c.level.result = omega (arith, c.if-level-eq0.false) in
@@ -35,9 +33,9 @@ returns-in_err-learn-clause-sound g t c =
     let reads = subst (λ n. IfSome told (λ b. HasNode b c.args.child.now.id (page_node n))) is
     c.in_ok-look.ensures.node in
     handed c.from_residual-in_err-learn.result c.in_err-learn.field-0.0
-    (KnowsBelow hash c.args.root told c.args.desk.now.free c.args.child.now) c.from_residual-in_err-learn.ensures.1
+    (KnowsBelow scheme c.args.root told c.args.desk.now.free c.args.child.now) c.from_residual-in_err-learn.ensures.1
     (never c.in_err-learn.field-0.0 _ _
-    (λ k. known_child hash c.args.root told (g.F.PageFile.told c.loop-one.desk.file) c.args.desk.now.free
+    (λ k. known_child scheme c.args.root told (g.F.PageFile.told c.loop-one.desk.file) c.args.desk.now.free
     c.loop-one.desk.free c.args.child.now c.loop-one.one-index cs c.one-item.result
     (c.loop-one.invariant.same ∙ c.in_ok-look.ensures.same) c.loop-one.invariant.free reads c.loop-one-test.true
     c.one-item.is k) c.in_err-learn.ensures.sound)
@@ -48,7 +46,7 @@ loop-one-init g t c = record {
   free = refl;
   kept = g.met.F.PageFile.kept_self c.look.new.file;
   quiet = refl;
-  seen = seen_none (by One g.F.Hash.Hashes.of) (g.F.PageFile.told c.look.new.file) c.children-one-items.result.now
+  seen = seen_none g.F.PageFile.scheme (g.F.PageFile.told c.look.new.file) c.children-one-items.result.now
       (g.F.PageFile.reads c.look.new.file);
 }
 
@@ -59,32 +57,32 @@ loop-one-preserved g t c = record {
   kept = g.met.F.PageFile.kept_on c.look.new.file c.loop-one.desk.file c.learn.new.desk.file c.loop-one.invariant.kept
       c.learn.ensures.kept;
   quiet = c.in_ok-learn.ensures.quiet ∙ c.loop-one.invariant.quiet;
-  seen = seen_next (by One g.F.Hash.Hashes.of) (g.F.PageFile.told c.look.new.file) c.children-one-items.result.now
+  seen = seen_next g.F.PageFile.scheme (g.F.PageFile.told c.look.new.file) c.children-one-items.result.now
       c.loop-one.one-index c.one-item.result (g.F.PageFile.reads c.look.new.file)
       (g.F.PageFile.reads c.loop-one.desk.file) (g.F.PageFile.reads c.learn.new.desk.file) c.loop-one-test.true
       c.one-item.is c.loop-one.invariant.seen
-      (subst (λ o. ReadsOnce (by One g.F.Hash.Hashes.of) o c.one-item.result (g.F.PageFile.reads c.loop-one.desk.file)
+      (subst (λ o. ReadsOnce g.F.PageFile.scheme o c.one-item.result (g.F.PageFile.reads c.loop-one.desk.file)
       (g.F.PageFile.reads c.learn.new.desk.file)) c.loop-one.invariant.same c.learn.ensures.once);
 }
 
 pub returns-in_err-look-clause-once : goal.returns-in_err-look-clause-once
 returns-in_err-look-clause-once g t c =
-    once_looked (by One g.F.Hash.Hashes.of) (g.F.PageFile.told c.args.desk.now.file) c.args.child.now
+    once_looked g.F.PageFile.scheme (g.F.PageFile.told c.args.desk.now.file) c.args.child.now
     (g.F.PageFile.reads c.args.desk.now.file) (g.F.PageFile.reads c.look.new.file) c.look.ensures.reads
 
 pub returns-in_err-saw_leaf-clause-once : goal.returns-in_err-saw_leaf-clause-once
 returns-in_err-saw_leaf-clause-once g t c =
-    once_looked (by One g.F.Hash.Hashes.of) (g.F.PageFile.told c.args.desk.now.file) c.args.child.now
+    once_looked g.F.PageFile.scheme (g.F.PageFile.told c.args.desk.now.file) c.args.child.now
     (g.F.PageFile.reads c.args.desk.now.file) (g.F.PageFile.reads c.look.new.file) c.look.ensures.reads
 
 pub returns-in_ok-saw_leaf-clause-once : goal.returns-in_ok-saw_leaf-clause-once
 returns-in_ok-saw_leaf-clause-once g t c =
-    once_looked (by One g.F.Hash.Hashes.of) (g.F.PageFile.told c.args.desk.now.file) c.args.child.now
+    once_looked g.F.PageFile.scheme (g.F.PageFile.told c.args.desk.now.file) c.args.child.now
     (g.F.PageFile.reads c.args.desk.now.file) (g.F.PageFile.reads c.look.new.file) c.look.ensures.reads
 
 pub returns-in_err-saw_children-clause-once : goal.returns-in_err-saw_children-clause-once
 returns-in_err-saw_children-clause-once g t c =
-    once_looked (by One g.F.Hash.Hashes.of) (g.F.PageFile.told c.args.desk.now.file) c.args.child.now
+    once_looked g.F.PageFile.scheme (g.F.PageFile.told c.args.desk.now.file) c.args.child.now
     (g.F.PageFile.reads c.args.desk.now.file) (g.F.PageFile.reads c.look.new.file) c.look.ensures.reads
 
 pub returns-in_err-learn-clause-once : goal.returns-in_err-learn-clause-once
@@ -96,16 +94,16 @@ returns-in_err-learn-clause-once g t c =
     ∙ ap node.Inner (sym c.children-one-items.ensures.value) in
     let reads = subst (λ n. IfSome told (λ b. HasNode b c.args.child.now.id (page_node n))) is
     c.in_ok-look.ensures.node in
-    let seen = seen_next (by One g.F.Hash.Hashes.of) (g.F.PageFile.told c.look.new.file) c.children-one-items.result.now
+    let seen = seen_next g.F.PageFile.scheme (g.F.PageFile.told c.look.new.file) c.children-one-items.result.now
     c.loop-one.one-index c.one-item.result (g.F.PageFile.reads c.look.new.file)
     (g.F.PageFile.reads c.loop-one.desk.file) (g.F.PageFile.reads c.learn.new.desk.file) c.loop-one-test.true
     c.one-item.is c.loop-one.invariant.seen
-    (subst (λ o. ReadsOnce (by One g.F.Hash.Hashes.of) o c.one-item.result (g.F.PageFile.reads c.loop-one.desk.file)
+    (subst (λ o. ReadsOnce g.F.PageFile.scheme o c.one-item.result (g.F.PageFile.reads c.loop-one.desk.file)
     (g.F.PageFile.reads c.learn.new.desk.file)) c.loop-one.invariant.same c.learn.ensures.once) in
-    once_seen (by One g.F.Hash.Hashes.of) told c.args.child.now cs (c.loop-one.one-index + 1)
+    once_seen g.F.PageFile.scheme told c.args.child.now cs (c.loop-one.one-index + 1)
     (g.F.PageFile.reads c.args.desk.now.file) (g.F.PageFile.reads c.look.new.file)
     (g.F.PageFile.reads c.learn.new.desk.file) reads c.look.ensures.reads
-    (subst (λ o. SeenOnce (by One g.F.Hash.Hashes.of) o cs (c.loop-one.one-index + 1)
+    (subst (λ o. SeenOnce g.F.PageFile.scheme o cs (c.loop-one.one-index + 1)
     (g.F.PageFile.reads c.look.new.file) (g.F.PageFile.reads c.learn.new.desk.file)) c.in_ok-look.ensures.same seen)
 
 pub returns-after-loop-one-clause-once : goal.returns-after-loop-one-clause-once
@@ -117,9 +115,9 @@ returns-after-loop-one-clause-once g t c =
     ∙ ap node.Inner (sym c.children-one-items.ensures.value) in
     let reads = subst (λ n. IfSome told (λ b. HasNode b c.args.child.now.id (page_node n))) is
     c.in_ok-look.ensures.node in
-    once_seen (by One g.F.Hash.Hashes.of) told c.args.child.now cs c.loop-one.one-index
+    once_seen g.F.PageFile.scheme told c.args.child.now cs c.loop-one.one-index
     (g.F.PageFile.reads c.args.desk.now.file) (g.F.PageFile.reads c.look.new.file)
     (g.F.PageFile.reads c.loop-one.desk.file) reads c.look.ensures.reads
-    (subst (λ o. SeenOnce (by One g.F.Hash.Hashes.of) o cs c.loop-one.one-index
+    (subst (λ o. SeenOnce g.F.PageFile.scheme o cs c.loop-one.one-index
     (g.F.PageFile.reads c.look.new.file) (g.F.PageFile.reads c.loop-one.desk.file)) c.in_ok-look.ensures.same
     c.loop-one.invariant.seen)

@@ -1,6 +1,4 @@
 use Rattle.std.proofs.Common.{◌≡◌}
-use Rattle.mr_record.specs.declared.version.Version.TheVariants.{One}
-use Rattle.mr_tree.specs.Digest.{by}
 use Rattle.mr_edit.proofs.Tries.{SeenOnce}
 use Rattle.mr_edit.proofs.learning.+learn.Given as goal
 
@@ -14,6 +12,6 @@ invariant-loop-one g l = record {
   free : l.desk.free ≡ l.initial.desk.free;
   kept : g.F.PageFile.kept l.initial.desk.file l.desk.file;
   quiet : g.F.PageFile.faults l.desk.file ≡ g.F.PageFile.faults l.initial.desk.file;
-  seen : SeenOnce (by One g.F.Hash.Hashes.of) (g.F.PageFile.told l.initial.desk.file) l.one-items l.one-index
+  seen : SeenOnce g.F.PageFile.scheme (g.F.PageFile.told l.initial.desk.file) l.one-items l.one-index
       (g.F.PageFile.reads l.initial.desk.file) (g.F.PageFile.reads l.desk.file);
 }

@@ -3,8 +3,6 @@ use Rattle.std.specs.Prelude.{IfSome}
 use Rattle.std.specs.List.{AllByRecursion}
 use Rattle.std.proofs.lemmas.Result.{IfOk-weaker, IfErr-weaker}
 use Rattle.std.proofs.lemmas.List.Elements.{recursion_from_All}
-use Rattle.mr_record.specs.declared.version.Version.TheVariants.{One}
-use Rattle.mr_tree.specs.Digest.{by}
 use Rattle.mr_tree.specs.View.{records_in, children_in, level_of}
 use Rattle.mr_tree.specs.declared.child.Child.{Child}
 use Rattle.mr_tree.specs.declared.tree.Tree.TheOpen as node
@@ -42,10 +40,11 @@ put_inner-requires-clause-told g t c =
     let cs = c.in_ok-children.children.items in
     let view = c.look.new.into in
     let same : cs ≡ children_in view = c.in_ok-children.ensures.items ∙ c.children.ensures.value in
-    replaced_all (IsTold One) c.in_ok-at.at cs (entries c.in_ok-stand.stand) c.in_ok-children-2.children.items
+    replaced_all (IsTold g.F.PageFile.scheme.version) c.in_ok-at.at cs (entries c.in_ok-stand.stand)
+    c.in_ok-children-2.children.items
     c.in_ok-children-2.ensures
-    (subst (AllByRecursion (IsTold One)) (sym same)
-    (recursion_from_All (IsTold One) (children_in view) c.in_ok-look.ensures.shown.children))
+    (subst (AllByRecursion (IsTold g.F.PageFile.scheme.version)) (sym same)
+    (recursion_from_All (IsTold g.F.PageFile.scheme.version) (children_in view) c.in_ok-look.ensures.shown.children))
     c.in_ok-stand.ensures.told
 
 pub put_inner-requires-clause-few : goal.put_inner-requires-clause-few
@@ -69,7 +68,7 @@ returns-in_ok-records-clause-grows g t c =
     let rs = records_in view in
     let is = c.records.ensures.leaf (sym c.level-level.ensures.value ∙ c.if-level-eq0.true) in
     IfOk-weaker c.put_leaf.result _ _
-    (λ s h. grows_leaf (by One g.F.Hash.Hashes.of) (g.F.PageFile.told c.args.desk.now.file)
+    (λ s h. grows_leaf g.F.PageFile.scheme (g.F.PageFile.told c.args.desk.now.file)
     (g.F.PageFile.told c.look.new.file) (g.F.PageFile.told c.put_leaf.new.desk.file)
     c.args.desk.now.free c.put_leaf.new.desk.free c.args.child.now c.args.one.now rs c.in_ok-records.records.items
     (entries s) c.in_ok-look.ensures.same
@@ -88,7 +87,7 @@ returns-in_ok-children-2-clause-grows g t c =
     let within : c.in_ok-at.at < length cs = omega (arith, c.in_ok-at.ensures.within, ap length c.deref.ensures.value)
     in
     IfOk-weaker c.put_inner.result _ _
-    (λ s h. grows_below (by One g.F.Hash.Hashes.of) (g.F.PageFile.told c.args.desk.now.file)
+    (λ s h. grows_below g.F.PageFile.scheme (g.F.PageFile.told c.args.desk.now.file)
     (g.F.PageFile.told c.look.new.file) (g.F.PageFile.told c.put_into.new.desk.file)
     (g.F.PageFile.told c.put_inner.new.desk.file)
     c.args.desk.now.free c.put_into.new.desk.free c.put_inner.new.desk.free c.args.child.now c.args.one.now
@@ -98,7 +97,7 @@ returns-in_ok-children-2-clause-grows g t c =
     ∙ ap node.Inner (sym same)) c.in_ok-look.ensures.node)
     (c.in_ok-at.ensures.value ∙ ap (λ us. choose (map (λ (x : Child). x.rect) us) c.args.one.now.rect)
     c.deref.ensures.value) within c.index.ensures c.in_ok-stand.ensures.grows
-    (subst (λ us. PutsInner (by One g.F.Hash.Hashes.of) (g.F.PageFile.told c.put_into.new.desk.file)
+    (subst (λ us. PutsInner g.F.PageFile.scheme (g.F.PageFile.told c.put_into.new.desk.file)
     c.put_into.new.desk.free
     (g.F.PageFile.told c.put_inner.new.desk.file) c.put_inner.new.desk.free c.args.child.now.id us (entries s))
     c.in_ok-children-2.ensures h))
@@ -108,10 +107,10 @@ pub returns-in_err-look-clause-sound : goal.returns-in_err-look-clause-sound
 returns-in_err-look-clause-sound g t c =
     let told = g.F.PageFile.told c.args.desk.now.file in
     handed c.from_residual.result c.in_err-look.field-0.0
-    (CanGrow g.F.Hash.Hashes.of c.args.root told c.args.desk.now.free c.args.child.now c.args.one.now)
+    (CanGrow g.F.PageFile.scheme c.args.root told c.args.desk.now.free c.args.child.now c.args.one.now)
     c.from_residual.ensures.1
     (never c.in_err-look.field-0.0 _ _
-    (λ k. can_look g.F.Hash.Hashes.of c.args.root told c.args.desk.now.free c.args.child.now k.below)
+    (λ k. can_look g.F.PageFile.scheme c.args.root told c.args.desk.now.free c.args.child.now k.below)
     c.in_err-look.ensures.sound)
 
 pub returns-in_ok-records-clause-sound : goal.returns-in_ok-records-clause-sound
@@ -120,7 +119,7 @@ returns-in_ok-records-clause-sound g t c =
     let told = g.F.PageFile.told c.args.desk.now.file in
     let is = c.records.ensures.leaf (sym c.level-level.ensures.value ∙ c.if-level-eq0.true) in
     IfErr-weaker c.put_leaf.result _ _
-    (λ e h. never e _ _ (leaf_put g.F.Hash.Hashes.of c.args.root told (g.F.PageFile.told c.look.new.file)
+    (λ e h. never e _ _ (leaf_put g.F.PageFile.scheme c.args.root told (g.F.PageFile.told c.look.new.file)
     c.args.desk.now.free c.args.child.now c.args.one.now (records_in view) c.in_ok-look.ensures.same
     (subst (λ n. IfSome told (λ b. HasNode b c.args.child.now.id (page_node n))) is c.in_ok-look.ensures.node)) h)
     c.put_leaf.ensures.sound
@@ -136,10 +135,10 @@ returns-in_err-stand-clause-sound g t c =
     let within : c.in_ok-at.at < length cs = omega (arith, c.in_ok-at.ensures.within, ap length c.deref.ensures.value)
     in
     handed c.from_residual-in_err-stand.result c.in_err-stand.field-0.0
-    (CanGrow g.F.Hash.Hashes.of c.args.root told c.args.desk.now.free c.args.child.now c.args.one.now)
+    (CanGrow g.F.PageFile.scheme c.args.root told c.args.desk.now.free c.args.child.now c.args.one.now)
     c.from_residual-in_err-stand.ensures.1
     (never c.in_err-stand.field-0.0 _ _
-    (child_grow g.F.Hash.Hashes.of c.args.root told (g.F.PageFile.told c.look.new.file) c.args.desk.now.free
+    (child_grow g.F.PageFile.scheme c.args.root told (g.F.PageFile.told c.look.new.file) c.args.desk.now.free
     c.args.child.now c.args.one.now c.in_ok-at.at cs c.index.result.now c.in_ok-look.ensures.same
     (subst (λ n. IfSome told (λ b. HasNode b c.args.child.now.id (page_node n))) (is ∙ ap node.Inner (sym same))
     c.in_ok-look.ensures.node)
@@ -158,7 +157,7 @@ returns-in_ok-children-2-clause-sound g t c =
     let within : c.in_ok-at.at < length cs = omega (arith, c.in_ok-at.ensures.within, ap length c.deref.ensures.value)
     in
     IfErr-weaker c.put_inner.result _ _
-    (λ e h. never e _ _ (inner_put g.F.Hash.Hashes.of c.args.root told (g.F.PageFile.told c.look.new.file)
+    (λ e h. never e _ _ (inner_put g.F.PageFile.scheme c.args.root told (g.F.PageFile.told c.look.new.file)
     c.args.desk.now.free c.args.child.now c.args.one.now c.in_ok-at.at cs c.index.result.now
     (g.F.PageFile.told c.put_into.new.desk.file) c.put_into.new.desk.free (entries c.in_ok-stand.stand)
     c.in_ok-look.ensures.same

@@ -1,8 +1,6 @@
 use Rattle.std.proofs.Common.{◌≡◌, ◌<◌, ◌≤◌, ◌+◌, length, map, sym, ap, subst, ◌∙◌, arith}
 use Rattle.std.specs.Prelude.{All}
 use Rattle.std.proofs.lemmas.List.Elements.{All-from_recursion}
-use Rattle.mr_record.specs.declared.version.Version.TheVariants.{One}
-use Rattle.mr_tree.specs.Digest.{by}
 use Rattle.mr_tree.specs.declared.child.Child.{Child}
 use Rattle.mr_tree.specs.declared.tree.Tree.TheOpen as node
 use Rattle.mr_pages.specs.Walking.{child_link}
@@ -56,29 +54,32 @@ write_inner-requires-then-len-clause-below g c =
 
 pub write_inner-requires-clause-told : goal.write_inner-requires-clause-told
 write_inner-requires-clause-told g c =
-    subst (All (IsTold One)) (sym (c.deref.ensures.value ∙ c.in_ok-front.ensures.first_is))
-    (All-from_recursion (IsTold One) _ (all_first (IsTold One) _ c.args.children.items c.requires.told))
+    subst (All (IsTold g.F.PageFile.scheme.version)) (sym (c.deref.ensures.value ∙ c.in_ok-front.ensures.first_is))
+    (All-from_recursion (IsTold g.F.PageFile.scheme.version) _
+    (all_first (IsTold g.F.PageFile.scheme.version) _ c.args.children.items c.requires.told))
 
 pub write_inner-requires-then-len-clause-told : goal.write_inner-requires-then-len-clause-told
 write_inner-requires-then-len-clause-told g c =
-    subst (All (IsTold One)) (sym (c.deref-then-len.ensures.value ∙ c.in_ok-front.ensures.second_is))
-    (All-from_recursion (IsTold One) _ (all_second (IsTold One) _ c.args.children.items c.requires.told))
+    subst (All (IsTold g.F.PageFile.scheme.version))
+    (sym (c.deref-then-len.ensures.value ∙ c.in_ok-front.ensures.second_is))
+    (All-from_recursion (IsTold g.F.PageFile.scheme.version) _
+    (all_second (IsTold g.F.PageFile.scheme.version) _ c.args.children.items c.requires.told))
 
 pub returns-in_ok-second-clause-puts : goal.returns-in_ok-second-clause-puts
 returns-in_ok-second-clause-puts g c =
     let xs = c.args.children.items in
     let many : 64 < length xs = omega (arith, c.len.ensures, c.args.children.ok, c.if-len.true) in
-    inner_split (by One g.F.Hash.Hashes.of) (g.F.PageFile.told c.args.desk.now.file)
+    inner_split g.F.PageFile.scheme (g.F.PageFile.told c.args.desk.now.file)
     (g.F.PageFile.told c.take_page.new.desk.file) (g.F.PageFile.told c.write_inner.new.desk.file)
     (g.F.PageFile.told c.write_inner-then-len.new.desk.file) c.args.desk.now.free c.take_page.new.desk.free
     c.write_inner.new.desk.free c.write_inner-then-len.new.desk.free c.args.page c.in_ok-other.other
     xs c.in_ok-front.front.items c.in_ok-front.back.items c.in_ok-first.first c.in_ok-second.second many
     c.in_ok-front.ensures c.in_ok-other.ensures.takes
-    (subst (λ us. Writes (by One g.F.Hash.Hashes.of) (g.F.PageFile.told c.take_page.new.desk.file)
+    (subst (λ us. Writes g.F.PageFile.scheme (g.F.PageFile.told c.take_page.new.desk.file)
     c.take_page.new.desk.free
     (g.F.PageFile.told c.write_inner.new.desk.file) c.write_inner.new.desk.free c.args.page
     (node.Inner (map child_link us)) c.in_ok-first.first) c.deref.ensures.value c.in_ok-first.ensures.writes)
-    (subst (λ us. Writes (by One g.F.Hash.Hashes.of) (g.F.PageFile.told c.write_inner.new.desk.file)
+    (subst (λ us. Writes g.F.PageFile.scheme (g.F.PageFile.told c.write_inner.new.desk.file)
     c.write_inner.new.desk.free (g.F.PageFile.told c.write_inner-then-len.new.desk.file)
     c.write_inner-then-len.new.desk.free c.in_ok-other.other (node.Inner (map child_link us)) c.in_ok-second.second)
     c.deref-then-len.ensures.value c.in_ok-second.ensures.writes)
@@ -87,10 +88,10 @@ pub returns-in_ok-first-2-clause-puts : goal.returns-in_ok-first-2-clause-puts
 returns-in_ok-first-2-clause-puts g c =
     let xs = c.args.children.items in
     let few : length xs ≤ 64 = omega (arith, c.len.ensures, c.args.children.ok, c.if-len.false) in
-    inner_whole (by One g.F.Hash.Hashes.of) (g.F.PageFile.told c.args.desk.now.file)
+    inner_whole g.F.PageFile.scheme (g.F.PageFile.told c.args.desk.now.file)
     (g.F.PageFile.told c.write_inner-else-len.new.desk.file) c.args.desk.now.free
     c.write_inner-else-len.new.desk.free c.args.page xs c.in_ok-first-2.first few
-    (subst (λ us. Writes (by One g.F.Hash.Hashes.of) (g.F.PageFile.told c.args.desk.now.file) c.args.desk.now.free
+    (subst (λ us. Writes g.F.PageFile.scheme (g.F.PageFile.told c.args.desk.now.file) c.args.desk.now.free
     (g.F.PageFile.told c.write_inner-else-len.new.desk.file) c.write_inner-else-len.new.desk.free c.args.page
     (node.Inner (map child_link us)) c.in_ok-first-2.first) c.deref-else-len.ensures.value
     c.in_ok-first-2.ensures.writes)

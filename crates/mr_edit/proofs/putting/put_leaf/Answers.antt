@@ -2,8 +2,6 @@ use Rattle.std.proofs.Common.{◌<◌, ◌≤◌, length, sym, ap, subst, ◌∙
 use Rattle.std.specs.Prelude.{All}
 use Rattle.std.proofs.lemmas.List.Elements.{recursion_from_All, All-from_recursion}
 use Rattle.mr_record.specs.Record.{HasLayer}
-use Rattle.mr_record.specs.declared.version.Version.TheVariants.{One}
-use Rattle.mr_tree.specs.Digest.{by}
 use Rattle.mr_tree.specs.declared.tree.Tree.TheOpen as node
 use Rattle.mr_grow.proofs.Cutting.{all_first, all_second}
 use Rattle.mr_edit.specs.Outcome.{Writes, CanPut}
@@ -41,14 +39,14 @@ write_leaf-requires-then-len-clause-few g c = omega (
 
 pub write_leaf-requires-clause-layers : goal.write_leaf-requires-clause-layers
 write_leaf-requires-clause-layers g c =
-    let P = HasLayer One in
+    let P = HasLayer g.F.PageFile.scheme.version in
     subst (All P) (sym (c.deref.ensures.value ∙ c.in_ok-front.ensures.first_is))
     (All-from_recursion P _ (all_first P _ c.args.records.items
     (recursion_from_All P c.args.records.items c.requires.layers)))
 
 pub write_leaf-requires-then-len-clause-layers : goal.write_leaf-requires-then-len-clause-layers
 write_leaf-requires-then-len-clause-layers g c =
-    let P = HasLayer One in
+    let P = HasLayer g.F.PageFile.scheme.version in
     subst (All P) (sym (c.deref-then-len.ensures.value ∙ c.in_ok-front.ensures.second_is))
     (All-from_recursion P _ (all_second P _ c.args.records.items
     (recursion_from_All P c.args.records.items c.requires.layers)))
@@ -57,17 +55,17 @@ pub returns-in_ok-second-clause-puts : goal.returns-in_ok-second-clause-puts
 returns-in_ok-second-clause-puts g c =
     let xs = c.args.records.items in
     let many : 16 < length xs = omega (arith, c.len.ensures, c.args.records.ok, c.if-len.true) in
-    leaf_split (by One g.F.Hash.Hashes.of) (g.F.PageFile.told c.args.desk.now.file)
+    leaf_split g.F.PageFile.scheme (g.F.PageFile.told c.args.desk.now.file)
     (g.F.PageFile.told c.take_page.new.desk.file) (g.F.PageFile.told c.write_leaf.new.desk.file)
     (g.F.PageFile.told c.write_leaf-then-len.new.desk.file) c.args.desk.now.free c.take_page.new.desk.free
     c.write_leaf.new.desk.free c.write_leaf-then-len.new.desk.free c.args.page c.in_ok-other.other
     xs c.in_ok-front.front.items c.in_ok-front.back.items c.in_ok-first.first c.in_ok-second.second many
     c.in_ok-front.ensures c.in_ok-other.ensures.takes
-    (subst (λ us. Writes (by One g.F.Hash.Hashes.of) (g.F.PageFile.told c.take_page.new.desk.file)
+    (subst (λ us. Writes g.F.PageFile.scheme (g.F.PageFile.told c.take_page.new.desk.file)
     c.take_page.new.desk.free
     (g.F.PageFile.told c.write_leaf.new.desk.file) c.write_leaf.new.desk.free c.args.page (node.Leaf us)
     c.in_ok-first.first) c.deref.ensures.value c.in_ok-first.ensures.writes)
-    (subst (λ us. Writes (by One g.F.Hash.Hashes.of) (g.F.PageFile.told c.write_leaf.new.desk.file)
+    (subst (λ us. Writes g.F.PageFile.scheme (g.F.PageFile.told c.write_leaf.new.desk.file)
     c.write_leaf.new.desk.free (g.F.PageFile.told c.write_leaf-then-len.new.desk.file)
     c.write_leaf-then-len.new.desk.free c.in_ok-other.other (node.Leaf us) c.in_ok-second.second)
     c.deref-then-len.ensures.value c.in_ok-second.ensures.writes)
@@ -76,10 +74,10 @@ pub returns-in_ok-first-2-clause-puts : goal.returns-in_ok-first-2-clause-puts
 returns-in_ok-first-2-clause-puts g c =
     let xs = c.args.records.items in
     let few : length xs ≤ 16 = omega (arith, c.len.ensures, c.args.records.ok, c.if-len.false) in
-    leaf_whole (by One g.F.Hash.Hashes.of) (g.F.PageFile.told c.args.desk.now.file)
+    leaf_whole g.F.PageFile.scheme (g.F.PageFile.told c.args.desk.now.file)
     (g.F.PageFile.told c.write_leaf-else-len.new.desk.file) c.args.desk.now.free c.write_leaf-else-len.new.desk.free
     c.args.page xs c.in_ok-first-2.first few
-    (subst (λ us. Writes (by One g.F.Hash.Hashes.of) (g.F.PageFile.told c.args.desk.now.file) c.args.desk.now.free
+    (subst (λ us. Writes g.F.PageFile.scheme (g.F.PageFile.told c.args.desk.now.file) c.args.desk.now.free
     (g.F.PageFile.told c.write_leaf-else-len.new.desk.file) c.write_leaf-else-len.new.desk.free c.args.page
     (node.Leaf us) c.in_ok-first-2.first) c.deref-else-len.ensures.value c.in_ok-first-2.ensures.writes)
 

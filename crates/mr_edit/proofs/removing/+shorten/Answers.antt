@@ -1,8 +1,6 @@
 use Rattle.std.proofs.Common.{false, ◌≢◌, ◌≤◌, ◌<◌, length, sym, ap, subst, ◌∙◌, arith}
 use Rattle.std.specs.Prelude.{IfSome}
 use Rattle.std.proofs.lemmas.Result.{IfOk-weaker}
-use Rattle.mr_record.specs.declared.version.Version.TheVariants.{One}
-use Rattle.mr_tree.specs.Digest.{by}
 use Rattle.mr_tree.specs.View.{records_in, size}
 use Rattle.mr_tree.specs.declared.tree.Tree.TheOpen as node
 use Rattle.mr_pages.specs.Walking.{page_node}
@@ -22,7 +20,7 @@ returns-then-level-eq0-clause-shortens g t c =
     let is = c.records-records.ensures.leaf (sym c.level.ensures.value ∙ c.if-level-eq0.true) in
     let long : 1 ≤ length (records_in view) = subst (λ n. 1 ≤ size n) is c.in_ok-look.ensures.some in
     let some : length (records_in view) ≢ 0 = λ none. omega (arith, long, none) in
-    shortens_leaf (by One g.F.Hash.Hashes.of) (g.F.PageFile.told c.args.desk.now.file) (g.F.PageFile.told
+    shortens_leaf g.F.PageFile.scheme (g.F.PageFile.told c.args.desk.now.file) (g.F.PageFile.told
     c.look.new.file)
     c.args.desk.now.free c.args.child.now (records_in view) c.in_ok-look.ensures.same
     (subst (λ n. IfSome (g.F.PageFile.told c.args.desk.now.file) (λ b. HasNode b c.args.child.now.id (page_node n))) is
@@ -34,7 +32,7 @@ returns-then-children-ne1-clause-shortens g t c =
     let high : 0 < c.level.result = omega (arith, c.if-level-eq0.false) in
     let is = c.children-children.ensures.inner (subst (λ n. 0 < n) c.level.ensures.value high)
     ∙ ap node.Inner (sym c.children-children.ensures.value) in
-    shortens_many (by One g.F.Hash.Hashes.of) (g.F.PageFile.told c.args.desk.now.file) (g.F.PageFile.told
+    shortens_many g.F.PageFile.scheme (g.F.PageFile.told c.args.desk.now.file) (g.F.PageFile.told
     c.look.new.file)
     c.args.desk.now.free c.args.child.now cs c.in_ok-look.ensures.same
     (subst (λ n. IfSome (g.F.PageFile.told c.args.desk.now.file) (λ b. HasNode b c.args.child.now.id (page_node n))) is
@@ -47,7 +45,7 @@ returns-clause-shortens g t c =
     let is = c.children-children.ensures.inner (subst (λ n. 0 < n) c.level.ensures.value high)
     ∙ ap node.Inner (sym c.children-children.ensures.value) in
     IfOk-weaker c.shorten.result _ _
-    (λ e h. shortens_one (by One g.F.Hash.Hashes.of) (g.F.PageFile.told c.args.desk.now.file)
+    (λ e h. shortens_one g.F.PageFile.scheme (g.F.PageFile.told c.args.desk.now.file)
     (g.F.PageFile.told c.look.new.file) (g.F.PageFile.told c.free_page.new.desk.file)
     (g.F.PageFile.told c.shorten.new.desk.file)
     c.args.desk.now.free c.free_page.new.desk.free c.shorten.new.desk.free c.args.child.now cs c.index-children-0.result
@@ -60,20 +58,20 @@ returns-clause-shortens g t c =
 pub returns-in_err-look-clause-sound : goal.returns-in_err-look-clause-sound
 returns-in_err-look-clause-sound g t c =
     handed c.from_residual.result c.in_err-look.field-0.0
-    (KnowsBelow g.F.Hash.Hashes.of false (g.F.PageFile.told c.args.desk.now.file) c.args.desk.now.free
+    (KnowsBelow g.F.PageFile.scheme false (g.F.PageFile.told c.args.desk.now.file) c.args.desk.now.free
     c.args.child.now) c.from_residual.ensures.1
     (never c.in_err-look.field-0.0 _ _
-    (λ k. can_look g.F.Hash.Hashes.of false (g.F.PageFile.told c.args.desk.now.file) c.args.desk.now.free
+    (λ k. can_look g.F.PageFile.scheme false (g.F.PageFile.told c.args.desk.now.file) c.args.desk.now.free
     c.args.child.now k)
     c.in_err-look.ensures.sound)
 
 pub returns-in_err-free_page-clause-sound : goal.returns-in_err-free_page-clause-sound
 returns-in_err-free_page-clause-sound g t c =
     handed c.from_residual-in_err-free_page.result c.in_err-free_page.field-0.0
-    (KnowsBelow g.F.Hash.Hashes.of false (g.F.PageFile.told c.args.desk.now.file) c.args.desk.now.free
+    (KnowsBelow g.F.PageFile.scheme false (g.F.PageFile.told c.args.desk.now.file) c.args.desk.now.free
     c.args.child.now) c.from_residual-in_err-free_page.ensures.1
     (never c.in_err-free_page.field-0.0 _ _
-    (λ k. known_writes g.F.Hash.Hashes.of false (g.F.PageFile.told c.args.desk.now.file)
+    (λ k. known_writes g.F.PageFile.scheme false (g.F.PageFile.told c.args.desk.now.file)
     (g.F.PageFile.told c.look.new.file) c.args.desk.now.free c.args.child.now c.in_ok-look.ensures.same k)
     c.in_err-free_page.ensures.sound)
 
@@ -85,9 +83,9 @@ returns-clause-sound g t c =
     ∙ ap node.Inner (sym c.children-children.ensures.value) in
     if_err c.shorten.result _ _
     (λ e h. never e _ _
-    (λ k. only_below g.F.Hash.Hashes.of (g.F.PageFile.told c.free_page.new.desk.file) c.free_page.new.desk.free cs
+    (λ k. only_below g.F.PageFile.scheme (g.F.PageFile.told c.free_page.new.desk.file) c.free_page.new.desk.free cs
     c.index-children-0.result c.if-children-ne1.false c.index-children-0.is
-    (children_below g.F.Hash.Hashes.of (g.F.PageFile.told c.args.desk.now.file) (g.F.PageFile.told c.look.new.file)
+    (children_below g.F.PageFile.scheme (g.F.PageFile.told c.args.desk.now.file) (g.F.PageFile.told c.look.new.file)
     (g.F.PageFile.told c.free_page.new.desk.file) c.args.desk.now.free c.free_page.new.desk.free c.args.child.now cs
     c.in_ok-look.ensures.same
     (subst (λ n. IfSome (g.F.PageFile.told c.args.desk.now.file) (λ b. HasNode b c.args.child.now.id (page_node n))) is
@@ -96,25 +94,25 @@ returns-clause-sound g t c =
 
 pub returns-in_err-look-clause-once : goal.returns-in_err-look-clause-once
 returns-in_err-look-clause-once g t c =
-    frees_looked (by One g.F.Hash.Hashes.of) (g.F.PageFile.told c.args.desk.now.file) c.args.desk.now.free
+    frees_looked g.F.PageFile.scheme (g.F.PageFile.told c.args.desk.now.file) c.args.desk.now.free
     c.args.child.now (g.F.PageFile.reads c.args.desk.now.file) (g.F.PageFile.reads c.look.new.file)
     (omega (arith, c.look.ensures.reads))
 
 pub returns-then-level-eq0-clause-once : goal.returns-then-level-eq0-clause-once
 returns-then-level-eq0-clause-once g t c =
-    frees_looked (by One g.F.Hash.Hashes.of) (g.F.PageFile.told c.args.desk.now.file) c.args.desk.now.free
+    frees_looked g.F.PageFile.scheme (g.F.PageFile.told c.args.desk.now.file) c.args.desk.now.free
     c.args.child.now (g.F.PageFile.reads c.args.desk.now.file) (g.F.PageFile.reads c.look.new.file)
     (omega (arith, c.look.ensures.reads))
 
 pub returns-then-children-ne1-clause-once : goal.returns-then-children-ne1-clause-once
 returns-then-children-ne1-clause-once g t c =
-    frees_looked (by One g.F.Hash.Hashes.of) (g.F.PageFile.told c.args.desk.now.file) c.args.desk.now.free
+    frees_looked g.F.PageFile.scheme (g.F.PageFile.told c.args.desk.now.file) c.args.desk.now.free
     c.args.child.now (g.F.PageFile.reads c.args.desk.now.file) (g.F.PageFile.reads c.look.new.file)
     (omega (arith, c.look.ensures.reads))
 
 pub returns-in_err-free_page-clause-once : goal.returns-in_err-free_page-clause-once
 returns-in_err-free_page-clause-once g t c =
-    frees_looked (by One g.F.Hash.Hashes.of) (g.F.PageFile.told c.args.desk.now.file) c.args.desk.now.free
+    frees_looked g.F.PageFile.scheme (g.F.PageFile.told c.args.desk.now.file) c.args.desk.now.free
     c.args.child.now (g.F.PageFile.reads c.args.desk.now.file) (g.F.PageFile.reads c.free_page.new.desk.file)
     (omega (arith, c.look.ensures.reads, c.free_page.ensures.reads))
 
@@ -124,13 +122,13 @@ returns-clause-once g t c =
     let high : 0 < c.level.result = omega (arith, c.if-level-eq0.false) in
     let is = c.children-children.ensures.inner (subst (λ n. 0 < n) c.level.ensures.value high)
     ∙ ap node.Inner (sym c.children-children.ensures.value) in
-    frees_below (by One g.F.Hash.Hashes.of) (g.F.PageFile.told c.args.desk.now.file) (g.F.PageFile.told c.look.new.file)
+    frees_below g.F.PageFile.scheme (g.F.PageFile.told c.args.desk.now.file) (g.F.PageFile.told c.look.new.file)
     (g.F.PageFile.told c.free_page.new.desk.file) c.args.desk.now.free c.free_page.new.desk.free c.args.child.now cs
     (g.F.PageFile.reads c.args.desk.now.file) (g.F.PageFile.reads c.free_page.new.desk.file)
     (g.F.PageFile.reads c.shorten.new.desk.file) c.in_ok-look.ensures.same
     (subst (λ n. IfSome (g.F.PageFile.told c.args.desk.now.file) (λ b. HasNode b c.args.child.now.id (page_node n))) is
     c.in_ok-look.ensures.node)
     c.in_ok-free_page.ensures.frees (omega (arith, c.look.ensures.reads, c.free_page.ensures.reads))
-    (frees_only (by One g.F.Hash.Hashes.of) (g.F.PageFile.told c.free_page.new.desk.file) c.free_page.new.desk.free cs
+    (frees_only g.F.PageFile.scheme (g.F.PageFile.told c.free_page.new.desk.file) c.free_page.new.desk.free cs
     c.index-children-0.result (g.F.PageFile.reads c.free_page.new.desk.file)
     (g.F.PageFile.reads c.shorten.new.desk.file) c.if-children-ne1.false c.index-children-0.is c.shorten.ensures.once)

@@ -3,8 +3,6 @@ use Rattle.std.specs.Prelude.{IfSome}
 use Rattle.std.specs.List.{AllByRecursion}
 use Rattle.std.specs.Option.{option_to_list}
 use Rattle.std.proofs.lemmas.List.Elements.{recursion_from_All}
-use Rattle.mr_record.specs.declared.version.Version.TheVariants.{One}
-use Rattle.mr_tree.specs.Digest.{by}
 use Rattle.mr_tree.specs.View.{records_in, children_in, level_of}
 use Rattle.mr_tree.specs.declared.child.Child.{Child}
 use Rattle.mr_tree.specs.declared.tree.Tree.TheOpen as node
@@ -46,7 +44,7 @@ returns-then-at-len-clause-searches g t c =
     ) in (
       c.in_ok-look.ensures.same,
       refl,
-      lacks_leaf (by One g.F.Hash.Hashes.of) (g.F.PageFile.told c.args.desk.now.file)
+      lacks_leaf g.F.PageFile.scheme (g.F.PageFile.told c.args.desk.now.file)
           c.args.child.now c.args.number c.args.rect.now rs c.position_of-at.result reads place past,
     )
 
@@ -65,7 +63,7 @@ returns-in_ok-leave_records-clause-searches g t c =
       c.len.ensures,
       c.in_ok-records.records.ok,
     ) in
-    removes_leaf (by One g.F.Hash.Hashes.of) c.args.root (g.F.PageFile.told c.args.desk.now.file)
+    removes_leaf g.F.PageFile.scheme c.args.root (g.F.PageFile.told c.args.desk.now.file)
     (g.F.PageFile.told c.look.new.file) (g.F.PageFile.told c.leave_records.new.desk.file) c.args.desk.now.free
     c.leave_records.new.desk.free c.args.child.now c.args.number c.args.rect.now
     rs c.remove.new.self.items c.position_of-at.result (option_to_list c.in_ok-leave_records.field-0.entry)
@@ -78,17 +76,17 @@ loop-n-preserved-then-not-may_hold g t c = record {
   free = c.loop-n.invariant.free;
   kept = c.loop-n.invariant.kept;
   quiet = c.loop-n.invariant.quiet;
-  none = none_tried (by One g.F.Hash.Hashes.of) (g.F.PageFile.told c.look.new.file) c.children-children.result.now
+  none = none_tried g.F.PageFile.scheme (g.F.PageFile.told c.look.new.file) c.children-children.result.now
       c.args.number c.args.rect.now c.loop-n.n c.turn-turn.result c.tried-at.result c.index-children-at.result
       c.tried-at.ensures (omega (arith, c.if-at-children.false)) c.index-children-at.is
-      (outside (by One g.F.Hash.Hashes.of) (g.F.PageFile.told c.look.new.file) c.index-children-at.result c.args.number
+      (outside g.F.PageFile.scheme (g.F.PageFile.told c.look.new.file) c.index-children-at.result c.args.number
       c.args.rect.now (c.may_hold.ensures.outside c.if-not-may_hold.true)) c.loop-n.invariant.none;
-  turned = λ some. turned_on (by One g.F.Hash.Hashes.of) (g.F.PageFile.told c.look.new.file)
+  turned = λ some. turned_on g.F.PageFile.scheme (g.F.PageFile.told c.look.new.file)
       c.children-children.result.now c.args.number c.args.rect.now c.loop-n.n c.turn-turn.result c.tried-at.result
       c.index-children-at.result c.tried-at.ensures (omega (arith, c.if-at-children.false)) c.index-children-at.is
-      (outside (by One g.F.Hash.Hashes.of) (g.F.PageFile.told c.look.new.file) c.index-children-at.result c.args.number
+      (outside g.F.PageFile.scheme (g.F.PageFile.told c.look.new.file) c.index-children-at.result c.args.number
       c.args.rect.now (c.may_hold.ensures.outside c.if-not-may_hold.true)) c.loop-n.invariant.turned;
-  tried = tried_still (by One g.F.Hash.Hashes.of) (g.F.PageFile.told c.look.new.file) c.children-children.result.now
+  tried = tried_still g.F.PageFile.scheme (g.F.PageFile.told c.look.new.file) c.children-children.result.now
       c.turn-turn.result c.loop-n.n (g.F.PageFile.reads c.look.new.file) (g.F.PageFile.reads c.loop-n.desk.file)
       c.loop-n.invariant.tried;
 }
@@ -96,7 +94,7 @@ loop-n-preserved-then-not-may_hold g t c = record {
 pub loop-n-preserved : goal.loop-n-preserved
 loop-n-preserved g t c =
     let d = c.index-children-at-in-loop-n.result in
-    let s = subst (Searches (by One g.F.Hash.Hashes.of) false (g.F.PageFile.told c.loop-n.desk.file) c.loop-n.desk.free
+    let s = subst (Searches g.F.PageFile.scheme false (g.F.PageFile.told c.loop-n.desk.file) c.loop-n.desk.free
     (g.F.PageFile.told c.take_out.new.desk.file) c.take_out.new.desk.free d c.args.number c.args.rect.now)
     c.in_default.is c.in_ok-found.ensures.searches in
     record {
@@ -105,24 +103,24 @@ loop-n-preserved g t c =
       kept = g.met.F.PageFile.kept_on c.look.new.file c.loop-n.desk.file c.take_out.new.desk.file
           c.loop-n.invariant.kept c.take_out.ensures.kept;
       quiet = c.in_ok-found.ensures.quiet ∙ c.loop-n.invariant.quiet;
-      none = none_tried (by One g.F.Hash.Hashes.of) (g.F.PageFile.told c.look.new.file) c.children-children.result.now
+      none = none_tried g.F.PageFile.scheme (g.F.PageFile.told c.look.new.file) c.children-children.result.now
           c.args.number c.args.rect.now c.loop-n.n c.turn-turn.result c.tried-at.result d
           c.tried-at.ensures (omega (arith, c.if-at-children.false)) c.index-children-at-in-loop-n.is
-          (subst (λ o. Lacks (by One g.F.Hash.Hashes.of) o d c.args.number c.args.rect.now) c.loop-n.invariant.same s.2)
+          (subst (λ o. Lacks g.F.PageFile.scheme o d c.args.number c.args.rect.now) c.loop-n.invariant.same s.2)
           c.loop-n.invariant.none;
-      turned = λ some. turned_on (by One g.F.Hash.Hashes.of) (g.F.PageFile.told c.look.new.file)
+      turned = λ some. turned_on g.F.PageFile.scheme (g.F.PageFile.told c.look.new.file)
           c.children-children.result.now c.args.number c.args.rect.now c.loop-n.n c.turn-turn.result c.tried-at.result d
           c.tried-at.ensures (omega (arith, c.if-at-children.false)) c.index-children-at-in-loop-n.is
-          (subst (λ o. Lacks (by One g.F.Hash.Hashes.of) o d c.args.number c.args.rect.now) c.loop-n.invariant.same s.2)
+          (subst (λ o. Lacks g.F.PageFile.scheme o d c.args.number c.args.rect.now) c.loop-n.invariant.same s.2)
           c.loop-n.invariant.turned;
-      tried = tried_next (by One g.F.Hash.Hashes.of) (g.F.PageFile.told c.look.new.file) c.children-children.result.now
+      tried = tried_next g.F.PageFile.scheme (g.F.PageFile.told c.look.new.file) c.children-children.result.now
           c.turn-turn.result c.loop-n.n c.tried-at.result d (g.F.PageFile.reads c.look.new.file)
           (g.F.PageFile.reads c.loop-n.desk.file) (g.F.PageFile.reads c.take_out.new.desk.file) c.tried-at.ensures
           (new_try c.loop-n.n c.turn-turn.result c.tried-at.result (sym c.is_again.ensures ∙ c.if-is_again.false))
           (omega (arith, c.if-at-children.false)) c.index-children-at-in-loop-n.is
-          (subst (λ o. ReadsOnce (by One g.F.Hash.Hashes.of) o d (g.F.PageFile.reads c.loop-n.desk.file)
+          (subst (λ o. ReadsOnce g.F.PageFile.scheme o d (g.F.PageFile.reads c.loop-n.desk.file)
           (g.F.PageFile.reads c.take_out.new.desk.file)) c.loop-n.invariant.same
-          (subst (TakesTwice (by One g.F.Hash.Hashes.of) false (g.F.PageFile.told c.loop-n.desk.file) c.loop-n.desk.free
+          (subst (TakesTwice g.F.PageFile.scheme false (g.F.PageFile.told c.loop-n.desk.file) c.loop-n.desk.free
           d c.args.number c.args.rect.now (g.F.PageFile.reads c.loop-n.desk.file)
           (g.F.PageFile.reads c.take_out.new.desk.file)) c.in_default.is c.in_ok-found.ensures.takes))
           c.loop-n.invariant.tried;
@@ -168,12 +166,14 @@ leave-requires-clause-told g t c =
     let cs = c.children-children.result.now in
     let view = c.look.new.into in
     let entry = c.in-Some.left.entry in
-    replaced_all (IsTold One) c.tried-at.result cs (option_to_list entry) c.deref-in-loop-n.result.now
+    replaced_all (IsTold g.F.PageFile.scheme.version) c.tried-at.result cs (option_to_list entry)
+    c.deref-in-loop-n.result.now
     (c.deref-in-loop-n.ensures.value ∙ c.in_ok-rest.ensures)
-    (subst (AllByRecursion (IsTold One)) (sym c.children-children.ensures.value)
-    (recursion_from_All (IsTold One) (children_in view) c.in_ok-look.ensures.shown.children))
-    (of_option (IsTold One) entry
-    (subst (λ o. IfSome o (λ (l : Left). IfSome l.entry (IsTold One))) c.in-Some.is c.in_ok-found.ensures.told))
+    (subst (AllByRecursion (IsTold g.F.PageFile.scheme.version)) (sym c.children-children.ensures.value)
+    (recursion_from_All (IsTold g.F.PageFile.scheme.version) (children_in view) c.in_ok-look.ensures.shown.children))
+    (of_option (IsTold g.F.PageFile.scheme.version) entry
+    (subst (λ o. IfSome o (λ (l : Left). IfSome l.entry (IsTold g.F.PageFile.scheme.version))) c.in-Some.is
+    c.in_ok-found.ensures.told))
 
 pub returns-in_err-left-clause-kept : goal.returns-in_err-left-clause-kept
 returns-in_err-left-clause-kept g t c =
@@ -195,17 +195,17 @@ returns-in-loop-n-clause-searches g t c =
     let l = c.in-Some.left in
     let out = c.in_ok-left.left in
     let back = c.loop-n.invariant.same ∙ c.in_ok-look.ensures.same in
-    removes_below (by One g.F.Hash.Hashes.of) c.args.root (g.F.PageFile.told c.args.desk.now.file)
+    removes_below g.F.PageFile.scheme c.args.root (g.F.PageFile.told c.args.desk.now.file)
     (g.F.PageFile.told c.loop-n.desk.file) (g.F.PageFile.told c.take_out.new.desk.file)
     (g.F.PageFile.told c.leave.new.desk.file)
     c.args.desk.now.free c.loop-n.desk.free c.take_out.new.desk.free c.leave.new.desk.free c.args.child.now
     c.args.number c.args.rect.now c.tried-at.result cs
     (option_to_list l.entry) (option_to_list out.entry) l.aside.items out.aside.items d back c.loop-n.invariant.free
     reads (omega (arith, c.if-at-children.false)) c.index-children-at-in-loop-n.is
-    (subst (Searches (by One g.F.Hash.Hashes.of) false (g.F.PageFile.told c.loop-n.desk.file) c.loop-n.desk.free
+    (subst (Searches g.F.PageFile.scheme false (g.F.PageFile.told c.loop-n.desk.file) c.loop-n.desk.free
     (g.F.PageFile.told c.take_out.new.desk.file) c.take_out.new.desk.free d c.args.number c.args.rect.now)
     c.in-Some.is c.in_ok-found.ensures.searches)
-    (subst (λ us. LeavesInner (by One g.F.Hash.Hashes.of) c.args.root (g.F.PageFile.told c.take_out.new.desk.file)
+    (subst (λ us. LeavesInner g.F.PageFile.scheme c.args.root (g.F.PageFile.told c.take_out.new.desk.file)
     c.take_out.new.desk.free (g.F.PageFile.told c.leave.new.desk.file) c.leave.new.desk.free c.args.child.now.id us
     l.aside.items (option_to_list out.entry) out.aside.items)
     (c.deref-in-loop-n.ensures.value ∙ c.in_ok-rest.ensures) c.in_ok-left.ensures.leaves)
@@ -221,29 +221,29 @@ returns-after-loop-n-clause-searches g t c =
     (λ b. HasNode b c.args.child.now.id (page_node n))) is c.in_ok-look.ensures.node in (
       c.loop-n.invariant.same ∙ c.in_ok-look.ensures.same,
       c.loop-n.invariant.free,
-      lacks_inner (by One g.F.Hash.Hashes.of) (g.F.PageFile.told c.args.desk.now.file) c.args.child.now cs c.args.number
+      lacks_inner g.F.PageFile.scheme (g.F.PageFile.told c.args.desk.now.file) c.args.child.now cs c.args.number
           c.args.rect.now (c.loop-n.n - 1) reads (omega (arith, c.loop-n-test.false))
-          (subst (λ o. NoneYet (by One g.F.Hash.Hashes.of) o cs c.args.number c.args.rect.now (c.loop-n.n - 1))
+          (subst (λ o. NoneYet g.F.PageFile.scheme o cs c.args.number c.args.rect.now (c.loop-n.n - 1))
           c.in_ok-look.ensures.same c.loop-n.invariant.none),
     )
 
 pub returns-in_err-look-clause-sound : goal.returns-in_err-look-clause-sound
 returns-in_err-look-clause-sound g t c =
     handed c.from_residual.result c.in_err-look.field-0.0
-    (CanTakeOut g.F.Hash.Hashes.of c.args.root (g.F.PageFile.told c.args.desk.now.file) c.args.desk.now.free
+    (CanTakeOut g.F.PageFile.scheme c.args.root (g.F.PageFile.told c.args.desk.now.file) c.args.desk.now.free
     c.args.child.now c.args.number c.args.rect.now) c.from_residual.ensures.1
     (never c.in_err-look.field-0.0 _ _
-    (λ k. can_look g.F.Hash.Hashes.of c.args.root (g.F.PageFile.told c.args.desk.now.file) c.args.desk.now.free
+    (λ k. can_look g.F.PageFile.scheme c.args.root (g.F.PageFile.told c.args.desk.now.file) c.args.desk.now.free
     c.args.child.now k.below)
     c.in_err-look.ensures.sound)
 
 pub returns-in_err-leave_records-clause-sound : goal.returns-in_err-leave_records-clause-sound
 returns-in_err-leave_records-clause-sound g t c =
     handed c.from_residual-in_err-leave_records.result c.in_err-leave_records.field-0.0
-    (CanTakeOut g.F.Hash.Hashes.of c.args.root (g.F.PageFile.told c.args.desk.now.file) c.args.desk.now.free
+    (CanTakeOut g.F.PageFile.scheme c.args.root (g.F.PageFile.told c.args.desk.now.file) c.args.desk.now.free
     c.args.child.now c.args.number c.args.rect.now) c.from_residual-in_err-leave_records.ensures.1
     (never c.in_err-leave_records.field-0.0 _ _
-    (λ k. known_writes g.F.Hash.Hashes.of c.args.root (g.F.PageFile.told c.args.desk.now.file)
+    (λ k. known_writes g.F.PageFile.scheme c.args.root (g.F.PageFile.told c.args.desk.now.file)
     (g.F.PageFile.told c.look.new.file) c.args.desk.now.free c.args.child.now c.in_ok-look.ensures.same k.below)
     c.in_err-leave_records.ensures.sound)
 
@@ -259,10 +259,10 @@ returns-in_err-found-clause-sound g t c =
     let d = c.index-children-at-in-loop-n.result in
     let back = c.loop-n.invariant.same ∙ c.in_ok-look.ensures.same in
     handed c.from_residual-in_err-found.result c.in_err-found.field-0.0
-    (CanTakeOut g.F.Hash.Hashes.of c.args.root (g.F.PageFile.told c.args.desk.now.file) c.args.desk.now.free
+    (CanTakeOut g.F.PageFile.scheme c.args.root (g.F.PageFile.told c.args.desk.now.file) c.args.desk.now.free
     c.args.child.now c.args.number c.args.rect.now) c.from_residual-in_err-found.ensures.1
     (never c.in_err-found.field-0.0 _ _
-    (λ k. sought_below g.F.Hash.Hashes.of c.args.root (g.F.PageFile.told c.args.desk.now.file)
+    (λ k. sought_below g.F.PageFile.scheme c.args.root (g.F.PageFile.told c.args.desk.now.file)
     (g.F.PageFile.told c.loop-n.desk.file) c.args.desk.now.free c.loop-n.desk.free c.args.child.now c.args.number
     c.args.rect.now c.tried-at.result cs d back c.loop-n.invariant.free reads (omega (arith, c.if-at-children.false))
     c.index-children-at-in-loop-n.is k)
@@ -280,17 +280,17 @@ returns-in_err-left-clause-sound g t c =
     let d = c.index-children-at-in-loop-n.result in
     let back = c.loop-n.invariant.same ∙ c.in_ok-look.ensures.same in
     handed c.from_residual-in_err-left.result c.in_err-left.field-0.0
-    (CanTakeOut g.F.Hash.Hashes.of c.args.root (g.F.PageFile.told c.args.desk.now.file) c.args.desk.now.free
+    (CanTakeOut g.F.PageFile.scheme c.args.root (g.F.PageFile.told c.args.desk.now.file) c.args.desk.now.free
     c.args.child.now c.args.number c.args.rect.now) c.from_residual-in_err-left.ensures.1
     (never c.in_err-left.field-0.0 _ _
-    (λ k. subst (CanLeave g.F.Hash.Hashes.of (g.F.PageFile.told c.take_out.new.desk.file) c.take_out.new.desk.free
+    (λ k. subst (CanLeave g.F.PageFile.scheme (g.F.PageFile.told c.take_out.new.desk.file) c.take_out.new.desk.free
     c.args.child.now.id) (sym (c.deref-in-loop-n.ensures.value ∙ c.in_ok-rest.ensures))
-    (leave_left g.F.Hash.Hashes.of c.args.root (g.F.PageFile.told c.args.desk.now.file)
+    (leave_left g.F.PageFile.scheme c.args.root (g.F.PageFile.told c.args.desk.now.file)
     (g.F.PageFile.told c.loop-n.desk.file) (g.F.PageFile.told c.take_out.new.desk.file) c.args.desk.now.free
     c.loop-n.desk.free c.take_out.new.desk.free c.args.child.now c.args.number c.args.rect.now c.tried-at.result cs
     (option_to_list c.in-Some.left.entry) c.in-Some.left.aside.items d back c.loop-n.invariant.free reads
     (omega (arith, c.if-at-children.false)) c.index-children-at-in-loop-n.is
-    (subst (Searches (by One g.F.Hash.Hashes.of) false (g.F.PageFile.told c.loop-n.desk.file) c.loop-n.desk.free
+    (subst (Searches g.F.PageFile.scheme false (g.F.PageFile.told c.loop-n.desk.file) c.loop-n.desk.free
     (g.F.PageFile.told c.take_out.new.desk.file) c.take_out.new.desk.free d c.args.number c.args.rect.now)
     c.in-Some.is c.in_ok-found.ensures.searches) k))
     c.in_err-left.ensures.sound)
@@ -301,10 +301,10 @@ loop-n-init g t c = record {
   free = refl;
   kept = g.met.F.PageFile.kept_self c.look.new.file;
   quiet = refl;
-  none = none_first (by One g.F.Hash.Hashes.of) (g.F.PageFile.told c.look.new.file) c.children-children.result.now
+  none = none_first g.F.PageFile.scheme (g.F.PageFile.told c.look.new.file) c.children-children.result.now
       c.args.number c.args.rect.now;
   turned = λ some. absurd (some refl);
-  tried = tried_none (by One g.F.Hash.Hashes.of) (g.F.PageFile.told c.look.new.file) c.children-children.result.now
+  tried = tried_none g.F.PageFile.scheme (g.F.PageFile.told c.look.new.file) c.children-children.result.now
       c.turn-turn.result (g.F.PageFile.reads c.look.new.file);
 }
 
@@ -314,14 +314,14 @@ loop-n-preserved-then-at-children g t c = record {
   free = c.loop-n.invariant.free;
   kept = c.loop-n.invariant.kept;
   quiet = c.loop-n.invariant.quiet;
-  none = none_past (by One g.F.Hash.Hashes.of) (g.F.PageFile.told c.look.new.file) c.children-children.result.now
+  none = none_past g.F.PageFile.scheme (g.F.PageFile.told c.look.new.file) c.children-children.result.now
       c.args.number c.args.rect.now c.loop-n.n c.turn-turn.result c.tried-at.result
       c.tried-at.ensures
       (omega (arith, c.if-at-children.true)) (omega (arith, c.loop-n-test.true)) c.loop-n.invariant.none;
-  turned = λ some. turned_past (by One g.F.Hash.Hashes.of) (g.F.PageFile.told c.look.new.file)
+  turned = λ some. turned_past g.F.PageFile.scheme (g.F.PageFile.told c.look.new.file)
       c.children-children.result.now c.args.number c.args.rect.now c.loop-n.n c.turn-turn.result c.tried-at.result
       c.tried-at.ensures (omega (arith, c.if-at-children.true)) c.loop-n.invariant.turned;
-  tried = tried_still (by One g.F.Hash.Hashes.of) (g.F.PageFile.told c.look.new.file) c.children-children.result.now
+  tried = tried_still g.F.PageFile.scheme (g.F.PageFile.told c.look.new.file) c.children-children.result.now
       c.turn-turn.result c.loop-n.n (g.F.PageFile.reads c.look.new.file) (g.F.PageFile.reads c.loop-n.desk.file)
       c.loop-n.invariant.tried;
 }
@@ -334,53 +334,53 @@ loop-n-preserved-then-is_again g t c =
       free = c.loop-n.invariant.free;
       kept = c.loop-n.invariant.kept;
       quiet = c.loop-n.invariant.quiet;
-      none = none_again (by One g.F.Hash.Hashes.of) (g.F.PageFile.told c.look.new.file) c.children-children.result.now
+      none = none_again g.F.PageFile.scheme (g.F.PageFile.told c.look.new.file) c.children-children.result.now
           c.args.number c.args.rect.now c.loop-n.n c.turn-turn.result c.tried-at.result c.args.child.now
           c.tried-at.ensures
           (omega (arith, c.if-at-children.false)) again c.loop-n.invariant.turned c.loop-n.invariant.none;
-      turned = λ some. turned_again (by One g.F.Hash.Hashes.of) (g.F.PageFile.told c.look.new.file)
+      turned = λ some. turned_again g.F.PageFile.scheme (g.F.PageFile.told c.look.new.file)
           c.children-children.result.now c.args.number c.args.rect.now c.loop-n.n c.turn-turn.result c.tried-at.result
           again c.loop-n.invariant.turned;
-      tried = tried_still (by One g.F.Hash.Hashes.of) (g.F.PageFile.told c.look.new.file) c.children-children.result.now
+      tried = tried_still g.F.PageFile.scheme (g.F.PageFile.told c.look.new.file) c.children-children.result.now
           c.turn-turn.result c.loop-n.n (g.F.PageFile.reads c.look.new.file) (g.F.PageFile.reads c.loop-n.desk.file)
           c.loop-n.invariant.tried;
     }
 
 pub returns-in_err-look-clause-twice : goal.returns-in_err-look-clause-twice
 returns-in_err-look-clause-twice g t c =
-    twice_looked (by One g.F.Hash.Hashes.of) (g.F.PageFile.told c.args.desk.now.file) c.args.desk.now.free
+    twice_looked g.F.PageFile.scheme (g.F.PageFile.told c.args.desk.now.file) c.args.desk.now.free
     c.args.child.now c.args.number c.args.rect.now (g.F.PageFile.reads c.args.desk.now.file)
     (g.F.PageFile.reads c.look.new.file) (omega (arith, c.look.ensures.reads))
 
 pub returns-in_err-records-clause-twice : goal.returns-in_err-records-clause-twice
 returns-in_err-records-clause-twice g t c =
-    twice_looked (by One g.F.Hash.Hashes.of) (g.F.PageFile.told c.args.desk.now.file) c.args.desk.now.free
+    twice_looked g.F.PageFile.scheme (g.F.PageFile.told c.args.desk.now.file) c.args.desk.now.free
     c.args.child.now c.args.number c.args.rect.now (g.F.PageFile.reads c.args.desk.now.file)
     (g.F.PageFile.reads c.look.new.file) (omega (arith, c.look.ensures.reads))
 
 pub returns-then-at-len-clause-twice : goal.returns-then-at-len-clause-twice
 returns-then-at-len-clause-twice g t c =
-    twice_looked (by One g.F.Hash.Hashes.of) (g.F.PageFile.told c.args.desk.now.file) c.args.desk.now.free
+    twice_looked g.F.PageFile.scheme (g.F.PageFile.told c.args.desk.now.file) c.args.desk.now.free
     c.args.child.now c.args.number c.args.rect.now (g.F.PageFile.reads c.args.desk.now.file)
     (g.F.PageFile.reads c.look.new.file) (omega (arith, c.look.ensures.reads))
 
 pub returns-in_err-leave_records-clause-twice : goal.returns-in_err-leave_records-clause-twice
 returns-in_err-leave_records-clause-twice g t c =
-    twice_looked (by One g.F.Hash.Hashes.of) (g.F.PageFile.told c.args.desk.now.file) c.args.desk.now.free
+    twice_looked g.F.PageFile.scheme (g.F.PageFile.told c.args.desk.now.file) c.args.desk.now.free
     c.args.child.now c.args.number c.args.rect.now (g.F.PageFile.reads c.args.desk.now.file)
     (g.F.PageFile.reads c.leave_records.new.desk.file)
     (omega (arith, c.look.ensures.reads, c.leave_records.ensures.reads))
 
 pub returns-in_ok-leave_records-clause-twice : goal.returns-in_ok-leave_records-clause-twice
 returns-in_ok-leave_records-clause-twice g t c =
-    twice_looked (by One g.F.Hash.Hashes.of) (g.F.PageFile.told c.args.desk.now.file) c.args.desk.now.free
+    twice_looked g.F.PageFile.scheme (g.F.PageFile.told c.args.desk.now.file) c.args.desk.now.free
     c.args.child.now c.args.number c.args.rect.now (g.F.PageFile.reads c.args.desk.now.file)
     (g.F.PageFile.reads c.leave_records.new.desk.file)
     (omega (arith, c.look.ensures.reads, c.leave_records.ensures.reads))
 
 pub returns-then-at-len-clause-takes : goal.returns-then-at-len-clause-takes
 returns-then-at-len-clause-takes g t c =
-    once_looked (by One g.F.Hash.Hashes.of) (g.F.PageFile.told c.args.desk.now.file) c.args.child.now
+    once_looked g.F.PageFile.scheme (g.F.PageFile.told c.args.desk.now.file) c.args.child.now
     (g.F.PageFile.reads c.args.desk.now.file) (g.F.PageFile.reads c.look.new.file) c.look.ensures.reads
 
 pub returns-in_ok-leave_records-clause-takes : goal.returns-in_ok-leave_records-clause-takes
@@ -391,7 +391,7 @@ returns-in_ok-leave_records-clause-takes g t c =
     let is = c.records.ensures.leaf (sym c.level-level.ensures.value ∙ c.if-level-eq0.true) ∙ ap node.Leaf (sym same) in
     let reads = subst (λ n. IfSome (g.F.PageFile.told c.args.desk.now.file)
     (λ b. HasNode b c.args.child.now.id (page_node n))) is c.in_ok-look.ensures.node in
-    takes_leaf (by One g.F.Hash.Hashes.of) c.args.root (g.F.PageFile.told c.args.desk.now.file) c.args.desk.now.free
+    takes_leaf g.F.PageFile.scheme c.args.root (g.F.PageFile.told c.args.desk.now.file) c.args.desk.now.free
     c.args.child.now c.args.number c.args.rect.now rs c.in_ok-leave_records.field-0
     (g.F.PageFile.reads c.args.desk.now.file) (g.F.PageFile.reads c.leave_records.new.desk.file) reads
     (omega (arith, c.look.ensures.reads, c.leave_records.ensures.reads))
@@ -405,12 +405,12 @@ returns-in_err-found-clause-twice g t c =
     ∙ ap node.Inner (sym c.children-children.ensures.value) in
     let reads = subst (λ n. IfSome (g.F.PageFile.told c.args.desk.now.file)
     (λ b. HasNode b c.args.child.now.id (page_node n))) is c.in_ok-look.ensures.node in
-    let tried = subst (λ o. TriedOnce (by One g.F.Hash.Hashes.of) o cs c.turn-turn.result c.loop-n.n
+    let tried = subst (λ o. TriedOnce g.F.PageFile.scheme o cs c.turn-turn.result c.loop-n.n
     (g.F.PageFile.reads c.look.new.file) (g.F.PageFile.reads c.loop-n.desk.file)) c.in_ok-look.ensures.same
     c.loop-n.invariant.tried in
     let d = c.index-children-at-in-loop-n.result in
     let back = c.loop-n.invariant.same ∙ c.in_ok-look.ensures.same in
-    twice_below (by One g.F.Hash.Hashes.of) (g.F.PageFile.told c.args.desk.now.file)
+    twice_below g.F.PageFile.scheme (g.F.PageFile.told c.args.desk.now.file)
     (g.F.PageFile.told c.loop-n.desk.file) c.args.desk.now.free c.loop-n.desk.free c.args.child.now c.args.number
     c.args.rect.now c.tried-at.result c.turn-turn.result c.loop-n.n cs d (g.F.PageFile.reads c.args.desk.now.file)
     (g.F.PageFile.reads c.look.new.file) (g.F.PageFile.reads c.loop-n.desk.file)
@@ -428,19 +428,19 @@ returns-in_err-rest-clause-twice g t c =
     ∙ ap node.Inner (sym c.children-children.ensures.value) in
     let reads = subst (λ n. IfSome (g.F.PageFile.told c.args.desk.now.file)
     (λ b. HasNode b c.args.child.now.id (page_node n))) is c.in_ok-look.ensures.node in
-    let tried = subst (λ o. TriedOnce (by One g.F.Hash.Hashes.of) o cs c.turn-turn.result c.loop-n.n
+    let tried = subst (λ o. TriedOnce g.F.PageFile.scheme o cs c.turn-turn.result c.loop-n.n
     (g.F.PageFile.reads c.look.new.file) (g.F.PageFile.reads c.loop-n.desk.file)) c.in_ok-look.ensures.same
     c.loop-n.invariant.tried in
     let d = c.index-children-at-in-loop-n.result in
     let back = c.loop-n.invariant.same ∙ c.in_ok-look.ensures.same in
     let l = c.in-Some.left in
-    let removes = subst (Searches (by One g.F.Hash.Hashes.of) false (g.F.PageFile.told c.loop-n.desk.file)
+    let removes = subst (Searches g.F.PageFile.scheme false (g.F.PageFile.told c.loop-n.desk.file)
     c.loop-n.desk.free (g.F.PageFile.told c.take_out.new.desk.file) c.take_out.new.desk.free d c.args.number
     c.args.rect.now) c.in-Some.is c.in_ok-found.ensures.searches in
-    let took = subst (TakesTwice (by One g.F.Hash.Hashes.of) false (g.F.PageFile.told c.loop-n.desk.file)
+    let took = subst (TakesTwice g.F.PageFile.scheme false (g.F.PageFile.told c.loop-n.desk.file)
     c.loop-n.desk.free d c.args.number c.args.rect.now (g.F.PageFile.reads c.loop-n.desk.file)
     (g.F.PageFile.reads c.take_out.new.desk.file)) c.in-Some.is c.in_ok-found.ensures.takes in
-    twice_left (by One g.F.Hash.Hashes.of) (g.F.PageFile.told c.args.desk.now.file)
+    twice_left g.F.PageFile.scheme (g.F.PageFile.told c.args.desk.now.file)
     (g.F.PageFile.told c.loop-n.desk.file) c.args.desk.now.free c.loop-n.desk.free c.args.child.now c.args.number
     c.args.rect.now c.tried-at.result c.turn-turn.result c.loop-n.n cs d (g.F.PageFile.reads c.args.desk.now.file)
     (g.F.PageFile.reads c.look.new.file) (g.F.PageFile.reads c.loop-n.desk.file)
@@ -450,7 +450,7 @@ returns-in_err-rest-clause-twice g t c =
     c.look.ensures.reads tried (g.F.PageFile.told c.take_out.new.desk.file)
     (g.F.PageFile.told c.take_out.new.desk.file) c.take_out.new.desk.free c.take_out.new.desk.free l
     (g.F.PageFile.reads c.take_out.new.desk.file) removes took
-    (beside_none (by One g.F.Hash.Hashes.of) (g.F.PageFile.told c.take_out.new.desk.file) c.take_out.new.desk.free
+    (beside_none g.F.PageFile.scheme (g.F.PageFile.told c.take_out.new.desk.file) c.take_out.new.desk.free
     c.args.child.now.id
     (take c.tried-at.result cs ++ (option_to_list l.entry ++ drop (suc c.tried-at.result) cs))
     (g.F.PageFile.reads c.take_out.new.desk.file) (g.F.PageFile.reads c.take_out.new.desk.file) refl)
@@ -464,23 +464,23 @@ returns-in_err-left-clause-twice g t c =
     ∙ ap node.Inner (sym c.children-children.ensures.value) in
     let reads = subst (λ n. IfSome (g.F.PageFile.told c.args.desk.now.file)
     (λ b. HasNode b c.args.child.now.id (page_node n))) is c.in_ok-look.ensures.node in
-    let tried = subst (λ o. TriedOnce (by One g.F.Hash.Hashes.of) o cs c.turn-turn.result c.loop-n.n
+    let tried = subst (λ o. TriedOnce g.F.PageFile.scheme o cs c.turn-turn.result c.loop-n.n
     (g.F.PageFile.reads c.look.new.file) (g.F.PageFile.reads c.loop-n.desk.file)) c.in_ok-look.ensures.same
     c.loop-n.invariant.tried in
     let d = c.index-children-at-in-loop-n.result in
     let back = c.loop-n.invariant.same ∙ c.in_ok-look.ensures.same in
     let l = c.in-Some.left in
-    let removes = subst (Searches (by One g.F.Hash.Hashes.of) false (g.F.PageFile.told c.loop-n.desk.file)
+    let removes = subst (Searches g.F.PageFile.scheme false (g.F.PageFile.told c.loop-n.desk.file)
     c.loop-n.desk.free (g.F.PageFile.told c.take_out.new.desk.file) c.take_out.new.desk.free d c.args.number
     c.args.rect.now) c.in-Some.is c.in_ok-found.ensures.searches in
-    let took = subst (TakesTwice (by One g.F.Hash.Hashes.of) false (g.F.PageFile.told c.loop-n.desk.file)
+    let took = subst (TakesTwice g.F.PageFile.scheme false (g.F.PageFile.told c.loop-n.desk.file)
     c.loop-n.desk.free d c.args.number c.args.rect.now (g.F.PageFile.reads c.loop-n.desk.file)
     (g.F.PageFile.reads c.take_out.new.desk.file)) c.in-Some.is c.in_ok-found.ensures.takes in
-    let leaves = subst (λ us. LeavesOnce (by One g.F.Hash.Hashes.of) (g.F.PageFile.told c.take_out.new.desk.file)
+    let leaves = subst (λ us. LeavesOnce g.F.PageFile.scheme (g.F.PageFile.told c.take_out.new.desk.file)
     c.take_out.new.desk.free c.args.child.now.id us (g.F.PageFile.reads c.take_out.new.desk.file)
     (g.F.PageFile.reads c.leave.new.desk.file)) (c.deref-in-loop-n.ensures.value ∙ c.in_ok-rest.ensures)
     c.leave.ensures.once in
-    twice_left (by One g.F.Hash.Hashes.of) (g.F.PageFile.told c.args.desk.now.file)
+    twice_left g.F.PageFile.scheme (g.F.PageFile.told c.args.desk.now.file)
     (g.F.PageFile.told c.loop-n.desk.file) c.args.desk.now.free c.loop-n.desk.free c.args.child.now c.args.number
     c.args.rect.now c.tried-at.result c.turn-turn.result c.loop-n.n cs d (g.F.PageFile.reads c.args.desk.now.file)
     (g.F.PageFile.reads c.look.new.file) (g.F.PageFile.reads c.loop-n.desk.file)
@@ -500,23 +500,23 @@ returns-in-loop-n-clause-twice g t c =
     ∙ ap node.Inner (sym c.children-children.ensures.value) in
     let reads = subst (λ n. IfSome (g.F.PageFile.told c.args.desk.now.file)
     (λ b. HasNode b c.args.child.now.id (page_node n))) is c.in_ok-look.ensures.node in
-    let tried = subst (λ o. TriedOnce (by One g.F.Hash.Hashes.of) o cs c.turn-turn.result c.loop-n.n
+    let tried = subst (λ o. TriedOnce g.F.PageFile.scheme o cs c.turn-turn.result c.loop-n.n
     (g.F.PageFile.reads c.look.new.file) (g.F.PageFile.reads c.loop-n.desk.file)) c.in_ok-look.ensures.same
     c.loop-n.invariant.tried in
     let d = c.index-children-at-in-loop-n.result in
     let back = c.loop-n.invariant.same ∙ c.in_ok-look.ensures.same in
     let l = c.in-Some.left in
-    let removes = subst (Searches (by One g.F.Hash.Hashes.of) false (g.F.PageFile.told c.loop-n.desk.file)
+    let removes = subst (Searches g.F.PageFile.scheme false (g.F.PageFile.told c.loop-n.desk.file)
     c.loop-n.desk.free (g.F.PageFile.told c.take_out.new.desk.file) c.take_out.new.desk.free d c.args.number
     c.args.rect.now) c.in-Some.is c.in_ok-found.ensures.searches in
-    let took = subst (TakesTwice (by One g.F.Hash.Hashes.of) false (g.F.PageFile.told c.loop-n.desk.file)
+    let took = subst (TakesTwice g.F.PageFile.scheme false (g.F.PageFile.told c.loop-n.desk.file)
     c.loop-n.desk.free d c.args.number c.args.rect.now (g.F.PageFile.reads c.loop-n.desk.file)
     (g.F.PageFile.reads c.take_out.new.desk.file)) c.in-Some.is c.in_ok-found.ensures.takes in
-    let leaves = subst (λ us. LeavesOnce (by One g.F.Hash.Hashes.of) (g.F.PageFile.told c.take_out.new.desk.file)
+    let leaves = subst (λ us. LeavesOnce g.F.PageFile.scheme (g.F.PageFile.told c.take_out.new.desk.file)
     c.take_out.new.desk.free c.args.child.now.id us (g.F.PageFile.reads c.take_out.new.desk.file)
     (g.F.PageFile.reads c.leave.new.desk.file)) (c.deref-in-loop-n.ensures.value ∙ c.in_ok-rest.ensures)
     c.leave.ensures.once in
-    twice_left (by One g.F.Hash.Hashes.of) (g.F.PageFile.told c.args.desk.now.file)
+    twice_left g.F.PageFile.scheme (g.F.PageFile.told c.args.desk.now.file)
     (g.F.PageFile.told c.loop-n.desk.file) c.args.desk.now.free c.loop-n.desk.free c.args.child.now c.args.number
     c.args.rect.now c.tried-at.result c.turn-turn.result c.loop-n.n cs d (g.F.PageFile.reads c.args.desk.now.file)
     (g.F.PageFile.reads c.look.new.file) (g.F.PageFile.reads c.loop-n.desk.file)
@@ -536,24 +536,24 @@ returns-in-loop-n-clause-takes g t c =
     ∙ ap node.Inner (sym c.children-children.ensures.value) in
     let reads = subst (λ n. IfSome (g.F.PageFile.told c.args.desk.now.file)
     (λ b. HasNode b c.args.child.now.id (page_node n))) is c.in_ok-look.ensures.node in
-    let tried = subst (λ o. TriedOnce (by One g.F.Hash.Hashes.of) o cs c.turn-turn.result c.loop-n.n
+    let tried = subst (λ o. TriedOnce g.F.PageFile.scheme o cs c.turn-turn.result c.loop-n.n
     (g.F.PageFile.reads c.look.new.file) (g.F.PageFile.reads c.loop-n.desk.file)) c.in_ok-look.ensures.same
     c.loop-n.invariant.tried in
     let d = c.index-children-at-in-loop-n.result in
     let back = c.loop-n.invariant.same ∙ c.in_ok-look.ensures.same in
     let l = c.in-Some.left in
-    let removes = subst (Searches (by One g.F.Hash.Hashes.of) false (g.F.PageFile.told c.loop-n.desk.file)
+    let removes = subst (Searches g.F.PageFile.scheme false (g.F.PageFile.told c.loop-n.desk.file)
     c.loop-n.desk.free (g.F.PageFile.told c.take_out.new.desk.file) c.take_out.new.desk.free d c.args.number
     c.args.rect.now) c.in-Some.is c.in_ok-found.ensures.searches in
-    let took = subst (TakesTwice (by One g.F.Hash.Hashes.of) false (g.F.PageFile.told c.loop-n.desk.file)
+    let took = subst (TakesTwice g.F.PageFile.scheme false (g.F.PageFile.told c.loop-n.desk.file)
     c.loop-n.desk.free d c.args.number c.args.rect.now (g.F.PageFile.reads c.loop-n.desk.file)
     (g.F.PageFile.reads c.take_out.new.desk.file)) c.in-Some.is c.in_ok-found.ensures.takes in
-    let leaves = subst (λ us. LeavesOnce (by One g.F.Hash.Hashes.of) (g.F.PageFile.told c.take_out.new.desk.file)
+    let leaves = subst (λ us. LeavesOnce g.F.PageFile.scheme (g.F.PageFile.told c.take_out.new.desk.file)
     c.take_out.new.desk.free c.args.child.now.id us (g.F.PageFile.reads c.take_out.new.desk.file)
     (g.F.PageFile.reads c.leave.new.desk.file)) (c.deref-in-loop-n.ensures.value ∙ c.in_ok-rest.ensures)
     c.leave.ensures.once in
     let out = c.in_ok-left.left in
-    takes_below (by One g.F.Hash.Hashes.of) (g.F.PageFile.told c.args.desk.now.file)
+    takes_below g.F.PageFile.scheme (g.F.PageFile.told c.args.desk.now.file)
     (g.F.PageFile.told c.loop-n.desk.file) c.args.desk.now.free c.loop-n.desk.free c.args.child.now c.args.number
     c.args.rect.now c.tried-at.result c.turn-turn.result c.loop-n.n cs d (g.F.PageFile.reads c.args.desk.now.file)
     (g.F.PageFile.reads c.look.new.file) (g.F.PageFile.reads c.loop-n.desk.file)
@@ -563,7 +563,7 @@ returns-in-loop-n-clause-takes g t c =
     c.look.ensures.reads tried (g.F.PageFile.told c.take_out.new.desk.file)
     (g.F.PageFile.told c.leave.new.desk.file) c.take_out.new.desk.free c.leave.new.desk.free l
     (g.F.PageFile.reads c.leave.new.desk.file) removes took leaves c.args.root out
-    (subst (λ us. LeavesInner (by One g.F.Hash.Hashes.of) c.args.root (g.F.PageFile.told c.take_out.new.desk.file)
+    (subst (λ us. LeavesInner g.F.PageFile.scheme c.args.root (g.F.PageFile.told c.take_out.new.desk.file)
     c.take_out.new.desk.free (g.F.PageFile.told c.leave.new.desk.file) c.leave.new.desk.free c.args.child.now.id us
     l.aside.items (option_to_list out.entry) out.aside.items)
     (c.deref-in-loop-n.ensures.value ∙ c.in_ok-rest.ensures) c.in_ok-left.ensures.leaves) c.in_ok-left.ensures.still
@@ -577,10 +577,10 @@ returns-after-loop-n-clause-takes g t c =
     ∙ ap node.Inner (sym c.children-children.ensures.value) in
     let reads = subst (λ n. IfSome (g.F.PageFile.told c.args.desk.now.file)
     (λ b. HasNode b c.args.child.now.id (page_node n))) is c.in_ok-look.ensures.node in
-    let tried = subst (λ o. TriedOnce (by One g.F.Hash.Hashes.of) o cs c.turn-turn.result c.loop-n.n
+    let tried = subst (λ o. TriedOnce g.F.PageFile.scheme o cs c.turn-turn.result c.loop-n.n
     (g.F.PageFile.reads c.look.new.file) (g.F.PageFile.reads c.loop-n.desk.file)) c.in_ok-look.ensures.same
     c.loop-n.invariant.tried in
-    once_searched (by One g.F.Hash.Hashes.of) (g.F.PageFile.told c.args.desk.now.file) c.args.child.now cs
+    once_searched g.F.PageFile.scheme (g.F.PageFile.told c.args.desk.now.file) c.args.child.now cs
     c.turn-turn.result c.loop-n.n (g.F.PageFile.reads c.args.desk.now.file) (g.F.PageFile.reads c.look.new.file)
     (g.F.PageFile.reads c.loop-n.desk.file) reads c.look.ensures.reads tried
 
@@ -593,12 +593,12 @@ returns-after-loop-n-clause-twice g t c =
     ∙ ap node.Inner (sym c.children-children.ensures.value) in
     let reads = subst (λ n. IfSome (g.F.PageFile.told c.args.desk.now.file)
     (λ b. HasNode b c.args.child.now.id (page_node n))) is c.in_ok-look.ensures.node in
-    let tried = subst (λ o. TriedOnce (by One g.F.Hash.Hashes.of) o cs c.turn-turn.result c.loop-n.n
+    let tried = subst (λ o. TriedOnce g.F.PageFile.scheme o cs c.turn-turn.result c.loop-n.n
     (g.F.PageFile.reads c.look.new.file) (g.F.PageFile.reads c.loop-n.desk.file)) c.in_ok-look.ensures.same
     c.loop-n.invariant.tried in
-    once_twice (by One g.F.Hash.Hashes.of) (g.F.PageFile.told c.args.desk.now.file) c.args.desk.now.free
+    once_twice g.F.PageFile.scheme (g.F.PageFile.told c.args.desk.now.file) c.args.desk.now.free
     c.args.child.now c.args.number c.args.rect.now (g.F.PageFile.reads c.args.desk.now.file)
     (g.F.PageFile.reads c.loop-n.desk.file)
-    (once_searched (by One g.F.Hash.Hashes.of) (g.F.PageFile.told c.args.desk.now.file) c.args.child.now cs
+    (once_searched g.F.PageFile.scheme (g.F.PageFile.told c.args.desk.now.file) c.args.child.now cs
     c.turn-turn.result c.loop-n.n (g.F.PageFile.reads c.args.desk.now.file) (g.F.PageFile.reads c.look.new.file)
     (g.F.PageFile.reads c.loop-n.desk.file) reads c.look.ensures.reads tried)

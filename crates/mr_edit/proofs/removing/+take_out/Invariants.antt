@@ -1,6 +1,4 @@
 use Rattle.std.proofs.Common.{◌≡◌, ◌≢◌, ◌-◌}
-use Rattle.mr_record.specs.declared.version.Version.TheVariants.{One}
-use Rattle.mr_tree.specs.Digest.{by}
 use Rattle.mr_edit.proofs.Searching.{NoneYet}
 use Rattle.mr_edit.proofs.Tries.{Turned, TriedOnce}
 use Rattle.mr_edit.proofs.removing.+take_out.Given as goal
@@ -15,11 +13,11 @@ invariant-loop-n g l = record {
   free : l.desk.free ≡ l.initial.desk.free;
   kept : g.F.PageFile.kept l.initial.desk.file l.desk.file;
   quiet : g.F.PageFile.faults l.desk.file ≡ g.F.PageFile.faults l.initial.desk.file;
-  none : NoneYet (by One g.F.Hash.Hashes.of) (g.F.PageFile.told l.initial.desk.file) l.children l.number l.rect
+  none : NoneYet g.F.PageFile.scheme (g.F.PageFile.told l.initial.desk.file) l.children l.number l.rect
       (l.n - 1);
-  turned : l.n ≢ 0 → Turned (by One g.F.Hash.Hashes.of) (g.F.PageFile.told l.initial.desk.file) l.children l.number
+  turned : l.n ≢ 0 → Turned g.F.PageFile.scheme (g.F.PageFile.told l.initial.desk.file) l.children l.number
       l.rect
       l.turn;
-  tried : TriedOnce (by One g.F.Hash.Hashes.of) (g.F.PageFile.told l.initial.desk.file) l.children l.turn l.n
+  tried : TriedOnce g.F.PageFile.scheme (g.F.PageFile.told l.initial.desk.file) l.children l.turn l.n
       (g.F.PageFile.reads l.initial.desk.file) (g.F.PageFile.reads l.desk.file);
 }

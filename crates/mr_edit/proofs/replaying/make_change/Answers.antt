@@ -1,7 +1,5 @@
 use Rattle.std.proofs.Common.{IfOk, refl, sym, subst}
 use Rattle.std.specs.Prelude.{IfErr}
-use Rattle.mr_record.specs.declared.version.Version.TheVariants.{One}
-use Rattle.mr_tree.specs.Digest.{by}
 use Rattle.mr_batch.specs.declared.change.Change.{Change}
 use Rattle.mr_edit.specs.Changing.{CanChange}
 use Rattle.mr_edit.specs.Outcome.{NeverMap}
@@ -12,42 +10,42 @@ use Rattle.mr_edit.proofs.replaying.make_change.Goals as goal
 
 pub returns-in-Add-clause-changes : goal.returns-in-Add-clause-changes
 returns-in-Add-clause-changes g c =
-    subst (λ (x : Change). IfOk c.add.result (λ r. ChangesOne (by One g.F.Hash.Hashes.of)
+    subst (λ (x : Change). IfOk c.add.result (λ r. ChangesOne g.F.PageFile.scheme
     (g.F.PageFile.told c.args.desk.now.file) c.args.desk.now.free c.args.root c.args.dir.now
     (g.F.PageFile.told c.add.new.desk.file) c.add.new.desk.free r c.add.new.dir x)) (sym c.in-Add.is)
     c.add.ensures.changes
 
 pub returns-in-Remove-clause-changes : goal.returns-in-Remove-clause-changes
 returns-in-Remove-clause-changes g c =
-    subst (λ (x : Change). IfOk c.remove.result (λ r. ChangesOne (by One g.F.Hash.Hashes.of)
+    subst (λ (x : Change). IfOk c.remove.result (λ r. ChangesOne g.F.PageFile.scheme
     (g.F.PageFile.told c.args.desk.now.file) c.args.desk.now.free c.args.root c.args.dir.now
     (g.F.PageFile.told c.remove.new.desk.file) c.remove.new.desk.free r c.remove.new.dir x)) (sym c.in-Remove.is)
     c.remove.ensures.changes
 
 pub returns-in-Add-clause-sound : goal.returns-in-Add-clause-sound
 returns-in-Add-clause-sound g c =
-    subst (λ (x : Change). IfErr c.add.result (λ e. NeverMap e (CanChange g.F.Hash.Hashes.of
+    subst (λ (x : Change). IfErr c.add.result (λ e. NeverMap e (CanChange g.F.PageFile.scheme
     (g.F.PageFile.told c.args.desk.now.file) c.args.desk.now.free c.args.root c.args.dir.now x))) (sym c.in-Add.is)
     c.add.ensures.sound
 
 pub returns-in-Remove-clause-sound : goal.returns-in-Remove-clause-sound
 returns-in-Remove-clause-sound g c =
-    subst (λ (x : Change). IfErr c.remove.result (λ e. NeverMap e (CanChange g.F.Hash.Hashes.of
+    subst (λ (x : Change). IfErr c.remove.result (λ e. NeverMap e (CanChange g.F.PageFile.scheme
     (g.F.PageFile.told c.args.desk.now.file) c.args.desk.now.free c.args.root c.args.dir.now x))) (sym c.in-Remove.is)
     c.remove.ensures.sound
 
 pub returns-in-Add-clause-within : goal.returns-in-Add-clause-within
 returns-in-Add-clause-within g c =
-    subst (λ (x : Change). ChangesWithin (by One g.F.Hash.Hashes.of) (g.F.PageFile.told c.args.desk.now.file)
+    subst (λ (x : Change). ChangesWithin g.F.PageFile.scheme (g.F.PageFile.told c.args.desk.now.file)
     c.args.desk.now.free c.args.root c.args.dir.now x c.args.learned.now c.args.learned.now
     (g.F.PageFile.reads c.args.desk.now.file) (g.F.PageFile.reads c.add.new.desk.file)) (sym c.in-Add.is)
-    (within_added (by One g.F.Hash.Hashes.of) (g.F.PageFile.told c.args.desk.now.file) c.args.desk.now.free c.args.root
+    (within_added g.F.PageFile.scheme (g.F.PageFile.told c.args.desk.now.file) c.args.desk.now.free c.args.root
     c.args.dir.now c.in-Add.one c.args.learned.now c.args.learned.now (g.F.PageFile.reads c.args.desk.now.file)
     (g.F.PageFile.reads c.add.new.desk.file) refl c.add.ensures.reads)
 
 pub returns-in-Remove-clause-within : goal.returns-in-Remove-clause-within
 returns-in-Remove-clause-within g c =
-    subst (λ (x : Change). ChangesWithin (by One g.F.Hash.Hashes.of) (g.F.PageFile.told c.args.desk.now.file)
+    subst (λ (x : Change). ChangesWithin g.F.PageFile.scheme (g.F.PageFile.told c.args.desk.now.file)
     c.args.desk.now.free c.args.root c.args.dir.now x c.args.learned.now c.remove.new.learned
     (g.F.PageFile.reads c.args.desk.now.file) (g.F.PageFile.reads c.remove.new.desk.file)) (sym c.in-Remove.is)
     c.remove.ensures.within

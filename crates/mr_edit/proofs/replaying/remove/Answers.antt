@@ -1,6 +1,4 @@
 use Rattle.std.proofs.Common.{refl, sym, subst, ◌∙◌}
-use Rattle.mr_record.specs.declared.version.Version.TheVariants.{One}
-use Rattle.mr_tree.specs.Digest.{by}
 use Rattle.mr_batch.specs.declared.change.Change.TheVariants.{Remove}
 use Rattle.mr_edit.specs.Changing.{CanChange}
 use Rattle.mr_edit.specs.Removable.{CanDelete}
@@ -15,61 +13,61 @@ pub returns-clause-changes : goal.returns-clause-changes
 returns-clause-changes g c =
     let told = g.F.PageFile.told c.args.desk.now.file in
     let then = g.F.PageFile.told c.learn_once.new.desk.file in
-    change_removed (by One g.F.Hash.Hashes.of) told
+    change_removed g.F.PageFile.scheme told
     (g.F.PageFile.told c.delete.new.desk.file) c.args.desk.now.free c.delete.new.desk.free c.args.root c.in_ok-root.root
     c.args.dir.now c.take.new.self c.args.number c.in-Some.rect c.take.result (sym c.rect.ensures ∙ c.in-Some.is)
     c.take.ensures.value
-    (deletes_then (by One g.F.Hash.Hashes.of) told then (g.F.PageFile.told c.delete.new.desk.file)
+    (deletes_then g.F.PageFile.scheme told then (g.F.PageFile.told c.delete.new.desk.file)
     c.args.desk.now.free c.learn_once.new.desk.free c.delete.new.desk.free c.args.root c.in_ok-root.root c.args.number
     c.in-Some.rect c.learn_once.ensures.same c.learn_once.ensures.free c.in_ok-root.ensures.deletes)
     c.take.ensures.taken c.take.ensures.counted
 
 pub returns-in_default-clause-sound : goal.returns-in_default-clause-sound
 returns-in_default-clause-sound g c =
-    lists_number g.F.Hash.Hashes.of (g.F.PageFile.told c.args.desk.now.file) c.args.desk.now.free c.args.root
+    lists_number g.F.PageFile.scheme (g.F.PageFile.told c.args.desk.now.file) c.args.desk.now.free c.args.root
     c.args.dir.now c.args.number (sym c.rect.ensures ∙ c.in_default.is)
 
 pub returns-in_err-learn_once-clause-sound : goal.returns-in_err-learn_once-clause-sound
 returns-in_err-learn_once-clause-sound g c =
-    let hash = g.F.Hash.Hashes.of in
+    let scheme = g.F.PageFile.scheme in
     let told = g.F.PageFile.told c.args.desk.now.file in
     handed c.from_residual.result c.in_err-learn_once.field-0.0
-    (CanChange hash told c.args.desk.now.free c.args.root c.args.dir.now (Remove c.args.number))
+    (CanChange scheme told c.args.desk.now.free c.args.root c.args.dir.now (Remove c.args.number))
     c.from_residual.ensures.1
     (never c.in_err-learn_once.field-0.0 _ _
-    (remove_known hash told c.args.desk.now.free c.args.root c.args.dir.now c.args.number c.in-Some.rect
+    (remove_known scheme told c.args.desk.now.free c.args.root c.args.dir.now c.args.number c.in-Some.rect
     (sym c.rect.ensures ∙ c.in-Some.is)) c.in_err-learn_once.ensures.sound)
 
 pub returns-in_err-root-clause-sound : goal.returns-in_err-root-clause-sound
 returns-in_err-root-clause-sound g c =
-    let hash = g.F.Hash.Hashes.of in
+    let scheme = g.F.PageFile.scheme in
     let told = g.F.PageFile.told c.args.desk.now.file in
     handed c.from_residual-in_err-root.result c.in_err-root.field-0.0
-    (CanChange hash told c.args.desk.now.free c.args.root c.args.dir.now (Remove c.args.number))
+    (CanChange scheme told c.args.desk.now.free c.args.root c.args.dir.now (Remove c.args.number))
     c.from_residual-in_err-root.ensures.1
     (never c.in_err-root.field-0.0 _ _
-    (λ k. subst (λ o. CanDelete hash o c.learn_once.new.desk.free c.args.root c.args.number c.in-Some.rect)
+    (λ k. subst (λ o. CanDelete scheme o c.learn_once.new.desk.free c.args.root c.args.number c.in-Some.rect)
     (sym c.learn_once.ensures.same)
-    (subst (λ f. CanDelete hash told f c.args.root c.args.number c.in-Some.rect) (sym c.learn_once.ensures.free)
-    (remove_delete hash told c.args.desk.now.free c.args.root c.args.dir.now c.args.number c.in-Some.rect
+    (subst (λ f. CanDelete scheme told f c.args.root c.args.number c.in-Some.rect) (sym c.learn_once.ensures.free)
+    (remove_delete scheme told c.args.desk.now.free c.args.root c.args.dir.now c.args.number c.in-Some.rect
     (sym c.rect.ensures ∙ c.in-Some.is) k))) c.in_err-root.ensures.sound)
 
 pub returns-in_default-clause-within : goal.returns-in_default-clause-within
 returns-in_default-clause-within g c =
-    within_none (by One g.F.Hash.Hashes.of) (g.F.PageFile.told c.args.desk.now.file) c.args.desk.now.free c.args.root
+    within_none g.F.PageFile.scheme (g.F.PageFile.told c.args.desk.now.file) c.args.desk.now.free c.args.root
     c.args.dir.now c.args.number c.args.learned.now c.args.learned.now (g.F.PageFile.reads c.args.desk.now.file)
     (g.F.PageFile.reads c.args.desk.now.file) refl refl
 
 pub returns-in_err-learn_once-clause-within : goal.returns-in_err-learn_once-clause-within
 returns-in_err-learn_once-clause-within g c =
-    within_learned (by One g.F.Hash.Hashes.of) (g.F.PageFile.told c.args.desk.now.file) c.args.desk.now.free
+    within_learned g.F.PageFile.scheme (g.F.PageFile.told c.args.desk.now.file) c.args.desk.now.free
     c.args.root c.args.dir.now c.args.number c.args.learned.now c.learn_once.new.learned
     (g.F.PageFile.reads c.args.desk.now.file) (g.F.PageFile.reads c.learn_once.new.desk.file)
     c.learn_once.ensures.once
 
 pub returns-in_err-root-clause-within : goal.returns-in_err-root-clause-within
 returns-in_err-root-clause-within g c =
-    within_removed (by One g.F.Hash.Hashes.of) (g.F.PageFile.told c.args.desk.now.file)
+    within_removed g.F.PageFile.scheme (g.F.PageFile.told c.args.desk.now.file)
     (g.F.PageFile.told c.learn_once.new.desk.file) c.args.desk.now.free c.learn_once.new.desk.free c.args.root
     c.args.dir.now c.args.number c.in-Some.rect c.args.learned.now c.learn_once.new.learned
     (g.F.PageFile.reads c.args.desk.now.file)
@@ -79,7 +77,7 @@ returns-in_err-root-clause-within g c =
 
 pub returns-clause-within : goal.returns-clause-within
 returns-clause-within g c =
-    within_removed (by One g.F.Hash.Hashes.of) (g.F.PageFile.told c.args.desk.now.file)
+    within_removed g.F.PageFile.scheme (g.F.PageFile.told c.args.desk.now.file)
     (g.F.PageFile.told c.learn_once.new.desk.file) c.args.desk.now.free c.learn_once.new.desk.free c.args.root
     c.args.dir.now c.args.number c.in-Some.rect c.args.learned.now c.learn_once.new.learned
     (g.F.PageFile.reads c.args.desk.now.file)

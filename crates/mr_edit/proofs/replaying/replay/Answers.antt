@@ -1,6 +1,4 @@
 use Rattle.std.proofs.Common.{refl, ◌∙◌, arith}
-use Rattle.mr_record.specs.declared.version.Version.TheVariants.{One}
-use Rattle.mr_tree.specs.Digest.{by}
 use Rattle.mr_edit.specs.Changing.{CanReplay}
 use Rattle.mr_edit.proofs.Admitted.{next_change}
 use Rattle.mr_edit.proofs.ChangeReads.{part_all, part_more, part_none, part_stopped}
@@ -10,9 +8,9 @@ use Rattle.mr_edit.proofs.replaying.replay.Goals as goal
 
 pub loop-i-init : goal.loop-i-init
 loop-i-init g c = record {
-  replays = replays_none (by One g.F.Hash.Hashes.of) (g.F.PageFile.told c.args.desk.now.file) c.args.desk.now.free
+  replays = replays_none g.F.PageFile.scheme (g.F.PageFile.told c.args.desk.now.file) c.args.desk.now.free
       c.args.root c.args.dir.now c.args.batch.now;
-  part = part_none (by One g.F.Hash.Hashes.of) (g.F.PageFile.told c.args.desk.now.file) c.args.desk.now.free
+  part = part_none g.F.PageFile.scheme (g.F.PageFile.told c.args.desk.now.file) c.args.desk.now.free
       c.args.root c.args.dir.now c.args.batch.now (g.F.PageFile.reads c.args.desk.now.file);
   low = λ is. is;
   told = λ is. is;
@@ -22,12 +20,12 @@ loop-i-init g c = record {
 
 pub loop-i-preserved : goal.loop-i-preserved
 loop-i-preserved g c = record {
-  replays = replays_more (by One g.F.Hash.Hashes.of) (g.F.PageFile.told c.args.desk.now.file)
+  replays = replays_more g.F.PageFile.scheme (g.F.PageFile.told c.args.desk.now.file)
       (g.F.PageFile.told c.loop-i.desk.file) (g.F.PageFile.told c.make_change.new.desk.file) c.args.desk.now.free
       c.loop-i.desk.free c.make_change.new.desk.free c.args.root c.loop-i.root c.in_ok-root.root c.args.dir.now
       c.loop-i.dir c.make_change.new.dir c.args.batch.now c.loop-i.i c.change.result.now (omega arith)
       c.change.ensures c.loop-i.invariant.replays c.in_ok-root.ensures.changes;
-  part = part_more (by One g.F.Hash.Hashes.of) (g.F.PageFile.told c.args.desk.now.file)
+  part = part_more g.F.PageFile.scheme (g.F.PageFile.told c.args.desk.now.file)
       (g.F.PageFile.told c.loop-i.desk.file) (g.F.PageFile.told c.make_change.new.desk.file) c.args.desk.now.free
       c.loop-i.desk.free c.make_change.new.desk.free c.args.root c.loop-i.root c.in_ok-root.root c.args.dir.now
       c.loop-i.dir c.make_change.new.dir c.args.batch.now c.loop-i.i c.change.result.now
@@ -44,26 +42,26 @@ loop-i-preserved g c = record {
 
 pub returns-in_err-root-clause-sound : goal.returns-in_err-root-clause-sound
 returns-in_err-root-clause-sound g c =
-    let hash = g.F.Hash.Hashes.of in
+    let scheme = g.F.PageFile.scheme in
     let told = g.F.PageFile.told c.args.desk.now.file in
     handed c.from_residual.result c.in_err-root.field-0.0
-    (CanReplay hash told c.args.desk.now.free c.args.root c.args.dir.now c.args.batch.now)
+    (CanReplay scheme told c.args.desk.now.free c.args.root c.args.dir.now c.args.batch.now)
     c.from_residual.ensures.1
     (never c.in_err-root.field-0.0 _ _
-    (next_change hash told (g.F.PageFile.told c.loop-i.desk.file) c.args.desk.now.free c.loop-i.desk.free
+    (next_change scheme told (g.F.PageFile.told c.loop-i.desk.file) c.args.desk.now.free c.loop-i.desk.free
     c.args.root c.loop-i.root c.args.dir.now c.loop-i.dir c.args.batch.now c.loop-i.i c.change.result.now
     (omega arith) c.change.ensures c.loop-i.invariant.replays) c.in_err-root.ensures.sound)
 
 pub returns-clause-replays : goal.returns-clause-replays
 returns-clause-replays g c =
-    replays_all (by One g.F.Hash.Hashes.of) (g.F.PageFile.told c.args.desk.now.file) (g.F.PageFile.told
+    replays_all g.F.PageFile.scheme (g.F.PageFile.told c.args.desk.now.file) (g.F.PageFile.told
     c.loop-i.desk.file)
     c.args.desk.now.free c.loop-i.desk.free c.args.root c.loop-i.root c.args.dir.now c.loop-i.dir c.args.batch.now
     c.loop-i.i (omega arith) c.loop-i.invariant.replays
 
 pub returns-in_err-root-clause-within : goal.returns-in_err-root-clause-within
 returns-in_err-root-clause-within g c =
-    part_stopped (by One g.F.Hash.Hashes.of) (g.F.PageFile.told c.args.desk.now.file)
+    part_stopped g.F.PageFile.scheme (g.F.PageFile.told c.args.desk.now.file)
     (g.F.PageFile.told c.loop-i.desk.file) c.args.desk.now.free c.loop-i.desk.free c.args.root c.loop-i.root
     c.args.dir.now c.loop-i.dir c.args.batch.now c.loop-i.i c.change.result.now
     c.loop-i.learned c.make_change.new.learned (g.F.PageFile.reads c.args.desk.now.file)
@@ -73,7 +71,7 @@ returns-in_err-root-clause-within g c =
 
 pub returns-clause-within : goal.returns-clause-within
 returns-clause-within g c =
-    part_all (by One g.F.Hash.Hashes.of) (g.F.PageFile.told c.args.desk.now.file)
+    part_all g.F.PageFile.scheme (g.F.PageFile.told c.args.desk.now.file)
     (g.F.PageFile.told c.loop-i.desk.file) c.args.desk.now.free c.loop-i.desk.free c.args.root c.loop-i.root
     c.args.dir.now c.loop-i.dir c.args.batch.now c.loop-i.i c.loop-i.learned (g.F.PageFile.reads c.args.desk.now.file)
     (g.F.PageFile.reads c.loop-i.desk.file) c.loop-i.invariant.part

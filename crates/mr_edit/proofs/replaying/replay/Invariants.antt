@@ -1,7 +1,5 @@
 use Rattle.std.proofs.Common.{◌≡◌}
 use Rattle.std.specs.Prelude.{IfSome}
-use Rattle.mr_record.specs.declared.version.Version.TheVariants.{One}
-use Rattle.mr_tree.specs.Digest.{by}
 use Rattle.mr_edit.specs.Held.{IsTold}
 use Rattle.mr_edit.specs.Outcome.{IsLow}
 use Rattle.mr_edit.proofs.ChangeReads.{ReplaysPart}
@@ -11,13 +9,14 @@ use Rattle.mr_edit.proofs.replaying.replay.Given as goal
 -- the first ones were made
 abbrev pub invariant-loop-i : goal.invariant-loop-i
 invariant-loop-i g l = record {
-  replays : ReplaysFirst (by One g.F.Hash.Hashes.of) (g.F.PageFile.told l.initial.desk.file) l.initial.desk.free
+  replays : ReplaysFirst g.F.PageFile.scheme (g.F.PageFile.told l.initial.desk.file) l.initial.desk.free
       l.initial.root l.initial.dir (g.F.PageFile.told l.desk.file) l.desk.free l.root l.dir l.batch l.i;
-  part : ReplaysPart (by One g.F.Hash.Hashes.of) (g.F.PageFile.told l.initial.desk.file) l.initial.desk.free
+  part : ReplaysPart g.F.PageFile.scheme (g.F.PageFile.told l.initial.desk.file) l.initial.desk.free
       l.initial.root l.initial.dir (g.F.PageFile.told l.desk.file) l.desk.free l.root l.dir l.batch l.i l.learned
       (g.F.PageFile.reads l.initial.desk.file) (g.F.PageFile.reads l.desk.file);
   low : IsLow l.initial.root → IsLow l.root;
-  told : IfSome l.initial.root (IsTold One) → IfSome l.root (IsTold One);
+  told : IfSome l.initial.root (IsTold g.F.PageFile.scheme.version) →
+      IfSome l.root (IsTold g.F.PageFile.scheme.version);
   kept : g.F.PageFile.kept l.initial.desk.file l.desk.file;
   quiet : g.F.PageFile.faults l.desk.file ≡ g.F.PageFile.faults l.initial.desk.file;
 }

@@ -1,7 +1,5 @@
 use Rattle.std.proofs.Common.{refl, arith}
 use Rattle.std.proofs.lemmas.Result.{IfOk-weaker, IfErr-weaker}
-use Rattle.mr_record.specs.declared.version.Version.TheVariants.{One}
-use Rattle.mr_tree.specs.Digest.{by}
 use Rattle.mr_edit.specs.Growing.{CanAdd}
 use Rattle.mr_edit.proofs.Growth.{add_take, add_write}
 use Rattle.mr_edit.proofs.Roots.{root_first}
@@ -11,7 +9,7 @@ use Rattle.mr_edit.proofs.root.first_root.Goals as goal
 pub returns-clause-inserts : goal.returns-clause-inserts
 returns-clause-inserts g c =
     IfOk-weaker c.write_leaf.result _ _
-    (λ e w. root_first (by One g.F.Hash.Hashes.of) (g.F.PageFile.told c.args.desk.now.file)
+    (λ e w. root_first g.F.PageFile.scheme (g.F.PageFile.told c.args.desk.now.file)
     (g.F.PageFile.told c.take_page.new.desk.file) (g.F.PageFile.told c.write_leaf.new.desk.file)
     c.args.desk.now.free c.take_page.new.desk.free c.write_leaf.new.desk.free c.in_ok-page.page _ c.args.one.now e refl
     c.in_ok-page.ensures.takes w)

@@ -1,8 +1,6 @@
 use Rattle.std.proofs.Common.{Some, None, sym, subst}
 use Rattle.std.specs.Prelude.{IfOk, IfErr}
 use Rattle.std.proofs.lemmas.Result.{IfErr-weaker}
-use Rattle.mr_record.specs.declared.version.Version.TheVariants.{One}
-use Rattle.mr_tree.specs.Digest.{by}
 use Rattle.mr_edit.specs.Drafted.{Inserts}
 use Rattle.mr_edit.specs.Growing.{CanInsert}
 use Rattle.mr_edit.specs.Outcome.{IsOfRoot, root_page}
@@ -13,7 +11,7 @@ use Rattle.mr_edit.proofs.root.insert.Goals as goal
 
 pub returns-in-None-clause-inserts : goal.returns-in-None-clause-inserts
 returns-in-None-clause-inserts g c =
-    subst (λ r. IfOk c.first_root.result (λ e. Inserts (by One g.F.Hash.Hashes.of) (g.F.PageFile.told
+    subst (λ r. IfOk c.first_root.result (λ e. Inserts g.F.PageFile.scheme (g.F.PageFile.told
     c.args.desk.now.file)
     c.args.desk.now.free r (g.F.PageFile.told c.first_root.new.desk.file) c.first_root.new.desk.free e
     c.args.one.now))
@@ -21,17 +19,18 @@ returns-in-None-clause-inserts g c =
 
 pub returns-in-Ok-clause-inserts : goal.returns-in-Ok-clause-inserts
 returns-in-Ok-clause-inserts g c =
-    subst (λ r. Inserts (by One g.F.Hash.Hashes.of) (g.F.PageFile.told c.args.desk.now.file) c.args.desk.now.free r
+    subst (λ r. Inserts g.F.PageFile.scheme (g.F.PageFile.told c.args.desk.now.file) c.args.desk.now.free r
     (g.F.PageFile.told c.put_below.new.desk.file) c.put_below.new.desk.free c.in-Ok.raised c.args.one.now)
     (sym c.in-Some.is) c.in-Ok.ensures.inserts
 
 pub returns-in-None-clause-sound : goal.returns-in-None-clause-sound
 returns-in-None-clause-sound g c =
-    let hash = g.F.Hash.Hashes.of in
+    let scheme = g.F.PageFile.scheme in
     let told = g.F.PageFile.told c.args.desk.now.file in
     let free = c.args.desk.now.free in
     IfErr-weaker c.first_root.result _ _
-    (λ e h. never e _ _ (λ k. first_add hash told free (at_root hash told free 1 c.args.root None c.in-None.is k)) h)
+    (λ e h. never e _ _ (λ k. first_add scheme told free
+    (at_root scheme told free 1 c.args.root None c.in-None.is k)) h)
     c.first_root.ensures.sound
 
 pub returns-in-None-clause-page : goal.returns-in-None-clause-page
@@ -41,11 +40,11 @@ returns-in-None-clause-page g c =
 
 pub returns-in-Err-clause-sound : goal.returns-in-Err-clause-sound
 returns-in-Err-clause-sound g c =
-    let hash = g.F.Hash.Hashes.of in
+    let scheme = g.F.PageFile.scheme in
     let told = g.F.PageFile.told c.args.desk.now.file in
     let free = c.args.desk.now.free in
-    never c.at_root.result _ _ (at_root hash told free 1 c.args.root (Some c.in-Some.child) c.in-Some.is)
-    (alike_never c.in-Err.error c.at_root.result (CanInsert hash told free (Some c.in-Some.child) 1)
+    never c.at_root.result _ _ (at_root scheme told free 1 c.args.root (Some c.in-Some.child) c.in-Some.is)
+    (alike_never c.in-Err.error c.at_root.result (CanInsert scheme told free (Some c.in-Some.child) 1)
     c.at_root.ensures.same c.in-Err.ensures.sound)
 
 pub returns-in-Err-clause-page : goal.returns-in-Err-clause-page

@@ -1,8 +1,6 @@
 use Rattle.std.proofs.Common.{arith}
 use Rattle.std.specs.Prelude.{Some}
 use Rattle.std.proofs.lemmas.Result.{IfOk-weaker, IfErr-weaker}
-use Rattle.mr_record.specs.declared.version.Version.TheVariants.{One}
-use Rattle.mr_tree.specs.Digest.{by}
 use Rattle.mr_edit.specs.Growing.{CanInsert}
 use Rattle.mr_edit.proofs.Growth.{root_grow, root_raise}
 use Rattle.mr_edit.proofs.Roots.{root_kept, root_raised}
@@ -11,7 +9,7 @@ use Rattle.mr_edit.proofs.root.put_below.Goals as goal
 
 pub returns-in-None-clause-inserts : goal.returns-in-None-clause-inserts
 returns-in-None-clause-inserts g c =
-    root_kept (by One g.F.Hash.Hashes.of) (g.F.PageFile.told c.args.desk.now.file)
+    root_kept g.F.PageFile.scheme (g.F.PageFile.told c.args.desk.now.file)
     (g.F.PageFile.told c.put_into.new.desk.file) c.args.desk.now.free c.put_into.new.desk.free c.args.root.now
     c.args.one.now c.in_ok-first.field-0 c.in-None.is c.in_ok-first.ensures.grows
 
@@ -19,7 +17,7 @@ pub returns-in-Some-clause-inserts : goal.returns-in-Some-clause-inserts
 returns-in-Some-clause-inserts g c =
     let s = c.in_ok-first.field-0 in
     IfOk-weaker c.raise.result _ _
-    (λ e r. root_raised (by One g.F.Hash.Hashes.of) (g.F.PageFile.told c.args.desk.now.file)
+    (λ e r. root_raised g.F.PageFile.scheme (g.F.PageFile.told c.args.desk.now.file)
     (g.F.PageFile.told c.put_into.new.desk.file) (g.F.PageFile.told c.raise.new.desk.file) c.args.desk.now.free
     c.put_into.new.desk.free c.raise.new.desk.free
     c.args.root.now c.args.one.now s c.in-Some.second e c.in-Some.is c.in_ok-first.ensures.grows r)
@@ -27,23 +25,23 @@ returns-in-Some-clause-inserts g c =
 
 pub returns-in_err-first-clause-sound : goal.returns-in_err-first-clause-sound
 returns-in_err-first-clause-sound g c =
-    let hash = g.F.Hash.Hashes.of in
+    let scheme = g.F.PageFile.scheme in
     let told = g.F.PageFile.told c.args.desk.now.file in
     let free = c.args.desk.now.free in
-    handed c.from_residual.result c.in_err-first.field-0.0 (CanInsert hash told free (Some c.args.root.now) 1)
+    handed c.from_residual.result c.in_err-first.field-0.0 (CanInsert scheme told free (Some c.args.root.now) 1)
     c.from_residual.ensures.1
-    (never c.in_err-first.field-0.0 _ _ (root_grow hash told free c.args.root.now c.args.one.now)
+    (never c.in_err-first.field-0.0 _ _ (root_grow scheme told free c.args.root.now c.args.one.now)
     c.in_err-first.ensures.sound)
 
 pub returns-in-Some-clause-sound : goal.returns-in-Some-clause-sound
 returns-in-Some-clause-sound g c =
-    let hash = g.F.Hash.Hashes.of in
+    let scheme = g.F.PageFile.scheme in
     let told = g.F.PageFile.told c.args.desk.now.file in
     let free = c.args.desk.now.free in
     let s = c.in_ok-first.field-0 in
     IfErr-weaker c.raise.result _ _
     (λ e h. never e _ _
-    (λ k. root_raise hash told (g.F.PageFile.told c.put_into.new.desk.file) free c.put_into.new.desk.free
+    (λ k. root_raise scheme told (g.F.PageFile.told c.put_into.new.desk.file) free c.put_into.new.desk.free
     c.args.root.now c.args.one.now s c.in-Some.second c.in-Some.is c.in_ok-first.ensures.grows k) h)
     c.raise.ensures.sound
 

@@ -1,5 +1,7 @@
 use Rattle.std.proofs.lemmas.Result.{err_from_is_err_and}
 use Rattle.std.specs.String.{string_bytes}
+use Rattle.mr_record.specs.declared.version.Version.TheVariants.{One}
+use Rattle.mr_tree.specs.Digest.{by}
 use Rattle.mr_edit.specs.Changing.{CanReplay}
 use Rattle.mr_draft.specs.Draft.{drawn}
 use Rattle.mr_edit.specs.Shelves.{HasShelfCause}
@@ -22,7 +24,7 @@ returns-in_err-root-clause-sound g c = λ t can.
     let s = c.args.self.now in
     let p = err_from_is_err_and c.from_residual.result c.from_residual.ensures.1 in
     rw (p.1, p.2)
-    (blames_none (CanReplay g.H.Hashes.of
+    (blames_none (CanReplay (by One g.H.Hashes.of)
     (book_on (g.S.Shelf.state s.desk.file.shelf).files (string_bytes s.desk.file.name) s.desk.file.pages) s.desk.free
     s.root c.args.dir.now c.args.batch.now) (g.S.Shelf.state s.desk.file.shelf).faults
     (g.S.Shelf.state c.replay.new.desk.file.shelf).faults c.in_err-root.field-0.0
