@@ -1,0 +1,10 @@
+pub mod Paging
+pub mod Running
+pub mod Gating
+pub mod Walking
+pub mod Replaying
+pub mod Picking
+pub mod Spelled
+pub mod Shelving
+pub mod NewPages
+pub mod OnFiles

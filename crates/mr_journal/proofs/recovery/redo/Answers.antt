@@ -1,0 +1,39 @@
+use Rattle.std.proofs.Common.{ap, sym, ◌∙◌}
+use Rattle.mr_journal.specs.Format.{opens}
+use Rattle.mr_journal.proofs.Gating.{kept_done, shut_read, opened_read, carried_course, carried_done}
+use Rattle.mr_journal.proofs.recovery.redo.Goals as goal
+
+pub returns-in-None-clause-done : goal.returns-in-None-clause-done
+returns-in-None-clause-done g c only =
+    let h = c.in_ok-held.held in
+    kept_done _ _ _ _ (g.met.D.Disk.earlier c.read_journal.new.disk) c.read_journal.ensures.moves
+    c.read_journal.ensures.contents only
+    (shut_read h.journal.items h.map_length _ c.in_ok-held.ensures.held
+    (ap (opens h.map_length) (sym c.as_slice.ensures.value) ∙ c.in-None.ensures))
+
+pub returns-in_err-finish-in-Some-clause-any_moment : goal.returns-in_err-finish-in-Some-clause-any_moment
+returns-in_err-finish-in-Some-clause-any_moment g c only =
+    let h = c.in_ok-held.held in
+    carried_course _ _ _ _ _ _ (g.met.D.Disk.earlier c.read_journal.new.disk) c.read_journal.ensures.moves
+    c.in-Some.body.now c.finish.result (g.met.D.Disk.counts c.args.disk.now) only
+    (opened_read h.journal.items h.map_length _ c.in-Some.body.now c.in_ok-held.ensures.held
+    (sym c.as_slice.ensures.value ∙ c.in-Some.ensures.0) c.in-Some.ensures.1)
+    c.finish.ensures.shut
+
+pub returns-clause-any_moment : goal.returns-clause-any_moment
+returns-clause-any_moment g c only =
+    let h = c.in_ok-held.held in
+    carried_course _ _ _ _ _ _ (g.met.D.Disk.earlier c.read_journal.new.disk) c.read_journal.ensures.moves
+    c.in-Some.body.now c.finish.result (g.met.D.Disk.counts c.args.disk.now) only
+    (opened_read h.journal.items h.map_length _ c.in-Some.body.now c.in_ok-held.ensures.held
+    (sym c.as_slice.ensures.value ∙ c.in-Some.ensures.0) c.in-Some.ensures.1)
+    c.finish.ensures.shut
+
+pub returns-clause-done : goal.returns-clause-done
+returns-clause-done g c only =
+    let h = c.in_ok-held.held in
+    carried_done _ _ _ _ _ _ (g.met.D.Disk.earlier c.read_journal.new.disk) c.read_journal.ensures.moves
+    c.in-Some.body.now c.in_ok-finish-in-Some.field-0 only
+    (opened_read h.journal.items h.map_length _ c.in-Some.body.now c.in_ok-held.ensures.held
+    (sym c.as_slice.ensures.value ∙ c.in-Some.ensures.0) c.in-Some.ensures.1)
+    c.in_ok-finish-in-Some.ensures.shut
