@@ -7,7 +7,7 @@ ghost use Rattle.mr_pages.specs.Page.{entry_of};
 ghost use Rattle.mr_pages.specs.PageBytes.{form_of};
 ghost use Rattle.mr_pages.specs.Faults.{same_rect, same_sums, least as fewest};
 ghost use Rattle.mr_pages.specs.Walking.{child_link, page_node};
-ghost use Rattle.mr_pages.specs.Judging.{Fills, Judges};
+ghost use Rattle.mr_pages.specs.Judging.{Fills, Judges, fits_entry};
 ghost use Rattle.mr_pages.specs.Source.{IsOfOneRead};
 
 use crate::MapRule;
@@ -84,6 +84,18 @@ pub fn is_full(view: &NodeView, root: bool) -> bool
     ensures { result ≡ Fills root view.now }
 {
     view.len() >= least(view, root)
+}
+
+/// Whether a node that was fetched has the rectangle, the mask and, unless it is the root, the count
+/// that are said of it, and as many entries as it has to, as a root or below it. Its digest is not
+/// looked at.
+pub fn is_fit(version: Version, view: &NodeView, said: &Child, root: bool) -> bool
+    requires { All HasCount (children_in view.now) }
+    ensures { result ≡ fits_entry version root said.now view.now }
+{
+    is_said(view.rect(), said.rect)
+        && (view.mask(version) == said.mask && (root || view.count(version) == said.count))
+        && is_full(view, root)
 }
 
 /// The first rule that the node on a page breaks against what is said of it.

@@ -26,7 +26,7 @@ pub use checking::{Checked, check};
 pub use error::MapErr;
 pub use file_pages::page_count;
 pub use head::MapHead;
-pub use judging::{has_sums, is_full, is_said};
+pub use judging::{has_sums, is_fit, is_full, is_said};
 pub use layout::{FIRST, Layout, PAGE_LIMIT, PAGE_SIZE, SECOND, SECOND_SIZE};
 pub use node::Node;
 pub use numbers::Numbers;

@@ -22,8 +22,8 @@ use Rattle.mr_tree.proofs.Subtrees.{subtrees-Leaf, subtrees-Inner}
 use Rattle.mr_tree.specs.Snapshot.{IsSnapshot, tree_of, tree_over, trees}
 use Rattle.mr_tree.specs.declared.nodes.Top.{Top}
 use Rattle.mr_tree.specs.declared.stored.Stored.{Stored}
-use Rattle.mr_store.specs.Copying.{IsPut, nodes_at, nodes_in}
-use Rattle.mr_store.proofs.Copies.{some_of}
+use Rattle.mr_store.specs.Walk.{nodes_at, nodes_in}
+use Rattle.mr_store.proofs.Walks.{some_of, next_count-≤}
 
 sum_by_map : {X Y : Type 0} (f : Y → ℕ) (g : X → Y) (xs : List X) → sum_by f (map g xs) ≡ sum_by (λ x. f (g x)) xs
 sum_by_map f g [] = refl
@@ -75,9 +75,6 @@ one_at scheme (Some t) c e =
 
 -- ---- how many of them were fetched
 
-next_count-≤ : (n : ℕ) → next_count n ≤ n + 1
-next_count-≤ n = omega arith
-
 module _ (hash : List ℕ → List ℕ) (s : Standing) (c : Child) (may : MayFetch hash s c) (told : IsSome s.tree) where
   -- the node itself
   pub one_fetch : (before now : ℕ) → now ≡ next_count before → now ≤ before + nodes_at (s.node c.id)
@@ -109,16 +106,6 @@ fetched_more s s' cs i d old between new stands is within a b told =
     let next : new ≤ between + f d =
     subst (λ (x : Standing). IsSome x.tree → new ≤ between + nodes_at (x.node d.id)) stands b told in
     omega arith
-
--- ---- each node that is fetched is put behind the others
-
-pub once_looked : (before now old : ℕ) → now ≡ next_count before → now + old ≤ before + 1 + old
-once_looked before now old e = let more = next_count-≤ before in omega arith
-
-pub once_put : (before now : ℕ) (first old new : List Stored) (n : Stored) (said c : Child)
-    → now + length first ≤ before + 1 + length old → IsPut old new n said c → now + length first ≤ before + length new
-once_put before now first old new n said c once put =
-    let long : length new ≡ length old + 1 = ap length put.list ∙ length-append old (n ∷ []) in omega arith
 
 -- the nodes of a map in memory are those of its tree
 pub nodes_listed : (hash : List ℕ → List ℕ) (ns : List Stored) (top : Top) → IsSnapshot hash ns top

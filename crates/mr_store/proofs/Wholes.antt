@@ -6,23 +6,26 @@ use Rattle.std.proofs.lemmas.List.{length-map}
 use Rattle.std.proofs.lemmas.List.Elements.{All-nil}
 use Rattle.mr_record.specs.Record.{IsRecord, HasLayer}
 use Rattle.mr_record.specs.declared.record.Record.{Record}
-use Rattle.mr_record.specs.declared.version.Version.TheVariants.{One}
+use Rattle.mr_record.specs.declared.version.Version.{Version}
 use Rattle.mr_tree.specs.Tree.{records}
-use Rattle.mr_tree.specs.Digest.{by, entry}
-use Rattle.mr_tree.specs.View.{entry_of}
+use Rattle.mr_tree.specs.Digest.{Scheme, by, entry}
+use Rattle.mr_record.specs.Version.{told}
+use Rattle.mr_tree.specs.View.{MayTell, entry_of}
 use Rattle.mr_tree.specs.declared.entry.Entry.{Entry}
 use Rattle.mr_tree.specs.WellFormed.{IsFilledRoot, WellFormed, HasLayers}
-use Rattle.mr_tree.specs.Nodes.{Standing, IsTop, MayFetch, tree_under, subtrees}
-use Rattle.mr_tree.specs.Snapshot.{tree_at, trees, standing, standing_of, AreLinked, IsSnapshot, IsRooted}
+use Rattle.mr_tree.specs.Nodes.{Standing, IsTop, MayFetch, HasSomeCause, tree_under, subtrees}
+use Rattle.mr_tree.specs.declared.nodes.NodesErr.{NodesErr}
+use Rattle.mr_tree.specs.declared.nodes.NodesErr.TheVariants as errors
+use Rattle.mr_tree.specs.Snapshot.{tree_at, trees, standing, standing_of, AreLinked, IsPlaced, IsSnapshot, IsRooted}
 use Rattle.mr_tree.specs.declared.child.Child.{Child}
 use Rattle.mr_tree.specs.declared.nodes.Top.{Top}
 use Rattle.mr_tree.specs.declared.stored.Stored.{Stored}
 use Rattle.mr_tree.specs.declared.tree.Tree.{Tree}
 use Rattle.mr_tree.specs.declared.tree.Tree.TheVariants as tree
 use Rattle.mr_tree.specs.declared.tree.Tree.TheViews.{out-Tree}
-use Rattle.mr_tree.proofs.Equations.{level-Empty, records-Empty}
+use Rattle.mr_tree.proofs.Equations.{entry_level, entry_count, level-Empty, records-Empty}
 use Rattle.mr_tree.proofs.Induction.{every-Empty}
-use Rattle.mr_tree.proofs.Placements.{link_level}
+use Rattle.mr_tree.proofs.Told.{count_told}
 use Rattle.mr_tree.proofs.Reading.{rooted_empty, snapshot_of}
 use Rattle.mr_pages.specs.Faults.{numbers_of}
 use Rattle.mr_pages.specs.Numbers.{count_of}
@@ -30,16 +33,14 @@ use Rattle.mr_pages.specs.Walking.{Saw}
 use Rattle.mr_pages.specs.declared.seen.Seen.{Seen}
 use Rattle.mr_pages.proofs.AsRead.{records_apart, numbers_apart}
 use Rattle.mr_pages.proofs.Lists.{Fresh, fresh_apart, apart_fresh}
-use Rattle.mr_store.specs.Copying.{CanCopy, IsCopied, Stops, StopsAll, nodes_at}
+use Rattle.mr_store.specs.Walk.{CanWalk, IsMadeOf, Walked, Refuses, nodes_at}
 use Rattle.mr_store.specs.Stored.{IsSaid, StandsFor}
-use Rattle.mr_store.specs.declared.stop.Stop.{Stop}
-use Rattle.mr_store.specs.declared.stop.Stop.TheVariants as stops
-use Rattle.mr_store.proofs.Copies.{some_same}
+use Rattle.mr_store.proofs.Walks.{some_same}
 
 -- ---- before the first node
 
-pub none_linked : (hash : List ℕ → List ℕ) (ns : List Stored) → ns ≡ [] → AreLinked (by One hash) ns
-none_linked hash ns e = subst (AreLinked (by One hash)) (sym e) (record { each = All-nil _; over = refl })
+pub none_linked : (x : Scheme) (ns : List Stored) → ns ≡ [] → AreLinked x ns
+none_linked x ns e = subst (AreLinked x) (sym e) (record { each = All-nil _; over = refl })
 
 -- the standing of a tree is that of the map, where this is the map's tree
 stands_as : (hash : List ℕ → List ℕ) (s : Standing) (top : Top) (u t : Tree) → IsTop hash s top → u ≡ t →
@@ -54,8 +55,8 @@ told_root hash s top o t is root told =
 
 -- ---- a map without a node
 
-empty_layers : HasLayers One tree.Empty
-empty_layers = subst (All (HasLayer One)) (sym records-Empty) (All-nil (HasLayer One))
+empty_layers : (v : Version) → HasLayers v tree.Empty
+empty_layers v = subst (All (HasLayer v)) (sym records-Empty) (All-nil (HasLayer v))
 
 pub empty_well : WellFormed tree.Empty
 empty_well = record {
@@ -69,7 +70,7 @@ empty_well = record {
 }
 
 module _ (hash : List ℕ → List ℕ) (s : Standing) (top : Top) (ns : List Stored)
-    (one : s.version ≡ One) (is : IsTop hash s top) (root : top.root ≡ None) (none : ns ≡ []) where
+    (is : IsTop hash s top) (root : top.root ≡ None) (none : ns ≡ []) where
   abbrev empty_top : Top
   empty_top = record { version = top.version; batch = top.batch; count = top.count; root = None }
 
@@ -79,10 +80,8 @@ module _ (hash : List ℕ → List ℕ) (s : Standing) (top : Top) (ns : List St
 
   pub empty_whole : IsSnapshot hash ns empty_top
   empty_whole =
-      subst (λ v. IsSnapshot hash ns (record { version = v; batch = top.batch; count = top.count; root = None }))
-      (sym (is.version ∙ one))
-      (snapshot_of (by One hash) top.batch top.count tree.Empty empty_well empty_layers no_records ns None
-      (rooted_empty (by One hash) ns tree.Empty none refl))
+      snapshot_of (by top.version hash) top.batch top.count tree.Empty empty_well (empty_layers top.version) no_records
+      ns None (rooted_empty (by top.version hash) ns tree.Empty none refl)
 
   pub empty_stands : StandsFor s ns empty_top
   empty_stands t told =
@@ -102,71 +101,93 @@ module _ (hash : List ℕ → List ℕ) (s : Standing) (top : Top) (ns : List St
 -- ---- a map with a root
 
 module _ (hash : List ℕ → List ℕ) (s : Standing) (top : Top) (r c : Child) (old ns : List Stored)
-    (before after : Seen) (pages : ℕ) (one : s.version ≡ One) (is : IsTop hash s top) (root : top.root ≡ Some r)
-    (none : old ≡ []) (start : Saw pages before [] []) (copied : IsCopied hash s true r c old ns before after) where
+    (before after : Seen) (pages f f' : ℕ) (is : IsTop hash s top) (root : top.root ≡ Some r) (none : old ≡ [])
+    (start : Saw pages before [] []) (same_entry : entry_of c ≡ entry_of r)
+    (walked : Walked (by top.version hash) s true r before after f f'
+    (λ u. AreLinked (by top.version hash) old → IsPlaced (by top.version hash) old ns c u (subtrees u))) where
+  abbrev x : Scheme
+  x = by top.version hash
+
   abbrev t : Tree
-  t = tree_at (trees ns) c.id
+  t = walked.under
 
   abbrev whole_top : Top
   whole_top = record { version = top.version; batch = top.batch; count = top.count; root = Some c }
 
   met : Saw pages after [] (numbers_of (records t))
-  met = (copied.met pages [] start).1
+  met = (walked.met pages [] start).1
 
   pub counted : count_of after.numbers ≡ length (records t)
-  counted = met.met.count ∙ length-map (records t) (λ (x : Record). x.number)
+  counted = met.met.count ∙ length-map (records t) (λ (y : Record). y.number)
 
   may : MayFetch hash s r
   may = subst (λ o. IfSome o (MayFetch hash s)) root is.root
 
-  pub whole_well : top.count ≡ count_of after.numbers → WellFormed t
-  whole_well same = record {
-    one_level = copied.fine.one_level;
-    shallow = omega (
-      arith,
-      may.low,
-      ap (λ (e : Entry). e.level) copied.known,
-      link_level (by One hash) (trees ns) c copied.placed.link,
-    );
-    filled = copied.fine.filled;
-    distinct = records_apart (records t) (fresh_apart [] (numbers_of (records t)) (copied.met pages [] start).0);
-    each = copied.fine.each;
-    few = omega (arith, is.few, same, counted);
-  }
-
-  rooted : IsRooted (by One hash) ns (Some c) t
-  rooted = record {
-    linked = copied.placed.linked;
-    whole = copied.placed.grown ∙ ap (λ us. trees us ++ subtrees t) none;
-    tree = refl;
-    root = copied.placed.link;
-  }
-
-  pub whole_snapshot : top.count ≡ count_of after.numbers → IsSnapshot hash ns whole_top
-  whole_snapshot same =
-      subst (λ v. IsSnapshot hash ns (record { version = v; batch = top.batch; count = top.count; root = Some c }))
-      (sym (is.version ∙ one))
-      (snapshot_of (by One hash) top.batch top.count t (whole_well same) copied.fine.layers (same ∙ counted) ns
-      (Some c) rooted)
+  -- the count of the root is that of the head, as the version tells it
+  said : r.count ≡ told top.version top.count
+  said = (subst (λ o. IfSome o (λ d. MayTell s.version d.mask d.count × (d.count ≡ told s.version top.count))) root
+      is.told).1 ∙ ap (λ v. told v top.count) (sym is.version)
 
   told_tree : (u : Tree) → s.tree ≡ Some u → t ≡ u
-  told_tree u told =
-      some_same t u (sym (copied.same (subst (IsSome {T = Tree}) (sym told) refl))
-      ∙ told_root hash s top (Some r) u is root told)
+  told_tree u told_ =
+      some_same t u (sym (walked.same (subst (IsSome {T = Tree}) (sym told_) refl))
+      ∙ told_root hash s top (Some r) u is root told_)
 
-  pub whole_stands : StandsFor s ns whole_top
-  whole_stands u told = stands_as hash s top t u is (told_tree u told)
+  module _ (same : top.count ≡ count_of after.numbers) where
+    has_count : r.count ≡ (entry x t).count
+    has_count =
+        said ∙ ap (told top.version) (same ∙ counted) ∙ sym (entry_count x t ∙ count_told top.version t)
 
-  pub whole_said : top.count ≡ count_of after.numbers → IsSaid hash top (standing ns whole_top)
-  whole_said same = record {
-    version = refl;
-    batch = refl;
-    tree = t;
-    told = refl;
-    count = sym (same ∙ counted);
-    root = subst (λ o. IfSome o (λ c. entry (by top.version hash) t ≡ entry_of c)) (sym root)
-        (ap (λ v. entry (by v hash) t) (is.version ∙ one) ∙ sym copied.placed.link.entry ∙ copied.known);
-  }
+    built : IsMadeOf x true r t (AreLinked x old → IsPlaced x old ns c t (subtrees t))
+    built = walked.is (λ e. has_count)
+
+    placed : IsPlaced x old ns c t (subtrees t)
+    placed = built.made (none_linked x old none)
+
+    -- the tree where the copy has it
+    here : tree_at (trees ns) c.id ≡ t
+    here = placed.here
+
+    well : WellFormed t
+    well = record {
+      one_level = built.fine.one_level;
+      shallow = omega (arith, may.low, ap (λ (e : Entry). e.level) built.known, entry_level x t);
+      filled = built.fine.filled;
+      distinct = records_apart (records t) (fresh_apart [] (numbers_of (records t)) (walked.met pages [] start).0);
+      each = built.fine.each;
+      few = omega (arith, is.few, same, counted);
+    }
+
+    pub whole_well : WellFormed (tree_at (trees ns) c.id)
+    whole_well = subst WellFormed (sym here) well
+
+    rooted : IsRooted x ns (Some c) t
+    rooted = record {
+      linked = placed.linked;
+      whole = placed.grown ∙ ap (λ us. trees us ++ subtrees t) none;
+      tree = here;
+      root = placed.link;
+    }
+
+    pub whole_snapshot : IsSnapshot hash ns whole_top
+    whole_snapshot = snapshot_of x top.batch top.count t well built.fine.layers (same ∙ counted) ns (Some c) rooted
+
+    pub whole_stands : StandsFor s ns whole_top
+    whole_stands u is_told = stands_as hash s top (tree_at (trees ns) c.id) u is (here ∙ told_tree u is_told)
+
+    pub whole_said : IsSaid hash top (standing ns whole_top)
+    whole_said = record {
+      version = refl;
+      batch = refl;
+      tree = tree_at (trees ns) c.id;
+      told = refl;
+      count = ap (λ u. length (records u)) here ∙ sym (same ∙ counted);
+      root = subst (λ o. IfSome o (λ d. entry x (tree_at (trees ns) c.id) ≡ entry_of d)) (sym root)
+          (sym placed.link.entry ∙ same_entry);
+    }
+
+    pub once_each : f' ≤ f + length (subtrees (tree_at (trees ns) c.id))
+    once_each = omega (arith, walked.once, ap (λ u. length (subtrees u)) here)
 
   -- another number of records is met only where the tree is not told
   pub miscounted : (top.count ≡ count_of after.numbers → ⊥) → IsNone s.tree
@@ -181,7 +202,7 @@ module _ (hash : List ℕ → List ℕ) (s : Standing) (top : Top) (r c : Child)
 
 module _ (hash : List ℕ → List ℕ) (s : Standing) (top : Top) (r : Child) (before : Seen) (pages : ℕ)
     (is : IsTop hash s top) (root : top.root ≡ Some r) (start : Saw pages before [] []) where
-  can_start : (u : Tree) → s.tree ≡ Some u → WellFormed u → CanCopy s true before r
+  can_start : (u : Tree) → s.tree ≡ Some u → WellFormed u → CanWalk s true before r
   can_start u told well = record {
     pages = pages;
     ns = [];
@@ -194,17 +215,20 @@ module _ (hash : List ℕ → List ℕ) (s : Standing) (top : Top) (r : Child) (
       same : (v : Tree) → s.node r.id ≡ Some v → u ≡ v
       same v e = some_same u v (sym (told_root hash s top (Some r) u is root told) ∙ e)
 
-  pub stops_all : (a b : ℕ) (e : Stop) → IfSome s.tree (λ u. ∥ WellFormed u ∥₁) →
-      Stops s a b (CanCopy s true before r) e → StopsAll s a b e
-  stops_all a b (stops.Nodes e) wells h = h
-  stops_all a b (stops.Broken page) wells h = (at s.tree refl wells, h.0, h.1)
+  pub refuses_all : (a b : ℕ) (e : NodesErr) → IfSome s.tree (λ u. ∥ WellFormed u ∥₁) →
+      Refuses s a b (CanWalk s true before r) e → HasSomeCause s a b e
+  refuses_all a b (errors.Page page) wells h = (at s.tree refl wells, h.0, h.1)
     where
       at : (o : Option Tree) → s.tree ≡ o → IfSome o (λ u. ∥ WellFormed u ∥₁) → IsNone o
       at None e wells = refl
       at (Some u) e wells =
-          absurd (∥∥₁_elim wells (λ x y. absurd x)
+          absurd (∥∥₁_elim wells (λ y z. absurd y)
           (λ well. h.2 (subst (IsSome {T = Tree}) (sym e) refl) (can_start u e well)))
-  stops_all a b stops.NoMemory wells h = tt
+  refuses_all a b (errors.Changed page held found) wells h = h
+  refuses_all a b (errors.Outside page) wells h = h
+  refuses_all a b errors.Missing wells h = h
+  refuses_all a b errors.Fault wells h = h
+  refuses_all a b errors.NoMemory wells h = h
 
 -- ---- how many nodes are fetched
 

@@ -5,7 +5,6 @@
 mod cache;
 mod copying;
 mod fetching;
-mod judging;
 mod kept;
 mod listing;
 mod memory;
@@ -13,7 +12,7 @@ mod opening;
 mod paged;
 mod paging;
 mod reading;
-mod stop;
+mod walk;
 
 pub use cache::{recall, remember};
 pub use kept::Kept;

@@ -1,48 +1,28 @@
 //! The directory of a map whose nodes are fetched one by one.
 
-ghost use Rattle.std.specs.Prelude.{◌≡◌, ◌≢◌, true, OnErr, ◌+◌, ◌≤◌, ◌++◌, [], map, length, IfOk, IfErr, OnOk, IfSome, IsSome};
+ghost use Rattle.std.specs.Prelude.{◌≡◌, ◌≢◌, OnErr, ◌+◌, ◌≤◌, ◌++◌, [], map, IfOk, IfErr, OnOk, IfSome, IsSome, length};
 ghost use Rattle.std.specs.BTreeMap.{IsFromIterResult};
 ghost use Rattle.std.specs.Ordering.{nat_cmp};
 ghost use Rattle.mr_tree.specs.Tree.{records as records_in};
 ghost use Rattle.mr_tree.specs.declared.nodes.NodesErr.TheVariants as errors;
-ghost use Rattle.mr_tree.specs.Nodes.{MayFetch, Shows, HasSomeCause, TellsRefusal, subtrees};
+ghost use Rattle.mr_tree.specs.Nodes.{MayFetch, HasSomeCause, TellsRefusal, subtrees};
 ghost use Rattle.mr_batch.specs.Directory.{IsDirectoryOf};
-ghost use Rattle.mr_outside.specs.Faults.{next_count};
-ghost use Rattle.mr_store.specs.Copying.{CanCopy, IsFull, fits_entry, nodes_at};
-ghost use Rattle.mr_store.specs.Listing.{entry_of, Lists, Gathers, ListsBelow, ListsAt, HasAt, HasSeenNone, Blames, CanList, CanListAll, Refuses, IsTwice};
+ghost use Rattle.mr_store.specs.Walk.{HasSeenNone, Refuses, nodes_at};
+ghost use Rattle.mr_store.specs.Listing.{entry_of, ListsAt, Gathers, HasAt, CanList, CanListAll};
 
-use crate::judging::is_fit;
+use crate::walk::{Gather, walk};
 use mr_batch::Directory;
 use mr_geom::Rect;
 use mr_pages::Seen;
-use mr_record::Record;
+use mr_record::{Record, Version};
 use mr_tree::{COUNT_LIMIT, Child, LEAF_LIMIT, NodeView, Nodes, NodesErr};
 use std::alloc::{AllocError, Global};
 use std::collections::BTreeMap;
 
-// Fetches a node that breaks no rule by itself.
-fn look<N: Nodes>(
-    nodes: &mut N,
-    child: &Child,
-    root: bool,
-    view: &mut NodeView,
-) -> Result<(), NodesErr>
-    requires { MayFetch N.Hash.of (N.stands nodes.old) child.now }
-    ensures kept { N.kept nodes.old nodes.new }
-    ensures shows { OnOk result (Shows N.Hash.of (N.stands nodes.old) child.now view.new) }
-    ensures fit { OnOk result (fits_entry root child.now view.new ≡ true) }
-    ensures blames { IfErr result (Blames child.now.id) }
-    ensures counted { N.fetches nodes.new ≡ next_count (N.fetches nodes.old) }
-    ensures quiet { OnOk result (N.faults nodes.new ≡ N.faults nodes.old) }
-    ensures answered { TellsRefusal (λ e. e) (N.refusal nodes.old) (N.refusal nodes.new) result }
-    ensures cause { IfErr result (Refuses (N.stands nodes.old) (N.faults nodes.old)
-        (N.faults nodes.new) (IsFull (N.stands nodes.old) root child.now)) }
-{
-    nodes.fetch(child, view)?;
-    if !is_fit(view, child, root) {
-        return Err(NodesErr::Page { page: child.id });
-    }
-    Ok(())
+// The number and the rectangle of each record, in the order of a walk.
+#[derive(Drop)]
+struct Entries {
+    all: Vec<(u64, Rect)>,
 }
 
 // Lists the number and the rectangle of each of these records.
@@ -55,54 +35,17 @@ fn list_records(all: &mut Vec<(u64, Rect)>, records: &[Record]) -> Result<(), Al
     Ok(())
 }
 
-// The same of the records of a leaf on this page, none of whose numbers was met before.
-fn list_leaf(
-    page: u32,
-    records: &[Record],
-    seen: &mut Seen,
-    all: &mut Vec<(u64, Rect)>,
-) -> Result<(), NodesErr>
-    ensures lists { OnOk result (Lists all.old.items all.new.items seen.old seen.new records.now) }
-    ensures twice { IfErr result (IsTwice page seen.old records.now) }
-{
-    match seen.meet(records) {
-        Err(_) => Err(NodesErr::NoMemory),
-        Ok(true) => Err(NodesErr::Page { page }),
-        Ok(false) => match list_records(all, records) {
-            Err(_) => Err(NodesErr::NoMemory),
-            Ok(()) => Ok(()),
-        },
-    }
-}
+impl Gather for Entries {
+    ghost gathers = { λ x s t c u. t.all.items ≡ s.all.items ++ map entry_of (records_in u) };
 
-// Lists the records below a child.
-fn list<N: Nodes>(
-    nodes: &mut N,
-    child: &Child,
-    root: bool,
-    seen: &mut Seen,
-    all: &mut Vec<(u64, Rect)>,
-) -> Result<(), NodesErr>
-    requires { MayFetch N.Hash.of (N.stands nodes.old) child.now }
-    ensures kept { N.kept nodes.old nodes.new }
-    ensures lists { OnOk result (ListsBelow (N.stands nodes.old) child.now all.old.items
-        all.new.items seen.old seen.new) }
-    ensures fetched { IsSome (N.stands nodes.old).tree → N.fetches nodes.new
-        ≤ N.fetches nodes.old + nodes_at ((N.stands nodes.old).node child.now.id) }
-    ensures quiet { OnOk result (N.faults nodes.new ≡ N.faults nodes.old) }
-    ensures answered { TellsRefusal (λ e. e) (N.refusal nodes.old) (N.refusal nodes.new) result }
-    ensures cause { IfErr result (Refuses (N.stands nodes.old) (N.faults nodes.old)
-        (N.faults nodes.new) (CanCopy (N.stands nodes.old) root seen.old child.now)) }
-{
-    let mut view = NodeView::new();
-    look(nodes, child, root, &mut view)?;
-    if view.level() == 0 {
-        list_leaf(child.id, view.records(), seen, all)
-    } else {
-        for one in view.children() {
-            list(nodes, one, false, seen, all)?;
-        }
-        Ok(())
+    fn leaf(&mut self, _child: &Child, records: &[Record]) -> Result<u32, NodesErr> {
+        list_records(&mut self.all, records)?;
+        Ok(0)
+    }
+
+    // What is listed of a node is found by no entry.
+    fn inner(&mut self, _child: &Child, _children: Vec<Child>) -> Result<u32, NodesErr> {
+        Ok(0)
     }
 }
 
@@ -112,10 +55,7 @@ fn unseen(alloc: Global, count: u64) -> Result<Seen, NodesErr>
     ensures memory { IfErr result (λ e. e ≡ errors.NoMemory) }
 {
     let leaves = count.min(COUNT_LIMIT) / LEAF_LIMIT as u64 + 1;
-    match Seen::new(alloc, leaves as u32) {
-        Ok(seen) => Ok(seen),
-        Err(_) => Err(NodesErr::NoMemory),
-    }
+    Ok(Seen::new(alloc, leaves as u32)?)
 }
 
 // Room for so many records.
@@ -123,20 +63,19 @@ fn room(alloc: Global, count: u64) -> Result<Vec<(u64, Rect)>, NodesErr>
     ensures none { IfOk result (λ all. all.items ≡ []) }
     ensures memory { IfErr result (λ e. e ≡ errors.NoMemory) }
 {
-    match Vec::with_capacity(alloc, count.min(COUNT_LIMIT) as usize) {
-        Ok(all) => Ok(all),
-        Err(_) => Err(NodesErr::NoMemory),
-    }
+    Ok(Vec::with_capacity(alloc, count.min(COUNT_LIMIT) as usize)?)
 }
 
 // The number and the rectangle of each record below the root, in the order of a walk.
-fn walk<N: Nodes>(
+fn listed<N: Nodes>(
     alloc: Global,
+    version: Version,
     nodes: &mut N,
     root: &Child,
     count: u64,
 ) -> Result<Vec<(u64, Rect)>, NodesErr>
-    requires { MayFetch N.Hash.of (N.stands nodes.old) root.now }
+    requires version { (N.stands nodes.old).version ≡ version }
+    requires may { MayFetch N.Hash.of (N.stands nodes.old) root.now }
     ensures kept { N.kept nodes.old nodes.new }
     ensures lists { IfOk result (λ all. ListsAt (N.stands nodes.old) root.now all.items) }
     ensures fetched { IsSome (N.stands nodes.old).tree → N.fetches nodes.new
@@ -147,9 +86,14 @@ fn walk<N: Nodes>(
         (N.faults nodes.new) (CanList (N.stands nodes.old) root.now)) }
 {
     let mut seen = unseen(alloc, count)?;
-    let mut all = room(alloc, count)?;
-    list(nodes, root, true, &mut seen, &mut all)?;
-    Ok(all)
+    let mut into = Entries {
+        all: room(alloc, count)?,
+    };
+    let mut view = NodeView::new();
+    let _root = walk(
+        alloc, version, nodes, root, true, &mut view, &mut seen, &mut into,
+    )?;
+    Ok(into.all)
 }
 
 // What was listed, by number.
@@ -164,10 +108,7 @@ fn gathered(alloc: Global, all: Vec<(u64, Rect)>) -> Result<Directory, NodesErr>
     ensures lists { IfOk result (Gathers all.items) }
     ensures memory { IfErr result (λ e. e ≡ errors.NoMemory) }
 {
-    match collected(alloc, all) {
-        Ok(rects) => Ok(Directory::over(rects)),
-        Err(_) => Err(NodesErr::NoMemory),
-    }
+    Ok(Directory::over(collected(alloc, all)?))
 }
 
 // Refuses the root, where other than so many records were listed.
@@ -185,11 +126,13 @@ fn fits(root: &Child, listed: u64, count: u64) -> Result<(), NodesErr>
 // The directory of a map with this root, of which there are to be so many records.
 fn list_all<N: Nodes>(
     alloc: Global,
+    version: Version,
     nodes: &mut N,
     root: &Child,
     count: u64,
 ) -> Result<Directory, NodesErr>
-    requires { MayFetch N.Hash.of (N.stands nodes.old) root.now }
+    requires version { (N.stands nodes.old).version ≡ version }
+    requires may { MayFetch N.Hash.of (N.stands nodes.old) root.now }
     ensures kept { N.kept nodes.old nodes.new }
     ensures lists { IfOk result (HasAt (N.stands nodes.old) root.now) }
     ensures fetched { IsSome (N.stands nodes.old).tree → N.fetches nodes.new
@@ -199,7 +142,7 @@ fn list_all<N: Nodes>(
     ensures cause { IfErr result (Refuses (N.stands nodes.old) (N.faults nodes.old)
         (N.faults nodes.new) (CanListAll (N.stands nodes.old) root.now count)) }
 {
-    let all = walk(alloc, nodes, root, count)?;
+    let all = listed(alloc, version, nodes, root, count)?;
     fits(root, all.len() as u64, count)?;
     gathered(alloc, all)
 }
@@ -209,17 +152,14 @@ fn empty(alloc: Global) -> Result<Directory, NodesErr>
     ensures none { IfOk result (λ d. IsDirectoryOf d []) }
     ensures memory { IfErr result (λ e. e ≡ errors.NoMemory) }
 {
-    match Directory::of(alloc, &[]) {
-        Ok(dir) => Ok(dir),
-        Err(_) => Err(NodesErr::NoMemory),
-    }
+    Ok(Directory::of(alloc, &[])?)
 }
 
 /// The directory of a map: the number and the rectangle of each of its records, found by a walk
 /// over all its nodes.
 ///
-/// Where the tree is not told, `Page` names besides a node whose rectangle is not the one that its
-/// parent tells of, a node with too few entries, or one with a record's number that was met before;
+/// Where the tree is not told, `Page` names besides a node whose rectangle, mask or count is not the
+/// one that its parent tells of, a node with too few entries, or one with a record's number that was met before;
 /// and the root, where the map has another number of records than it tells.
 pub fn directory<N: Nodes>(alloc: Global, nodes: &mut N) -> Result<Directory, NodesErr>
     ensures kept { N.kept nodes.old nodes.new }
@@ -237,6 +177,6 @@ pub fn directory<N: Nodes>(alloc: Global, nodes: &mut N) -> Result<Directory, No
     let top = nodes.top();
     match &top.root {
         None => empty(alloc),
-        Some(root) => list_all(alloc, nodes, root, top.count),
+        Some(root) => list_all(alloc, top.version, nodes, root, top.count),
     }
 }

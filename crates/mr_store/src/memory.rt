@@ -8,7 +8,6 @@ ghost use Rattle.mr_store.specs.Stored.{told_bytes, stands_for, top_in, IsSaid, 
 
 use crate::copying::copied;
 use crate::paged::Paged;
-use crate::stop::refusal;
 use mr_outside::Shelf;
 use mr_pages::MapHead;
 use mr_record::Version;
@@ -59,9 +58,6 @@ impl<S: Shelf, H: Hash32> Paged<S, H> {
     {
         let pages = self.head.pages;
         let top = top_of(&self.head);
-        match copied::<Paged<S, H>>(self.alloc, self, &top, pages) {
-            Ok(snapshot) => Ok(snapshot),
-            Err(stop) => Err(refusal(stop)),
-        }
+        copied::<Paged<S, H>>(self.alloc, self, &top, pages)
     }
 }

@@ -7,7 +7,7 @@ use Rattle.mr_record.specs.declared.version.Version.TheVariants.{Two}
 use Rattle.mr_record.specs.declared.record.Record.{Record}
 use Rattle.mr_record.specs.Version.{told}
 use Rattle.mr_tree.specs.Limits.{count_limit, level_limit, leaf_limit, inner_limit}
-use Rattle.mr_tree.specs.Tree.{level_step, rect_step}
+use Rattle.mr_tree.specs.Tree.{level_step, rect_step, mask_step, count_step}
 use Rattle.mr_tree.specs.Digest.{Scheme, entry_step, node_preimage}
 use Rattle.mr_tree.specs.declared.entry.Entry.{Entry}
 use Rattle.mr_tree.specs.declared.child.Child.{Child}
@@ -60,6 +60,13 @@ entry_over s node = entry_step s (over_entries node)
 -- the least rectangle round it, where it has a record or a child
 abbrev pub rect_of : Node → Option Rectangle
 rect_of node = rect_step (map-Tree Child (Option Rectangle) (λ (c : Child). Some c.rect) node)
+
+-- the mask of the layers below it, and the number of records, as a version tells them
+abbrev pub mask_over : Version → Node → ℕ
+mask_over v node = mask_step v (map-Tree Child ℕ (λ (c : Child). c.mask) node)
+
+abbrev pub count_over : Version → Node → ℕ
+count_over v node = count_step v (map-Tree Child ℕ (λ (c : Child). c.count) node)
 
 -- ---- what a view holds
 

@@ -3,11 +3,13 @@
 ghost use Rattle.std.specs.Prelude.{◌≡◌, ℕ, ◌≤◌, Option, Some, IfSome, IfErr, OnOk};
 ghost use Rattle.mr_outside.specs.Faults.{next_count};
 ghost use Rattle.mr_tree.specs.declared.nodes.NodesErr as error;
+ghost use Rattle.mr_tree.specs.declared.nodes.NodesErr.TheVariants as variants;
 ghost use Rattle.mr_tree.specs.WellFormed.{WellFormed, HasLayers};
 ghost use Rattle.mr_tree.specs.Nodes.{Standing, HasIds, IsTop, MayFetch, Shows, HasCause, root_entry};
 
 use crate::{Child, Entry, Hashes, NodeView};
 use mr_record::Version;
+use std::alloc::{AllocError, AllocFailed};
 
 /// What a map says of itself: its version, the batch that it stands at, the number of its records,
 /// and the entry of its root node, which a map without records has not.
@@ -54,6 +56,22 @@ pub enum NodesErr {
     /// The store failed.
     Fault,
     NoMemory,
+}
+
+impl From<AllocError> for NodesErr {
+    ghost from_gives = { λ _ e. e ≡ variants.NoMemory };
+
+    fn from(_error: AllocError) -> NodesErr {
+        NodesErr::NoMemory
+    }
+}
+
+impl<T: Drop> From<AllocFailed<T>> for NodesErr {
+    ghost from_gives = { λ _ e. e ≡ variants.NoMemory };
+
+    fn from(_error: AllocFailed<T>) -> NodesErr {
+        NodesErr::NoMemory
+    }
 }
 
 /// A map whose nodes are fetched one by one, each by the entry that its parent holds of it.

@@ -1,17 +1,18 @@
 //! One node, kept inline.
 
-ghost use Rattle.std.specs.Prelude.{◌≡◌, ℕ, ◌+◌, ◌<◌, ◌^◌, ◌≤◌, [], map, length, take, slice_get, Some, All};
+ghost use Rattle.std.specs.Prelude.{◌≡◌, ℕ, ◌+◌, ◌<◌, ◌^◌, ◌≤◌, [], map, length, take, slice_get, Some, All, sum};
 ghost use Rattle.mr_geom.specs.Rectangle.{union_of};
 ghost use Rattle.mr_record.specs.Record.{HasLayer};
 ghost use Rattle.mr_record.specs.declared.version.Version.TheVariants.{Two};
 ghost use Rattle.mr_tree.specs.Digest.{by};
-ghost use Rattle.mr_tree.specs.View.{records_in, children_in, HasCount, IsChild, IsView, size, level_of, entry_over, rect_of};
+ghost use Rattle.mr_tree.specs.Tree.{mask_of};
+ghost use Rattle.mr_tree.specs.View.{records_in, children_in, HasCount, IsChild, IsView, size, level_of, entry_over, rect_of, mask_over, count_over};
 ghost use Rattle.mr_tree.specs.declared.child.Child as types;
 ghost use Rattle.mr_tree.specs.declared.tree.Tree.TheOpen.{Leaf, Inner};
 ghost use Rattle.mr_tree.specs.Limits.{inner_limit, leaf_limit};
 
 use crate::digest::leaf_entry;
-use crate::gathering::Gathering;
+use crate::gathering::{Gathering, as_told, layers_of};
 use crate::tree::bounds_of;
 use crate::{Child, Entry, Hashes};
 use mr_geom::{Rect, joined};
@@ -90,6 +91,30 @@ pub(crate) fn bounds_of_children(children: &[Child]) -> Option<Rect>
     let mut all = None;
     for child in children {
         all = joined(all, Some(child.rect));
+    }
+    all
+}
+
+// All layers that the masks of some children tell of.
+fn masks_of(children: &[Child]) -> u64
+    ensures { result ≡ mask_of (map (λ (c : types.Child). c.mask) children.now) }
+{
+    let mut all = 0;
+    for child in children {
+        all |= child.mask;
+    }
+    all
+}
+
+// How many records some children tell of.
+fn counts_of(children: &[Child]) -> u64
+    requires few { length children.now ≤ inner_limit }
+    requires counts { All HasCount children.now }
+    ensures { result ≡ sum (map (λ (c : types.Child). c.count) children.now) }
+{
+    let mut all = 0;
+    for child in children {
+        all += child.count;
     }
     all
 }
@@ -189,6 +214,29 @@ impl NodeView {
             bounds_of(self.records())
         } else {
             bounds_of_children(self.children())
+        }
+    }
+
+    /// The mask of the layers below it, as a version tells it.
+    pub fn mask(&self, version: Version) -> u64
+        ensures { result ≡ mask_over version self.now }
+    {
+        if self.level() == 0 {
+            layers_of(version, self.records())
+        } else {
+            masks_of(self.children())
+        }
+    }
+
+    /// The number of the records below it, as a version tells it.
+    pub fn count(&self, version: Version) -> u64
+        requires { All HasCount (children_in self.now) }
+        ensures { result ≡ count_over version self.now }
+    {
+        if self.level() == 0 {
+            as_told(version, self.records().len() as u64)
+        } else {
+            counts_of(self.children())
         }
     }
 

@@ -3,7 +3,7 @@ use Rattle.mr_store.specs.Listing.{Gathers}
 use Rattle.mr_store.proofs.Gathering.{made_gathers}
 use Rattle.mr_store.proofs.listing.gathered.Goals as goal
 
-pub returns-in-Ok-clause-lists : goal.returns-in-Ok-clause-lists
-returns-in-Ok-clause-lists c =
+pub returns-clause-lists : goal.returns-clause-lists
+returns-clause-lists c =
     subst (Gathers c.args.all.items) (sym c.over.ensures)
-    (made_gathers c.args.all.items c.in-Ok.rects c.in-Ok.ensures)
+    (made_gathers c.args.all.items c.in_ok-collected.field-0 c.in_ok-collected.ensures)

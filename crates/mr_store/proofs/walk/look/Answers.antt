@@ -1,0 +1,24 @@
+use Rattle.std.proofs.Common.{sym, subst, ◌∙◌}
+use Rattle.mr_tree.specs.View as view
+use Rattle.mr_tree.specs.Nodes.{Standing}
+use Rattle.mr_tree.proofs.Told.{told_counts}
+use Rattle.mr_store.proofs.Walks.{suits_of, unfit_refuses, fetch_refuses}
+use Rattle.mr_store.proofs.walk.look.Goals as goal
+
+pub is_fit-requires : goal.is_fit-requires
+is_fit-requires g c =
+    told_counts (g.N.Nodes.stands c.args.nodes.now).version (view.children_in c.fetch.new.into)
+    c.in_ok-fetch.ensures.shows.told.children
+
+pub returns-then-not-is_fit-clause-cause : goal.returns-then-not-is_fit-clause-cause
+returns-then-not-is_fit-clause-cause g c =
+    unfit_refuses c.args.version g.N.Hash.Hashes.of (g.N.Nodes.stands c.args.nodes.now) c.args.root c.args.child.now
+    c.fetch.new.into (g.N.Nodes.faults c.args.nodes.now) (g.N.Nodes.faults c.fetch.new.self) c.requires.version
+    c.requires.may c.in_ok-fetch.ensures.shows c.in_ok-fetch.ensures.quiet
+    (sym c.is_fit.ensures ∙ c.if-not-is_fit.true)
+
+pub returns-clause-suits : goal.returns-clause-suits
+returns-clause-suits g c = λ counted.
+    suits_of c.args.version g.N.Hash.Hashes.of (g.N.Nodes.stands c.args.nodes.now) c.args.root c.args.child.now
+    c.fetch.new.into c.requires.version c.in_ok-fetch.ensures.shows c.is_view.ensures
+    (sym c.is_fit.ensures ∙ c.if-not-is_fit.false) counted

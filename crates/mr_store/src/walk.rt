@@ -1,0 +1,156 @@
+//! A walk over the nodes of a map, each of which is fetched once.
+
+ghost use Rattle.std.specs.Prelude.{◌≡◌, ◌≤◌, ◌+◌, Bool, List, map, length, IfOk, IfErr, IsSome, OnOk};
+ghost use Rattle.mr_outside.specs.Faults.{next_count};
+ghost use Rattle.mr_tree.specs.Digest.{Scheme, by};
+ghost use Rattle.mr_tree.specs.Nodes.{MayFetch, Shows, TellsRefusal};
+ghost use Rattle.mr_tree.specs.View.{count_over, entry_of};
+ghost use Rattle.mr_tree.specs.declared.child.Child as types;
+ghost use Rattle.mr_tree.specs.declared.nodes.NodesErr.TheVariants as errors;
+ghost use Rattle.mr_tree.specs.declared.tree.Tree as trees;
+ghost use Rattle.mr_tree.specs.declared.tree.Tree.TheVariants as tree;
+ghost use Rattle.mr_tree.specs.declared.tree.Tree.TheOpen.{Leaf, Inner};
+ghost use Rattle.mr_store.specs.Walk.{Suits, IsCounted, IsFull, CanWalk, Adds, moved, nodes_at, GathersAll, Walked, Refuses, IsTwice};
+
+use mr_pages::{Seen, is_fit};
+use mr_record::{Record, Version};
+use mr_tree::{Child, NodeView, Nodes, NodesErr, is_view};
+use std::alloc::Global;
+
+/// What is made of the nodes of a map, of each one behind those below it.
+pub(crate) trait Gather {
+    // from what was there before to what is there now: the node with this tree was added, and is
+    // found by this entry
+    ghost gathers: { Scheme → Self → Self → types.Child → trees.Tree → Type 0 };
+
+    /// Adds a leaf with these records, and answers where it is found.
+    fn leaf(&mut self, child: &Child, records: &[Record]) -> Result<u32, NodesErr>
+        ensures gathers { IfOk result (λ id. (x : Scheme) (root : Bool) →
+            Suits x root child.now (Leaf records.now) →
+            gathers x self.old self.new (moved id child.now) (tree.Leaf records.now)) }
+        ensures memory { IfErr result (λ e. e ≡ errors.NoMemory) };
+
+    /// Adds an inner node, whose children were added and are found by these entries, and answers
+    /// where it is found.
+    fn inner(&mut self, child: &Child, children: Vec<Child>) -> Result<u32, NodesErr>
+        ensures gathers { IfOk result (λ id. (x : Scheme) (before : Self) (root : Bool)
+            (cs : List types.Child) (ts : List trees.Tree) → Suits x root child.now (Inner cs) →
+            map entry_of children.items ≡ map entry_of cs →
+            GathersAll (gathers x) before self.old children.items ts →
+            gathers x before self.new (moved id child.now) (tree.Inner ts)) }
+        ensures memory { IfErr result (λ e. e ≡ errors.NoMemory) };
+}
+
+// Fetches a node that breaks no rule by itself.
+fn look<N: Nodes>(
+    version: Version,
+    nodes: &mut N,
+    child: &Child,
+    root: bool,
+    view: &mut NodeView,
+) -> Result<(), NodesErr>
+    requires version { (N.stands nodes.old).version ≡ version }
+    requires may { MayFetch N.Hash.of (N.stands nodes.old) child.now }
+    ensures kept { N.kept nodes.old nodes.new }
+    ensures counted { N.fetches nodes.new ≡ next_count (N.fetches nodes.old) }
+    ensures shows { OnOk result (Shows N.Hash.of (N.stands nodes.old) child.now view.new) }
+    ensures suits { OnOk result (IsCounted root child.now (count_over version view.new) →
+        Suits (by version N.Hash.of) root child.now view.new) }
+    ensures quiet { OnOk result (N.faults nodes.new ≡ N.faults nodes.old) }
+    ensures answered { TellsRefusal (λ e. e) (N.refusal nodes.old) (N.refusal nodes.new) result }
+    ensures cause { IfErr result (Refuses (N.stands nodes.old) (N.faults nodes.old)
+        (N.faults nodes.new) (IsFull (N.stands nodes.old) root child.now)) }
+{
+    nodes.fetch(child, view)?;
+    is_view(view);
+    if !is_fit(version, view, child, root) {
+        return Err(NodesErr::Page { page: child.id });
+    }
+    Ok(())
+}
+
+// Meets the records of a leaf on this page, none of whose numbers was met before.
+fn meet(page: u32, records: &[Record], seen: &mut Seen) -> Result<(), NodesErr>
+    ensures adds { OnOk result (Adds seen.old seen.new records.now) }
+    ensures twice { IfErr result (IsTwice page seen.old records.now) }
+{
+    match seen.meet(records) {
+        Err(_) => Err(NodesErr::NoMemory),
+        Ok(true) => Err(NodesErr::Page { page }),
+        Ok(false) => Ok(()),
+    }
+}
+
+// The entry of a node that is found in this place.
+fn moved_to(id: u32, child: &Child) -> Child
+    ensures { result ≡ moved id child.now }
+{
+    Child {
+        id,
+        level: child.level,
+        rect: child.rect,
+        mask: child.mask,
+        count: child.count,
+        digest: child.digest,
+    }
+}
+
+// Walks over a leaf that a view shows.
+fn walk_leaf<G: Gather>(
+    child: &Child,
+    records: &[Record],
+    seen: &mut Seen,
+    into: &mut G,
+) -> Result<Child, NodesErr>
+    ensures gathers { IfOk result (λ c. (x : Scheme) (root : Bool) →
+        Suits x root child.now (Leaf records.now) →
+        G.gathers x into.old into.new c (tree.Leaf records.now)) }
+    ensures same { IfOk result (λ c. entry_of c ≡ entry_of child.now) }
+    ensures adds { OnOk result (Adds seen.old seen.new records.now) }
+    ensures twice { IfErr result (IsTwice child.now.id seen.old records.now) }
+{
+    meet(child.id, records, seen)?;
+    let id = into.leaf(child, records)?;
+    Ok(moved_to(id, child))
+}
+
+/// Walks over the node of the child and all below it, and answers the entry by which it is found in
+/// what was made. The view is only worked with.
+pub(crate) fn walk<N: Nodes, G: Gather>(
+    alloc: Global,
+    version: Version,
+    nodes: &mut N,
+    child: &Child,
+    root: bool,
+    view: &mut NodeView,
+    seen: &mut Seen,
+    into: &mut G,
+) -> Result<Child, NodesErr>
+    requires version { (N.stands nodes.old).version ≡ version }
+    requires may { MayFetch N.Hash.of (N.stands nodes.old) child.now }
+    ensures kept { N.kept nodes.old nodes.new }
+    ensures walked { IfOk result (λ c. Walked (by version N.Hash.of) (N.stands nodes.old) root
+        child.now seen.old seen.new (N.fetches nodes.old) (N.fetches nodes.new)
+        (G.gathers (by version N.Hash.of) into.old into.new c)) }
+    ensures same { IfOk result (λ c. entry_of c ≡ entry_of child.now) }
+    ensures fetched { IsSome (N.stands nodes.old).tree → N.fetches nodes.new ≤
+        N.fetches nodes.old + nodes_at ((N.stands nodes.old).node child.now.id) }
+    ensures quiet { OnOk result (N.faults nodes.new ≡ N.faults nodes.old) }
+    ensures answered { TellsRefusal (λ e. e) (N.refusal nodes.old) (N.refusal nodes.new) result }
+    ensures cause { IfErr result (Refuses (N.stands nodes.old) (N.faults nodes.old)
+        (N.faults nodes.new) (CanWalk (N.stands nodes.old) root seen.old child.now)) }
+{
+    look(version, nodes, child, root, view)?;
+    if view.level() == 0 {
+        walk_leaf(child, view.records(), seen, into)
+    } else {
+        let children = Vec::from_slice(alloc, view.children())?;
+        let mut below = Vec::with_capacity(alloc, children.len())?;
+        for one in &children {
+            let made = walk(alloc, version, nodes, one, false, view, seen, into)?;
+            below.push(made)?;
+        }
+        let id = into.inner(child, below)?;
+        Ok(moved_to(id, child))
+    }
+}
