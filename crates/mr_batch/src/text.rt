@@ -12,7 +12,7 @@ use crate::line::{read_change, read_head};
 use crate::links::links;
 use crate::{Batch, Change};
 use mr_record::{LineReader, TextErr, TextFault, TextRule, Version, first_line, read_values};
-use std::alloc::{AllocError, Global};
+use std::alloc::Global;
 
 // The most changes of a batch.
 const CHANGE_LIMIT: usize = 1 << 20;
@@ -48,7 +48,7 @@ fn take_head(_version: Version, text: &[u8]) -> Result<(u64, &[u8]), TextErr>
     }
 }
 
-// Reads changes. It has nothing to keep of the earlier ones.
+// Reads changes, each by itself.
 #[derive(Drop)]
 struct ReadsChanges {
     version: Version,
@@ -57,12 +57,11 @@ struct ReadsChanges {
 impl LineReader for ReadsChanges {
     type Value = Change;
 
-    ghost use Rattle.std.specs.Prelude.{⊤};
+    type Memory = ();
+
     ghost use Rattle.mr_batch.specs.BatchText.{change_lines};
 
     ghost reader = { λ r. change_lines r.version };
-
-    ghost keeps = { λ r earlier. ⊤ };
 
     fn limit(&self) -> usize {
         CHANGE_LIMIT
@@ -76,12 +75,8 @@ impl LineReader for ReadsChanges {
         b"- 0\n".len()
     }
 
-    fn read(&self, _earlier: &[Change], line: &[u8]) -> Result<Change, TextRule> {
+    fn read(&self, _memory: &(), _earlier: &[Change], line: &[u8]) -> Result<Change, TextRule> {
         read_change(self.version, line)
-    }
-
-    fn keep(&mut self, _earlier: &[Change], _one: &Change) -> Result<(), AllocError> {
-        Ok(())
     }
 }
 
@@ -90,7 +85,7 @@ fn read_all(alloc: Global, version: Version, text: &[u8]) -> Result<Batch, TextE
     ensures { Answers result (batch_of_text version text.now) }
 {
     let (number, rest) = take_head(version, text)?;
-    let changes = read_values(alloc, ReadsChanges { version }, rest)?;
+    let changes = read_values(alloc, &ReadsChanges { version }, (), rest)?;
     let links = links(alloc, &changes)?;
     Ok(Batch::new(number, changes, links))
 }

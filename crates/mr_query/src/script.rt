@@ -8,7 +8,7 @@ ghost use Rattle.mr_query.specs.declared.query.Query as types;
 use crate::Query;
 use crate::word::read_word;
 use mr_record::{LineReader, TextErr, TextRule, read_values};
-use std::alloc::{AllocError, Global};
+use std::alloc::Global;
 
 // The most lines of a script.
 const SCRIPT_LIMIT: usize = 1 << 16;
@@ -23,19 +23,18 @@ fn read_line(line: &[u8]) -> Result<Query, TextRule>
     }
 }
 
-// Reads queries. It has nothing to keep of the earlier ones.
+// Reads queries, each by itself.
 #[derive(Drop)]
 struct ReadsQueries;
 
 impl LineReader for ReadsQueries {
     type Value = Query;
 
-    ghost use Rattle.std.specs.Prelude.{⊤};
+    type Memory = ();
+
     ghost use Rattle.mr_query.specs.Script.{query_lines};
 
     ghost reader = { λ r. query_lines };
-
-    ghost keeps = { λ r earlier. ⊤ };
 
     fn limit(&self) -> usize {
         SCRIPT_LIMIT
@@ -49,12 +48,8 @@ impl LineReader for ReadsQueries {
         b"nearest:0,0,1\n".len()
     }
 
-    fn read(&self, _earlier: &[Query], line: &[u8]) -> Result<Query, TextRule> {
+    fn read(&self, _memory: &(), _earlier: &[Query], line: &[u8]) -> Result<Query, TextRule> {
         read_line(line)
-    }
-
-    fn keep(&mut self, _earlier: &[Query], _one: &Query) -> Result<(), AllocError> {
-        Ok(())
     }
 }
 
@@ -67,5 +62,5 @@ pub fn read_script(alloc: Global, text: &[u8]) -> Result<Vec<Query>, TextErr>
         → Answers result (Ok qs) }
     ensures refused { IfErr result (λ e. IsScriptRefusal text.now e) }
 {
-    read_values(alloc, ReadsQueries, text)
+    read_values(alloc, &ReadsQueries, (), text)
 }

@@ -26,7 +26,7 @@ pub use encoding::{
 pub use line::{read_line, read_line_of, read_line2};
 pub use payload::{PAYLOAD_LIMIT, Payload};
 pub use print::{put_coordinate, put_number, write_line, write_line_of, write_line2, write_lines};
-pub use reader::{LineReader, first_line, read_values};
+pub use reader::{LineReader, Memory, first_line, read_values};
 pub use record::{LAYER_LIMIT, Record, are_records, is_record};
 pub use record_fault::{RecordFault, RecordRule};
 pub use text::{read_lines, read_lines_of, read_lines2};

@@ -1,10 +1,11 @@
 //! The numbers of the records that a text had so far.
 
-ghost use Rattle.std.specs.Prelude.{◌≡◌, ◌∷◌, [], ◌++◌, IfOk, OnOk};
+ghost use Rattle.std.specs.Prelude.{◌≡◌, [], IfOk};
 ghost use Rattle.mr_record.specs.Numbers.{Holds, Knows};
 ghost use Rattle.mr_record.specs.RecordText.{has_number};
 
 use crate::Record;
+use crate::reader::Memory;
 use std::alloc::{AllocError, Global};
 use std::collections::BTreeSet;
 
@@ -59,12 +60,14 @@ impl Numbers {
             None => is_among(earlier, number),
         }
     }
+}
 
-    // Keeps the number of one record more.
-    pub(crate) fn keep(&mut self, earlier: &[Record], one: &Record) -> Result<(), AllocError>
-        requires { Knows self.old earlier.now }
-        ensures { OnOk result (Knows self.new (earlier.now ++ one.now ∷ [])) }
-    {
+impl Memory<Record> for Numbers {
+    ghost use Rattle.mr_record.specs.Numbers.{Knows};
+
+    ghost keeps = { λ numbers earlier. Knows numbers earlier };
+
+    fn keep(&mut self, earlier: &[Record], one: &Record) -> Result<(), AllocError> {
         let number = u128::from(one.number);
         if self.set.is_none() && number < self.end {
             self.set = Some(numbers_of(self.alloc, earlier)?);

@@ -10,16 +10,38 @@ use crate::cutting::cut;
 use crate::{TextErr, TextFault, TextRule};
 use std::alloc::{AllocError, Global};
 
+/// What is kept of the values of earlier lines.
+pub trait Memory<T> {
+    // what is kept of these values
+    ghost keeps: { Self → List T → Type 0 };
+
+    /// Keeps what is to be kept of one value more. It refuses for want of memory alone.
+    fn keep(&mut self, earlier: &[T], one: &T) -> Result<(), AllocError>
+        requires { keeps self.old earlier.now }
+        ensures { OnOk result (keeps self.new (earlier.now ++ one.now ∷ [])) };
+}
+
+/// Nothing is kept where each line is read by itself.
+impl<T> Memory<T> for () {
+    ghost use Rattle.std.specs.Prelude.{⊤};
+
+    ghost keeps = { λ memory earlier. ⊤ };
+
+    fn keep(&mut self, _earlier: &[T], _one: &T) -> Result<(), AllocError> {
+        Ok(())
+    }
+}
+
 /// Reads the lines of a text, each of which spells one value.
 pub trait LineReader {
     /// The value of a line.
     type Value: Drop;
 
+    /// What is kept of the values of earlier lines: `()` where a line is read by itself.
+    type Memory: Memory<Self::Value> + Drop;
+
     // how the lines spell values
     ghost reader: { Self → Reader Self.Value };
-
-    // what is kept of the earlier values
-    ghost keeps: { Self → List Self.Value → Type 0 };
 
     /// The most lines.
     fn limit(&self) -> usize
@@ -35,15 +57,14 @@ pub trait LineReader {
         ensures { 0 < result };
 
     /// The value of a line without its line feed, behind the earlier values.
-    fn read(&self, earlier: &[Self::Value], line: &[u8]) -> Result<Self::Value, TextRule>
-        requires { keeps self.now earlier.now }
+    fn read(
+        &self,
+        memory: &Self::Memory,
+        earlier: &[Self::Value],
+        line: &[u8],
+    ) -> Result<Self::Value, TextRule>
+        requires { Self.Memory.keeps memory.now earlier.now }
         ensures { result ≡ (reader self.now).read earlier.now line.now };
-
-    /// Keeps what is to be kept of one value more. It refuses for want of memory alone.
-    fn keep(&mut self, earlier: &[Self::Value], one: &Self::Value) -> Result<(), AllocError>
-        requires { keeps self.old earlier.now }
-        ensures same { reader self.new ≡ reader self.old }
-        ensures kept { OnOk result (keeps self.new (earlier.now ++ one.now ∷ [])) };
 }
 
 /// The first line of a text that is not empty, without its line feed; whether it has one; and the
@@ -65,11 +86,12 @@ pub fn first_line(text: &[u8]) -> (&[u8], bool, &[u8])
 #[tactic(auto, unfolding(crate::specs::LineTexts::value_after))]
 fn read_after<R: LineReader>(
     reader: &R,
+    memory: &R::Memory,
     earlier: &[R::Value],
     line: &[u8],
     ended: bool,
 ) -> Result<R::Value, TextRule>
-    requires { R.keeps reader.now earlier.now }
+    requires { R.Memory.keeps memory.now earlier.now }
     ensures { result ≡ value_after (R.reader reader.now) earlier.now
         (record { bytes = line.now; ended = ended }) }
 {
@@ -79,22 +101,17 @@ fn read_after<R: LineReader>(
     if !ended {
         return Err(TextRule::NoEnd);
     }
-    reader.read(earlier, line)
+    reader.read(memory, earlier, line)
 }
 
 // Puts the value behind the earlier ones.
-fn add<R: LineReader>(
-    reader: &mut R,
-    values: &mut Vec<R::Value>,
-    one: R::Value,
-) -> Result<(), TextErr>
-    requires { R.keeps reader.old values.old.items }
-    ensures same { R.reader reader.new ≡ R.reader reader.old }
+fn add<T: Drop, M: Memory<T>>(memory: &mut M, values: &mut Vec<T>, one: T) -> Result<(), TextErr>
+    requires { M.keeps memory.old values.old.items }
     ensures added { OnOk result (values.new.items ≡ values.old.items ++ one ∷ []) }
-    ensures kept { OnOk result (R.keeps reader.new values.new.items) }
+    ensures kept { OnOk result (M.keeps memory.new values.new.items) }
     ensures refused { IfErr result (λ e. e ≡ errors.NoMemory) }
 {
-    reader.keep(values, &one)?;
+    memory.keep(values, &one)?;
     values.push(one)?;
     Ok(())
 }
@@ -102,27 +119,27 @@ fn add<R: LineReader>(
 // Reads the first line, adds its value, and gives the text behind it.
 #[tactic(auto, unfolding(crate::specs::LineTexts::values_after))]
 fn take_line<'a, R: LineReader>(
-    reader: &mut R,
+    reader: &R,
+    memory: &mut R::Memory,
     values: &mut Vec<R::Value>,
     text: &'a [u8],
 ) -> Result<&'a [u8], TextErr>
     requires filled { 0 < length text.now }
-    requires kept { R.keeps reader.old values.old.items }
-    ensures same { R.reader reader.new ≡ R.reader reader.old }
-    ensures kept { OnOk result (R.keeps reader.new values.new.items) }
+    requires kept { R.Memory.keeps memory.old values.old.items }
+    ensures kept { OnOk result (R.Memory.keeps memory.new values.new.items) }
     ensures shorter { IfOk result (λ rest. length rest.now < length text.now) }
-    ensures goes_on { IfOk result (λ rest. values_after (R.reader reader.old) values.old.items
+    ensures goes_on { IfOk result (λ rest. values_after (R.reader reader.now) values.old.items
         (lines_of text.now)
-        ≡ values_after (R.reader reader.old) values.new.items (lines_of rest.now)) }
+        ≡ values_after (R.reader reader.now) values.new.items (lines_of rest.now)) }
     ensures refused { IfErr result (λ e. Refuses e
-        (values_after (R.reader reader.old) values.old.items (lines_of text.now))) }
+        (values_after (R.reader reader.now) values.old.items (lines_of text.now))) }
 {
     let (line, ended, rest) = first_line(text);
     let number = values.len() as u64 + u64::from(reader.first());
-    match read_after(reader, values, line, ended) {
+    match read_after(reader, memory, values, line, ended) {
         Err(rule) => Err(TextErr::Text(TextFault { line: number, rule })),
         Ok(one) => {
-            add(reader, values, one)?;
+            add(memory, values, one)?;
             Ok(rest)
         }
     }
@@ -134,19 +151,21 @@ fn count<R: LineReader>(reader: &R, text: &[u8]) -> usize {
     feeds.min(text.len() / R::shortest()).min(reader.limit())
 }
 
-/// The values of the lines of a text. The room for them is made once, so that it is not moved.
-pub fn read_values<R: LineReader + Drop>(
+/// The values of the lines of a text, from a memory that keeps nothing yet. The room for them is
+/// made once, so that it is not moved.
+pub fn read_values<R: LineReader>(
     alloc: Global,
-    mut reader: R,
+    reader: &R,
+    mut memory: R::Memory,
     text: &[u8],
 ) -> Result<Vec<R::Value>, TextErr>
-    requires { R.keeps reader [] }
-    ensures { Answers result (values_after (R.reader reader) [] (lines_of text.now)) }
+    requires { R.Memory.keeps memory [] }
+    ensures { Answers result (values_after (R.reader reader.now) [] (lines_of text.now)) }
 {
-    let mut values = Vec::with_capacity(alloc, count(&reader, text))?;
+    let mut values = Vec::with_capacity(alloc, count(reader, text))?;
     let mut rest = text;
     while !rest.is_empty() {
-        rest = take_line(&mut reader, &mut values, rest)?;
+        rest = take_line(reader, &mut memory, &mut values, rest)?;
     }
     Ok(values)
 }

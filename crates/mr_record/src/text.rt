@@ -5,30 +5,27 @@ ghost use Rattle.mr_record.specs.declared.record.Record as types;
 ghost use Rattle.mr_record.specs.declared.version.Version.TheVariants.{One, Two};
 ghost use Rattle.mr_record.specs.RecordText.{IsRecordList, text_of, records_of_text};
 ghost use Rattle.mr_record.specs.Answer.{Answers, IsRefusal};
-ghost use Rattle.mr_record.specs.Numbers.{Knows};
 
 use crate::line::{read_fields, with_layer};
 use crate::numbers::Numbers;
 use crate::reader::{LineReader, read_values};
 use crate::{Record, TextErr, TextRule, Version};
-use std::alloc::{AllocError, Global};
+use std::alloc::Global;
 
 // Reads records, and keeps the numbers of the earlier ones.
 #[derive(Drop)]
 struct ReadsRecords {
     version: Version,
-    numbers: Numbers,
 }
 
 impl LineReader for ReadsRecords {
     type Value = Record;
 
+    type Memory = Numbers;
+
     ghost use Rattle.mr_record.specs.RecordText.{record_lines};
-    ghost use Rattle.mr_record.specs.Numbers.{Knows};
 
     ghost reader = { λ r. record_lines r.version };
-
-    ghost keeps = { λ r earlier. Knows r.numbers earlier };
 
     fn limit(&self) -> usize {
         1 << 20
@@ -43,16 +40,12 @@ impl LineReader for ReadsRecords {
     }
 
     // The rule of the layer is the last one, behind that of a number that stands twice.
-    fn read(&self, earlier: &[Record], line: &[u8]) -> Result<Record, TextRule> {
+    fn read(&self, memory: &Numbers, earlier: &[Record], line: &[u8]) -> Result<Record, TextRule> {
         let found = read_fields(self.version, line)?;
-        if self.numbers.contains(earlier, found.0.number) {
+        if memory.contains(earlier, found.0.number) {
             return Err(TextRule::Repeat);
         }
         with_layer(found)
-    }
-
-    fn keep(&mut self, earlier: &[Record], one: &Record) -> Result<(), AllocError> {
-        self.numbers.keep(earlier, one)
     }
 }
 
@@ -66,11 +59,7 @@ pub fn read_lines_of(alloc: Global, version: Version, text: &[u8]) -> Result<Vec
         → text.now ≡ text_of version rs → Answers result (Ok rs) }
     ensures refused { IfErr result (λ e. IsRefusal version text.now e) }
 {
-    let records = ReadsRecords {
-        version,
-        numbers: Numbers::new(alloc),
-    };
-    read_values(alloc, records, text)
+    read_values(alloc, &ReadsRecords { version }, Numbers::new(alloc), text)
 }
 
 /// `read_lines_of` version 1.

@@ -5,10 +5,9 @@ use Rattle.mr_record.proofs.reader.read_values.Given as goal
 
 abbrev pub invariant-loop-rest : goal.invariant-loop-rest
 invariant-loop-rest g l = record {
-  same : g.R.LineReader.reader l.reader ≡ g.R.LineReader.reader l.initial.reader;
-  kept : g.R.LineReader.keeps l.reader l.values.items;
-  so_far : values_after (g.R.LineReader.reader l.initial.reader) l.values.items (lines_of l.rest)
-      ≡ values_after (g.R.LineReader.reader l.initial.reader) [] (lines_of l.text);
+  kept : g.R.Memory.Memory.keeps l.memory l.values.items;
+  so_far : values_after (g.R.LineReader.reader l.reader) l.values.items (lines_of l.rest)
+      ≡ values_after (g.R.LineReader.reader l.reader) [] (lines_of l.text);
 }
 
 abbrev pub decreases-loop-rest : goal.decreases-loop-rest
