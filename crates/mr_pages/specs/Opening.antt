@@ -8,7 +8,10 @@ use Rattle.mr_outside.specs.State.{Shelved}
 use Rattle.mr_outside.specs.Told.{MayMiss}
 use Rattle.mr_outside.specs.declared.shelf.ShelfErr.{ShelfErr}
 use Rattle.mr_outside.specs.declared.shelf.ShelfErr.TheVariants as shelf
+use Rattle.mr_tree.specs.declared.nodes.NodesErr.{NodesErr}
+use Rattle.mr_tree.specs.declared.nodes.NodesErr.TheVariants as nodes
 use Rattle.mr_pages.specs.PageBytes.{page_size, form_by}
+use Rattle.mr_pages.specs.declared.rule.MapRule.TheVariants as rule
 use Rattle.mr_pages.specs.declared.rule.MapFault.{MapFault}
 use Rattle.mr_pages.specs.declared.opening.Opened.{Opened}
 use Rattle.mr_pages.specs.declared.error.MapErr.{MapErr}
@@ -23,6 +26,16 @@ abbrev pub of_shelf : ShelfErr → MapErr
 of_shelf shelf.Missing = errors.Missing
 of_shelf shelf.Fault = errors.Fault
 of_shelf shelf.NoMemory = errors.NoMemory
+
+-- why a node was not fetched, as what it says of the map's file
+abbrev pub of_nodes : NodesErr → MapErr
+of_nodes (nodes.Changed page held found) =
+    errors.Map (record { page = page; rule = rule.Changed held found })
+of_nodes (nodes.Page page) = errors.Map (record { page = page; rule = rule.Page })
+of_nodes (nodes.Outside page) = errors.Map (record { page = page; rule = rule.Outside })
+of_nodes nodes.Missing = errors.Missing
+of_nodes nodes.Fault = errors.Fault
+of_nodes nodes.NoMemory = errors.NoMemory
 
 -- how many pages a file of these bytes has, or 1 where what was read of it tells that it has none;
 -- and of a file that is smaller than any page nothing is read
