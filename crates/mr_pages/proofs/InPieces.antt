@@ -2,7 +2,6 @@
 use Rattle.std.proofs.Common.{◌≡◌, ℕ, suc, ◌+◌, ◌*◌, ◌/◌, ◌<◌, ◌≤◌, List, [], ◌∷◌, ◌++◌, length, map, take, drop, get_or, replicate, refl, sym, ap, subst, ◌∙◌, arith, append_assoc, length-append}
 use Rattle.std.specs.Prelude.{All, Option, Some}
 use Rattle.std.specs.List.{flat_map}
-use Rattle.std.proofs.Math.Nat.{mul-div_cancel}
 use Rattle.std.proofs.Math.Seq.{take-length}
 use Rattle.std.proofs.lemmas.List.{length-replicate, replicate-append-replicate}
 use Rattle.mr_outside.specs.Files.{replaced}
@@ -58,16 +57,7 @@ row_begins form hash ts i bytes links put =
     put.pages ∙ append_assoc (replicate form.size 0) (replicate form.size 0)
     (flat_map form.node_page (all_nodes (by form.version hash) (some_row 2 ts i)))
 
--- how many pages a child has
-pub put_count : (form : Form) (hash : List ℕ → List ℕ) (one : Tree) (page : ℕ) (pages : List ℕ) (child : Child) →
-    0 < form.size → IsPut form hash one page [] pages child →
-    length pages / form.size ≡ length (pages_of (numbered one page))
-put_count form hash one page pages child some put =
-    let n = length (pages_of (numbered one page)) in
-    let long : length pages ≡ n * form.size = omega (arith, put.size) in
-    ap (λ m. m / form.size) long ∙ mul-div_cancel n some
-
--- and they are behind what the file had
+-- a child's pages are behind what the file had
 put_behind : (form : Form) (hash : List ℕ → List ℕ) (one : Tree) (page : ℕ) (held pages : List ℕ) (child : Child) →
     IsPut form hash one page [] pages child → IsPut form hash one page held (held ++ pages) child
 put_behind form hash one page held pages child put = record {
@@ -90,17 +80,14 @@ pub inner_can : (ts : List Tree) → WellFormed (tree.Inner ts) → CanBePut (tr
 inner_can ts well = can_be_put (tree.Inner ts) well (inner_there ts)
 
 pub row_more : (form : Form) (hash : List ℕ → List ℕ) (ts : List Tree) (i : ℕ) (name : List ℕ)
-    (before now after : Shelved) (links links' : List Child) (one : Tree) (child : Child) (next more : ℕ)
-    (pages : List ℕ) → 0 < form.size → i < length ts → one ≡ get_or ts i one →
+    (before now after : Shelved) (links links' : List Child) (one : Tree) (child : Child) (next next' : ℕ)
+    (pages : List ℕ) → i < length ts → one ≡ get_or ts i one →
     (row : RowMade form hash ts i name before now links next) → IsPut form hash one next [] pages child →
     HasMade name (row.bytes ++ pages) before after → links' ≡ links ++ child ∷ [] →
-    more ≡ length pages / form.size →
-    RowMade form hash ts (i + 1) name before after links' (next + more)
-row_more form hash ts i name before now after links links' one child next more pages some within at row put made push
-    many =
-    let count : more ≡ length (pages_of (numbered one next)) = many
-    ∙ put_count form hash one next pages child some put in
-    record {
+    next' ≡ next + length (pages_of (numbered one next)) →
+    RowMade form hash ts (i + 1) name before after links' next'
+row_more form hash ts i name before now after links links' one child next next' pages within at row put made push
+    count = record {
       bytes = row.bytes ++ pages;
       put = put_one form hash ts i 1 next (replicate form.size 0) row.bytes (row.bytes ++ pages) links links' one child
           within at row.place row.put (put_behind form hash one next row.bytes pages child put) push;

@@ -1,17 +1,18 @@
 -- The pages of a tree's nodes, put one behind the other.
-use Rattle.std.proofs.Common.{◌≡◌, ◌≢◌, ℕ, suc, ◌+◌, ◌-◌, ◌*◌, ◌<◌, ◌≤◌, List, [], ◌∷◌, ◌++◌, length, map, take, drop, get_or, replicate, ◌/◌, refl, sym, ap, subst, ◌∙◌, arith, append_assoc, length-append}
+use Rattle.std.proofs.Common.{◌≡◌, ◌≢◌, ℕ, suc, ◌+◌, ◌*◌, ◌<◌, ◌≤◌, List, [], ◌∷◌, ◌++◌, length, map, take, drop, get_or, replicate, refl, sym, ap, subst, ◌∙◌, arith, append_assoc, length-append}
 use Rattle.mr_tree.specs.Digest.{Scheme, by}
 use Rattle.std.specs.Prelude.{All}
 use Rattle.std.specs.List.{flat_map, AllByRecursion}
 use Rattle.std.proofs.lemmas.List.{append-nil, map-append, map_more, length-replicate, take_at, drop_at, take-append-drop, length-map}
 use Rattle.std.proofs.lemmas.List.Concat.{flat_map-append}
 use Rattle.std.proofs.lemmas.List.Elements.{recursion_from_All, All-from_recursion}
-use Rattle.std.proofs.Math.Nat.{mul-div_cancel}
 use Rattle.mr_record.specs.declared.record.Record.{Record}
+use Rattle.mr_record.specs.declared.version.Version.{Version}
 use Rattle.mr_tree.specs.Limits.{level_limit, inner_limit, leaf_limit}
 use Rattle.mr_tree.specs.Tree.{level, first_level}
 use Rattle.mr_tree.specs.WellFormed.{HasOneLevel}
 use Rattle.mr_tree.specs.View as view
+use Rattle.mr_tree.specs.View.{MayTell}
 use Rattle.mr_tree.specs.declared.child.Child.{Child}
 use Rattle.mr_tree.specs.declared.tree.Tree.{Tree}
 use Rattle.mr_tree.specs.declared.tree.Tree.TheVariants as tree
@@ -27,7 +28,7 @@ use Rattle.std.proofs.Math.Seq.{take-length}
 use Rattle.mr_pages.proofs.Lists.{all_weaker}
 use Rattle.mr_pages.specs.Saved.{number_row, numbered, nodes_of, all_nodes}
 use Rattle.mr_pages.specs.Walking.{child_link, page_node}
-use Rattle.mr_pages.specs.Putting.{HasEntries, CanBePut, IsPut, some_row, PutSoFar}
+use Rattle.mr_pages.specs.Putting.{AreSiblings, HasEntries, CanBePut, IsPut, some_row, PutSoFar}
 use Rattle.mr_pages.proofs.Building.{entry_leaf, entry_inner, inner_there, length_row}
 use Rattle.mr_pages.proofs.Numbered.{numbered-Leaf, numbered-Inner, tree_numbered}
 
@@ -134,16 +135,12 @@ put_none form hash ts page old now links put none = record {
   );
 }
 
--- where the next child begins
-pub next_page : (form : Form) (hash : List ℕ → List ℕ) (ts : List Tree) (i page : ℕ) (old now : List ℕ)
-    (links : List Child) → 0 < form.size → PutSoFar form hash ts i page old now links →
-    page + (length now - length old) / form.size ≡ suc page + length (all_pages (some_row (suc page) ts i))
-next_page form hash ts i page old now links some so_far =
-    let below = suc (length (all_pages (some_row (suc page) ts i))) in
-    let more : length now - length old ≡ below * form.size = omega (arith, so_far.size) in
-    let many : (length now - length old) / form.size ≡ below =
-    ap (λ n. n / form.size) more ∙ mul-div_cancel below some in
-    omega (arith, many)
+-- so many pages stand behind the node's parent, where the next child begins
+pub next_behind : (form : Form) (hash : List ℕ → List ℕ) (ts : List Tree) (i page at : ℕ) (old now long : List ℕ)
+    (links : List Child) → length old ≡ at → long ≡ now → PutSoFar form hash ts i page old now links →
+    length long ≡ at + suc (length (all_pages (some_row (suc page) ts i))) * form.size
+next_behind form hash ts i page at old now long links here same so_far =
+    ap length same ∙ so_far.size ∙ (λ k. here k + suc (length (all_pages (some_row (suc page) ts i))) * form.size)
 
 -- the zeros that stand for the node's page are there
 pub room_for : (form : Form) (hash : List ℕ → List ℕ) (ts : List Tree) (i page : ℕ) (old now : List ℕ)
@@ -383,22 +380,29 @@ put_whole form hash t ts i page old now links is can so_far end =
     all_put form hash t ts page old now links is can
     (subst (λ j. PutSoFar form hash ts j page old now links) end so_far)
 
--- each child is of the level below
-pub one_of : (links : List Child) (ts : List Tree) → AllPut ts links →
-    (k : ℕ) (d : Child) → k < length links → d ≡ get_or links k d → d.level + 1 ≡ level (tree.Inner ts)
-one_of links ts all k d within is =
-    subst (λ (c : Child). c.level + 1 ≡ level (tree.Inner ts)) (sym is)
-    (All-from_recursion (λ (c : Child). c.level + 1 ≡ level (tree.Inner ts)) links all.levels k d within)
+-- the first of them is of the level below
+pub first_below : {v : Version} {links : List Child} (are : AreSiblings v links) (d : Child) →
+    d ≡ get_or links 0 d → d.level + 1 ≡ are.above
+first_below are d is =
+    subst (λ (c : Child). c.level + 1 ≡ are.above) (sym is) (are.below 0 d (omega (arith, are.some)))
 
-pub below_first : (links shown : List Child) (ts : List Tree) →
-    AllPut ts links →
-    (d : Child) → shown ≡ links → d.level + 1 ≡ level (tree.Inner ts) →
-    All (λ (c : Child). c.level + 1 ≡ d.level + 1) shown
-below_first links shown ts all d same first' =
-    subst (All (λ (c : Child). c.level + 1 ≡ d.level + 1)) (sym same)
-    (All-from_recursion (λ (c : Child). c.level + 1 ≡ d.level + 1) links
-    (all_weaker (λ (c : Child). c.level + 1 ≡ level (tree.Inner ts)) (λ (c : Child). c.level + 1 ≡ d.level + 1)
-    (λ c e. e ∙ sym first') links all.levels))
+-- and so are all
+pub all_below : {v : Version} {links : List Child} (are : AreSiblings v links) (d : Child) →
+    All (λ (c : Child). c.level + 1 ≡ (get_or links 0 d).level + 1) links
+all_below are d = λ k e within. are.below k e within ∙ sym (are.below 0 d (omega (arith, are.some)))
+
+-- what a page may name of them
+pub siblings : (v : Version) (ts : List Tree) (links : List Child) → AllPut ts links →
+    All (λ (c : Child). MayTell v c.mask c.count) links → AreSiblings v links
+siblings v ts links all told = record {
+  some = omega (arith, all.count, all.few.0);
+  few = omega (arith, all.count, all.few.1);
+  above = level (tree.Inner ts);
+  low = all.high.0;
+  high = all.high.1;
+  below = All-from_recursion (λ (c : Child). c.level + 1 ≡ level (tree.Inner ts)) links all.levels;
+  told = told;
+}
 
 pub inner_put : {shows : view.Node} {slice : List ℕ} (form : Form) (hash : List ℕ → List ℕ) (t : Tree) (ts : List Tree)
     (i page : ℕ)

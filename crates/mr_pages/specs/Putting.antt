@@ -1,10 +1,12 @@
 -- How the pages of a tree's nodes are put one behind the other.
-use Rattle.std.specs.Prelude.{◌≡◌, ◌≢◌, ⊤, ℕ, suc, ◌+◌, ◌*◌, ◌≤◌, List, ◌++◌, length, map, take, replicate, Option, option_map}
+use Rattle.std.specs.Prelude.{◌≡◌, ◌≢◌, ⊤, ℕ, suc, ◌+◌, ◌*◌, ◌≤◌, List, ◌++◌, length, map, take, replicate, All, Option, option_map}
 use Rattle.std.specs.List.{flat_map}
+use Rattle.mr_record.specs.declared.version.Version.{Version}
 use Rattle.mr_tree.specs.Limits.{level_limit, leaf_limit, inner_limit}
 use Rattle.mr_tree.specs.Tree.{level}
 use Rattle.mr_tree.specs.Digest.{by}
 use Rattle.mr_tree.specs.WellFormed.{HasOneLevel}
+use Rattle.mr_tree.specs.View.{MayTell}
 use Rattle.mr_tree.specs.declared.child.Child.{Child}
 use Rattle.mr_tree.specs.declared.tree.Tree.{Tree}
 use Rattle.mr_tree.specs.declared.tree.Tree.TheVariants as tree
@@ -14,6 +16,17 @@ use Rattle.mr_pages.specs.Page.{Form}
 use Rattle.mr_pages.specs.Stands.{Row, pages_of, all_pages, link_of, links_of}
 use Rattle.mr_pages.specs.Walking.{child_link}
 use Rattle.mr_pages.specs.Saved.{number_row, numbered, numbered_whole, nodes_of, all_nodes, saved_nodes, saved_pages}
+
+-- the children of one inner node, as a page of this version may name them
+pub record AreSiblings (v : Version) (links : List Child) : Type 0 where
+  pub some : 1 ≤ length links
+  pub few : length links ≤ inner_limit
+  -- the node's level
+  pub above : ℕ
+  pub low : 1 ≤ above
+  pub high : above ≤ level_limit
+  pub below : All (λ (c : Child). c.level + 1 ≡ above) links
+  pub told : All (λ (c : Child). MayTell v c.mask c.count) links
 
 -- as many entries as a page holds, and one at least
 abbrev pub HasEntries : Tree-F Tree → Type 0

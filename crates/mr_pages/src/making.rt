@@ -17,7 +17,7 @@ ghost use Rattle.mr_pages.specs.Walking.{page_node};
 
 use crate::layout::Layout;
 use crate::page::put_node;
-use crate::putting::{child_on, put_tree};
+use crate::putting::{child_on, page_behind, put_tree, show_children};
 use mr_outside::{Shelf, ShelfErr};
 use mr_record::Version;
 use mr_tree::{Child, Hashes, NodeView, Tree};
@@ -142,7 +142,7 @@ fn make_row<H: Hashes, S: Shelf>(
     for child in children {
         let link = add_tree::<H, S>(alloc, layout, shelf, name, child, next, view, &mut pages)?;
         add_link(&mut links, link)?;
-        next += (pages.len() / layout.size) as u32;
+        next = page_behind(layout, next, 0, &pages);
     }
     Ok((links, next))
 }
@@ -165,7 +165,7 @@ fn make_inner<H: Hashes, S: Shelf>(
 {
     let mut view = NodeView::new();
     let (links, pages) = make_row::<H, S>(alloc, layout, shelf, name, children, &mut view)?;
-    view.set_inner(links[0].level + 1, &links);
+    show_children(layout.version, &mut view, &links);
     let page = page_of_view(alloc, layout, &view)?;
     shelf.write_at(name, layout.size as u64, &page)?;
     Ok((Some(child_on::<H>(layout, &view, 1)), pages))

@@ -1,21 +1,23 @@
 //! The pages of a tree's nodes, one behind the other.
 
-ghost use Rattle.std.specs.Prelude.{◌≡◌, ◌+◌, ◌≤◌, ◌++◌, length, take, drop, replicate, All, IfOk, OnOk};
+ghost use Rattle.std.specs.Prelude.{◌≡◌, ℕ, ◌+◌, ◌*◌, ◌≤◌, ◌++◌, length, take, drop, replicate, All, IfOk, OnOk};
 ghost use Rattle.mr_tree.specs.Digest.{by};
 ghost use Rattle.mr_tree.specs.Limits.{count_limit};
 ghost use Rattle.mr_tree.specs.Tree.{records};
 ghost use Rattle.mr_tree.specs.WellFormed.{HasLayers};
 ghost use Rattle.mr_tree.specs.View.{HasCount, AreTold, children_in, size};
+ghost use Rattle.mr_tree.specs.declared.tree.Tree.TheOpen.{Inner};
 ghost use Rattle.mr_pages.specs.Page.{page_limit, entry_of};
 ghost use Rattle.mr_pages.specs.PageBytes.{node_page, form_of, IsLayout};
 ghost use Rattle.mr_pages.specs.Stands.{pages_of};
 ghost use Rattle.mr_pages.specs.Walking.{child_link, page_node};
 ghost use Rattle.mr_pages.specs.Saved.{numbered};
-ghost use Rattle.mr_pages.specs.Putting.{CanBePut, IsPut};
+ghost use Rattle.mr_pages.specs.Putting.{AreSiblings, CanBePut, IsPut};
 
 use crate::judging::entry_on;
 use crate::layout::Layout;
 use crate::page::put_node;
+use mr_record::Version;
 use mr_tree::{Child, Hashes, NodeView, Tree};
 use std::alloc::{AllocError, Global};
 
@@ -43,6 +45,17 @@ pub fn child_on<H: Hashes>(layout: Layout, view: &NodeView, page: u32) -> Child
     }
 }
 
+// Shows an inner node with these children.
+pub(crate) fn show_children(_version: Version, view: &mut NodeView, links: &[Child])
+    requires { AreSiblings _version links.now }
+    ensures shown { view.new ≡ Inner links.now }
+    ensures some { 1 ≤ size view.new }
+    ensures told { AreTold _version view.new }
+    ensures counts { All HasCount (children_in view.new) }
+{
+    view.set_inner(links[0].level + 1, links);
+}
+
 // Adds a page of zeros, in which a node's page is put later.
 fn add_page(layout: Layout, pages: &mut Vec<u8>) -> Result<(), AllocError>
     requires { IsLayout layout }
@@ -50,6 +63,17 @@ fn add_page(layout: Layout, pages: &mut Vec<u8>) -> Result<(), AllocError>
     ensures size { OnOk result (length pages.new.items ≡ length pages.old.items + layout.size) }
 {
     pages.resize(pages.len() + layout.size, 0)
+}
+
+// The page behind those that stand from the place `at` on, the first of which is `page`.
+pub(crate) fn page_behind(layout: Layout, page: u32, at: usize, pages: &[u8]) -> u32
+    requires layout { IsLayout layout }
+    requires room { (count : ℕ) × ((length pages.now ≡ at + count * layout.size)
+        × (page + count ≤ page_limit)) }
+    ensures { (count : ℕ) → length pages.now ≡ at + count * layout.size
+        → result ≡ page + count }
+{
+    page + ((pages.len() - at) / layout.size) as u32
 }
 
 // Puts the page of a node where it was left out.
@@ -94,11 +118,11 @@ pub fn put_tree<H: Hashes>(
         Tree::Inner(children) => {
             let mut links = Vec::new(alloc);
             for child in children.as_slice() {
-                let before = ((pages.len() - at) / layout.size) as u32;
-                let link = put_tree::<H>(alloc, layout, child, page + before, view, pages)?;
+                let next = page_behind(layout, page, at, pages);
+                let link = put_tree::<H>(alloc, layout, child, next, view, pages)?;
                 links.push(link)?;
             }
-            view.set_inner(links[0].level + 1, &links);
+            show_children(layout.version, view, &links);
             put_page(layout, view, at, pages.as_mut_slice());
             Ok(child_on::<H>(layout, view, page))
         }

@@ -1,11 +1,10 @@
-use Rattle.std.proofs.Common.{◌≡◌, ◌∙◌, ◌+◌, ◌≤◌, ◌/◌, length, replicate, refl, ap, arith}
+use Rattle.std.proofs.Common.{◌∙◌, length, replicate, refl, ap}
 use Rattle.mr_outside.specs.declared.shelf.ShelfErr.TheVariants as shelf
 use Rattle.mr_tree.specs.declared.tree.Tree.TheVariants as tree
-use Rattle.mr_pages.specs.Page.{page_limit}
 use Rattle.mr_pages.specs.PageBytes.{form_of}
 use Rattle.mr_pages.specs.Stands.{pages_of}
 use Rattle.mr_pages.specs.Saved.{numbered}
-use Rattle.mr_pages.proofs.InPieces.{two_pages, row_begun, row_begins, behind_zeros, put_count, row_room, inner_can, row_more}
+use Rattle.mr_pages.proofs.InPieces.{two_pages, row_begun, row_begins, behind_zeros, row_room, inner_can, row_more}
 use Rattle.mr_pages.proofs.Laying.{child_layers, child_few}
 use Rattle.mr_pages.proofs.Put.{child_can}
 use Rattle.mr_pages.proofs.Written.{given_up, no_memory_more}
@@ -67,55 +66,28 @@ returns-in_err-add_link g c =
     (no_memory_more size name row.bytes behind c.add_tree.new.pages.items before after
     (c.in_ok-link.ensures.made before row.bytes behind row.made begins) begins)
 
-pub overflow_cast-next : goal.overflow_cast-next
-overflow_cast-next g c =
-    let form = form_of c.args.layout in
-    let size = c.args.layout.size in
+pub page_behind-next-requires-clause-room : goal.page_behind-next-requires-clause-room
+page_behind-next-requires-clause-room g c =
     let next = c.loop-child.next in
     let one = c.child-item.result in
-    let long : c.len.result ≡ length c.add_tree.new.pages.items =
-    omega (arith, c.len.ensures, c.add_tree.new.pages.ok) in
-    let many : c.len.result / size ≡ length (pages_of (numbered one next)) =
-    ap (λ n. n / size) long
-    ∙ put_count form g.H.Hashes.of one next c.add_tree.new.pages.items c.in_ok-link.link
-    (omega (arith, c.requires.layout.room)) c.in_ok-link.ensures.put in
-    let room : next + length (pages_of (numbered one next)) ≤ page_limit =
-    row_room c.args.children.now c.loop-child.child-index next one c.requires.well c.loop-child-test.true
-    c.child-item.is c.loop-child.invariant.place in
-    omega (arith, many, room)
-
-pub overflow_add-next : goal.overflow_add-next
-overflow_add-next g c =
-    let form = form_of c.args.layout in
-    let size = c.args.layout.size in
-    let next = c.loop-child.next in
-    let one = c.child-item.result in
-    let long : c.len.result ≡ length c.add_tree.new.pages.items =
-    omega (arith, c.len.ensures, c.add_tree.new.pages.ok) in
-    let many : c.len.result / size ≡ length (pages_of (numbered one next)) =
-    ap (λ n. n / size) long
-    ∙ put_count form g.H.Hashes.of one next c.add_tree.new.pages.items c.in_ok-link.link
-    (omega (arith, c.requires.layout.room)) c.in_ok-link.ensures.put in
-    let room : next + length (pages_of (numbered one next)) ≤ page_limit =
-    row_room c.args.children.now c.loop-child.child-index next one c.requires.well c.loop-child-test.true
-    c.child-item.is c.loop-child.invariant.place in
-    omega (arith, many, room)
+    let room = row_room c.args.children.now c.loop-child.child-index next one c.requires.well c.loop-child-test.true
+    c.child-item.is c.loop-child.invariant.place in (
+      length (pages_of (numbered one next)),
+      (ap length c.deref-in-loop-child.ensures.value ∙ c.in_ok-link.ensures.put.size, room),
+    )
 
 pub loop-child-preserved : goal.loop-child-preserved
 loop-child-preserved g c =
     let form = form_of c.args.layout in
-    let size = c.args.layout.size in
     let ts = c.args.children.now in
     let i = c.loop-child.child-index in
     let row = c.loop-child.invariant in
     let before = g.S.Shelf.state c.args.shelf.now in
-    let pages = c.add_tree.new.pages.items in
-    let long : c.len.result ≡ length c.add_tree.new.pages.items =
-    omega (arith, c.len.ensures, c.add_tree.new.pages.ok) in
     row_more form g.H.Hashes.of ts i c.args.name.now before (g.S.Shelf.state c.loop-child.shelf)
     (g.S.Shelf.state c.add_tree.new.shelf) c.loop-child.links.items c.add_link.new.links.items c.child-item.result
-    c.in_ok-link.link c.loop-child.next (c.len.result / size) pages (omega (arith, c.requires.layout.room))
+    c.in_ok-link.link c.loop-child.next c.page_behind-next.result c.add_tree.new.pages.items
     c.loop-child-test.true c.child-item.is row c.in_ok-link.ensures.put
     (c.in_ok-link.ensures.made before row.bytes (behind_zeros form g.H.Hashes.of ts i) row.made
     (row_begins form g.H.Hashes.of ts i row.bytes c.loop-child.links.items row.put))
-    c.in_ok-add_link.ensures (ap (λ n. n / size) long)
+    c.in_ok-add_link.ensures
+    (c.page_behind-next.ensures _ (ap length c.deref-in-loop-child.ensures.value ∙ c.in_ok-link.ensures.put.size))

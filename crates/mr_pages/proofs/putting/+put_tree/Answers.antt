@@ -1,17 +1,15 @@
-use Rattle.std.proofs.Common.{rules, ◌≡◌, ◌≤◌, ◌<◌, ◌+◌, ◌-◌, ◌/◌, suc, ◌∙◌, length, subst, sym, ap, arith}
+use Rattle.std.proofs.Common.{rules, ◌≡◌, ◌≤◌, ◌<◌, ◌+◌, suc, ◌∙◌, length, subst, sym, ap, arith}
 use Rattle.mr_tree.specs.declared.tree.Tree.TheVariants as tree
 use Rattle.mr_tree.specs.declared.tree.Tree.TheOpen as node
 use Rattle.mr_pages.specs.PageBytes.{form_of}
 use Rattle.std.specs.Prelude.{All}
 use Rattle.std.proofs.lemmas.List.Elements.{All-nil}
-use Rattle.mr_tree.proofs.Told.{told_counts}
-use Rattle.mr_tree.specs.declared.child.Child.{Child}
-use Rattle.mr_tree.specs.View.{size, children_in, HasCount, MayTell, AreTold}
+use Rattle.mr_tree.specs.View.{size, children_in, HasCount}
 use Rattle.mr_tree.specs.Tree.{level}
 use Rattle.mr_pages.specs.Stands.{all_pages}
-use Rattle.mr_pages.proofs.Put.{leaf_entries, leaf_put_at, put_none, room_for, next_page, child_room, child_can, child_lower, put_one, put_whole, one_of, below_first, inner_put, written_whole}
+use Rattle.mr_pages.proofs.Put.{leaf_entries, leaf_put_at, put_none, room_for, next_behind, child_room, child_can, child_lower, put_one, put_whole, inner_put, siblings, written_whole}
 use Rattle.mr_pages.proofs.Laying.{child_layers, child_few, links_told}
-use Rattle.mr_pages.specs.Putting.{IsPut, some_row}
+use Rattle.mr_pages.specs.Putting.{AreSiblings, IsPut, some_row}
 use Rattle.mr_pages.proofs.putting.+put_tree.Goals as goal
 
 pub set_leaf-requires-clause-some : goal.set_leaf-requires-clause-some
@@ -48,51 +46,31 @@ child_on-requires g t c =
       counts = subst (λ n. All HasCount (children_in n)) (sym c.set_leaf.ensures) (All-nil HasCount);
     }
 
-pub overflow_cast-before : goal.overflow_cast-before
-overflow_cast-before g t c =
+pub page_behind-next-requires-clause-room : goal.page_behind-next-requires-clause-room
+page_behind-next-requires-clause-room g t c =
     let ts = c.as_slice-child-items.result.now in
-    let long : c.len.result ≡ length c.loop-child.pages.items = omega (arith, c.len.ensures, c.loop-child.pages.ok) in
-    let here : c.len-at.result ≡ length c.args.pages.now.items = omega (arith, c.len-at.ensures, c.args.pages.now.ok) in
-    let next : c.args.page + (c.len.result - c.len-at.result) / c.args.layout.size ≡ suc c.args.page + length
-    (all_pages (some_row (suc c.args.page) ts c.loop-child.child-index)) =
-    (λ k. c.args.page + (long k - here k) / c.args.layout.size)
-    ∙ next_page (form_of c.args.layout) g.H.Hashes.of ts c.loop-child.child-index c.args.page c.args.pages.now.items
-    c.loop-child.pages.items c.loop-child.links.items (omega (arith, c.requires.layout.room)) c.loop-child.invariant in
-    let room = child_room c.args.tree.now ts c.args.page c.loop-child.child-index
-    (c.args.page + (c.len.result - c.len-at.result) / c.args.layout.size) c.child-item.result
-    (c.in-Inner.is ∙ ap tree.Inner (sym c.as_slice-child-items.ensures)) c.loop-child-test.true c.child-item.is next
-    c.requires.room in
-    omega (arith, room)
-
-pub overflow_add-page : goal.overflow_add-page
-overflow_add-page g t c =
-    let ts = c.as_slice-child-items.result.now in
-    let long : c.len.result ≡ length c.loop-child.pages.items = omega (arith, c.len.ensures, c.loop-child.pages.ok) in
-    let here : c.len-at.result ≡ length c.args.pages.now.items = omega (arith, c.len-at.ensures, c.args.pages.now.ok) in
-    let next : c.args.page + (c.len.result - c.len-at.result) / c.args.layout.size ≡ suc c.args.page + length
-    (all_pages (some_row (suc c.args.page) ts c.loop-child.child-index)) =
-    (λ k. c.args.page + (long k - here k) / c.args.layout.size)
-    ∙ next_page (form_of c.args.layout) g.H.Hashes.of ts c.loop-child.child-index c.args.page c.args.pages.now.items
-    c.loop-child.pages.items c.loop-child.links.items (omega (arith, c.requires.layout.room)) c.loop-child.invariant in
-    let room = child_room c.args.tree.now ts c.args.page c.loop-child.child-index
-    (c.args.page + (c.len.result - c.len-at.result) / c.args.layout.size) c.child-item.result
-    (c.in-Inner.is ∙ ap tree.Inner (sym c.as_slice-child-items.ensures)) c.loop-child-test.true c.child-item.is next
-    c.requires.room in
-    omega (arith, room)
+    let here : length c.args.pages.now.items ≡ c.len-at.result = omega (arith, c.len-at.ensures, c.args.pages.now.ok) in
+    let count = suc (length (all_pages (some_row (suc c.args.page) ts c.loop-child.child-index))) in
+    let size = next_behind (form_of c.args.layout) g.H.Hashes.of ts c.loop-child.child-index c.args.page c.len-at.result
+    c.args.pages.now.items c.loop-child.pages.items c.deref.result.now c.loop-child.links.items here
+    c.deref.ensures.value c.loop-child.invariant in
+    let room = child_room c.args.tree.now ts c.args.page c.loop-child.child-index (c.args.page + count)
+    c.child-item.result (c.in-Inner.is ∙ ap tree.Inner (sym c.as_slice-child-items.ensures)) c.loop-child-test.true
+    c.child-item.is (omega arith) c.requires.room in
+    (count, (size, omega (arith, room)))
 
 pub put_tree-requires : goal.put_tree-requires
 put_tree-requires g t c κs within =
     let ts = c.as_slice-child-items.result.now in
     let is = c.in-Inner.is ∙ ap tree.Inner (sym c.as_slice-child-items.ensures) in
-    let long : c.len.result ≡ length c.loop-child.pages.items = omega (arith, c.len.ensures, c.loop-child.pages.ok) in
-    let here : c.len-at.result ≡ length c.args.pages.now.items = omega (arith, c.len-at.ensures, c.args.pages.now.ok) in
-    let next : c.args.page + (c.len.result - c.len-at.result) / c.args.layout.size ≡ suc c.args.page + length
+    let here : length c.args.pages.now.items ≡ c.len-at.result = omega (arith, c.len-at.ensures, c.args.pages.now.ok) in
+    let next : c.page_behind-next.result ≡ suc c.args.page + length
     (all_pages (some_row (suc c.args.page) ts c.loop-child.child-index)) =
-    (λ k. c.args.page + (long k - here k) / c.args.layout.size)
-    ∙ next_page (form_of c.args.layout) g.H.Hashes.of ts c.loop-child.child-index c.args.page c.args.pages.now.items
-    c.loop-child.pages.items c.loop-child.links.items (omega (arith, c.requires.layout.room)) c.loop-child.invariant in
+    c.page_behind-next.ensures _ (next_behind (form_of c.args.layout) g.H.Hashes.of ts c.loop-child.child-index
+    c.args.page c.len-at.result c.args.pages.now.items c.loop-child.pages.items c.deref.result.now
+    c.loop-child.links.items here c.deref.ensures.value c.loop-child.invariant) ∙ omega arith in
     let room = child_room c.args.tree.now ts c.args.page c.loop-child.child-index
-    (c.args.page + (c.len.result - c.len-at.result) / c.args.layout.size) c.child-item.result is
+    c.page_behind-next.result c.child-item.result is
     c.loop-child-test.true c.child-item.is next c.requires.room in
     let can = child_can c.args.tree.now ts c.loop-child.child-index c.child-item.result is c.requires.can
     c.loop-child-test.true c.child-item.is in
@@ -109,104 +87,34 @@ put_tree-requires g t c κs within =
 pub loop-child-preserved : goal.loop-child-preserved
 loop-child-preserved g t c =
     let ts = c.as_slice-child-items.result.now in
-    let long : c.len.result ≡ length c.loop-child.pages.items = omega (arith, c.len.ensures, c.loop-child.pages.ok) in
-    let here : c.len-at.result ≡ length c.args.pages.now.items = omega (arith, c.len-at.ensures, c.args.pages.now.ok) in
-    let next : c.args.page + (c.len.result - c.len-at.result) / c.args.layout.size ≡ suc c.args.page + length
+    let here : length c.args.pages.now.items ≡ c.len-at.result = omega (arith, c.len-at.ensures, c.args.pages.now.ok) in
+    let next : c.page_behind-next.result ≡ suc c.args.page + length
     (all_pages (some_row (suc c.args.page) ts c.loop-child.child-index)) =
-    (λ k. c.args.page + (long k - here k) / c.args.layout.size)
-    ∙ next_page (form_of c.args.layout) g.H.Hashes.of ts c.loop-child.child-index c.args.page c.args.pages.now.items
-    c.loop-child.pages.items c.loop-child.links.items (omega (arith, c.requires.layout.room)) c.loop-child.invariant in
+    c.page_behind-next.ensures _ (next_behind (form_of c.args.layout) g.H.Hashes.of ts c.loop-child.child-index
+    c.args.page c.len-at.result c.args.pages.now.items c.loop-child.pages.items c.deref.result.now
+    c.loop-child.links.items here c.deref.ensures.value c.loop-child.invariant) ∙ omega arith in
     put_one (form_of c.args.layout) g.H.Hashes.of ts c.loop-child.child-index c.args.page
-    (c.args.page + (c.len.result - c.len-at.result) / c.args.layout.size) c.args.pages.now.items
+    c.page_behind-next.result c.args.pages.now.items
     c.loop-child.pages.items
     c.put_tree.new.pages.items c.loop-child.links.items c.push.new.self.items c.child-item.result
     c.in_ok-link-in-Inner.link
     c.loop-child-test.true c.child-item.is next c.loop-child.invariant c.in_ok-link-in-Inner.ensures
     c.in_ok-push-in-Inner.ensures.items
 
-pub index-requires : goal.index-requires
-index-requires g t c =
+pub show_children-requires : goal.show_children-requires
+show_children-requires g t c =
+    let v = c.args.layout.version in
     let ts = c.as_slice-child-items.result.now in
+    let is = c.in-Inner.is ∙ ap tree.Inner (sym c.as_slice-child-items.ensures) in
+    let end : c.loop-child.child-index ≡ length ts =
+    omega (arith, c.loop-child-test.false, c.loop-child.auto.child-index-end) in
     let all = put_whole (form_of c.args.layout) g.H.Hashes.of c.args.tree.now ts c.loop-child.child-index c.args.page
-    c.args.pages.now.items
-    c.loop-child.pages.items
-    c.loop-child.links.items (c.in-Inner.is ∙ ap tree.Inner (sym c.as_slice-child-items.ensures)) c.requires.can
-    c.loop-child.invariant
-    (omega (arith, c.loop-child-test.false, c.loop-child.auto.child-index-end)) in
-    omega (arith, all.count, all.few.0, c.loop-child.links.ok)
-
-pub overflow_add-index : goal.overflow_add-index
-overflow_add-index g t c =
-    let ts = c.as_slice-child-items.result.now in
-    let all = put_whole (form_of c.args.layout) g.H.Hashes.of c.args.tree.now ts c.loop-child.child-index c.args.page
-    c.args.pages.now.items
-    c.loop-child.pages.items
-    c.loop-child.links.items (c.in-Inner.is ∙ ap tree.Inner (sym c.as_slice-child-items.ensures)) c.requires.can
-    c.loop-child.invariant
-    (omega (arith, c.loop-child-test.false, c.loop-child.auto.child-index-end)) in
-    let first' = one_of c.loop-child.links.items ts all 0 c.index.result.now
-    (omega (arith, all.count, all.few.0)) c.index.ensures in
-    omega (arith, first', all.high.1)
-
-pub set_inner-requires-clause-level : goal.set_inner-requires-clause-level
-set_inner-requires-clause-level g t c =
-    let ts = c.as_slice-child-items.result.now in
-    let all = put_whole (form_of c.args.layout) g.H.Hashes.of c.args.tree.now ts c.loop-child.child-index c.args.page
-    c.args.pages.now.items
-    c.loop-child.pages.items
-    c.loop-child.links.items (c.in-Inner.is ∙ ap tree.Inner (sym c.as_slice-child-items.ensures)) c.requires.can
-    c.loop-child.invariant
-    (omega (arith, c.loop-child-test.false, c.loop-child.auto.child-index-end)) in
-    let first' = one_of c.loop-child.links.items ts all 0 c.index.result.now
-    (omega (arith, all.count, all.few.0)) c.index.ensures in
-    (omega (arith, first', all.high.0), omega (arith, first', all.high.1))
-
-pub set_inner-requires-clause-some : goal.set_inner-requires-clause-some
-set_inner-requires-clause-some g t c =
-    let ts = c.as_slice-child-items.result.now in
-    let all = put_whole (form_of c.args.layout) g.H.Hashes.of c.args.tree.now ts c.loop-child.child-index c.args.page
-    c.args.pages.now.items
-    c.loop-child.pages.items
-    c.loop-child.links.items (c.in-Inner.is ∙ ap tree.Inner (sym c.as_slice-child-items.ensures)) c.requires.can
-    c.loop-child.invariant
-    (omega (arith, c.loop-child-test.false, c.loop-child.auto.child-index-end)) in
-    omega (arith, all.count, all.few.0, ap length c.deref.ensures.value)
-
-pub set_inner-requires-clause-few : goal.set_inner-requires-clause-few
-set_inner-requires-clause-few g t c =
-    let ts = c.as_slice-child-items.result.now in
-    let all = put_whole (form_of c.args.layout) g.H.Hashes.of c.args.tree.now ts c.loop-child.child-index c.args.page
-    c.args.pages.now.items
-    c.loop-child.pages.items
-    c.loop-child.links.items (c.in-Inner.is ∙ ap tree.Inner (sym c.as_slice-child-items.ensures)) c.requires.can
-    c.loop-child.invariant
-    (omega (arith, c.loop-child-test.false, c.loop-child.auto.child-index-end)) in
-    omega (arith, all.count, all.few.1, ap length c.deref.ensures.value)
-
-pub set_inner-requires-clause-below : goal.set_inner-requires-clause-below
-set_inner-requires-clause-below g t c =
-    let ts = c.as_slice-child-items.result.now in
-    let all = put_whole (form_of c.args.layout) g.H.Hashes.of c.args.tree.now ts c.loop-child.child-index c.args.page
-    c.args.pages.now.items
-    c.loop-child.pages.items
-    c.loop-child.links.items (c.in-Inner.is ∙ ap tree.Inner (sym c.as_slice-child-items.ensures)) c.requires.can
-    c.loop-child.invariant
-    (omega (arith, c.loop-child-test.false, c.loop-child.auto.child-index-end)) in
-    let first' = one_of c.loop-child.links.items ts all 0 c.index.result.now
-    (omega (arith, all.count, all.few.0)) c.index.ensures in
-    below_first c.loop-child.links.items c.deref.result.now ts all c.index.result.now c.deref.ensures.value first'
-
-pub put_page-requires-in-Inner-clause-some : goal.put_page-requires-in-Inner-clause-some
-put_page-requires-in-Inner-clause-some g t c =
-    let ts = c.as_slice-child-items.result.now in
-    let all = put_whole (form_of c.args.layout) g.H.Hashes.of c.args.tree.now ts c.loop-child.child-index c.args.page
-    c.args.pages.now.items
-    c.loop-child.pages.items
-    c.loop-child.links.items (c.in-Inner.is ∙ ap tree.Inner (sym c.as_slice-child-items.ensures)) c.requires.can
-    c.loop-child.invariant
-    (omega (arith, c.loop-child-test.false, c.loop-child.auto.child-index-end)) in
-    subst (λ n. 1 ≤ size n) (sym c.set_inner.ensures) (omega
-    (arith, all.count, all.few.0, ap length c.deref.ensures.value))
+    c.args.pages.now.items c.loop-child.pages.items c.loop-child.links.items is c.requires.can c.loop-child.invariant
+    end in
+    let told = links_told (form_of c.args.layout) g.H.Hashes.of c.args.tree.now ts c.loop-child.child-index c.args.page
+    c.args.pages.now.items c.loop-child.pages.items c.loop-child.links.items is c.requires.can c.requires.layers
+    c.requires.few c.loop-child.invariant end in
+    subst (AreSiblings v) (sym c.deref-in-Inner.ensures.value) (siblings v ts c.loop-child.links.items all told)
 
 pub put_page-requires-in-Inner-clause-room : goal.put_page-requires-in-Inner-clause-room
 put_page-requires-in-Inner-clause-room g t c =
@@ -219,42 +127,6 @@ put_page-requires-in-Inner-clause-room g t c =
           c.loop-child.pages.items c.loop-child.links.items c.loop-child.invariant,
       ap length c.as_mut_slice-in-Inner.ensures.value,
     )
-
-pub put_page-requires-in-Inner-clause-told : goal.put_page-requires-in-Inner-clause-told
-put_page-requires-in-Inner-clause-told g t c =
-    let v = c.args.layout.version in
-    let ts = c.as_slice-child-items.result.now in
-    let told = links_told (form_of c.args.layout) g.H.Hashes.of c.args.tree.now ts c.loop-child.child-index c.args.page
-    c.args.pages.now.items c.loop-child.pages.items
-    c.loop-child.links.items (c.in-Inner.is ∙ ap tree.Inner (sym c.as_slice-child-items.ensures)) c.requires.can
-    c.requires.layers c.requires.few c.loop-child.invariant
-    (omega (arith, c.loop-child-test.false, c.loop-child.auto.child-index-end)) in
-    subst (AreTold v) (sym c.set_inner.ensures) (record {
-      layers = All-nil _;
-      children = subst (All (λ (d : Child). MayTell v d.mask d.count)) (sym c.deref.ensures.value) told;
-    })
-
-pub child_on-requires-in-Inner : goal.child_on-requires-in-Inner
-child_on-requires-in-Inner g t c =
-    let ts = c.as_slice-child-items.result.now in
-    let is = c.in-Inner.is ∙ ap tree.Inner (sym c.as_slice-child-items.ensures) in
-    let all = put_whole (form_of c.args.layout) g.H.Hashes.of c.args.tree.now ts c.loop-child.child-index c.args.page
-    c.args.pages.now.items
-    c.loop-child.pages.items
-    c.loop-child.links.items is c.requires.can
-    c.loop-child.invariant
-    (omega (arith, c.loop-child-test.false, c.loop-child.auto.child-index-end)) in
-    let told = links_told (form_of c.args.layout) g.H.Hashes.of c.args.tree.now ts c.loop-child.child-index c.args.page
-    c.args.pages.now.items c.loop-child.pages.items c.loop-child.links.items is c.requires.can
-    c.requires.layers c.requires.few c.loop-child.invariant
-    (omega (arith, c.loop-child-test.false, c.loop-child.auto.child-index-end)) in
-    record {
-      some = subst (λ n. 1 ≤ size n) (sym c.set_inner.ensures) (omega
-          (arith, all.count, all.few.0, ap length c.deref.ensures.value));
-      counts = subst (λ n. All HasCount (children_in n)) (sym c.set_inner.ensures)
-          (subst (All HasCount) (sym c.deref.ensures.value)
-          (told_counts c.args.layout.version c.loop-child.links.items told));
-    }
 
 pub loop-child-init : goal.loop-child-init
 loop-child-init g t c =
@@ -289,8 +161,9 @@ returns-after-loop-child g t c =
     (sym (written_whole c.loop-child.pages.len c.put_page-in-Inner.new.pages c.loop-child.pages.items whole))
     (inner_put (form_of c.args.layout) g.H.Hashes.of c.args.tree.now ts c.loop-child.child-index c.args.page
     c.args.pages.now.items c.loop-child.pages.items c.put_page-in-Inner.new.pages c.len-at.result
-    c.loop-child.links.items c.deref.result.now c.child_on-in-Inner.result
+    c.loop-child.links.items c.deref-in-Inner.result.now c.child_on-in-Inner.result
     (c.in-Inner.is ∙ ap tree.Inner (sym c.as_slice-child-items.ensures)) c.requires.can c.loop-child.invariant
     (omega (arith, c.loop-child-test.false, c.loop-child.auto.child-index-end)) here
-    c.deref.ensures.value c.set_inner.ensures c.as_mut_slice-in-Inner.ensures.value c.put_page-in-Inner.ensures kept
+    c.deref-in-Inner.ensures.value c.show_children.ensures.shown c.as_mut_slice-in-Inner.ensures.value
+    c.put_page-in-Inner.ensures kept
     c.child_on-in-Inner.ensures)
