@@ -3,10 +3,8 @@
 ghost use Rattle.std.specs.Prelude.{◌≡◌, ◌≤◌, ◌<◌, ◌+◌, ◌*◌, ◌++◌, ◌∷◌, [], suc, min, length, map, take, drop, All, IfOk, IfErr, OnOk};
 ghost use Rattle.std.specs.List.{AllByRecursion};
 ghost use Rattle.mr_record.specs.Record.{HasLayer};
-ghost use Rattle.mr_record.specs.declared.record.Record as record_types;
-ghost use Rattle.mr_tree.specs.Limits.{level_limit, leaf_fill, leaf_limit, inner_fill, inner_limit};
+ghost use Rattle.mr_tree.specs.Limits.{level_limit, inner_limit};
 ghost use Rattle.mr_tree.specs.declared.child.Child as child_types;
-ghost use Rattle.mr_split.specs.Choice.{choose as chosen};
 ghost use Rattle.mr_edit.specs.Held.{entries, IsTold};
 ghost use Rattle.mr_edit.specs.Causes.{HasEditCause};
 ghost use Rattle.mr_edit.specs.Growing.{CanGrow};
@@ -14,10 +12,9 @@ ghost use Rattle.mr_edit.specs.Outcome.{Grows, PutsLeaf, PutsInner, Halves, Neve
 
 use crate::desk::{look, take_page, write_inner, write_leaf};
 use crate::{Desk, EditErr, PageFile, Stand};
-use mr_geom::Rect;
-use mr_grow::{part, rects_of};
+use mr_grow::{HasRect, part, place_for, rects_of};
 use mr_record::Record;
-use mr_split::{choose, sides};
+use mr_split::sides;
 use mr_tree::{Child, INNER_FILL, INNER_LIMIT, LEAF_FILL, LEAF_LIMIT, NodeView};
 use std::alloc::{AllocError, Global};
 
@@ -45,52 +42,23 @@ fn replace(mut children: Vec<Child>, at: usize, stand: Stand) -> Result<Vec<Chil
     Ok(children)
 }
 
-// The rectangles of some entries.
-fn outlines_of(alloc: Global, children: &[Child]) -> Result<Vec<Rect>, AllocError>
-    ensures { IfOk result (λ v. v.items ≡ map (λ (c : child_types.Child). c.rect) children.now) }
-{
-    children.iter().map(|child| child.rect).collect(alloc)
-}
-
-// The place of the child that takes a record.
-fn place_for(alloc: Global, children: &[Child], one: &Record) -> Result<usize, AllocError>
-    requires { 1 ≤ length children.now }
-    ensures value { IfOk result (λ at. at
-        ≡ chosen (map (λ (c : child_types.Child). c.rect) children.now) one.now.rect) }
-    ensures within { IfOk result (λ at. at < length children.now) }
-{
-    let rects = outlines_of(alloc, children)?;
-    Ok(choose(&rects, &one.rect))
-}
-
-// The records of a leaf that is split, dealt out to two.
-fn halve_records(
+// The entries of a node that is split, dealt out to two: at least so many to each.
+fn halve<T: HasRect + Drop>(
     alloc: Global,
-    records: Vec<Record>,
-) -> Result<(Vec<Record>, Vec<Record>), AllocError>
-    requires { length records.items ≡ leaf_limit + 1 }
-    ensures { IfOk result (λ p. Halves leaf_fill leaf_limit
-        (map (λ (r : record_types.Record). r.rect) records.items)
-        records.items p.0.items p.1.items) }
+    entries: Vec<T>,
+    least: usize,
+    _most: usize,
+) -> Result<(Vec<T>, Vec<T>), AllocError>
+    requires some { 1 ≤ least }
+    requires enough { 2 * least ≤ _most }
+    requires few { _most ≤ inner_limit }
+    requires long { length entries.items ≡ _most + 1 }
+    ensures { IfOk result (λ p. Halves least _most (map T.rect_of entries.items)
+        entries.items p.0.items p.1.items) }
 {
-    let rects = rects_of(alloc, &records)?;
-    let sides = sides(alloc, &rects, LEAF_FILL as usize)?;
-    part(alloc, records, &sides)
-}
-
-// The entries of an inner node that is split, dealt out to two.
-fn halve_children(
-    alloc: Global,
-    children: Vec<Child>,
-) -> Result<(Vec<Child>, Vec<Child>), AllocError>
-    requires { length children.items ≡ inner_limit + 1 }
-    ensures { IfOk result (λ p. Halves inner_fill inner_limit
-        (map (λ (c : child_types.Child). c.rect) children.items)
-        children.items p.0.items p.1.items) }
-{
-    let rects = outlines_of(alloc, &children)?;
-    let sides = sides(alloc, &rects, INNER_FILL as usize)?;
-    part(alloc, children, &sides)
+    let rects = rects_of(alloc, &entries)?;
+    let sides = sides(alloc, &rects, least)?;
+    part(alloc, entries, &sides)
 }
 
 // Writes the records of a leaf, and splits it where they are too many.
@@ -117,7 +85,7 @@ fn put_leaf<F: PageFile>(
     ensures cause { IfErr result (HasEditCause (F.faults desk.old.file) (F.faults desk.new.file)) }
 {
     if records.len() > LEAF_LIMIT as usize {
-        let (front, back) = halve_records(alloc, records)?;
+        let (front, back) = halve(alloc, records, LEAF_FILL as usize, LEAF_LIMIT as usize)?;
         let other = take_page(desk)?;
         let first = write_leaf::<F>(desk, page, &front)?;
         let second = write_leaf::<F>(desk, other, &back)?;
@@ -162,7 +130,7 @@ fn put_inner<F: PageFile>(
     ensures cause { IfErr result (HasEditCause (F.faults desk.old.file) (F.faults desk.new.file)) }
 {
     if children.len() > INNER_LIMIT as usize {
-        let (front, back) = halve_children(alloc, children)?;
+        let (front, back) = halve(alloc, children, INNER_FILL as usize, INNER_LIMIT as usize)?;
         let other = take_page(desk)?;
         let first = write_inner::<F>(desk, page, level, &front)?;
         let second = write_inner::<F>(desk, other, level, &back)?;

@@ -13,8 +13,9 @@ ghost use Rattle.mr_grow.specs.Grow.{grown, ins};
 ghost use Rattle.mr_grow.specs.Refused.{IsCause};
 ghost use Rattle.mr_grow.specs.Views.{nodes_of, HasRoom};
 
+use crate::entry::place_for;
 use crate::finding::has;
-use crate::nodes::{Stand, inner_nodes, leaves, place_for};
+use crate::nodes::{Stand, inner_nodes, leaves};
 use mr_outside::Items;
 use mr_record::{Record, is_record};
 use mr_tree::{COUNT_LIMIT, Tree, count_of};

@@ -7,13 +7,14 @@
 #![tactic(auto)]
 
 mod deletion;
+mod entry;
 mod finding;
 mod insertion;
 mod nodes;
 mod parts;
 
 pub use deletion::{DropErr, delete, shrink, sort_by_number};
+pub use entry::{HasRect, place_for, rects_of};
 pub use finding::position_of;
 pub use insertion::{GrowErr, grow, insert};
-pub use nodes::rects_of;
 pub use parts::part;

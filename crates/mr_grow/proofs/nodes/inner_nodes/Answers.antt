@@ -17,7 +17,7 @@ pub returns-in_ok-first : goal.returns-in_ok-first
 returns-in_ok-first c =
     let xs = c.args.children.items in
     let long : c.len.result ≡ length xs = omega (arith, c.len.ensures, c.args.children.ok) in
-    let rects = c.deref-then-len.ensures.value ∙ c.in_ok-outlines.ensures ∙ ap (map outline) c.deref.ensures.value in
+    let rects = c.deref-then-len.ensures.value ∙ c.in_ok-rects_of.ensures ∙ ap (map outline) c.deref.ensures.value in
     two_nodes (λ group. tree.Inner group) inner_fill inner_limit (map outline xs) xs c.len.result
     c.deref-then-len-2.result.now _ _ long c.if-len.true
     (c.deref-then-len-2.ensures.value ∙ c.in_ok-sides.ensures.exact ∙ ap (λ rs. sides rs inner_fill) rects)
