@@ -320,7 +320,7 @@ two_maps x a b = cc
 two_lists : (l : List ℕ) → l ≡ [] → l ≡ 0 ∷ [] → ⊥
 two_lists l a b = cc
 
-armed_whole : (body : List ℕ) (k : Image) → k.journal ≡ 79 ∷ body → ready (length k.map) body ≡ true
+pub armed_whole : (body : List ℕ) (k : Image) → k.journal ≡ 79 ∷ body → ready (length k.map) body ≡ true
     → IsArmedBy body (restored k) k
 unfolding restored
 armed_whole body k is fit =

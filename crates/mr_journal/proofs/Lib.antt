@@ -8,3 +8,4 @@ pub mod Spelled
 pub mod Shelving
 pub mod NewPages
 pub mod OnFiles
+pub mod Leaving

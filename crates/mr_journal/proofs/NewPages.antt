@@ -207,6 +207,7 @@ is_change version pages old new body known size longer is =
     (omega (arith, longer.few)) (omega arith) (omega arith) (omega arith) in
     record {
       pages = pages;
+      whole = longer.whole;
       is = is;
       fit = ap (ready (length old)) is ∙ spelled_ready version (length old) ps known
           (count_some size_of old new pages longer.some) few stand;

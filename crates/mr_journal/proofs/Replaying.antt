@@ -16,7 +16,7 @@ use Rattle.mr_journal.specs.declared.mem_disk.Call.{Call}
 use Rattle.mr_journal.specs.declared.mem_disk.Call.TheVariants.{Asked, Synced}
 use Rattle.mr_journal.specs.Images.{Image, part, written, InArea, Unchanged}
 use Rattle.mr_journal.specs.Torn.{Torn, TornAt}
-use Rattle.mr_journal.specs.Moments.{AddsSteps, TakesTime, IsDurable, IsDiskCall}
+use Rattle.mr_journal.specs.Moments.{AddsSteps, TakesTime, IsDurable, IsDiskCall, KeepsImages}
 use Rattle.mr_journal.specs.MemoryDisk.{AreaState, at_rest, carried_out, change, area_after, contents_after, MayBeLeft, IsImage, memory_state, left_since, first_image}
 use Rattle.mr_journal.specs.Traced.{write_call}
 use Rattle.mr_journal.specs.TornLaws.{torn_same, torn_put, torn_split}
@@ -256,3 +256,35 @@ untouched area at n m j m' j' calls calls' (Err d) p q e = (
   torn_stays
       area at n (contents_after (first_image m j) calls),
 )
+
+-- a call that changes nothing leaves each image
+asked_image : (first : Image) (calls : List Call) (c : Image) → IsImage first calls c
+    → IsImage first (calls ++ Asked ∷ []) c
+asked_image first calls c i = (
+  subst (λ (s : AreaState). MayBeLeft s c.map) (sym (stored_more Map first.map calls Asked)) i.0,
+  subst (λ (s : AreaState). MayBeLeft s c.journal) (sym (stored_more Journal first.journal calls Asked)) i.1,
+)
+
+asked_stays : (first : Image) (calls : List Call) (c : Image) → left_since first calls (length calls) c
+    → left_since first (calls ++ Asked ∷ []) (length (calls ++ Asked ∷ [])) c
+asked_stays first calls c x =
+    let more = calls ++ Asked ∷ [] in (
+      length more,
+      omega arith,
+      omega arith,
+      subst (λ (cs : List Call). IsImage first cs c) (sym (take_all (length more) more (omega arith)))
+          (asked_image first calls c
+          (subst (λ (cs : List Call). IsImage first cs c) (take_all x.0 calls (omega (arith, x.1))) x.3)),
+    )
+
+pub kept_stays : (m j m' j' : List ℕ) (calls calls' : List Call) (f f' : ℕ) → m' ≡ m → j' ≡ j
+    → calls' ≡ calls ++ Asked ∷ []
+    → KeepsImages (memory_state (first_image m j) calls f) (memory_state (first_image m' j') calls' f')
+    (left_since (first_image m j) calls) (left_since (first_image m' j') calls')
+kept_stays m j m' j' calls calls' f f' p q e =
+    let P : Image → List Call → Type 0 = λ i cs. KeepsImages (memory_state (first_image m j) calls f)
+    (memory_state i cs f') (left_since (first_image m j) calls) (left_since i cs) in
+    subst (λ (cs : List Call). P (first_image m' j') cs) (sym e)
+    (subst (λ (l : List ℕ). P (first_image l j') (calls ++ Asked ∷ [])) (sym p)
+    (subst (λ (l : List ℕ). P (first_image m l) (calls ++ Asked ∷ [])) (sym q)
+    (asked_stays (first_image m j) calls)))

@@ -1,5 +1,5 @@
 -- What the calls of a shelf make of a disk over two of its files.
-use Rattle.std.proofs.Common.{◌≡◌, ◌≢◌, ◌⊎◌, inl, inr, ⊎_elim, ℕ, ◌+◌, ◌-◌, ◌<◌, ◌≤◌, List, [], ◌∷◌, ◌++◌, length, take, drop, true, false, is_some, Option, Some, None, Result, Ok, Err, IfSome, IsSomeAnd, MatchOption, OnOk, OnErr, IsErrOf, refl, sym, ap, ◌∙◌, subst, arith, length-append, add-zero}
+use Rattle.std.proofs.Common.{◌≡◌, ◌≢◌, ◌⊎◌, inl, inr, ⊎_elim, ℕ, ◌+◌, ◌<◌, ◌≤◌, List, [], ◌∷◌, ◌++◌, length, take, drop, true, false, is_some, Option, Some, None, Result, Ok, Err, IfSome, IsSomeAnd, MatchOption, OnOk, OnErr, IsErrOf, refl, sym, ap, ◌∙◌, subst, arith, length-append, add-zero}
 use Rattle.std.proofs.lemmas.Bool.{cases_lt}
 use Rattle.std.specs.Prelude.{option_map, ⊤}
 use Rattle.std.specs.Result.{IsErr}

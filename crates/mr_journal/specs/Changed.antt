@@ -33,6 +33,7 @@ pub record IsLonger (size pages : ℕ) (old new : List ℕ) : Type 0 where
 -- The body puts the changed pages of the new map into the old one, which makes the new one of it.
 pub record IsChange (version : ℕ) (old new body : List ℕ) : Type 0 where
   pub pages : ℕ
+  pub whole : length new ≡ pages * page_size version
   pub is : body ≡ spelled version (changed (page_size version) old new 0 pages)
   pub fit : ready (length old) body ≡ true
   pub makes : carried body old ≡ new

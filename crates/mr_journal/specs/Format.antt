@@ -41,8 +41,9 @@ fits size low reach page =
     && (nat_lt page.number (2 ^ 20)
     && nat_le (page.number * size) reach))
 
--- All pages are whole; their numbers rise from `low` on and are below the limit; and none begins
--- past the end of a map of length `reach` as the earlier ones leave it.
+-- All pages are whole; the first number is from `low` on, each is above the one before, and all are
+-- below the limit; and none begins past the end of a map of length `reach` as the earlier ones
+-- leave it.
 abbrev pub placed : ℕ → ℕ → ℕ → List Page → Bool
 placed size low reach [] = true
 placed size low reach (page ∷ pages) =
@@ -90,6 +91,22 @@ is_open image = opens (length image.map) image.journal
 -- map
 unfoldable pub restored : Image → List ℕ
 restored image = if is_open image then carried (body_of image.journal) image.map else image.map
+
+-- what recovery leaves of an image: the map to which it restores, and 00 in place of the gate of an
+-- open journal
+unfoldable pub recovered : Image → Image
+recovered image = record {
+  map = restored image;
+  journal = if is_open image then 0 ∷ body_of image.journal else image.journal;
+}
+
+-- what a change by this body leaves of an image: its pages in the map, and the body behind 00 in
+-- the journal, where what goes further stays
+unfoldable pub changed_by : List ℕ → Image → Image
+changed_by body image = record {
+  map = carried body image.map;
+  journal = 0 ∷ (body ++ drop (1 + length body) image.journal);
+}
 
 -- four bytes that spell a number, the highest first
 abbrev pub spelled_number : ℕ → List ℕ

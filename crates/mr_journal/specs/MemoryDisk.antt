@@ -1,9 +1,14 @@
 -- What a disk in memory holds, and what a crash may leave of it, by the calls that it keeps.
-use Rattle.std.specs.Prelude.{ℕ, ◌≤◌, Bool, true, false, List, [], ◌∷◌, length, take, fold, Some, if◌then◌else◌}
+use Rattle.std.specs.Prelude.{◌≡◌, ◌⊎◌, ℕ, ◌≤◌, ◌==◌, Bool, true, false, IsTrue, List, [], ◌∷◌, ◌++◌, length, take, fold, Some, Result, IsErrOf, if◌then◌else◌}
+use Rattle.std.specs.List.{list_any}
 use Rattle.mr_outside.specs.Files.{replaced}
+use Rattle.mr_outside.specs.Faults.{next_count}
 use Rattle.mr_outside.specs.Memory.{half_of}
 use Rattle.mr_journal.specs.declared.disk.Area.{Area}
 use Rattle.mr_journal.specs.declared.disk.Area.TheVariants.{Map, Journal}
+use Rattle.mr_journal.specs.declared.disk.DiskErr.{DiskErr}
+use Rattle.mr_journal.specs.declared.disk.DiskErr.TheVariants.{Fault, NoMemory}
+use Rattle.mr_journal.specs.declared.mem_disk.MemDisk.{MemDisk}
 use Rattle.mr_journal.specs.declared.mem_disk.Call.{Call}
 use Rattle.mr_journal.specs.declared.mem_disk.Call.TheVariants.{Asked, Wrote, Synced}
 use Rattle.mr_journal.specs.Images.{Image, DiskState}
@@ -80,3 +85,66 @@ left_since first calls t image = (k : ℕ) × (t ≤ k) × (k ≤ length calls)
 
 abbrev pub first_image : List ℕ → List ℕ → Image
 first_image map journal = record { map = map; journal = journal }
+
+-- a disk in memory
+pub record MemoryParts : Type 0 where
+  -- what it had at first
+  pub first : Image
+  -- the numbers of the calls that fail
+  pub fail : List ℕ
+  -- the calls that were made
+  pub calls : List Call
+  -- how many of them failed
+  pub faults : ℕ
+
+abbrev pub parts_of : MemDisk → MemoryParts
+parts_of d = record {
+  first = first_image d.map.items d.journal.items;
+  fail = d.fail.items;
+  calls = d.calls.items;
+  faults = d.faults;
+}
+
+abbrev pub contents_of : MemoryParts → Image
+contents_of d = contents_after d.first d.calls
+
+abbrev pub told_by : MemoryParts → DiskState
+told_by d = memory_state d.first d.calls d.faults
+
+abbrev pub images_by : MemoryParts → ℕ → Image → Type 0
+images_by d = left_since d.first d.calls
+
+-- The next call is one of those that fail. Calls are numbered from 1.
+abbrev pub fails_next : MemoryParts → Bool
+fails_next d = list_any (λ n. n == next_count (length d.calls)) d.fail
+
+-- after this call, which is kept behind the others and counted where it failed
+abbrev pub with_call : Call → MemoryParts → MemoryParts
+with_call call d = record d {
+  calls = d.calls ++ call ∷ [];
+  faults = if fails_next d then next_count d.faults else d.faults;
+}
+
+-- a write of these bytes, whole or of the first half alone
+abbrev pub IsWrite : Area → ℕ → List ℕ → Bool → Call → Type 0
+IsWrite area at bytes whole Asked = ⊥
+IsWrite area at bytes whole (Wrote w) =
+    (w.area ≡ area) × (w.at ≡ at) × (w.bytes.items ≡ bytes) × (w.whole ≡ whole)
+IsWrite area at bytes whole (Synced a) = ⊥
+
+abbrev pub IsAsked : Call → Type 0
+IsAsked call = call ≡ Asked
+
+-- a sync of the area, which does nothing where it fails
+abbrev pub IsSync : Area → Bool → Call → Type 0
+IsSync area fails call = call ≡ (if fails then Asked else Synced area)
+
+-- One call of a disk in memory: it fails just where it is to fail, and a call that has P is kept,
+-- but where there was no memory. Then nothing is changed, and no number is used up.
+pub record MakesCall {A : Type 0} (P : Call → Type 0) (before after : MemoryParts)
+    (result : Result A DiskErr) : Type 0 where
+  pub fails : IsErrOf result Fault → IsTrue (fails_next before)
+  pub failing : IsTrue (fails_next before) → IsErrOf result Fault ⊎ IsErrOf result NoMemory
+  pub keeps : (IsErrOf result NoMemory → ⊥)
+      → (call : Call) × P call × (after ≡ with_call call before)
+  pub unless : IsErrOf result NoMemory → after ≡ before

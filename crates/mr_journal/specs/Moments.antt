@@ -42,6 +42,10 @@ pub record TakesTime {A : Type 0} (before after : DiskState) (past now : ImagesS
   pub keeps : IsTrue before.tells_images → (t : ℕ) (c : Image) → t ≤ before.clock → past t c
       → now t c
 
+-- Each image of the moment before is one of the moment after: nothing was synced.
+abbrev pub KeepsImages : DiskState → DiskState → ImagesSince → ImagesSince → Type 0
+KeepsImages before after past now = (c : Image) → past before.clock c → now after.clock c
+
 -- in this area each image of this moment is the contents
 abbrev pub IsDurable : Area → DiskState → ImagesSince → Type 0
 IsDurable area at now = EveryImage at now

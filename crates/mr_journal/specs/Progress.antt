@@ -1,7 +1,28 @@
 -- The states of an image between the steps of one change in place.
-use Rattle.std.specs.Prelude.{◌≡◌, ℕ, true, false, List, ◌∷◌, ◌++◌, length}
+use Rattle.std.specs.Prelude.{◌≡◌, ℕ, ◌+◌, true, false, List, ◌∷◌, ◌++◌, length, drop}
 use Rattle.mr_journal.specs.Images.{Image}
 use Rattle.mr_journal.specs.Format.{ready, carried}
+
+-- all but the first two bytes of the journal
+abbrev pub behind : Image → Image
+behind image = record image { journal = drop 2 image.journal }
+
+-- the journal has this body behind its open gate, and what goes further stays
+abbrev pub opened_by : List ℕ → Image → Image
+opened_by body image = record image {
+  journal = 79 ∷ (body ++ drop (1 + length body) image.journal);
+}
+
+-- the pages of this body are in the map
+abbrev pub carried_by : List ℕ → Image → Image
+carried_by body image = record image { map = carried body image.map }
+
+-- and the gate is 00
+abbrev pub closed_by : List ℕ → Image → Image
+closed_by body image = record {
+  map = carried body image.map;
+  journal = 0 ∷ drop 1 image.journal;
+}
 
 -- the journal has this gate, and this behind it
 pub record HasGate (gate : ℕ) (image : Image) : Type 0 where

@@ -1,11 +1,10 @@
 //! A change in place: a journal is filled and opened, and then carried out.
 
-ghost use Rattle.std.specs.Prelude.{◌≡◌, ℕ, ◌<◌, List, length, true, IfSome, OnOk, option_map};
-ghost use Rattle.mr_journal.specs.Images.{part};
+ghost use Rattle.std.specs.Prelude.{◌≡◌, ℕ, ◌≤◌, List, length, true, IfSome, OnOk, option_map};
 ghost use Rattle.mr_journal.specs.Moments.{LeadsThrough, DiskCauses};
-ghost use Rattle.mr_journal.specs.Format.{ready, carried};
+ghost use Rattle.mr_journal.specs.Format.{ready, carried, changed_by};
 ghost use Rattle.mr_journal.specs.States.{IsShutAt, IsArmedFor, IsSettledAt, EitherOf};
-ghost use Rattle.mr_journal.specs.Progress.{IsArmedBy};
+ghost use Rattle.mr_journal.specs.Progress.{opened_by, IsArmedBy};
 
 use crate::carrying::finish;
 use crate::gate::{fill, open_gate, prepare_gate};
@@ -19,8 +18,8 @@ fn arm<D: Disk>(disk: &mut D, body: &[u8]) -> Result<(), DiskErr>
         (IsSettledAt map (D.state disk.old).contents)
         (EitherOf (IsShutAt map) (IsArmedFor (carried body.now map)))
         (IsArmedBy body.now (carried body.now map)) }
-    ensures map { OnOk result (option_map (part Area.Map) (D.state disk.new).contents
-        ≡ option_map (part Area.Map) (D.state disk.old).contents) }
+    ensures left { 1 ≤ length body.now → OnOk result ((D.state disk.new).contents
+        ≡ option_map (opened_by body.now) (D.state disk.old).contents) }
     ensures causes { DiskCauses (D.state disk.old) (D.state disk.new) result }
     ensures kept { D.kept disk.old disk.new }
 {
@@ -44,6 +43,8 @@ pub fn write_pages<D: Disk>(disk: &mut D, body: &[u8]) -> Result<(), DiskErr>
         (EitherOf (IsShutAt map) (EitherOf (IsArmedFor (carried body.now map))
         (IsShutAt (carried body.now map))))
         (IsSettledAt (carried body.now map) (D.state disk.new).contents) }
+    ensures left { OnOk result ((D.state disk.new).contents
+        ≡ option_map (changed_by body.now) (D.state disk.old).contents) }
     ensures causes { DiskCauses (D.state disk.old) (D.state disk.new) result }
     ensures kept { D.kept disk.old disk.new }
 {

@@ -7,7 +7,7 @@ ghost use Rattle.mr_journal.specs.Moments.{AddsSteps, LeadsThrough, DiskCauses};
 ghost use Rattle.mr_journal.specs.Format.{number_of, entries, placed, ready};
 ghost use Rattle.mr_journal.specs.Parsed.{places, with_pages};
 ghost use Rattle.mr_journal.specs.States.{IsShutAt, IsArmedFor, IsSettledAt, EitherOf};
-ghost use Rattle.mr_journal.specs.Progress.{IsArmedBy, IsCarriedBy};
+ghost use Rattle.mr_journal.specs.Progress.{carried_by, closed_by, IsArmedBy, IsCarriedBy};
 
 use crate::body::{number_at, parse};
 use crate::gate::close_gate;
@@ -67,6 +67,8 @@ fn carry_out<D: Disk>(disk: &mut D, body: &[u8]) -> Result<(), DiskErr>
     ensures armed { (map : List ℕ)
         → LeadsThrough (D.state disk.old) (D.state disk.new) (D.images disk.old) (D.images disk.new)
         result (IsArmedBy body.now map) (IsArmedBy body.now map) (IsCarriedBy body.now map) }
+    ensures carried { OnOk result ((D.state disk.new).contents
+        ≡ option_map (carried_by body.now) (D.state disk.old).contents) }
     ensures causes { DiskCauses (D.state disk.old) (D.state disk.new) result }
     ensures kept { D.kept disk.old disk.new }
 {
@@ -86,6 +88,8 @@ pub(crate) fn finish<D: Disk>(disk: &mut D, body: &[u8]) -> Result<(), DiskErr>
         (D.images disk.old) (D.images disk.new)
         result (IsArmedBy body.now map) (EitherOf (IsShutAt map) (IsArmedFor map))
         (IsSettledAt map (D.state disk.new).contents) }
+    ensures left { OnOk result ((D.state disk.new).contents
+        ≡ option_map (closed_by body.now) (D.state disk.old).contents) }
     ensures causes { DiskCauses (D.state disk.old) (D.state disk.new) result }
     ensures kept { D.kept disk.old disk.new }
 {

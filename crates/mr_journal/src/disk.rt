@@ -4,7 +4,7 @@ ghost use Rattle.std.specs.Prelude.{◌≡◌, ℕ, ◌≤◌, length, Some, IsT
 ghost use Rattle.mr_outside.specs.Reading.{FillsFront, GivesFrom};
 ghost use Rattle.mr_journal.specs.Images.{Image, DiskState, part, written, InArea, Unchanged};
 ghost use Rattle.mr_journal.specs.Torn.{TornAt};
-ghost use Rattle.mr_journal.specs.Moments.{IsDiskCall, IsDurable};
+ghost use Rattle.mr_journal.specs.Moments.{IsDiskCall, IsDurable, KeepsImages};
 
 use std::alloc::{AllocError, AllocFailed};
 
@@ -63,6 +63,9 @@ pub trait Disk {
     /// What no call changes.
     ghost kept: { Self → Self → Type 0 };
 
+    /// What a call that writes nothing leaves as it was, beside the contents.
+    ghost still: { Self → Self → Type 0 };
+
     /// The length of the area in bytes.
     fn size(&mut self, area: Area) -> Result<u64, DiskErr>
         ensures length { IfOk result
@@ -70,6 +73,9 @@ pub trait Disk {
         ensures contents { (state self.new).contents ≡ (state self.old).contents }
         ensures passes { IsDiskCall (state self.old) (state self.new) (images self.old)
             (images self.new) result Unchanged }
+        ensures stays { KeepsImages (state self.old) (state self.new) (images self.old)
+            (images self.new) }
+        ensures still { still self.old self.new }
         ensures kept { kept self.old self.new };
 
     /// Copies bytes of the area, from the place `at` on, to the front of `into`, and answers how
@@ -81,6 +87,9 @@ pub trait Disk {
         ensures contents { (state self.new).contents ≡ (state self.old).contents }
         ensures passes { IsDiskCall (state self.old) (state self.new) (images self.old)
             (images self.new) result Unchanged }
+        ensures stays { KeepsImages (state self.old) (state self.new) (images self.old)
+            (images self.new) }
+        ensures still { still self.old self.new }
         ensures kept { kept self.old self.new };
 
     /// Replaces the bytes of the area from the place `at` on, and lengthens it where they go past
@@ -103,6 +112,7 @@ pub trait Disk {
         ensures contents { (state self.new).contents ≡ (state self.old).contents }
         ensures passes { IsDiskCall (state self.old) (state self.new) (images self.old)
             (images self.new) result Unchanged }
+        ensures still { still self.old self.new }
         ensures kept { kept self.old self.new };
 
     /// An image of a later time is one of an earlier.
@@ -121,4 +131,8 @@ pub trait Disk {
     ghost kept_self: { (d : Self) → kept d d };
 
     ghost kept_on: { (d e f : Self) → kept d e → kept e f → kept d f };
+
+    ghost still_self: { (d : Self) → still d d };
+
+    ghost still_on: { (d e f : Self) → still d e → still e f → still d f };
 }

@@ -1,6 +1,6 @@
 //! A map and its journal in two files of a shelf.
 
-ghost use Rattle.std.specs.Prelude.{◌≢◌, ◌≤◌, IsErrOf};
+ghost use Rattle.std.specs.Prelude.{◌≡◌, ◌≢◌, ◌≤◌, false, IfOk, IsErrOf};
 ghost use Rattle.mr_outside.specs.Faults.{Rose};
 ghost use Rattle.mr_journal.specs.Shelves.{KeepsBeside};
 ghost use Rattle.mr_journal.specs.Recovered.{Recovers};
@@ -21,6 +21,8 @@ pub fn recover_files<S: Shelf>(
     requires { map.now ≢ journal.now }
     ensures recovers { Recovers map.now journal.now (S.state shelf).files (S.state result.1).files
         result.0 }
+    ensures clean { IfOk result.0 (λ was. was ≡ false
+        → (S.state result.1).files ≡ (S.state shelf).files) }
     ensures beside { KeepsBeside map.now journal.now (S.state shelf).files
         (S.state result.1).files }
     ensures fault { IsErrOf result.0 DiskErr.Fault

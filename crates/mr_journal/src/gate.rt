@@ -1,12 +1,12 @@
 //! The first byte of a journal, which says whether it is open.
 
-ghost use Rattle.std.specs.Prelude.{◌≡◌, ℕ, ◌<◌, ◌≤◌, ◌≢◌, true, List, length, Some, None, Option, IfSome, IfOk, OnOk, option_map};
-ghost use Rattle.mr_journal.specs.Images.{part, Unchanged};
+ghost use Rattle.std.specs.Prelude.{◌≡◌, ℕ, ◌<◌, ◌≤◌, ◌≢◌, true, List, [], ◌∷◌, length, Some, None, Option, IfSome, IfOk, OnOk, option_map};
+ghost use Rattle.mr_journal.specs.Images.{written, Unchanged};
 ghost use Rattle.mr_journal.specs.Moments.{AddsSteps, LeadsThrough, DiskCauses};
 ghost use Rattle.mr_journal.specs.Format.{ready, carried};
 ghost use Rattle.mr_journal.specs.Parsed.{first_of};
 ghost use Rattle.mr_journal.specs.States.{IsShutAt, IsArmedFor, IsSettledAt, EitherOf};
-ghost use Rattle.mr_journal.specs.Progress.{IsClearedAt, IsInvalidAt, HasGate, IsFilledBy, IsArmedBy, IsCarriedBy};
+ghost use Rattle.mr_journal.specs.Progress.{behind, IsClearedAt, IsInvalidAt, HasGate, IsFilledBy, IsArmedBy, IsCarriedBy};
 
 use crate::steps::write_and_sync;
 use crate::{Area, Disk, DiskErr};
@@ -38,8 +38,8 @@ fn clear_gate<D: Disk>(disk: &mut D) -> Result<(), DiskErr>
         (D.images disk.old) (D.images disk.new)
         result (IsInvalidAt map) (IsShutAt map) (IsClearedAt map) }
     ensures gate { OnOk result (IfSome (D.state disk.new).contents (λ k. 0 < length k.journal)) }
-    ensures map { OnOk result (option_map (part Area.Map) (D.state disk.new).contents
-        ≡ option_map (part Area.Map) (D.state disk.old).contents) }
+    ensures written { OnOk result ((D.state disk.new).contents
+        ≡ option_map (written Area.Journal 0 (0 ∷ [])) (D.state disk.old).contents) }
     ensures causes { DiskCauses (D.state disk.old) (D.state disk.new) result }
     ensures kept { D.kept disk.old disk.new }
 {
@@ -53,8 +53,8 @@ fn clear_version<D: Disk>(disk: &mut D) -> Result<(), DiskErr>
         → LeadsThrough (D.state disk.old) (D.state disk.new)
         (D.images disk.old) (D.images disk.new) result
         (λ c. IsShutAt map c × HasGate gate c) (IsShutAt map) (IsInvalidAt map) }
-    ensures map { OnOk result (option_map (part Area.Map) (D.state disk.new).contents
-        ≡ option_map (part Area.Map) (D.state disk.old).contents) }
+    ensures written { OnOk result ((D.state disk.new).contents
+        ≡ option_map (written Area.Journal 1 (0 ∷ [])) (D.state disk.old).contents) }
     ensures causes { DiskCauses (D.state disk.old) (D.state disk.new) result }
     ensures kept { D.kept disk.old disk.new }
 {
@@ -68,8 +68,8 @@ fn prepare_byte<D: Disk>(disk: &mut D, gate: u8) -> Result<(), DiskErr>
         (D.images disk.old) (D.images disk.new)
         result (λ c. IsShutAt map c × HasGate gate c) (IsShutAt map) (IsClearedAt map) }
     ensures gate { OnOk result (IfSome (D.state disk.new).contents (λ k. 0 < length k.journal)) }
-    ensures map { OnOk result (option_map (part Area.Map) (D.state disk.new).contents
-        ≡ option_map (part Area.Map) (D.state disk.old).contents) }
+    ensures behind { OnOk result (option_map behind (D.state disk.new).contents
+        ≡ option_map behind (D.state disk.old).contents) }
     ensures causes { DiskCauses (D.state disk.old) (D.state disk.new) result }
     ensures kept { D.kept disk.old disk.new }
 {
@@ -89,8 +89,8 @@ pub(crate) fn prepare_gate<D: Disk>(disk: &mut D) -> Result<(), DiskErr>
         (D.images disk.old) (D.images disk.new)
         result (IsSettledAt map (D.state disk.old).contents) (IsShutAt map) (IsClearedAt map) }
     ensures gate { OnOk result (IfSome (D.state disk.new).contents (λ k. 0 < length k.journal)) }
-    ensures map { OnOk result (option_map (part Area.Map) (D.state disk.new).contents
-        ≡ option_map (part Area.Map) (D.state disk.old).contents) }
+    ensures behind { OnOk result (option_map behind (D.state disk.new).contents
+        ≡ option_map behind (D.state disk.old).contents) }
     ensures causes { DiskCauses (D.state disk.old) (D.state disk.new) result }
     ensures kept { D.kept disk.old disk.new }
 {
@@ -106,8 +106,8 @@ pub(crate) fn fill<D: Disk>(disk: &mut D, body: &[u8]) -> Result<(), DiskErr>
     ensures filled { (map : List ℕ)
         → LeadsThrough (D.state disk.old) (D.state disk.new) (D.images disk.old) (D.images disk.new)
         result (IsClearedAt map) (IsShutAt map) (IsFilledBy body.now map) }
-    ensures map { OnOk result (option_map (part Area.Map) (D.state disk.new).contents
-        ≡ option_map (part Area.Map) (D.state disk.old).contents) }
+    ensures written { OnOk result ((D.state disk.new).contents
+        ≡ option_map (written Area.Journal 1 body.now) (D.state disk.old).contents) }
     ensures causes { DiskCauses (D.state disk.old) (D.state disk.new) result }
     ensures kept { D.kept disk.old disk.new }
 {
@@ -121,8 +121,8 @@ pub(crate) fn open_gate<D: Disk>(disk: &mut D) -> Result<(), DiskErr>
         (D.images disk.old) (D.images disk.new) result
         (IsFilledBy body map) (EitherOf (IsShutAt map) (IsArmedFor (carried body map)))
         (IsArmedBy body (carried body map)) }
-    ensures map { OnOk result (option_map (part Area.Map) (D.state disk.new).contents
-        ≡ option_map (part Area.Map) (D.state disk.old).contents) }
+    ensures written { OnOk result ((D.state disk.new).contents
+        ≡ option_map (written Area.Journal 0 (79 ∷ [])) (D.state disk.old).contents) }
     ensures causes { DiskCauses (D.state disk.old) (D.state disk.new) result }
     ensures kept { D.kept disk.old disk.new }
 {
@@ -135,6 +135,8 @@ pub(crate) fn close_gate<D: Disk>(disk: &mut D) -> Result<(), DiskErr>
         → LeadsThrough (D.state disk.old) (D.state disk.new) (D.images disk.old) (D.images disk.new)
         result (IsCarriedBy body map) (EitherOf (IsShutAt map) (IsArmedFor map))
         (IsSettledAt map (D.state disk.new).contents) }
+    ensures written { OnOk result ((D.state disk.new).contents
+        ≡ option_map (written Area.Journal 0 (0 ∷ [])) (D.state disk.old).contents) }
     ensures causes { DiskCauses (D.state disk.old) (D.state disk.new) result }
     ensures kept { D.kept disk.old disk.new }
 {

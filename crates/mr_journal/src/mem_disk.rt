@@ -1,10 +1,13 @@
 //! A disk in memory that keeps its calls, so that what a crash may leave is told.
 
-ghost use Rattle.std.specs.Prelude.{◌≡◌, ◌+◌, ◌-◌, min, take, drop, [], ◌∷◌, ◌++◌, length, IfOk, OnOk, OnErr, ⊤, if◌then◌else◌};
+ghost use Rattle.std.specs.Prelude.{◌≡◌, ◌+◌, ◌-◌, min, take, drop, [], ◌∷◌, ◌++◌, length, Some, not, IfOk, OnOk, OnErr, ⊤, if◌then◌else◌};
 ghost use Rattle.mr_outside.specs.Files.{replaced};
 ghost use Rattle.mr_outside.specs.Faults.{next_count};
-ghost use Rattle.mr_journal.specs.Images.{part};
-ghost use Rattle.mr_journal.specs.MemoryDisk.{first_image, same_area, carried_out, wrote, at_rest, change, area_after, contents_after, IsImage, memory_state, left_since};
+ghost use Rattle.mr_outside.specs.Reading.{FillsFront, GivesFrom};
+ghost use Rattle.mr_journal.specs.Images.{Image, part, written, InArea, Unchanged};
+ghost use Rattle.mr_journal.specs.Torn.{TornAt};
+ghost use Rattle.mr_journal.specs.Moments.{IsDurable, IsDiskCall, KeepsImages};
+ghost use Rattle.mr_journal.specs.MemoryDisk.{first_image, same_area, carried_out, wrote, at_rest, change, area_after, contents_after, IsImage, memory_state, left_since, parts_of, contents_of, told_by, images_by, fails_next, IsAsked, IsWrite, IsSync, MakesCall};
 ghost use Rattle.mr_journal.specs.Traced.{trace_of, write_call};
 ghost use Rattle.mr_journal.specs.Picks.{IsPicked};
 ghost use Rattle.mr_journal.specs.MemoryLaws.{earlier_is, contents_count, is_held, is_told};
@@ -54,7 +57,7 @@ impl MemDisk {
         fail: Vec<u64>,
     ) -> Result<MemDisk, AllocError>
         ensures { IfOk result (λ d. (d.map.items ≡ map.now) × (d.journal.items ≡ journal.now)
-            × (d.calls.items ≡ []) × (d.fail.items ≡ fail.items)) }
+            × (d.calls.items ≡ []) × (d.fail.items ≡ fail.items) × (d.faults ≡ 0)) }
     {
         Ok(MemDisk {
             alloc,
@@ -79,7 +82,8 @@ impl MemDisk {
         ensures journal { IfOk result
             (λ d. IsPicked pick (area_after Area.Journal self.now.journal.items
             (take step self.now.calls.items)) d.journal.items) }
-        ensures begins { IfOk result (λ d. (d.calls.items ≡ []) × (d.fail.items ≡ [])) }
+        ensures begins { IfOk result (λ d. (d.calls.items ≡ []) × (d.fail.items ≡ [])
+            × (d.faults ≡ 0)) }
     {
         let count = (self.calls.len() as u64).min(step) as usize;
         let (calls, _) = self.calls.as_slice().split_at(count);
@@ -105,7 +109,9 @@ impl MemDisk {
     }
 
     // Whether the next call is one of those that fail.
-    fn next_fails(&self) -> bool {
+    fn next_fails(&self) -> bool
+        ensures { result ≡ fails_next (parts_of self.now) }
+    {
         let number = (self.calls.len() as u64).saturating_add(1);
         self.fail.contains(&number)
     }
@@ -260,6 +266,7 @@ impl MemDisk {
             ((self.new.calls.items ≡ self.old.calls.items) × (self.new.faults ≡ self.old.faults)) }
         ensures first { (self.new.map.items ≡ self.old.map.items)
             × (self.new.journal.items ≡ self.old.journal.items) }
+        ensures fail { self.new.fail.items ≡ self.old.fail.items }
     {
         self.calls.push(call)?;
         if fails {
@@ -277,6 +284,8 @@ impl Disk for MemDisk {
 
     ghost kept = { λ m n. ⊤ };
 
+    ghost still = { λ m n. ⊤ };
+
     ghost earlier = { λ m. earlier_is (first_image m.map.items m.journal.items) m.calls.items };
 
     ghost counts = { λ m. contents_count (first_image m.map.items m.journal.items) m.calls.items
@@ -290,7 +299,21 @@ impl Disk for MemDisk {
 
     ghost kept_on = { λ l m n a b. tt };
 
-    fn size(&mut self, area: Area) -> Result<u64, DiskErr> {
+    ghost still_self = { λ m. tt };
+
+    ghost still_on = { λ l m n a b. tt };
+
+    fn size(&mut self, area: Area) -> Result<u64, DiskErr>
+        ensures made { MakesCall IsAsked (parts_of self.old) (parts_of self.new) result }
+        ensures length { IfOk result (λ n. n
+            ≡ length (part area (contents_of (parts_of self.old)))) }
+        ensures contents { Some (contents_of (parts_of self.new))
+            ≡ Some (contents_of (parts_of self.old)) }
+        ensures passes { IsDiskCall (told_by (parts_of self.old)) (told_by (parts_of self.new))
+            (images_by (parts_of self.old)) (images_by (parts_of self.new)) result Unchanged }
+        ensures stays { KeepsImages (told_by (parts_of self.old)) (told_by (parts_of self.new))
+            (images_by (parts_of self.old)) (images_by (parts_of self.new)) }
+    {
         if self.next_fails() {
             self.keep(Call::Asked, true)?;
             return Err(DiskErr::Fault);
@@ -300,7 +323,18 @@ impl Disk for MemDisk {
         Ok(length)
     }
 
-    fn read_at(&mut self, area: Area, at: u64, into: &mut [u8]) -> Result<usize, DiskErr> {
+    fn read_at(&mut self, area: Area, at: u64, into: &mut [u8]) -> Result<usize, DiskErr>
+        ensures made { MakesCall IsAsked (parts_of self.old) (parts_of self.new) result }
+        ensures fills { IfOk result (λ n. FillsFront into.old into.new n) }
+        ensures gives { IfOk result (λ n. GivesFrom at into.old into.new n
+            (part area (contents_of (parts_of self.old)))) }
+        ensures contents { Some (contents_of (parts_of self.new))
+            ≡ Some (contents_of (parts_of self.old)) }
+        ensures passes { IsDiskCall (told_by (parts_of self.old)) (told_by (parts_of self.new))
+            (images_by (parts_of self.old)) (images_by (parts_of self.new)) result Unchanged }
+        ensures stays { KeepsImages (told_by (parts_of self.old)) (told_by (parts_of self.new))
+            (images_by (parts_of self.old)) (images_by (parts_of self.new)) }
+    {
         if self.next_fails() {
             self.keep(Call::Asked, true)?;
             return Err(DiskErr::Fault);
@@ -310,7 +344,19 @@ impl Disk for MemDisk {
         Ok(copy_from(&held, at, into))
     }
 
-    fn write_at(&mut self, area: Area, at: u64, bytes: &[u8]) -> Result<(), DiskErr> {
+    fn write_at(&mut self, area: Area, at: u64, bytes: &[u8]) -> Result<(), DiskErr>
+        ensures made { let whole = not (fails_next (parts_of self.old)) in
+            MakesCall (IsWrite area at bytes.now whole)
+            (parts_of self.old) (parts_of self.new) result }
+        ensures written { OnOk result (Some (contents_of (parts_of self.new))
+            ≡ Some (written area at bytes.now (contents_of (parts_of self.old)))) }
+        ensures refused { OnErr result ((m : Image)
+            × (Some (contents_of (parts_of self.new)) ≡ Some m)
+            × InArea area (TornAt at (length bytes.now)) (contents_of (parts_of self.old)) m) }
+        ensures passes { IsDiskCall (told_by (parts_of self.old)) (told_by (parts_of self.new))
+            (images_by (parts_of self.old)) (images_by (parts_of self.new)) result
+            (InArea area (TornAt at (length bytes.now))) }
+    {
         let bytes = Vec::from_slice(self.alloc, bytes)?;
         if self.next_fails() {
             self.keep(write_of(area, at, bytes, false), true)?;
@@ -320,7 +366,16 @@ impl Disk for MemDisk {
         Ok(())
     }
 
-    fn sync(&mut self, area: Area) -> Result<(), DiskErr> {
+    fn sync(&mut self, area: Area) -> Result<(), DiskErr>
+        ensures made { let fails = fails_next (parts_of self.old) in
+            MakesCall (IsSync area fails) (parts_of self.old) (parts_of self.new) result }
+        ensures durable { OnOk result (IsDurable area (told_by (parts_of self.new))
+            (images_by (parts_of self.new))) }
+        ensures contents { Some (contents_of (parts_of self.new))
+            ≡ Some (contents_of (parts_of self.old)) }
+        ensures passes { IsDiskCall (told_by (parts_of self.old)) (told_by (parts_of self.new))
+            (images_by (parts_of self.old)) (images_by (parts_of self.new)) result Unchanged }
+    {
         if self.next_fails() {
             self.keep(Call::Asked, true)?;
             return Err(DiskErr::Fault);

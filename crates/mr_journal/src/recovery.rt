@@ -1,8 +1,8 @@
 //! A change that a crash cut short is finished.
 
-ghost use Rattle.std.specs.Prelude.{◌≡◌, Some, true, false, IfSome, IsSomeAnd, IfOk, OnOk};
+ghost use Rattle.std.specs.Prelude.{◌≡◌, Some, false, IfSome, IsSomeAnd, IfOk, OnOk, option_map};
 ghost use Rattle.mr_journal.specs.Moments.{EveryImage, IsOnlyImage, AddsOnly, DiskCauses};
-ghost use Rattle.mr_journal.specs.Format.{is_open, restored};
+ghost use Rattle.mr_journal.specs.Format.{is_open, restored, recovered};
 ghost use Rattle.mr_journal.specs.States.{IsSettledAt, RestoresAs};
 
 use crate::body::open_body;
@@ -25,8 +25,9 @@ fn redo<D: Disk>(alloc: Global, disk: &mut D) -> Result<bool, DiskErr>
         (λ k. IsSettledAt (restored k) (D.state disk.new).contents c))) }
     ensures answer { IfOk result (λ was. IfSome (D.state disk.old).contents
         (λ k. was ≡ is_open k)) }
-    ensures clean { IfOk result (λ was. was ≡ false
-        → (D.state disk.new).contents ≡ (D.state disk.old).contents) }
+    ensures left { OnOk result ((D.state disk.new).contents
+        ≡ option_map recovered (D.state disk.old).contents) }
+    ensures still { IfOk result (λ was. was ≡ false → D.still disk.old disk.new) }
     ensures causes { DiskCauses (D.state disk.old) (D.state disk.new) result }
     ensures kept { D.kept disk.old disk.new }
 {
@@ -54,9 +55,11 @@ pub fn recover<D: Disk>(alloc: Global, disk: &mut D) -> Result<bool, RecoverErr>
         (λ k. IsSettledAt (restored k) (D.state disk.new).contents c))) }
     ensures answer { IfOk result (λ was. IfSome (D.state disk.old).contents
         (λ k. was ≡ is_open k)) }
-    // Where it was closed nothing is changed.
-    ensures clean { IfOk result (λ was. was ≡ false
-        → (D.state disk.new).contents ≡ (D.state disk.old).contents) }
+    // Where the journal was open, 00 stands in place of its gate, and else nothing is changed.
+    ensures left { OnOk result ((D.state disk.new).contents
+        ≡ option_map recovered (D.state disk.old).contents) }
+    // Where it wasn't open, nothing is made either that was not there.
+    ensures still { IfOk result (λ was. was ≡ false → D.still disk.old disk.new) }
     ensures causes { DiskCauses (D.state disk.old) (D.state disk.new) result }
     ensures kept { D.kept disk.old disk.new }
 {

@@ -2,6 +2,7 @@
 
 ghost use Rattle.std.specs.Prelude.{◌≡◌, ◌≢◌, ◌+◌, ◌≤◌, ◌<◌, ◌++◌, length, None, IfOk, OnOk, IsErrOf, MatchResult};
 ghost use Rattle.std.specs.String.{string_bytes};
+ghost use Rattle.std.proofs.Common.{refl, ◌∙◌};
 ghost use Rattle.std.proofs.Props.{props};
 ghost use Rattle.mr_outside.specs.Faults.{Rose};
 ghost use Rattle.mr_outside.specs.Files.{file};
@@ -298,6 +299,8 @@ impl<S: Shelf> Disk for ShelfDisk<S> {
         (string_bytes d.journal)
         (string_bytes e.journal) (S.state d.shelf) (S.state e.shelf) };
 
+    ghost still = { λ d e. (S.state e.shelf).files ≡ (S.state d.shelf).files };
+
     ghost earlier = { λ d. earlier_is (string_bytes d.map) (string_bytes d.journal)
         (S.state d.shelf) };
 
@@ -312,6 +315,10 @@ impl<S: Shelf> Disk for ShelfDisk<S> {
         (S.state d.shelf) };
 
     ghost kept_on = { λ d e f. keeps_on _ _ _ _ _ _ _ _ _ };
+
+    ghost still_self = { λ d. refl };
+
+    ghost still_on = { λ d e f a b. b ∙ a };
 
     fn size(&mut self, area: Area) -> Result<u64, DiskErr> {
         let name = name_in(area, self.map.as_str(), self.journal.as_str());

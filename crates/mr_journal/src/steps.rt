@@ -3,7 +3,7 @@
 ghost use Rattle.std.specs.Prelude.{◌≡◌, ◌≤◌, length, IfSome, IfOk, OnOk, option_map};
 ghost use Rattle.mr_journal.specs.Images.{part, written, InArea, Unchanged};
 ghost use Rattle.mr_journal.specs.Torn.{TornAt};
-ghost use Rattle.mr_journal.specs.Moments.{AddsSteps, IsDurable, IsOnlyImage, DiskCauses};
+ghost use Rattle.mr_journal.specs.Moments.{AddsSteps, IsDurable, IsOnlyImage, DiskCauses, KeepsImages};
 
 use crate::{Area, Disk, DiskErr};
 use std::alloc::{AllocError, Global};
@@ -36,6 +36,7 @@ pub(crate) fn sync_both<D: Disk>(disk: &mut D) -> Result<(), DiskErr>
     ensures moves { AddsSteps (D.state disk.old) (D.state disk.new) (D.images disk.old)
         (D.images disk.new) Unchanged }
     ensures causes { DiskCauses (D.state disk.old) (D.state disk.new) result }
+    ensures still { D.still disk.old disk.new }
     ensures kept { D.kept disk.old disk.new }
 {
     disk.sync(Area::Map)?;
@@ -57,6 +58,9 @@ pub(crate) fn read_journal<D: Disk>(alloc: Global, disk: &mut D) -> Result<Loade
     ensures moves { AddsSteps (D.state disk.old) (D.state disk.new) (D.images disk.old)
         (D.images disk.new) Unchanged }
     ensures causes { DiskCauses (D.state disk.old) (D.state disk.new) result }
+    ensures stays { KeepsImages (D.state disk.old) (D.state disk.new) (D.images disk.old)
+        (D.images disk.new) }
+    ensures still { D.still disk.old disk.new }
     ensures kept { D.kept disk.old disk.new }
 {
     let map_length = disk.size(Area::Map)?;
@@ -83,6 +87,9 @@ pub fn read_map<D: Disk>(alloc: Global, disk: &mut D) -> Result<Vec<u8>, DiskErr
     ensures moves { AddsSteps (D.state disk.old) (D.state disk.new) (D.images disk.old)
         (D.images disk.new) Unchanged }
     ensures causes { DiskCauses (D.state disk.old) (D.state disk.new) result }
+    ensures stays { KeepsImages (D.state disk.old) (D.state disk.new) (D.images disk.old)
+        (D.images disk.new) }
+    ensures still { D.still disk.old disk.new }
     ensures kept { D.kept disk.old disk.new }
 {
     let length = disk.size(Area::Map)?;

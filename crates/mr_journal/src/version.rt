@@ -2,7 +2,7 @@
 
 ghost use Rattle.std.specs.Prelude.{◌≡◌, ◌==◌, ℕ, List, length, Some, Option, MatchOption, IfSome, IfOk, slice_index};
 ghost use Rattle.mr_journal.specs.Images.{Unchanged};
-ghost use Rattle.mr_journal.specs.Moments.{AddsSteps, DiskCauses};
+ghost use Rattle.mr_journal.specs.Moments.{AddsSteps, DiskCauses, KeepsImages};
 ghost use Rattle.mr_journal.specs.Format.{restored};
 ghost use Rattle.mr_journal.specs.MemoryDisk.{first_image};
 
@@ -34,6 +34,9 @@ fn map_byte<D: Disk>(disk: &mut D) -> Result<u8, DiskErr>
     ensures moves { AddsSteps (D.state disk.old) (D.state disk.new) (D.images disk.old)
         (D.images disk.new) Unchanged }
     ensures causes { DiskCauses (D.state disk.old) (D.state disk.new) result }
+    ensures stays { KeepsImages (D.state disk.old) (D.state disk.new) (D.images disk.old)
+        (D.images disk.new) }
+    ensures still { D.still disk.old disk.new }
     ensures kept { D.kept disk.old disk.new }
 {
     let mut byte = [0u8];
@@ -50,6 +53,9 @@ pub fn is_version_two<D: Disk>(alloc: Global, disk: &mut D) -> Result<bool, Reco
     ensures moves { AddsSteps (D.state disk.old) (D.state disk.new) (D.images disk.old)
         (D.images disk.new) Unchanged }
     ensures causes { DiskCauses (D.state disk.old) (D.state disk.new) result }
+    ensures stays { KeepsImages (D.state disk.old) (D.state disk.new) (D.images disk.old)
+        (D.images disk.new) }
+    ensures still { D.still disk.old disk.new }
     ensures kept { D.kept disk.old disk.new }
 {
     let held = read_journal(alloc, disk)?;

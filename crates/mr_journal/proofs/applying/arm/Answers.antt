@@ -3,6 +3,8 @@ use Rattle.mr_journal.specs.Format.{carried}
 use Rattle.mr_journal.specs.States.{IsShutAt, IsArmedFor, IsSettledAt, EitherOf}
 use Rattle.mr_journal.specs.Progress.{IsClearedAt, IsFilledBy, IsArmedBy}
 use Rattle.mr_journal.proofs.Running.{leads_then, leads_refused}
+use Rattle.std.proofs.lemmas.Result.{on_ok_weaker}
+use Rattle.mr_journal.proofs.Leaving.{opened_after}
 use Rattle.mr_journal.proofs.applying.arm.Goals as goal
 
 pub returns-in_err-prepare_gate-clause-armed : goal.returns-in_err-prepare_gate-clause-armed
@@ -38,3 +40,10 @@ returns-clause-armed g c map fit =
     (EitherOf (IsShutAt map) (IsArmedFor N))
     (c.in_ok-fill.ensures.filled map) (c.open_gate.ensures.armed c.args.body.now map fit) (λ x q. inl q) (λ x q. q))
     (λ x q. inl q) (λ x q. q)
+
+pub returns-clause-left : goal.returns-clause-left
+returns-clause-left g c some =
+    on_ok_weaker c.open_gate.result
+    (λ opened. opened_after c.args.body.now (g.D.Disk.state c.args.disk.now).contents _ _ _ some
+    c.in_ok-prepare_gate.ensures.behind c.in_ok-prepare_gate.ensures.gate c.in_ok-fill.ensures.written opened)
+    c.open_gate.ensures.written

@@ -22,4 +22,4 @@ returns-in-Ok-clause-recovers g c =
     c.recover-answer.result) (sym (ap g.S.Shelf.state c.close.ensures))
     (recovers_as c.args.map.now c.args.journal.now (string_bytes disk.map) (string_bytes after.map)
     (string_bytes disk.journal) (string_bytes after.journal) (g.S.Shelf.state disk.shelf) u
-    c.in-Ok.ensures.map c.in-Ok.ensures.journal e.kept e.any_moment c.recover-answer.result e.done e.answer))
+    c.in-Ok.ensures.map c.in-Ok.ensures.journal e.kept e.any_moment c.recover-answer.result e.left e.answer))

@@ -1,6 +1,9 @@
 use Rattle.std.proofs.Common.{ap, sym, ◌∙◌}
 use Rattle.mr_journal.specs.Format.{opens}
 use Rattle.mr_journal.proofs.Gating.{kept_done, shut_read, opened_read, carried_course, carried_done}
+use Rattle.std.specs.Prelude.{option_map}
+use Rattle.mr_journal.specs.Progress.{closed_by}
+use Rattle.mr_journal.proofs.Leaving.{recovered_shut, recovered_open}
 use Rattle.mr_journal.proofs.recovery.redo.Goals as goal
 
 pub returns-in-None-clause-done : goal.returns-in-None-clause-done
@@ -37,3 +40,20 @@ returns-clause-done g c only =
     (opened_read h.journal.items h.map_length _ c.in-Some.body.now c.in_ok-held.ensures.held
     (sym c.as_slice.ensures.value ∙ c.in-Some.ensures.0) c.in-Some.ensures.1)
     c.in_ok-finish-in-Some.ensures.shut
+
+pub returns-in-None-clause-left : goal.returns-in-None-clause-left
+returns-in-None-clause-left g c =
+    let h = c.in_ok-held.held in
+    c.read_journal.ensures.contents
+    ∙ recovered_shut (g.D.Disk.state c.args.disk.now).contents
+    (shut_read h.journal.items h.map_length _ c.in_ok-held.ensures.held
+    (ap (opens h.map_length) (sym c.as_slice.ensures.value) ∙ c.in-None.ensures))
+
+pub returns-clause-left : goal.returns-clause-left
+returns-clause-left g c =
+    let h = c.in_ok-held.held in
+    c.in_ok-finish-in-Some.ensures.left
+    ∙ ap (option_map (closed_by c.in-Some.body.now)) c.read_journal.ensures.contents
+    ∙ recovered_open c.in-Some.body.now (g.D.Disk.state c.args.disk.now).contents
+    (opened_read h.journal.items h.map_length _ c.in-Some.body.now c.in_ok-held.ensures.held
+    (sym c.as_slice.ensures.value ∙ c.in-Some.ensures.0) c.in-Some.ensures.1)
