@@ -3,9 +3,8 @@
 
 ghost use Rattle.mr_query.specs.Word.{IsAskable};
 
-use crate::assertions::all_hold;
-use crate::client::{INNER, OPENED, digest, sha_root};
-use crate::made::are_first;
+use crate::assertions::{all_hold, all_hold_in_memory};
+use crate::made::{are_first, digest};
 use mr_check::{CheckErr, Fed, Judge, check};
 use mr_outside::MemSink;
 use mr_proof::{Fault, Rule};
@@ -13,7 +12,17 @@ use mr_query::{Query, read_query};
 use mr_record::{Record, Version, write_lines};
 use mr_tree::{Hash32, Sha, XorHash};
 use std::alloc::{AllocError, Global};
-use std::test::Fail;
+
+// A window's proof on the map of record 7 that opens its leaf.
+const OPENED: &[u8] = b"MRVO\x01W\0\0\0\0\0\0\0\0\0\0\0\0\0\0\0\x01\0\
+    L\x01\0\0\0\0\0\0\0\x07\0\0\0\0\0\0\0\0\0\0\0\0\0\0\0\0\0";
+
+// A proof for a window on a map of level 1, which opens the root and its second child, that leaf,
+// and prunes its first.
+const INNER: &[u8] = b"MRVO\x01W\0\0\0\0\0\0\0\0\0\0\0\0\0\0\0\x02\x01N\x02\
+    P\0\0\0\x05\0\0\0\x05\0\0\0\x06\0\0\0\x06\
+    \0\0\0\0\0\0\0\0\0\0\0\0\0\0\0\0\0\0\0\0\0\0\0\0\0\0\0\0\0\0\0\x11\
+    L\x01\0\0\0\0\0\0\0\x07\0\0\0\0\0\0\0\0\0\0\0\0\0\0\0\0\0";
 
 // A window's proof on the map of record 7 that prunes its leaf.
 const PRUNED: &[u8] = b"MRVO\x01W\0\0\0\0\0\0\0\0\0\0\0\0\0\0\0\x01\0\
@@ -195,6 +204,22 @@ const ROWS: &[Row] = &[
         broken: None,
     },
     Row {
+        name: "a child in the window is pruned",
+        word: "window:6,6,7,7",
+        proof: INNER,
+        root: 0x46,
+        found: "",
+        broken: Some((Rule::Hidden, 26)),
+    },
+    Row {
+        name: "a leaf beside the window is opened",
+        word: "window:2,2,3,3",
+        proof: INNER,
+        root: 0x46,
+        found: "",
+        broken: Some((Rule::Needless, 100)),
+    },
+    Row {
         name: "two inner nodes above a leaf",
         word: HERE,
         proof: DEEPER,
@@ -203,6 +228,26 @@ const ROWS: &[Row] = &[
         broken: None,
     },
 ];
+
+// The root digest of the map of record 7 by SHA-256: that of its 67 bytes, which end in the digest
+// of the leaf's 27 bytes.
+fn sha_root() -> [u8; 32] {
+    let (_, leaf) = OPENED.split_at(23);
+    let mut bytes = [0; 67];
+    bytes[0] = b'R';
+    bytes[1] = 1;
+    bytes[17] = 1;
+    let (_, end) = bytes.split_at_mut(35);
+    end.copy_from_slice(&sha(leaf));
+    sha(&bytes)
+}
+
+fn sha(bytes: &[u8]) -> [u8; 32] {
+    use mr_tree::Hashes;
+    let mut hasher = Sha::start();
+    hasher.update(bytes);
+    hasher.finish()
+}
 
 // Feeds a piece, and keeps the records that it hands out.
 fn feed<H: Hash32>(
@@ -351,84 +396,114 @@ fn proofs_are_judged_however_they_are_cut(rt: HostRuntime) {
     all_hold(&rt, first_unjudged(rt.alloc()));
 }
 
-// A judge that is fed this, if memory serves.
-fn fed<H: Hash32>(alloc: Global, root: &[u8; 32], word: &str, front: &[u8]) -> Option<Judge<H>> {
-    let q = read_query(word).ok()?;
-    let mut judge = Judge::<H>::new(alloc, root, &q).ok()?;
-    feed(&mut judge, front, &mut Vec::new(alloc)).ok()?;
-    Some(judge)
+// A proof, how long the pieces are in which it is fed, and what is told of each of them and at the
+// end.
+#[derive(Clone, Copy)]
+struct Pieces<'a> {
+    word: &'a str,
+    proof: &'a [u8],
+    lengths: &'a [usize],
+    told: &'a str,
 }
 
-fn is_found(fed: &Fed, count: usize, number: u64) -> bool {
-    matches!(fed, Fed::Found { taken, item } if *taken == count && item.number == number)
-}
+// One record, and its proof ends; a byte behind it; a byte too few, a proof that is cut in the
+// batch, and none; and a part that is pruned though it lies on the circle, as the record before it
+// does, with whatever comes behind it.
+const PIECES: &[Pieces<'static>] = &[
+    Pieces {
+        word: HERE,
+        proof: OPENED,
+        lengths: &[50],
+        told: "7 behind 50, sound",
+    },
+    Pieces {
+        word: HERE,
+        proof: TRAILING,
+        lengths: &[50, 1],
+        told: "7 behind 50, Trailing at 50, Trailing at 50",
+    },
+    Pieces {
+        word: HERE,
+        proof: OPENED,
+        lengths: &[49],
+        told: "more, Short at 49",
+    },
+    Pieces {
+        word: HERE,
+        proof: OPENED,
+        lengths: &[10],
+        told: "more, Short at 6",
+    },
+    Pieces {
+        word: HERE,
+        proof: OPENED,
+        lengths: &[0],
+        told: "more, Short at 0",
+    },
+    Pieces {
+        word: NEAREST,
+        proof: HIDDEN,
+        lengths: &[69, 16, 1, 32],
+        told: "2 behind 69, more, Hidden at 70, Hidden at 70, Hidden at 70",
+    },
+];
 
-fn is_fault(fed: &Fed, rule: Rule, at: u64) -> bool {
-    matches!(fed, Fed::Fault(fault) if *fault == Fault { rule, at })
-}
-
-// One record, and its proof ends.
-fn one_record<H: Hash32>(alloc: Global, root: &[u8; 32]) -> Option<bool> {
-    let mut judge = fed::<H>(alloc, root, HERE, &[])?;
-    let found = is_found(&judge.feed(OPENED), 50, 7);
-    Some(found && judge.end().is_ok())
-}
-
-// A byte behind it.
-fn one_byte_more<H: Hash32>(alloc: Global, root: &[u8; 32]) -> Option<bool> {
-    let mut judge = fed::<H>(alloc, root, HERE, OPENED)?;
-    let (rule, at) = (Rule::Trailing, 50);
-    let trails = is_fault(&judge.feed(&[0]), rule, at);
-    Some(trails && judge.end() == Err(Fault { rule, at }))
-}
-
-// A proof that ends after so many bytes.
-fn is_short<H: Hash32>(alloc: Global, count: usize, at: u64) -> Option<bool> {
-    let (front, _) = OPENED.split_at_checked(count)?;
-    let mut judge = fed::<H>(alloc, &HELD, HERE, &[])?;
-    let more = matches!(judge.feed(front), Fed::More);
-    let rule = Rule::Short;
-    Some(more && judge.end() == Err(Fault { rule, at }))
-}
-
-// A part that is pruned though it lies on the circle, as the record before it does.
-fn hidden_at_its_last_byte<H: Hash32>(alloc: Global) -> Option<bool> {
-    let mut judge = fed::<H>(alloc, &HELD, NEAREST, &[])?;
-    let (front, behind) = HIDDEN.split_at_checked(85)?;
-    let (record, part) = front.split_at_checked(69)?;
-    let found = is_found(&judge.feed(front), record.len(), 2);
-    let more = matches!(judge.feed(part), Fed::More);
-    let (last, _) = behind.split_at_checked(1)?;
-    let (rule, at) = (Rule::Hidden, 70);
-    let hides = is_fault(&judge.feed(last), rule, at) && is_fault(&judge.feed(HIDDEN), rule, at);
-    Some(found && more && hides && judge.end() == Err(Fault { rule, at }))
-}
-
-// The name of the first of these that is not so, under one hash function.
-fn first_unanswered<H: Hash32>(alloc: Global, root: &[u8; 32]) -> Option<&'static str> {
-    if one_record::<H>(alloc, root) != Some(true) {
-        return Some("one record, and its proof ends");
+fn told(alloc: Global, fed: Fed) -> Result<String, AllocError> {
+    match fed {
+        Fed::More => String::from_str(alloc, "more, "),
+        Fed::Found { taken, item } => {
+            let number = item.number;
+            format!(in alloc; "{number} behind {taken}, ")
+        }
+        Fed::Fault(Fault { rule, at }) => {
+            let rule = rule.name();
+            format!(in alloc; "{rule} at {at}, ")
+        }
     }
-    if one_byte_more::<H>(alloc, root) != Some(true) {
-        return Some("a byte behind it");
+}
+
+// What is told of the pieces of a proof.
+fn told_of<H: Hash32>(
+    alloc: Global,
+    root: &[u8; 32],
+    row: &Pieces<'_>,
+) -> Result<String, AllocError> {
+    let mut text = String::new(alloc);
+    let Ok(q) = read_query(row.word) else {
+        return Ok(text);
+    };
+    let mut judge = Judge::<H>::new(alloc, root, &q)?;
+    let mut rest = row.proof;
+    for length in row.lengths {
+        let (piece, behind) = rest.split_at((*length).min(rest.len()));
+        text.push_str(told(alloc, judge.feed(piece))?.as_str())?;
+        rest = behind;
     }
-    if is_short::<H>(alloc, 49, 49) != Some(true) {
-        return Some("a byte too few");
+    match judge.end() {
+        Ok(()) => text.push_str("sound")?,
+        Err(Fault { rule, at }) => {
+            let rule = rule.name();
+            text.push_str(format!(in alloc; "{rule} at {at}")?.as_str())?;
+        }
     }
-    if is_short::<H>(alloc, 10, 6) != Some(true) {
-        return Some("cut in the batch");
+    Ok(text)
+}
+
+// What is first told otherwise, under one hash function.
+fn first_untold<H: Hash32>(
+    alloc: Global,
+    root: &[u8; 32],
+) -> Result<Option<&'static str>, AllocError> {
+    for row in PIECES {
+        if told_of::<H>(alloc, root, row)?.as_str() != row.told {
+            return Ok(Some(row.told));
+        }
     }
-    if is_short::<H>(alloc, 0, 0) != Some(true) {
-        return Some("no bytes");
-    }
-    if hidden_at_its_last_byte::<H>(alloc) != Some(true) {
-        return Some("a part that lies on the circle");
-    }
-    None
+    Ok(None)
 }
 
 #[test]
 fn pieces_have_their_answers(rt: HostRuntime) {
-    all_hold(&rt, first_unanswered::<XorHash>(rt.alloc(), &HELD));
-    all_hold(&rt, first_unanswered::<Sha>(rt.alloc(), &sha_root()));
+    all_hold_in_memory(&rt, first_untold::<XorHash>(rt.alloc(), &HELD));
+    all_hold_in_memory(&rt, first_untold::<Sha>(rt.alloc(), &sha_root()));
 }

@@ -6,9 +6,11 @@ mod assertions;
 #[cfg(test)]
 mod batches;
 #[cfg(test)]
-mod client;
+mod calls;
 #[cfg(test)]
-mod grown;
+mod fields;
+#[cfg(test)]
+mod journal;
 #[cfg(test)]
 mod judge;
 #[cfg(test)]
@@ -20,19 +22,11 @@ mod opening;
 #[cfg(test)]
 mod outside;
 #[cfg(test)]
-mod packing;
-#[cfg(test)]
-mod paged;
-#[cfg(test)]
-mod plain_batches;
-#[cfg(test)]
 mod queries;
 #[cfg(test)]
 mod questions;
 #[cfg(test)]
 mod rects;
-#[cfg(test)]
-mod refusals;
 #[cfg(test)]
 mod second;
 #[cfg(test)]
@@ -40,8 +34,6 @@ mod splits;
 #[cfg(test)]
 mod texts;
 #[cfg(test)]
-mod tree;
+mod trees;
 #[cfg(test)]
 mod untold;
-#[cfg(test)]
-mod workloads;

@@ -180,24 +180,31 @@ fn blamed(alloc: Global, root: Option<Child>, room: u32) -> Option<u32> {
     }
 }
 
-// The same below the root on page 5, at this level.
-fn blamed_below(alloc: Global, level: u8, room: u32) -> Option<u32> {
-    blamed(alloc, Some(child_of(5, level)), room)
+// The level of the root on page 5, or that there is none, the pages that can be added, and the page
+// that is blamed: a root that may not rise; no room for a first root, for a leaf that is split, and
+// for the root above it; and room enough.
+const BLAMED: &[(Option<u8>, u32, Option<u32>)] = &[
+    (Some(7), 100, Some(5)),
+    (None, 0, Some(0)),
+    (Some(0), 0, Some(5)),
+    (Some(0), 1, Some(5)),
+    (Some(0), 2, None),
+];
+
+fn are_blamed(alloc: Global) -> bool {
+    for (level, room, page) in BLAMED {
+        let root = match level {
+            Some(level) => Some(child_of(5, *level)),
+            None => None,
+        };
+        if blamed(alloc, root, *room) != *page {
+            return false;
+        }
+    }
+    true
 }
 
 #[test]
-fn a_root_that_may_not_rise(rt: HostRuntime) {
-    holds(&rt, "level 7", blamed_below(rt.alloc(), 7, 100) == Some(5));
-}
-
-#[test]
-fn a_file_that_may_not_grow(rt: HostRuntime) {
-    holds(&rt, "no root", blamed(rt.alloc(), None, 0) == Some(0));
-    holds(&rt, "a leaf", blamed_below(rt.alloc(), 0, 0) == Some(5));
-    holds(
-        &rt,
-        "a root above it",
-        blamed_below(rt.alloc(), 0, 1) == Some(5),
-    );
-    holds(&rt, "room enough", blamed_below(rt.alloc(), 0, 2).is_none());
+fn a_root_that_may_not_rise_and_a_file_that_may_not_grow(rt: HostRuntime) {
+    holds(&rt, "the page of the root", are_blamed(rt.alloc()));
 }

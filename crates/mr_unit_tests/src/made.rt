@@ -21,6 +21,13 @@ pub fn rect((x0, y0, x1, y1): Corners) -> Option<Rect> {
     Rect::new(x0, y0, x1, y1)
 }
 
+/// A digest of 31 zero bytes and this last one.
+pub fn digest(last: u8) -> [u8; 32] {
+    let mut digest = [0; 32];
+    digest[31] = last;
+    digest
+}
+
 /// A record without a payload, of layer 0.
 pub fn record_at(number: u64, corners: Corners) -> Option<Record> {
     Some(Record {

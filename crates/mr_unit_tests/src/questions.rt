@@ -5,16 +5,17 @@ ghost use Rattle.mr_tree.specs.WellFormed.{WellFormed};
 ghost use Rattle.mr_proof.specs.Tight.{IsLawful};
 ghost use Rattle.mr_unit_tests.specs.Outside.{outside};
 
-use crate::assertions::holds;
+use crate::assertions::{all_hold, holds};
+use crate::calls::sides_of;
 use crate::made::{Corners, records_of, rect, tree_of};
 use mr_check::{CheckErr, Collected, check_question};
 use mr_clash::{QuestionFinding, audit_question};
 use mr_geom::Rect;
 use mr_outside::MemSink;
-use mr_proof::{Around, AsQuestion, Fault, Kind, Rule, Way};
+use mr_proof::{Around, AsQuestion, Fault, Kind, Way};
 use mr_prove::prove_question;
 use mr_tree::{Snapshot, XorHash};
-use std::alloc::Global;
+use std::alloc::{AllocError, Global};
 
 // What the window meets is asked for, and of all else how much there is.
 #[derive(Clone, Copy)]
@@ -78,16 +79,12 @@ fn asked(letter: u8, corners: Corners) -> Option<Outside> {
 
 fn proof_of(alloc: Global, map: &Snapshot<XorHash>, q: &Outside) -> Option<Vec<u8>> {
     let mut out = MemSink::new(alloc, Vec::new(alloc));
-    match prove_question(&mut map.reader(), q, &mut out) {
-        Ok(()) => copied(alloc, out.bytes()),
-        Err(_) => None,
-    }
-}
-
-fn copied(alloc: Global, bytes: &[u8]) -> Option<Vec<u8>> {
-    match bytes.to_vec(alloc) {
-        Ok(bytes) => Some(bytes),
-        Err(_) => None,
+    match (
+        prove_question(&mut map.reader(), q, &mut out),
+        out.bytes().to_vec(alloc),
+    ) {
+        (Ok(()), Ok(bytes)) => Some(bytes),
+        _ => None,
     }
 }
 
@@ -97,80 +94,98 @@ const ROOT: [u8; 32] = [
     0x0f,
 ];
 
-fn checked(alloc: Global, q: &Outside, proof: &[u8]) -> Result<Collected, CheckErr> {
-    is_lawful(q);
-    check_question::<XorHash, Outside>(alloc, &ROOT, q, proof)
+// The letter and the window of a question that is proved, those of the one that the proof is
+// checked for, and what is said: how long the proof is, how many records it shows, of how many, and
+// the rectangle round all.
+#[derive(Clone, Copy)]
+struct Check<'a> {
+    proved: (u8, Corners),
+    asked: (u8, Corners),
+    said: &'a str,
 }
 
-fn audited(
-    alloc: Global,
-    map: &Snapshot<XorHash>,
-    q: &Outside,
-    proof: &[u8],
-) -> Option<QuestionFinding> {
+// The first leaf is opened, and the second one told by its entry: 17 records from (1, 0) to (17,
+// 0). A letter that queries have is as good as another. A proof is refused for another letter, at
+// the byte of the kind, and where the window meets a part that is told by its entry alone, at its
+// rectangle.
+const CHECKS: &[Check<'static>] = &[
+    Check {
+        proved: (b'A', (2, 0, 3, 0)),
+        asked: (b'A', (2, 0, 3, 0)),
+        said: "276 bytes: 8 of 17 in 1 0 17 0",
+    },
+    Check {
+        proved: (b'K', (2, 0, 3, 0)),
+        asked: (b'K', (2, 0, 3, 0)),
+        said: "276 bytes: 8 of 17 in 1 0 17 0",
+    },
+    Check {
+        proved: (b'A', (2, 0, 3, 0)),
+        asked: (b'B', (2, 0, 3, 0)),
+        said: "276 bytes: WrongKind at 5",
+    },
+    Check {
+        proved: (b'A', (2, 0, 3, 0)),
+        asked: (b'A', (2, 0, 9, 0)),
+        said: "276 bytes: Hidden at 228",
+    },
+];
+
+fn told(alloc: Global, long: usize, shown: &Collected) -> Result<String, AllocError> {
+    let (count, all) = (shown.records.len(), shown.outline.head.count);
+    match shown.outline.rect {
+        Some(rect) => {
+            let sides = sides_of(alloc, &rect)?;
+            format!(in alloc; "{long} bytes: {count} of {all} in {sides}")
+        }
+        None => format!(in alloc; "{long} bytes: {count} of {all}"),
+    }
+}
+
+fn checked(alloc: Global, q: &Outside, proof: &[u8]) -> Result<String, AllocError> {
     is_lawful(q);
-    match audit_question(alloc, &mut map.reader(), q, proof) {
-        Ok(outcome) => Some(outcome),
+    let long = proof.len();
+    match check_question::<XorHash, Outside>(alloc, &ROOT, q, proof) {
+        Ok(shown) => told(alloc, long, &shown),
+        Err(CheckErr::Fault(Fault { rule, at })) => {
+            let rule = rule.name();
+            format!(in alloc; "{long} bytes: {rule} at {at}")
+        }
+        Err(CheckErr::NoMemory) => Err(AllocError),
+    }
+}
+
+fn is_said(alloc: Global, row: &Check<'_>) -> Option<bool> {
+    let map = map_of(alloc)?;
+    let proved = asked(row.proved.0, row.proved.1)?;
+    let proof = proof_of(alloc, &map, &proved)?;
+    match checked(alloc, &asked(row.asked.0, row.asked.1)?, &proof) {
+        Ok(said) => Some(proof.get(5) == Some(&row.proved.0) && said.as_str() == row.said),
         Err(_) => None,
     }
 }
 
-// The first leaf is opened, and the second one told by its entry: 17 records from (1, 0) to (17,
-// 0).
-fn shows_eight(answer: &Result<Collected, CheckErr>) -> bool {
-    match answer {
-        Ok(shown) => {
-            shown.records.len() == 8
-                && shown.outline.head.count == 17
-                && shown.outline.rect == rect((1, 0, 17, 0))
+fn first_unsaid(alloc: Global) -> Option<&'static str> {
+    for row in CHECKS {
+        if is_said(alloc, row) != Some(true) {
+            return Some(row.said);
         }
-        Err(_) => false,
     }
+    None
 }
 
-fn is_fault(answer: &Result<Collected, CheckErr>, rule: Rule, at: u64) -> bool {
-    match answer {
-        Err(CheckErr::Fault(fault)) => *fault == Fault { rule, at },
-        _ => false,
+#[test]
+fn a_choice_is_proved_and_checked(rt: HostRuntime) {
+    all_hold(&rt, first_unsaid(rt.alloc()));
+}
+
+fn audited(alloc: Global, map: &Snapshot<XorHash>, q: &Outside, proof: &[u8]) -> &'static str {
+    is_lawful(q);
+    match audit_question(alloc, &mut map.reader(), q, proof) {
+        Ok(QuestionFinding::Sound(shown)) if shown.records.len() == 8 => "sound",
+        Ok(QuestionFinding::Collision(_, _)) => "collision",
+        _ => "another finding",
     }
-}
-
-fn is_honest(outcome: &Option<QuestionFinding>) -> bool {
-    match outcome {
-        Some(QuestionFinding::Sound(shown)) => shown.records.len() == 8,
-        _ => false,
-    }
-}
-
-fn collides(outcome: &Option<QuestionFinding>) -> bool {
-    matches!(outcome, Some(QuestionFinding::Collision(_, _)))
-}
-
-// Whether the proof for this letter has 276 bytes, none of them a flag, and is accepted for it.
-fn holds_for(alloc: Global, letter: u8) -> Option<bool> {
-    let map = map_of(alloc)?;
-    let q = asked(letter, (2, 0, 3, 0))?;
-    let proof = proof_of(alloc, &map, &q)?;
-    let long = proof.len() == 276 && proof[5] == letter;
-    Some(long && shows_eight(&checked(alloc, &q, &proof)))
-}
-
-// Whether it is refused for another letter, at the byte of the kind.
-fn fails_for_another(alloc: Global) -> Option<bool> {
-    let map = map_of(alloc)?;
-    let q = asked(b'A', (2, 0, 3, 0))?;
-    let other = asked(b'B', (2, 0, 3, 0))?;
-    let proof = proof_of(alloc, &map, &q)?;
-    Some(is_fault(&checked(alloc, &other, &proof), Rule::WrongKind, 5))
-}
-
-// Whether a part that the window meets may not be told by its entry alone, at its rectangle.
-fn fails_where_it_is_met(alloc: Global) -> Option<bool> {
-    let map = map_of(alloc)?;
-    let q = asked(b'A', (2, 0, 3, 0))?;
-    let wider = asked(b'A', (2, 0, 9, 0))?;
-    let proof = proof_of(alloc, &map, &q)?;
-    Some(is_fault(&checked(alloc, &wider, &proof), Rule::Hidden, 228))
 }
 
 // Whether an audit finds the proof honest, and a collision once two records are exchanged.
@@ -178,42 +193,21 @@ fn is_audited(alloc: Global) -> Option<bool> {
     let map = map_of(alloc)?;
     let q = asked(b'A', (2, 0, 3, 0))?;
     let mut proof = proof_of(alloc, &map, &q)?;
-    let honest = is_honest(&audited(alloc, &map, &q, &proof));
+    let honest = audited(alloc, &map, &q, &proof) == "sound";
     if proof.len() < 77 {
         return None;
     }
     for i in 27..52 {
         proof.swap(i, i + 25);
     }
-    Some(honest && collides(&audited(alloc, &map, &q, &proof)))
-}
-
-#[test]
-fn a_choice_is_proved_and_checked(rt: HostRuntime) {
-    let alloc = rt.alloc();
-    holds(&rt, "the letter A", holds_for(alloc, b'A') == Some(true));
-    holds(
-        &rt,
-        "a letter that queries have",
-        holds_for(alloc, b'K') == Some(true),
-    );
-    holds(
-        &rt,
-        "another letter",
-        fails_for_another(alloc) == Some(true),
-    );
-    holds(
-        &rt,
-        "a part that is met",
-        fails_where_it_is_met(alloc) == Some(true),
-    );
+    Some(honest && audited(alloc, &map, &q, &proof) == "collision")
 }
 
 #[test]
 fn a_choice_is_audited(rt: HostRuntime) {
     holds(
         &rt,
-        "the honest proof",
+        "honest, then a collision",
         is_audited(rt.alloc()) == Some(true),
     );
 }

@@ -8,7 +8,7 @@ ghost use Rattle.mr_record.specs.declared.version.Version.TheVariants.{Two};
 ghost use Rattle.mr_tree.specs.WellFormed.{WellFormed, HasLayers};
 
 use crate::assertions::holds;
-use crate::client::digest;
+use crate::made::digest;
 use mr_outside::MemSink;
 use mr_pack::pack;
 use mr_pages::{MapHead, SECOND_SIZE, read_head2, read_page2, write_head2_page, write_page2};
