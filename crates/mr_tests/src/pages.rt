@@ -47,6 +47,8 @@ struct Turned {
 enum Turn {
     No,
     Byte(usize, u8),
+    // The same byte at two places.
+    Twins(usize, usize, u8),
     Cut,
     Gone(u64),
 }
@@ -61,6 +63,14 @@ impl Turned {
             Turn::Byte(at, byte) => {
                 if at < self.map.len() {
                     self.map[at] = byte;
+                }
+            }
+            Turn::Twins(one, other, byte) => {
+                if one < self.map.len() {
+                    self.map[one] = byte;
+                }
+                if other < self.map.len() {
+                    self.map[other] = byte;
                 }
             }
             Turn::Cut => self.map.truncate(0),
@@ -140,7 +150,8 @@ struct Row {
 }
 
 // Page 3 is the first leaf's, and page 130 the third inner node's below the root, none of which is
-// kept when it is sought again. The first child of page 130 is page 131.
+// kept when it is sought again. The first child of page 130 is page 131. The first record of page 3
+// lies right of the middle, so that its left and its right side begin with a byte 00.
 const ROWS: &[Row] = &[
     Row {
         name: "a proof of a map that stays",
@@ -225,6 +236,13 @@ const ROWS: &[Row] = &[
         turn: Turn::Byte(12_297, 0xff),
         status: BadMap,
         text: "bad map page 3 Changed held ",
+    },
+    Row {
+        name: "many proofs of a map with a record that lies elsewhere, under the same digest",
+        words: SERVED,
+        turn: Turn::Twins(12_298, 12_306, 0x10),
+        status: BadMap,
+        text: "bad map page 3 Page\n",
     },
     Row {
         name: "many proofs of a map with a page that is no node",

@@ -1,2 +1,2 @@
-pub mod Journal
+pub mod InPlace
 pub mod Layers
