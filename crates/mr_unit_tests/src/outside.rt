@@ -114,12 +114,12 @@ struct Names<'a> {
 
 // The first line of a script that does not hold: each is a call, a file's name, words and, behind
 // ` = `, what is answered.
-fn first_untrue<S: Shelf>(
+fn first_untrue<'a, S: Shelf>(
     alloc: Global,
     shelf: &mut S,
     names: &Names<'_>,
-    script: &'static str,
-) -> Result<Option<&'static str>, AllocError> {
+    script: &'a str,
+) -> Result<Option<&'a str>, AllocError> {
     for line in script.lines() {
         let (asked, told) = line.split_once(" = ").unwrap_or((line, ""));
         let (call, rest) = asked.split_once(' ').unwrap_or((asked, ""));
@@ -301,12 +301,12 @@ fn new_room(rt: &HostRuntime, alloc: Global) -> io::Result<Room> {
 }
 
 // A script over a shelf of its own.
-fn told_by_files<R: rt::Files>(
+fn told_by_files<'a, R: rt::Files>(
     rt: &R,
     alloc: Global,
     room: &Room,
-    script: &'static str,
-) -> Result<Option<&'static str>, AllocError> {
+    script: &'a str,
+) -> Result<Option<&'a str>, AllocError> {
     let mut shelf = StdShelf::new(rt, alloc);
     first_untrue(alloc, &mut shelf, &names_of(room), script)
 }

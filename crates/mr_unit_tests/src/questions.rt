@@ -179,12 +179,23 @@ fn a_choice_is_proved_and_checked(rt: HostRuntime) {
     all_hold(&rt, first_unsaid(rt.alloc()));
 }
 
-fn audited(alloc: Global, map: &Snapshot<XorHash>, q: &Outside, proof: &[u8]) -> &'static str {
+fn audited(
+    alloc: Global,
+    map: &Snapshot<XorHash>,
+    q: &Outside,
+    proof: &[u8],
+) -> Option<QuestionFinding> {
     is_lawful(q);
     match audit_question(alloc, &mut map.reader(), q, proof) {
-        Ok(QuestionFinding::Sound(shown)) if shown.records.len() == 8 => "sound",
-        Ok(QuestionFinding::Collision(_, _)) => "collision",
-        _ => "another finding",
+        Ok(outcome) => Some(outcome),
+        Err(_) => None,
+    }
+}
+
+fn is_honest(outcome: &Option<QuestionFinding>) -> bool {
+    match outcome {
+        Some(QuestionFinding::Sound(shown)) => shown.records.len() == 8,
+        _ => false,
     }
 }
 
@@ -193,14 +204,15 @@ fn is_audited(alloc: Global) -> Option<bool> {
     let map = map_of(alloc)?;
     let q = asked(b'A', (2, 0, 3, 0))?;
     let mut proof = proof_of(alloc, &map, &q)?;
-    let honest = audited(alloc, &map, &q, &proof) == "sound";
+    let honest = is_honest(&audited(alloc, &map, &q, &proof));
     if proof.len() < 77 {
         return None;
     }
     for i in 27..52 {
         proof.swap(i, i + 25);
     }
-    Some(honest && audited(alloc, &map, &q, &proof) == "collision")
+    let outcome = audited(alloc, &map, &q, &proof);
+    Some(honest && matches!(outcome, Some(QuestionFinding::Collision(_, _))))
 }
 
 #[test]
