@@ -394,7 +394,7 @@ STORIES = {
 }
 
 # The batches of crates/mr_tests/src/plainly.rt: how many numbers are taken, whether in steps, and whether records come
-# and go.
+# and go. In version 2 each record is on the layer of its column.
 DRAWS = [(900, True, "+"), (300, False, "+-"), (1200, True, "-"), (200, False, "+-"), (2400, True, "+-")]
 
 
@@ -416,7 +416,7 @@ def drawn(draws, count, state):
             elif number not in there and "+" in signs:
                 there.add(number)
                 x, y = word() % 20000, word() % 20000
-                changes.append(Record(number, (x, y, x + number % 40, y + number % 7), b""))
+                changes.append(Record(number, (x, y, x + number % 40, y + number % 7), b"", x // 320))
         yield batch, changes
 
 
@@ -425,7 +425,9 @@ if __name__ != "__main__":
 elif len(sys.argv) == 1:
     for name, (records, batches) in STORIES.items():
         print(name, *lines_of(records, batches), sep="\n")
-    print("batches that are drawn", *lines_of([], drawn(DRAWS, 1200, 1)), sep="\n")
+    for version in (1, 2):
+        lines = lines_of([], drawn(DRAWS, 1200, 1), version)
+        print("batches that are drawn, in version %d" % version, *lines, sep="\n")
     print("two thousand records that are made", root(pack(list(generated(2000, 1))), 0), sep="\n")
     print("a demonstration", *demo_lines(1000, 1), sep="\n")
 elif sys.argv[1:2] == ["make"]:

@@ -78,7 +78,7 @@ def record_text(given: List[plain.Record], version: int = 1) -> bytes:
     return "".join(plain.line_of(one, version) + "\n" for one in given).encode()
 
 
-def batch_text(chance: random.Random, given: List[Tuple], held: int) -> bytes:
+def batch_text(chance: random.Random, given: List[Tuple], held: int, version: int = 1) -> bytes:
     """A batch on a map of these records that can be applied, or nearly so."""
     there, lines = [one[0] for one in given], ["batch %d" % (held + chance.choice((1, 1, 1, 1, 1, 1, 1, 0, 2)))]
     for _ in range(chance.choice((0, 1, 5, 40))):
@@ -88,7 +88,7 @@ def batch_text(chance: random.Random, given: List[Tuple], held: int) -> bytes:
         else:
             number = chance.randrange(10**6, 10**7)
             there.append(number)
-            lines.append("+ " + plain.line_of(record(chance, number)))
+            lines.append("+ " + plain.line_of(record(chance, number, version), version))
     if len(lines) > 1 and chance.random() < 0.2:
         lines.append(chance.choice(lines[1:]))
     return "".join(one + "\n" for one in lines).encode()

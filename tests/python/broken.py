@@ -279,22 +279,24 @@ def laid_out(level: int, version: int, chance: random.Random) -> bytes:
     return layout.file(plain.pack(records), chance.choice((0, 7)), chance.choice((1, 5)))
 
 
-def left_by_apply(bench: Bench, level: int, seed: int) -> bytes:
+def left_by_apply(bench: Bench, level: int, version: int, seed: int) -> bytes:
     """A map of this level with free pages, as `apply` leaves it: the records that lie to one side are removed."""
     count, gone = ((40, 31), (300, 60), (1300, 130))[level]
-    records = list(plain.generated(count, seed))
+    records = plain.on_layers(plain.generated(count, seed))
     aside = sorted(records, key=lambda record: record[1])[:gone]
-    write("r", "".join(plain.line_of(record) + "\n" for record in records).encode())
+    write("r", "".join(plain.line_of(record, version) + "\n" for record in records).encode())
     write("b", b"batch 1\n" + b"".join(b"- %d\n" % record[0] for record in aside))
-    for words in ("build m r", "apply m b n"):
+    for words in ("build2 m r" if version == 2 else "build m r", "apply m b n"):
         status, text = bench.program(words.split(" "))
         bench.holds(status == 0, "%s ends with %d: %s" % (words, status, text[:200]))
     made = read("n")
-    is_so = made[5:6] == bytes([level]) and any(made[78:82])
+    free = 78 if version == 1 else 86
+    is_so = made[4:6] == bytes([version, level]) and any(made[free : free + 4])
     bench.holds(is_so, "`apply` leaves no map of level %d with free pages" % level)
     return made
 
 
-def all_left(bench: Bench, seed: int) -> Dict[int, bytes]:
-    """One of each level."""
-    return {level: left_by_apply(bench, level, seed % 2**64) for level in LEVELS}
+def all_left(bench: Bench, seed: int) -> Dict[Tuple[int, int], bytes]:
+    """One of each version and level."""
+    each = [(version, level) for version in (1, 2) for level in LEVELS]
+    return {(version, level): left_by_apply(bench, level, version, seed % 2**64) for version, level in each}

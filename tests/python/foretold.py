@@ -7,8 +7,9 @@ of version 1 goes to its file at once; one of version 2 child by child of the ro
 root, and the root's page before page 0. Of what is written in a call that fails half is there. Of `apply` the calls
 between the copy of OLD and the first sync are not foretold one by one: whichever they are, a file that they leave is
 Unsealed, or is of a bad Size just where a page was being added, which comes about as often as the file has pages more
-than OLD. Where each call on real files fails in turn, what the whole run says and leaves is foretold, and about how
-many calls it makes; what may be left where one fails is a rule of the program that goes through the rows.
+than OLD. Half a page of version 2 is a whole one of version 1, in which a file without page 0 is read: so that file is
+Unsealed there too. Where each call on real files fails in turn, what the whole run says and leaves is foretold, and
+about how many calls it makes; what may be left where one fails is a rule of the program that goes through the rows.
 """
 import hashlib
 import os
@@ -98,19 +99,24 @@ def reads_text(bytes_: Optional[bytes]) -> List[Call]:
     return [Call("asks")] + [Call("reads")] * -(-len(bytes_ or b"") // PIECE)
 
 
+def page_size(bytes_: bytes) -> int:
+    """The bytes of a page of a map."""
+    return said.PAGES[said.version_of(bytes_)]
+
+
 def reads_map(bytes_: Optional[bytes]) -> List[Call]:
-    """The calls by which a map of version 1, of at most 257 pages, is read."""
-    return [Call("asks")] + [Call("reads")] * (len(bytes_ or b"") // said.FIRST)
-
-
-def reads_either(bytes_: Optional[bytes]) -> List[Call]:
-    """The calls by which a map of either version is read.
+    """The calls by which a map is read, of at most 257 pages where more than its records are asked for.
 
     Of a file that is shorter than a page of version 1 nothing is read, and page 0 alone where its size is bad.
     """
-    size, page = len(bytes_ or b""), said.PAGES[said.version_of(bytes_ or b"")]
+    size, page = len(bytes_ or b""), page_size(bytes_ or b"")
     pages = 1 if size % page or size // page > said.MOST_PAGES else size // page
     return [Call("asks")] + [Call("reads")] * (pages if size >= said.FIRST else 0)
+
+
+def reads_first(map_: Optional[bytes], other: Optional[bytes]) -> List[Call]:
+    """The calls by which a map is read, and then another file where there are proofs of maps of its version."""
+    return reads_map(map_) + (reads_text(other) if said.version_of(map_ or b"") == 1 else [])
 
 
 # The commands that make a file, and the place of its name among the words.
@@ -124,8 +130,7 @@ def made_of(words: List[str]) -> str:
 
 def saves(made: bytes) -> List[Call]:
     """The calls by which the file of a map is made, behind the one that `makes` it."""
-    version = said.version_of(made)
-    page, (tree, _) = said.PAGES[version], said.read_map(made, version)
+    version, page, (tree, _) = said.version_of(made), page_size(made), said.read_map(made)
     calls, end = [], len(made)
     if version == 1 or tree is None or tree.is_leaf:
         calls.append(Call("adds", bytes(page) + made[page:]))
@@ -145,13 +150,13 @@ def course(words: List[str], files: said.Files, made: Optional[bytes]) -> List[C
         "root2": lambda: reads_text(of(1)),
         "build": lambda: reads_text(of(2)),
         "build2": lambda: reads_text(of(2)),
-        "upgrade": lambda: reads_either(of(1)),
-        "list": lambda: reads_either(of(1)),
+        "upgrade": lambda: reads_map(of(1)),
+        "list": lambda: reads_map(of(1)),
         "apply": lambda: reads_map(of(1)) + reads_text(of(2)),
         "prove": lambda: reads_map(of(1)),
         "check": lambda: reads_text(of(3)),
-        "audit": lambda: reads_map(of(1)) + reads_text(of(3)),
-        "serve": lambda: reads_map(of(1)) + reads_text(of(2)),
+        "audit": lambda: reads_first(of(1), of(3)),
+        "serve": lambda: reads_first(of(1), of(2)),
         "check-all": lambda: reads_text(of(2)) + reads_text(of(3)),
     }
     calls = inputs.get(words[0], list)()
@@ -159,9 +164,10 @@ def course(words: List[str], files: said.Files, made: Optional[bytes]) -> List[C
         return calls
     calls.append(Call("makes"))
     if words[0] == "apply":
-        calls.append(Call("adds", bytes(said.FIRST)))
-        for at in range(said.FIRST, len(of(1)), said.FIRST):
-            calls += [Call("reads"), Call("adds", of(1)[at : at + said.FIRST])]
+        page = page_size(of(1))
+        calls.append(Call("adds", bytes(page)))
+        for at in range(page, len(of(1)), page):
+            calls += [Call("reads"), Call("adds", of(1)[at : at + page])]
     elif words[0] in ("build", "build2", "upgrade"):
         calls += saves(made)
     else:
@@ -171,8 +177,9 @@ def course(words: List[str], files: said.Files, made: Optional[bytes]) -> List[C
 
 def ending(made: bytes, count: int) -> List[Call]:
     """The calls of `apply` behind the copy, of which there are so many: all but the last three are not foretold."""
-    unsealed = bytes(said.FIRST) + made[said.FIRST :]
-    return [Call("edits")] * (count - 3) + [Call("holds", unsealed), Call("puts", made[: said.FIRST]), Call("syncs")]
+    page = page_size(made)
+    unsealed = bytes(page) + made[page:]
+    return [Call("edits")] * (count - 3) + [Call("holds", unsealed), Call("puts", made[:page]), Call("syncs")]
 
 
 def stopped(calls: List[Call], old: Optional[bytes], at: int) -> Optional[bytes]:
@@ -290,8 +297,7 @@ class Course:
     def lay_out(self, words: str) -> None:
         """Writes the map in one file to another."""
         name, _, other = words.partition(" ")
-        version = said.version_of(self.files[name])
-        self.put(other, said.map_bytes(*said.read_map(self.files[name], version), version))
+        self.put(other, laid_out(self.files[name]))
 
     def left(self, item: tables.Item) -> bool:
         """Whether a file is left as an item has it. The pages of a map after `apply` may be in any order."""
@@ -301,7 +307,7 @@ class Course:
             return item.key == "absent" and bytes_ is None
         given = self.group.table.bytes_of(item)
         if item.key == "leaves" and name in self.open:
-            return said.map_bytes(*said.read_map(given)) == bytes_
+            return laid_out(given) == bytes_
         if item.key == "makes" or name in self.open:
             return True
         return bytes_ == given if item.key == "leaves" else given.startswith(bytes_) and len(bytes_) == int(rest)
@@ -344,8 +350,7 @@ class Course:
 
     def has_pages(self, name: str, pages: int, free: int) -> bool:
         """Whether the file of a map may have so many pages, and so many free ones."""
-        version = said.version_of(self.files[name])
-        nodes = 1 + nodes_of(said.read_map(self.files[name], version)[0])
+        nodes = 1 + nodes_of(said.read_map(self.files[name])[0])
         least, most = self.pages.get(name, (nodes, nodes)) if name in self.open else (nodes, nodes)
         return free == pages - nodes and max(nodes, least) <= pages <= most
 
@@ -373,6 +378,16 @@ class Course:
         return None
 
 
+def laid_out(bytes_: bytes) -> bytes:
+    """The file of a map that is laid out anew."""
+    return said.map_bytes(*said.read_map(bytes_), said.version_of(bytes_))
+
+
+def read_changes(bytes_: bytes, text: bytes) -> List[Any]:
+    """The changes of a batch text for the map of these bytes."""
+    return said.read_batch(text, said.version_of(bytes_))[1]
+
+
 def nodes_of(tree: Any) -> int:
     """How many nodes a tree has."""
     return 0 if tree is None else 1 if tree.is_leaf else 1 + sum(map(nodes_of, tree.entries))
@@ -380,9 +395,10 @@ def nodes_of(tree: Any) -> int:
 
 def pages_of(words: List[str], files: said.Files) -> Tuple[int, int]:
     """The fewest and the most pages of the file that `apply` makes: those of OLD, or by the trees on the way."""
-    old, (tree, _) = len(files[words[1]]) // said.FIRST, said.read_map(files[words[1]])
+    bytes_ = files[words[1]]
+    old, (tree, _) = len(bytes_) // page_size(bytes_), said.read_map(bytes_)
     most = nodes_of(tree)
-    for change in said.read_batch(files[words[2]])[1]:
+    for change in read_changes(bytes_, files[words[2]]):
         tree = plain.inserted(tree, change) if isinstance(change, tuple) else plain.deleted(tree, change)
         most = max(most, nodes_of(tree))
     return old, max(old, most + 1)
@@ -393,18 +409,18 @@ def in_place(words: List[str], files: said.Files) -> Optional[bytes]:
 
     Where a node is another, or comes in the course of the batch, its page is not foretold, and nothing is answered.
     """
-    old, (batch, changes) = files[words[1]], said.read_batch(files[words[2]])
-    tree, _ = said.read_map(old)
+    old, version = files[words[1]], said.version_of(files[words[1]])
+    (batch, changes), (tree, _) = said.read_batch(files[words[2]], version), said.read_map(old)
     for change in changes:
         before = nodes_of(tree)
         tree = plain.inserted(tree, change) if isinstance(change, tuple) else plain.deleted(tree, change)
         if nodes_of(tree) > before:
             return None
-    pages = [b""] * (len(old) // said.FIRST)
+    pages = [b""] * (len(old) // page_size(old))
 
     def put(node: Any) -> bool:
         page, children = getattr(node, "page", 0), [] if node.is_leaf else node.entries
-        pages[page] = said.page_of(node, [getattr(child, "page", 0) for child in children])
+        pages[page] = said.page_of(node, [getattr(child, "page", 0) for child in children], version)
         return page > 0 and all(map(put, children))
 
     if tree is None or not put(tree):
@@ -412,8 +428,8 @@ def in_place(words: List[str], files: said.Files) -> Optional[bytes]:
     behind = 0
     for page in range(1, len(pages)):
         if not pages[page]:
-            pages[page], behind = (b"F" + behind.to_bytes(4, "big")).ljust(said.FIRST, b"\0"), page
-    pages[0] = said.page_0(tree, batch, len(pages), tree.page, behind)
+            pages[page], behind = (b"F" + behind.to_bytes(4, "big")).ljust(page_size(old), b"\0"), page
+    pages[0] = said.page_0(tree, batch, len(pages), tree.page, behind, version)
     return b"".join(pages)
 
 
@@ -439,18 +455,20 @@ def reads_of(words: List[str], files: said.Files, meant: said.Meant) -> Tuple[in
     A window opens all nodes here, and nearest records may open kept ones alone.
     """
     of_page_0 = [b"bad map page 0 %s\n" % rule for rule in (b"Size", b"Unsealed", b"Header")]
-    calls = course(words, files, meant.made) if meant.ended[0] in (0, 2) or meant.ended[1] in of_page_0 else []
+    calls = course(words, files, meant.made) if meant.ended[0] in (0, 2, 10) or meant.ended[1] in of_page_0 else []
     count = sum(call.kind == "reads" for call in calls)
-    if words[0] in ("list", "upgrade") and meant.ended[0] == 4:
+    if meant.ended[0] == 4:
         return (min(1, count),) * 2
     place = re.match(rb"refused [A-Za-z]+ at ([0-9]+)", meant.ended[1])
     if words[0] == "check" and place:
         return (int(place[1]) // PIECE + 1,) * 2
-    pages = len(files.get(words[1], b"")) // said.FIRST if words[0] in ("prove", "serve", "apply") else 0
+    is_kept = words[0] in ("prove", "serve", "apply") and meant.ended[0] != 10
+    map_ = files.get(words[1], b"") if is_kept else b""
+    pages = len(map_) // page_size(map_)
     again = pages - 1 if pages > KEPT + 1 else 0
     most = count + again
     if words[0] == "apply" and meant.made is not None:
-        along = reads_along(said.read_map(files[words[1]])[0], said.read_batch(files[words[2]])[1])
+        along = reads_along(said.read_map(map_)[0], read_changes(map_, files[words[2]]))
         most += 1 + along
     few = words[0] == "prove" and words[2].startswith("nearest:")
     return count + (0 if few else max(0, again - KEPT)), most
@@ -506,7 +524,7 @@ class Series:
         self.copied = len(course(self.words, self.files, meant.made))
         self.behind = max(self.places) - 1 - self.copied
         self.least, self.most = pages_of(self.words, self.files)
-        self.nodes = len(meant.made) // said.FIRST - 1
+        self.nodes, self.version = len(meant.made) // page_size(meant.made) - 1, said.version_of(meant.made)
         between = [row for row, at in zip(groups, self.places) if self.copied < at <= self.copied + self.behind - 3]
         self.sizes = sum(any(row.text(one) == SIZE for one in row.items if one.key == "prints") for row in between)
 
@@ -516,7 +534,8 @@ class Series:
         bench.holds(sorted(self.places) == whole, "%s: the calls that fail: %s" % (name, self.places))
         pages = max(self.nodes + 1, self.least)
         bench.holds(pages == self.most, "%s: from %d to %d pages" % (name, pages, self.most))
-        bench.holds(self.sizes == pages - self.least, "%s: a bad Size %d times" % (name, self.sizes))
+        is_so = self.sizes == (pages - self.least if self.version == 1 else 0)
+        bench.holds(is_so, "%s: a bad Size %d times" % (name, self.sizes))
 
 
 def is_foretold(group: tables.Group, behind: int) -> Optional[str]:

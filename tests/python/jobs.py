@@ -49,6 +49,7 @@ def jobs(bench: Bench, seed: int, count: int, changes: int, queries: int) -> Lis
     gone = [b"- %d\n" % number for number in chance.sample(range(1, count + 1), changes)]
     come = [b"+ %d %d 0 %d 0 -\n" % (count + 1 + i, 1000 * i, 1000 * i) for i in range(changes)]
     batch = b"batch 1\n" + b"".join(gone + come)
+    batch2 = batch.replace(b" -\n", b" 9 -\n")
     text2 = text_of(plain.on_layers(plain.generated(count, seed)), 2)
     script = "".join(word_of(query) + "\n" for query in plain.generated_queries(queries, seed)).encode()
     build = job(bench, "build m r", {"r": text}, "m")
@@ -67,6 +68,8 @@ def jobs(bench: Bench, seed: int, count: int, changes: int, queries: int) -> Lis
         job(bench, "root2 r", {"r": text2}, ""),
         build2,
         job(bench, "upgrade m n", {"m": map_}, "n"),
+        job(bench, "apply m b n", {"m": build2.whole, "b": batch2}, "n"),
+        job(bench, "prove m %s p" % WINDOW, {"m": build2.whole}, "", 10),
         job(bench, "list m", {"m": build2.whole}, ""),
         job(bench, "check %s %s p" % (root, WINDOW), {"p": prove.whole}, ""),
         job(bench, "audit m %s p" % WINDOW, {"m": map_, "p": prove.whole}, ""),
@@ -83,6 +86,7 @@ def few(bench: Bench) -> List[Job]:
     """
     row = [plain.point(number, number, 0) for number in range(1, 18)]
     sixteen = job(bench, "build m r", {"r": text_of(row[:16])}, "m")
+    layered = job(bench, "build2 m r", {"r": text_of(plain.on_layers(row[:16]), 2)}, "m")
     seventeen = job(bench, "build m r", {"r": text_of(row)}, "m")
     one = job(bench, "build m r", {"r": b"7 0 0 0 0 -\n"}, "m")
     script = b"window:0,0,0,0\nwindow:1,1,2,2\n"
@@ -100,6 +104,7 @@ def few(bench: Bench) -> List[Job]:
         job(bench, check, {"s": script, "u": serve.whole[:-1]}, "", 2),
         job(bench, "build2 m r", {"r": text_of(plain.on_layers(row), 2)}, "m"),
         job(bench, "upgrade m n", {"m": seventeen.whole}, "n"),
+        job(bench, "apply m b n", {"m": layered.whole, "b": batch.replace(b" -", b" 63 -")}, "n"),
     ]
 
 

@@ -1,8 +1,8 @@
 """What the program says of its files: status, printed text and the file that it makes, by docs/FORMATS.md alone.
 
 A text or a map that breaks a rule is told by the line that is printed of it. Proofs and bundles are judged by the
-client in clients/python. Maps are of version 1 or 2; for what is said of proofs, and for `apply`, a file is read as a
-map of version 1. Slow: for maps of a few thousand records.
+client in clients/python. Maps are of version 1 or 2; of those of version 2 there are no proofs. Slow: for maps of a few
+thousand records.
 """
 import re
 import struct
@@ -316,9 +316,17 @@ class Walk:
                 raise told_of_map(page, "Free")
 
 
-def read_map(bytes_: bytes, version: int = 1) -> Tuple[Any, int]:
-    """The tree and the batch that a file stands for; each node has its page."""
-    return Walk(bytes_, version).read()
+def read_map(bytes_: bytes) -> Tuple[Any, int]:
+    """The tree and the batch that a file stands for, in the version that it has; each node has its page."""
+    return Walk(bytes_, version_of(bytes_)).read()
+
+
+def read_first(bytes_: bytes) -> Tuple[Any, int]:
+    """The same of a map of which there are proofs."""
+    tree, batch = read_map(bytes_)
+    if version_of(bytes_) == 2:
+        raise Told(10, "needs version 2")
+    return tree, batch
 
 
 def page_of(node: Any, children: List[int], version: int = 1) -> bytes:
@@ -391,27 +399,27 @@ def say_root(words: List[str], files: Files) -> Meant:
 def say_list(words: List[str], files: Files) -> Meant:
     """`list`."""
     bytes_ = file_of(files, words[1])
-    tree, _ = read_map(bytes_, version_of(bytes_))
+    tree, _ = read_map(bytes_)
     return Meant((0, record_lines(sorted(tree.records()) if tree else [], version_of(bytes_))))
 
 
 def say_upgrade(words: List[str], files: Files) -> Meant:
     """`upgrade`."""
-    bytes_ = file_of(files, words[1])
-    tree, batch = read_map(bytes_, version_of(bytes_))
+    tree, batch = read_map(file_of(files, words[1]))
     return Meant((0, line(plain.root(tree, batch, 2))), map_bytes(tree, batch, 2))
 
 
 def say_apply(words: List[str], files: Files) -> Meant:
     """`apply`; the bytes of the map that is made are one layout of several."""
-    tree, held = read_map(file_of(files, words[1]))
-    batch = read_batch(file_of(files, words[2]))
+    bytes_ = file_of(files, words[1])
+    (tree, held), version = read_map(bytes_), version_of(bytes_)
+    batch = read_batch(file_of(files, words[2]), version)
     fault = plain.fault(tree, held, batch)
     if fault:
         raise Told(5, fault)
     for change in batch[1]:
         tree = plain.inserted(tree, change) if isinstance(change, tuple) else plain.deleted(tree, change)
-    return Meant((0, line(plain.root(tree, batch[0]))), map_bytes(tree, batch[0]))
+    return Meant((0, line(plain.root(tree, batch[0], version))), map_bytes(tree, batch[0], version))
 
 
 def query_of(word: str) -> Tuple:
@@ -425,7 +433,7 @@ def query_of(word: str) -> Tuple:
 def say_prove(words: List[str], files: Files) -> Meant:
     """`prove`."""
     query = query_of(words[2])
-    made = honest(*read_map(file_of(files, words[1])), query)
+    made = honest(*read_first(file_of(files, words[1])), query)
     return Meant((0, line("proof %d" % len(made))), made)
 
 
@@ -484,7 +492,7 @@ def collision(tree: Any, batch: int, proof: bytes) -> Optional[Tuple[bytes, byte
 def say_audit(words: List[str], files: Files) -> Meant:
     """`audit`."""
     query_of(words[2])
-    tree, batch = read_map(file_of(files, words[1]))
+    tree, batch = read_first(file_of(files, words[1]))
     proof = file_of(files, words[3])
     status, text = mrtree_check.run(["check", plain.root(tree, batch), *words[2:]])
     pair = collision(tree, batch, proof) if status == 0 else None
@@ -495,7 +503,7 @@ def say_audit(words: List[str], files: Files) -> Meant:
 
 def say_serve(words: List[str], files: Files) -> Meant:
     """`serve`."""
-    tree, batch = read_map(file_of(files, words[1]))
+    tree, batch = read_first(file_of(files, words[1]))
     queries = read_script(file_of(files, words[2]))
     proofs = [honest(tree, batch, query) for query in queries]
     made = b"".join(len(proof).to_bytes(4, "big") + proof for proof in proofs)

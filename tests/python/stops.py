@@ -31,7 +31,7 @@ def stop(bench: Bench, one: Job, after: float) -> Optional[int]:
 
 
 def stopped(bench: Bench, seed: int) -> None:
-    """Each command that makes a file but `make`, as often: together three hundred stops in the long run.
+    """Each command that makes a file but `make`, as often: fifty stops each in the long run.
 
     A run that ended before it was to be stopped does not count, and another one is begun.
     """

@@ -2,39 +2,54 @@
 use Rattle.std.proofs.Common.{◌≡◌, ℕ, ◌+◌, ◌<◌, ◌≤◌, List, length, refl, sym, ap, subst, ◌∙◌, inl, inr, arith}
 use Rattle.std.specs.Prelude.{◌⊎◌, Option, Some, None, IfSome, Result, Ok, Err}
 use Rattle.std.specs.Global.{Vec}
+use Rattle.std.specs.String.{string_bytes}
 use Rattle.mr_outside.specs.Files.{Files, file}
 use Rattle.mr_outside.specs.Faults.{Rose}
 use Rattle.mr_outside.specs.State.{Shelved}
 use Rattle.mr_outside.specs.Told.{OfFile, OfFiles}
+use Rattle.mr_outside.specs.declared.shelf.Shelf as shelves
 use Rattle.mr_record.specs.Bytes.{AreBytes}
 use Rattle.mr_record.specs.declared.version.Version.TheVariants.{One}
 use Rattle.mr_tree.specs.Digest.{by}
 use Rattle.mr_tree.specs.Nodes.{Standing, HasSomeCause}
+use Rattle.mr_tree.specs.declared.hash.Hashes as hashes
 use Rattle.mr_tree.specs.declared.nodes.NodesErr.{NodesErr}
 use Rattle.mr_tree.specs.declared.tree.Tree.{Tree}
-use Rattle.mr_pages.specs.declared.head.MapHead.{MapHead}
+use Rattle.mr_pages.specs.Opening.{pages_in}
+use Rattle.mr_pages.specs.PageBytes.{form_of}
 use Rattle.mr_pages.specs.declared.opening.Opened.{Opened}
 use Rattle.mr_query.specs.declared.query.Query.{Query}
 use Rattle.mr_clash.specs.Finding.{found, opened_accepted, Collides, FindsFor}
 use Rattle.mr_clash.specs.declared.finding.Finding.{Finding}
-use Rattle.mr_store.specs.Opening.{TellsMap, first_pages}
-use Rattle.mr_store.specs.Stored.{room}
-use Rattle.mr_command.specs.Counting.{opened_beside, IsFewBeside, ReadsFew}
-use Rattle.mr_command.specs.Ending.{Comes, ComesBut, with_reads, GivesOrStops, IsBeside, Misses, NoneFalls, Read, Reads, ReadsBeside, ReadsOpened, SaysRefusal, SaysUntold, Stops}
+use Rattle.mr_store.specs.Kept.{room}
+use Rattle.mr_store.specs.Opening.{OpensMap}
+use Rattle.mr_store.specs.Paged.{IsSameMap, shelved, stands_for}
+use Rattle.mr_store.specs.Stored.{read_map, told_bytes}
+use Rattle.mr_store.specs.declared.paged.Paged.{Paged}
+use Rattle.mr_command.specs.Counting.{opened_beside, AllowsAudit, IsFewBeside, ReadsFew}
+use Rattle.mr_command.specs.Ending.{Comes, ComesAsSaid, ComesBut, with_reads, map_at, GivesOrStops, IsBeside, IsUnread, NoneFalls, Reads, ReadsBeside, ReadsOpened, SaysRefusal, SaysUntold, Stops}
 use Rattle.mr_plan.specs.Found.{as_map_error}
 use Rattle.mr_plan.specs.Outcome.{Outcome, Nothing, IsLeft, MayLeave}
 use Rattle.mr_plan.specs.First.{first}
-use Rattle.mr_plan.specs.Plan.{Plan, comes, rereads, IsAbsent, IsInput}
-use Rattle.mr_plan.specs.Rereading.{Rereading, auditing}
+use Rattle.mr_plan.specs.Plan.{Plan, comes, IsAbsent, IsInput}
 use Rattle.mr_plan.specs.Say.{needs, needs_map, say_audit_of, say_finding, says_missing}
+use Rattle.mr_plan.specs.Untold.{MaySayAudit}
 use Rattle.mr_command.specs.declared.ending.Ending.{Ending}
 use Rattle.mr_command.specs.declared.ending.Halt.{Halt}
 use Rattle.mr_command.specs.declared.ending.Halt.TheVariants as halts
 use Rattle.mr_command.proofs.Counting.{OnceFrom, few_none, once_none}
-use Rattle.mr_command.proofs.Going.{comes_given, comes_read, comes_missed, comes_unread, judged_needs}
-use Rattle.mr_command.proofs.Pages.{HasMap, map_at, few_beside, few_there, at_input, has_map, told_on, with_same}
-use Rattle.mr_command.proofs.Rereading.{comes_but, comes_told, comes_untold, fetch_blamed, fetch_stopped, says_refused, stops_with}
+use Rattle.mr_command.proofs.Going.{comes_given, judged_needs}
+use Rattle.mr_command.proofs.Inputs.{goes_needed, says_bytes}
+use Rattle.mr_command.proofs.Pages.{HasMap, counted, few_beside, few_refused, few_there, first_on, has_map, was_opened, with_same}
+use Rattle.mr_command.proofs.Rereading.{comes_but, comes_told, comes_untold, fetch_blamed, fetch_stopped, says_given, says_refused, stops_with}
 use Rattle.mr_command.proofs.Verdicts.{says_finding, audit_writes, finding_writes}
+
+-- the same map stands for the same
+pub same_stands : {S H : Type 0} {G : shelves.Ghosts S} {K : hashes.Ghosts H} (p p' : Paged S H G K)
+    → IsSameMap p p' → stands_for p ≡ stands_for p'
+same_stands p p' same =
+    sym (λ i. read_map (form_of (same.file.layout i)) (same.head i)
+    (told_bytes (same.files i) (string_bytes (same.file.name i))))
 
 -- ---- behind the bytes of a proof
 
@@ -78,21 +93,15 @@ module _ (hash : List ℕ → List ℕ) (map : List ℕ) (q : Query) (proof byte
 
   pub found_untold : (f : Finding) (result : Result Ending Halt) → AreBytes bytes → FindsFor hash s q bytes f
       → Collides hash f → new.faults ≡ old.faults
-      → GivesOrStops (say_finding f) result → SaysUntold (auditing hash map q proof) old new result
-  found_untold f (Ok ending) are judged collides quiet gives = (
-    say_finding f,
-    inr (inr (
-      f,
-      record { stands = s; bytes = bytes; are = are; judged = judged; collides = collides },
-      refl,
-    )),
-    gives.status,
-    gives.printed,
-    subst (λ w. IsLeft w old.files new.files) (sym (finding_writes f)) files,
-    λ outside. absurd (gives.settled.0 outside),
-    λ settled. quiet,
-  )
-  found_untold f (Err halt) are judged collides quiet is = (subst (Stops old new) (sym is) tt, files)
+      → GivesOrStops (say_finding f) result → SaysUntold (MaySayAudit hash map q proof) old new result
+  found_untold f result are judged collides quiet gives =
+      says_given (MaySayAudit hash map q proof) (say_finding f) old new
+      (inr (inr (inr (
+        f,
+        record { stands = s; bytes = bytes; are = are; judged = judged; collides = collides },
+        refl,
+      ))))
+      (finding_writes f) files quiet result gives
 
   pub unfetched_told : (e : NodesErr) (result : Result Ending Halt) → HasSomeCause s old.faults new.faults e
       → SaysRefusal map (as_map_error e) result
@@ -109,41 +118,53 @@ module _ (hash : List ℕ → List ℕ) (map : List ℕ) (q : Query) (proof byte
           stop.stops)
 
   pub unfetched_untold : (e : NodesErr) (result : Result Ending Halt) → HasSomeCause s old.faults new.faults e
-      → SaysRefusal map (as_map_error e) result → SaysUntold (auditing hash map q proof) old new result
+      → SaysRefusal map (as_map_error e) result → SaysUntold (MaySayAudit hash map q proof) old new result
   unfetched_untold e result cause says =
-      says_refused hash (auditing hash map q proof) map (λ said is. inl is) old new files (as_map_error e) result
+      says_refused hash (MaySayAudit hash map q proof) map (λ said is. inl is) old new files (as_map_error e) result
       (fetch_blamed hash s e old new cause) says
 
 -- ---- behind the file of a proof
 
-pub reads_both : (n : ℕ) (name : List ℕ) (before after : Shelved) (read : Option (Vec ℕ))
-    → Reads name before after (Ok read) → Reads name (with_reads n before) (with_reads n after) (Ok read)
-reads_both n name before after read got = record {
+pub reads_both : (n : ℕ) (name : List ℕ) (before after : Shelved) (bytes : Vec ℕ)
+    → Reads name before after (Ok bytes) → Reads name (with_reads n before) (with_reads n after) (Ok bytes)
+reads_both n name before after bytes got = record {
   counts = record { faults = got.counts.faults; reads = omega arith };
   files = got.files;
-  read = same read got.read;
+  read = got.read;
   once = once_none before.files name n;
 }
-  where
-    same : (read : Option (Vec ℕ)) → Read name before after (Ok read)
-        → Read name (with_reads n before) (with_reads n after) (Ok read)
-    same None read = read
-    same (Some bytes) read = read
 
-pub reads_but : (name : List ℕ) (before after : Shelved) (result : Result (Option (Vec ℕ)) Halt)
-    → Reads name before after result → Reads name (with_reads after.reads before) after result
-reads_but name before after result got = record {
+pub reads_but : (name : List ℕ) (before after : Shelved) (came : Result Ending Halt)
+    → Reads name before after (Err came) → Reads name (with_reads after.reads before) after (Err came)
+reads_but name before after came got = record {
   counts = record { faults = got.counts.faults; reads = omega arith };
   files = got.files;
-  read = same result got.read;
+  read = same came got.read;
   once = once_none before.files name after.reads;
 }
   where
-    same : (result : Result (Option (Vec ℕ)) Halt) → Read name before after result
-        → Read name (with_reads after.reads before) after result
-    same (Ok None) read = read
-    same (Ok (Some bytes)) read = read
+    same : (came : Result Ending Halt) → IsUnread name before after came
+        → IsUnread name (with_reads after.reads before) after came
+    same (Ok ending) read = read
     same (Err halt) read = stops_with after.reads before after halt read
+
+-- what may be said of a file that is not told and was not read
+pub says_unread : (may_say : Outcome → Type 0) (name : List ℕ) (before after : Shelved) (came : Result Ending Halt)
+    → may_say (says_missing name) → before.files ≡ None → Reads name before after (Err came)
+    → SaysUntold may_say before after came
+says_unread may_say name before after (Ok ending) may none got = (
+  says_missing name,
+  may,
+  got.read.2,
+  got.read.3,
+  got.files,
+  λ outside. elim got.read.1 [
+    | inl rose ↦ rose
+    | inr absent ↦ absurd (subst (λ o. IsAbsent o name) none absent)
+  ],
+  λ settled. absurd (settled.0 got.read.2),
+)
+says_unread may_say name before after (Err halt) may none got = (got.read, got.files)
 
 -- from before a step that counted no fault
 stops_before : (old mid new : Shelved) (halt : Halt) → mid.faults ≡ old.faults → Stops mid new halt
@@ -152,9 +173,10 @@ stops_before old mid new halts.Words faults stops = stops
 stops_before old mid new halts.Shelf faults stops = subst (λ n. Rose n new.faults) faults stops
 stops_before old mid new halts.NoMemory faults stops = stops
 
-pub untold_from : (reading : Rereading) (old mid new : Shelved) (result : Result Ending Halt) → mid.files ≡ old.files
-    → mid.faults ≡ old.faults → SaysUntold reading mid new result → SaysUntold reading old new result
-untold_from reading old mid new (Ok ending) files faults says = (
+pub untold_from : (may_say : Outcome → Type 0) (old mid new : Shelved) (result : Result Ending Halt)
+    → mid.files ≡ old.files → mid.faults ≡ old.faults → SaysUntold may_say mid new result
+    → SaysUntold may_say old new result
+untold_from may_say old mid new (Ok ending) files faults says = (
   says.0,
   says.1,
   says.2,
@@ -163,7 +185,7 @@ untold_from reading old mid new (Ok ending) files faults says = (
   λ outside. subst (λ n. Rose n new.faults) faults (says.5 outside),
   λ settled. says.6 settled ∙ faults,
 )
-untold_from reading old mid new (Err halt) files faults says =
+untold_from may_say old mid new (Err halt) files faults says =
     (stops_before old mid new halt faults says.0, says.1 ∙ files)
 
 if_some : {A : Type 0} (o : Option A) (P Q : A → Type 0) → ((x : A) → P x → Q x) → IfSome o P → IfSome o Q
@@ -178,10 +200,9 @@ all_some (Some x) Q f = f x
 
 module _ (hash : List ℕ → List ℕ) (q : Query) (s : Standing) (pages : ℕ) (proof : List ℕ) (old mid new : Shelved) where
   -- the proof, and what is read of the map beside it
-  pub read_beside : (bytes : Vec ℕ) (read : Option (Vec ℕ)) → read ≡ Some bytes → Reads proof old mid (Ok read)
+  pub read_beside : (bytes : Vec ℕ) → Reads proof old mid (Ok bytes)
       → ReadsOpened hash q s pages bytes.items mid new → ReadsBeside hash q s pages proof old new
-  read_beside bytes read was got opened =
-      let is : Reads proof old mid (Ok (Some bytes)) = subst (λ r. Reads proof old mid (Ok r)) was got in
+  read_beside bytes is opened =
       if_some s.tree (λ t. (new.reads ≡ mid.reads) ⊎ ((room + 1 < pages)
       × (new.reads ≤ mid.reads + opened_accepted (first hash) t s.batch q bytes.items)))
       (λ t. OfFiles old.files (λ files. IsBeside hash t s.batch q pages (file files proof) old.reads new.reads))
@@ -199,7 +220,7 @@ module _ (hash : List ℕ → List ℕ) (q : Query) (s : Standing) (pages : ℕ)
           inr (large.0, omega (arith, once, large.1, here))
 
   -- nothing is read beside it
-  pub alone_beside : (result : Result (Option (Vec ℕ)) Halt) → Reads proof old new result
+  pub alone_beside : (result : Result (Vec ℕ) (Result Ending Halt)) → Reads proof old new result
       → ReadsBeside hash q s pages proof old new
   alone_beside result got =
       all_some s.tree (λ t. OfFiles old.files (λ files.
@@ -218,109 +239,98 @@ module _ (hash : List ℕ → List ℕ) (map : List ℕ) (q : Query) (proof : Li
   abbrev said_of : Tree → List ℕ → Outcome
   said_of t bytes = say_audit_of hash q (map_at s t) bytes
 
-  pub read_told : (bytes : Vec ℕ) (read : Option (Vec ℕ)) (result : Result Ending Halt) → read ≡ Some bytes
-      → Reads proof old mid (Ok read)
+  pub read_told : (bytes : Vec ℕ) (result : Result Ending Halt) → Reads proof old mid (Ok bytes)
       → IfSome s.tree (λ t. ComesBut (comes (said_of t bytes.items)) mid new result)
       → IfSome s.tree (λ t. ComesBut (needs proof (λ b. comes (said_of t b))) old new result)
-  read_told bytes read result was got on =
+  read_told bytes result got on =
       if_some s.tree (λ t. ComesBut (comes (said_of t bytes.items)) mid new result)
       (λ t. ComesBut (needs proof (λ b. comes (said_of t b))) old new result)
-      (λ t on. comes_read proof (said_of t) (with_reads new.reads old) (with_reads new.reads mid) new bytes read result
-      was (reads_both new.reads proof old mid read got) on) on
+      (λ t on. goes_needed proof (λ b. comes (said_of t b)) (with_reads new.reads old) (with_reads new.reads mid)
+      (says_bytes (said_of t) old.files) (Ok bytes) (reads_both new.reads proof old mid bytes got) new result on) on
 
-  pub read_untold : (read : Option (Vec ℕ)) (bytes : Vec ℕ) (result : Result Ending Halt) → read ≡ Some bytes
-      → Reads proof old mid (Ok read) → SaysUntold (auditing hash map q proof) mid new result
-      → SaysUntold (auditing hash map q proof) old new result
-  read_untold read bytes result was got says =
-      let is : Reads proof old mid (Ok (Some bytes)) = subst (λ r. Reads proof old mid (Ok r)) was got in
-      untold_from (auditing hash map q proof) old mid new result is.files is.read.2 says
-
-  -- where it is missing
-  pub missed_told : (read : Option (Vec ℕ)) (result : Result Ending Halt) → read ≡ None
-      → Reads proof old new (Ok read) → Misses proof result
-      → IfSome s.tree (λ t. ComesBut (needs proof (λ b. comes (said_of t b))) old new result)
-  missed_told read result was got misses =
-      all_some s.tree (λ t. ComesBut (needs proof (λ b. comes (said_of t b))) old new result)
-      (λ t. comes_missed proof (said_of t) (with_reads new.reads old) new read result was
-      (reads_but proof old new (Ok read) got) misses)
-
-  pub missed_untold : (read : Option (Vec ℕ)) (result : Result Ending Halt) → read ≡ None
-      → Reads proof old new (Ok read) → Misses proof result → old.files ≡ None
-      → SaysUntold (auditing hash map q proof) old new result
-  missed_untold read (Ok ending) was got misses none =
-      let is : Reads proof old new (Ok None) = subst (λ r. Reads proof old new (Ok r)) was got in (
-        says_missing proof,
-        inr (inl refl),
-        misses.0,
-        misses.1,
-        is.files,
-        λ outside. elim is.read.1 [
-          | inl rose ↦ rose
-          | inr absent ↦ absurd (subst (λ o. IsAbsent o proof) none absent)
-        ],
-        λ settled. absurd (settled.0 misses.0),
-      )
-  missed_untold read (Err halt) was got misses none = (subst (Stops old new) (sym misses) tt, got.files)
+  pub read_untold : (bytes : Vec ℕ) (result : Result Ending Halt) → Reads proof old mid (Ok bytes)
+      → SaysUntold (MaySayAudit hash map q proof) mid new result
+      → SaysUntold (MaySayAudit hash map q proof) old new result
+  read_untold bytes result got says =
+      untold_from (MaySayAudit hash map q proof) old mid new result got.files got.read.2 says
 
   -- where it was not read
-  pub unread_told : (halt : Halt) → Reads proof old new (Err halt)
-      → IfSome s.tree (λ t. ComesBut (needs proof (λ b. comes (said_of t b))) old new (Err halt))
-  unread_told halt got =
-      all_some s.tree (λ t. ComesBut (needs proof (λ b. comes (said_of t b))) old new (Err halt))
-      (λ t. comes_unread proof (said_of t) (with_reads new.reads old) new halt
-      (reads_but proof old new (Err halt) got))
+  pub unread_told : (came : Result Ending Halt) → Reads proof old new (Err came)
+      → IfSome s.tree (λ t. ComesBut (needs proof (λ b. comes (said_of t b))) old new came)
+  unread_told came got =
+      all_some s.tree (λ t. ComesBut (needs proof (λ b. comes (said_of t b))) old new came)
+      (λ t. goes_needed proof (λ b. comes (said_of t b)) (with_reads new.reads old) new
+      (says_bytes (said_of t) old.files) (Err came) (reads_but proof old new came got))
 
-  pub unread_untold : (halt : Halt) → Reads proof old new (Err halt)
-      → SaysUntold (auditing hash map q proof) old new (Err halt)
-  unread_untold halt got = (got.read, got.files)
+  pub unread_untold : (came : Result Ending Halt) → Reads proof old new (Err came) → old.files ≡ None
+      → SaysUntold (MaySayAudit hash map q proof) old new came
+  unread_untold came got none =
+      says_unread (MaySayAudit hash map q proof) proof old new came (inr (inr (inl refl))) none got
 
 -- ---- the whole of it
 
-module _ (hash : List ℕ → List ℕ) (sized : (xs : List ℕ) → length (hash xs) ≡ 32) (map : List ℕ) (q : Query)
-    (proof : List ℕ) (before mid end : Shelved) (s : Standing) (h : MapHead)
-    (same : mid.files ≡ before.files) (quiet : mid.faults ≡ before.faults)
-    (answers : OfFile before.files map ⊥ (TellsMap hash s))
-    (pages : OfFile before.files map ⊥ (λ bytes. h.pages ≡ first_pages bytes))
-    (few : OfFile before.files map ⊥ (λ bytes. mid.reads ≤ before.reads + first_pages bytes))
-    (more : before.reads ≤ mid.reads) (counts : NoneFalls mid end)
-    (beside : ReadsBeside hash q s h.pages proof mid end) where
+pub auditing_unopened : (hash : List ℕ → List ℕ) (map : List ℕ) (q : Query) (proof : List ℕ) (before after : Shelved)
+    → OfFile before.files map (after.reads ≡ before.reads) (λ bytes. after.reads ≤ before.reads + pages_in bytes)
+    → ReadsFew (AllowsAudit hash map q proof) before after
+auditing_unopened hash map q proof before after few =
+    few_refused before.files map before.reads after.reads
+    (λ files bytes n. IsFewBeside hash q bytes (file files proof) n) (λ files bytes. inl (omega arith)) few
+
+module _ {S H : Type 0} {G : shelves.Ghosts S} {K : hashes.Ghosts H} (hash : List ℕ → List ℕ)
+    (sized : (xs : List ℕ) → length (hash xs) ≡ 32) (map : List ℕ) (q : Query) (proof : List ℕ)
+    (before end : Shelved) (p : Paged S H G K) (o : OpensMap hash map before p)
+    (first_is : (stands_for p).version ≡ One) (counts : NoneFalls (shelved p) end)
+    (beside : ReadsBeside hash q (stands_for p) p.head.pages proof (shelved p) end) where
   abbrev on_map : Opened → Plan
   on_map m = needs proof (λ bytes. comes (say_audit_of hash q m bytes))
 
+  abbrev plan : Plan
+  plan = needs_map hash map on_map
+
+  abbrev may : Outcome → Type 0
+  may = MaySayAudit hash map q proof
+
+  abbrev allows : Files → ℕ → Type 0
+  allows = AllowsAudit hash map q proof
+
+  abbrev s : Standing
+  s = stands_for p
+
+  abbrev mid : Shelved
+  mid = shelved p
+
   few_audited : (files : Files) → before.files ≡ Some files → HasMap hash sized map before s mid
-      → ReadsFew (rereads (auditing hash map q proof) (needs_map hash map on_map)) before end
+      → ReadsFew allows before end
   few_audited files told has =
-      let pages_are = at_input before.files files map has.bytes ⊥ (λ bytes. h.pages ≡ first_pages bytes) told has.input
-      pages in
-      let few_are = at_input before.files files map has.bytes ⊥ (λ bytes. mid.reads ≤ before.reads + first_pages bytes)
-      told has.input few in
+      let is = counted hash sized map before p o first_is files told has in
       few_there before.files files map has.bytes before.reads end.reads
       (λ files bytes n. IsFewBeside hash q bytes (file files proof) n) told has.input
-      (few_beside hash q h has.bytes (file files proof) before.reads mid.reads end.reads has.tree s.batch has.stands
-      pages_are few_are
-      (subst (λ o. OfFiles o (λ files. IsBeside hash has.tree s.batch q h.pages (file files proof) mid.reads end.reads))
-      (same ∙ told)
+      (few_beside hash q p.head.pages has.bytes (file files proof) before.reads mid.reads end.reads has.tree s.batch
+      is.stands is.pages is.few
+      (subst (λ o. OfFiles o (λ files. IsBeside hash has.tree s.batch q p.head.pages (file files proof) mid.reads
+      end.reads))
+      (o.files ∙ told)
       (subst (λ o. IfSome o (λ t. OfFiles mid.files (λ files.
-      IsBeside hash t s.batch q h.pages (file files proof) mid.reads end.reads))) has.told beside)))
+      IsBeside hash t s.batch q p.head.pages (file files proof) mid.reads end.reads))) has.told beside)))
 
-  pub audited : (result : Result Ending Halt)
-      → IfSome s.tree (λ t. ComesBut (on_map (map_at s t)) mid end result)
-      → (mid.files ≡ None → SaysUntold (auditing hash map q proof) mid end result)
-      → Comes (rereads (auditing hash map q proof) (needs_map hash map on_map)) before end result
+  pub audited : (result : Result Ending Halt) → IfSome s.tree (λ t. ComesBut (on_map (map_at s t)) mid end result)
+      → (mid.files ≡ None → SaysUntold may mid end result)
+      → ComesAsSaid plan may allows before end result
   audited result told_so untold_so = by_files before.files refl
     where
       all : NoneFalls before end
-      all = record { faults = omega (arith, quiet, counts.faults); reads = omega (arith, more, counts.reads) }
+      all = record { faults = omega (arith, o.quiet, counts.faults); reads = omega (arith, o.more, counts.reads) }
 
-      by_files : (o : Option Files) → before.files ≡ o
-          → Comes (rereads (auditing hash map q proof) (needs_map hash map on_map)) before end result
+      by_files : (f : Option Files) → before.files ≡ f
+          → ComesAsSaid plan may allows before end result
       by_files None none =
-          comes_untold (auditing hash map q proof) (needs_map hash map on_map) before end none result all
-          (untold_from (auditing hash map q proof) before mid end result same quiet (untold_so (same ∙ none)))
+          comes_untold plan may allows before end none (says_missing map, inl (inl refl)) result all
+          (untold_from may before mid end result o.files o.quiet (untold_so (o.files ∙ none)))
       by_files (Some files) told =
-          let has = has_map hash sized map before s mid same quiet answers files told in
-          comes_told (auditing hash map q proof) (needs_map hash map on_map) before end files told result all.reads
+          let w = was_opened hash map before p o in
+          let has = has_map hash sized map before s mid w files told in
+          comes_told plan may allows before end files told result all.reads
           (few_audited files told has)
-          (told_on hash sized map before s mid same quiet answers on_map
-          (λ m. judged_needs proof (say_audit_of hash q m) before.files) has end result
+          (first_on hash sized map before s mid w on_map
+          (λ m. judged_needs proof (say_audit_of hash q m) before.files) first_is has end result
           (subst (λ o. IfSome o (λ t. ComesBut (on_map (map_at s t)) mid end result)) has.told told_so))

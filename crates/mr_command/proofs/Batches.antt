@@ -8,7 +8,7 @@ use Rattle.mr_batch.specs.Applied.{IsAdmissible}
 use Rattle.mr_batch.specs.Changes.{Changes}
 use Rattle.mr_batch.specs.declared.admission.BatchFault.{BatchFault}
 use Rattle.mr_batch.proofs.Walking.{admitted}
-use Rattle.mr_record.specs.declared.version.Version.TheVariants.{One}
+use Rattle.mr_record.specs.declared.version.Version.{Version}
 use Rattle.mr_batch.proofs.BatchTexts.{answer_written}
 use Rattle.mr_batch.specs.BatchText.{batch_of_text, IsChange}
 use Rattle.mr_batch.specs.declared.change.Change.{Change}
@@ -31,15 +31,15 @@ fits_if_none rs held b e = (admitted (Ok tt) rs held b e).0 refl
 
 pub says_applied : (hash : List ℕ → List ℕ) (new : List ℕ) (pages : ℕ) (map : Opened) (b : Changes)
     → IsAdmissible (records map.tree) map.batch b
-    → say_batch hash new pages map b ≡ say_changed hash new pages map.tree b
+    → say_batch hash new pages map b ≡ say_changed map.version hash new pages map.tree b
 says_applied hash new pages map b may =
-    ap (say_admitted hash new pages map.tree b) (no_fault (records map.tree) map.batch b may)
+    ap (say_admitted map.version hash new pages map.tree b) (no_fault (records map.tree) map.batch b may)
 
-of_change : (c : Change) → IsChange One c → IsOfVersion One c
-of_change (Add r) is = is.1
-of_change (Remove n) is = tt
+of_change : (v : Version) (c : Change) → IsChange v c → IsOfVersion v c
+of_change v (Add r) is = is.1
+of_change v (Remove n) is = tt
 
--- the changes of a text of the first version are of that version
-pub of_first : (text : List ℕ) (b : Changes) → batch_of_text One text ≡ Ok b → All (IsOfVersion One) b.list
-of_first text b e k d within =
-    of_change (get_or b.list k d) ((answer_written One text (Ok b) e).0.changes.each k d within)
+-- the changes of a text of a version are of that version
+pub of_text : (v : Version) (text : List ℕ) (b : Changes) → batch_of_text v text ≡ Ok b → All (IsOfVersion v) b.list
+of_text v text b e k d within =
+    of_change v (get_or b.list k d) ((answer_written v text (Ok b) e).0.changes.each k d within)

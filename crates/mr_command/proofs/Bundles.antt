@@ -1,17 +1,15 @@
 -- What `check-all` says of a bundle, and what it comes to behind each step.
 use Rattle.std.proofs.Common.{◌≡◌, ℕ, ◌+◌, ◌≤◌, Bool, true, false, cond, ◌&&◌, eqb, List, [], ◌∷◌, ◌++◌, length, map, refl, sym, ap, subst, ◌∙◌, arith}
-use Rattle.std.specs.Prelude.{Option, Some, None, Result, Ok, Err, All, is_none}
-use Rattle.std.specs.Global.{Vec}
+use Rattle.std.specs.Prelude.{Option, None, Result, Ok, Err, All, is_none}
 use Rattle.std.specs.List.{AllByRecursion}
 use Rattle.std.proofs.lemmas.Bool.{eq-eqb}
 use Rattle.std.proofs.lemmas.List.{flat_map_more, length-map}
 use Rattle.std.proofs.lemmas.List.Elements.{recursion_from_All}
 use Rattle.std.proofs.lemmas.List.Sums.{sum_by-cons}
 use Rattle.std.proofs.lemmas.Slice.Zip.{length-zip}
-use Rattle.mr_outside.specs.Files.{Files, file}
+use Rattle.mr_outside.specs.Files.{Files}
 use Rattle.mr_outside.specs.State.{Shelved}
 use Rattle.mr_record.specs.declared.text_fault.TextFault.{TextFault}
-use Rattle.mr_query.specs.Script.{queries_of_text}
 use Rattle.mr_query.specs.declared.query.Query.{Query}
 use Rattle.mr_tree.specs.Digest.{by}
 use Rattle.mr_bundle.specs.Bundle.{parts, part_bytes, bundle_of, bytes_of}
@@ -21,20 +19,22 @@ use Rattle.mr_bundle.specs.declared.reading.Part.{Part}
 use Rattle.mr_bundle.specs.declared.verdict.Verdict.{Verdict}
 use Rattle.mr_pages.specs.declared.opening.Opened.{Opened}
 use Rattle.mr_command.specs.Answer.{IsSettled}
-use Rattle.mr_command.specs.Ending.{AreJudged, Comes, Gives, GivesOrStops, Misses, Reads, Stops, printed_of}
+use Rattle.mr_command.specs.Ending.{AreJudged, Comes, Gives, GivesOrStops, printed_of}
+use Rattle.mr_command.specs.Inputs.{FollowsText}
 use Rattle.mr_plan.specs.Judged.{is_accepted, IsAccepted, accepted_count, bundle_text, bundle_status}
 use Rattle.mr_plan.specs.Lines.{bad_text_line}
 use Rattle.mr_plan.specs.Outcome.{Nothing}
 use Rattle.mr_plan.specs.Plan.{Plan, Input, comes}
 use Rattle.mr_command.specs.Counting.{pieces_of, reads_taken}
-use Rattle.mr_plan.specs.Say.{given, given_queries, needs, say_parts}
+use Rattle.mr_plan.specs.Say.{given_queries, say_parts}
 use Rattle.mr_plan.specs.Saying.{ends, say_bundle, say_parts_of, say_serve_of, say_verdicts}
 use Rattle.mr_command.specs.declared.ending.Ending.{Ending}
 use Rattle.mr_command.specs.declared.ending.Halt.{Halt}
 use Rattle.mr_command.specs.declared.ending.Halt.TheVariants as halts
 use Rattle.mr_plan.specs.declared.status.Status.TheVariants.{Done, Refused, BadText}
-use Rattle.mr_command.proofs.Counting.{OnceFrom, TakenFrom, text_taken, once_none}
-use Rattle.mr_command.proofs.Going.{comes_given, comes_halted, comes_missing, comes_on, judged_needs}
+use Rattle.mr_command.proofs.Counting.{text_taken, once_none}
+use Rattle.mr_command.proofs.Going.{comes_given, comes_halted, judged_needs}
+use Rattle.mr_command.proofs.Inputs.{says_text}
 use Rattle.mr_command.proofs.Verdicts.{gives}
 
 -- ---- the bytes
@@ -133,14 +133,9 @@ fault_says : (hash : List ℕ → List ℕ) (name : List ℕ) (map : Opened) (fa
 unfolding say_serve_of
 fault_says hash name map fault = refl
 
-pub fault_given : (hash : List ℕ → List ℕ) (name : List ℕ) (map : Opened) (r : Result (List Query) TextFault)
-    (fault : TextFault) (at : Shelved) (result : Result Ending Halt) → r ≡ Err fault
-    → GivesOrStops (ends BadText (bad_text_line fault)) result
-    → Comes (comes (say_serve_of hash name map r)) at at result
-fault_given hash name map r fault at result is says =
-    subst (λ said. Comes (comes said) at at result)
-    (fault_says hash name map fault ∙ ap (say_serve_of hash name map) (sym is))
-    (comes_given (ends BadText (bad_text_line fault)) at result refl says)
+pub served_follows : (hash : List ℕ → List ℕ) (name : List ℕ) (map : Opened)
+    → FollowsText (λ found. comes (say_serve_of hash name map found))
+served_follows hash name map = says_text (say_serve_of hash name map) (λ f. sym (fault_says hash name map f))
 
 -- ---- behind the queries of a script
 
@@ -152,7 +147,7 @@ module _ (hash : List ℕ → List ℕ) (root bundle : List ℕ) where
   judged_queries told (Ok queries) = judged_needs bundle (say_parts_of hash root queries) told
   judged_queries told (Err fault) = tt
 
-  pub no_memory : (at : Shelved) (r : Result (List Query) TextFault) → Comes (on_queries r) at at (Err halts.NoMemory)
+  no_memory : (at : Shelved) (r : Result (List Query) TextFault) → Comes (on_queries r) at at (Err halts.NoMemory)
   no_memory at (Ok queries) =
       comes_halted bundle (λ bytes. comes (say_parts_of hash root queries bytes)) at at halts.NoMemory
       (record { faults = omega arith; reads = omega arith })
@@ -161,55 +156,15 @@ module _ (hash : List ℕ → List ℕ) (root bundle : List ℕ) where
       (judged_needs bundle (say_parts_of hash root queries) at.files) tt
   no_memory at (Err fault) = comes_given (ends BadText (bad_text_line fault)) at (Err halts.NoMemory) refl refl
 
-  judged_script : (script : List ℕ) (told : Option Files)
-      → AreJudged (needs script (λ text. on_queries (queries_of_text text))) told
-  judged_script script told None is = tt
-  judged_script script told (Some text) is = judged_queries told (queries_of_text text)
-
-  taken : (script : List ℕ) (told : Option Files) (before after : ℕ) → OnceFrom told script before after
-      → TakenFrom told script (λ text. on_queries (queries_of_text text)) before after
-  taken script None before after once = tt
-  taken script (Some files) before after once = by_input (file files script) once
+  pub queries_follow : FollowsText on_queries
+  queries_follow = record {
+    fault = λ f. refl;
+    pieces = in_pieces;
+    judged = λ found told. judged_queries told found;
+    given_up = λ found at. no_memory at found;
+  }
     where
-      in_pieces : (text : List ℕ) (r : Result (List Query) TextFault)
-          → reads_taken (on_queries r) (Some text) ≡ pieces_of (Some text)
-      in_pieces text (Ok queries) = refl
-      in_pieces text (Err fault) = refl
-
-      by_input : (input : Input) → after ≤ before + pieces_of input
-          → after ≤ before + reads_taken (given script (λ text. on_queries (queries_of_text text)) input) input
-      by_input None once = once
-      by_input (Some text) once =
-          subst (λ n. after ≤ before + n) (sym (in_pieces text (queries_of_text text))) once
-
-  pub script_read : (script : List ℕ) (before between after : Shelved) (text : Vec ℕ) (read : Option (Vec ℕ))
-      (result : Result Ending Halt) → read ≡ Some text → Reads script before between (Ok read)
-      → Comes (on_queries (queries_of_text text.items)) between after result
-      → Comes (needs script (λ text. on_queries (queries_of_text text))) before after result
-  script_read script before between after text read result was got on =
-      let was_read : Reads script before between (Ok (Some text)) =
-      subst (λ r. Reads script before between (Ok r)) was got in
-      comes_on script (λ text. on_queries (queries_of_text text)) text.items before between after
-      (record { counts = was_read.counts; files = was_read.files; faults = was_read.read.2 })
-      (taken script before.files before.reads between.reads was_read.once) was_read.read.0 was_read.read.1
-      (judged_script script before.files) result on
-
-  pub script_missed : (script : List ℕ) (before after : Shelved) (read : Option (Vec ℕ)) (result : Result Ending Halt)
-      → read ≡ None → Reads script before after (Ok read) → Misses script result
-      → Comes (needs script (λ text. on_queries (queries_of_text text))) before after result
-  script_missed script before after read (Ok ending) was got misses =
-      let missed : Reads script before after (Ok None) = subst (λ r. Reads script before after (Ok r)) was got in
-      comes_missing script (λ text. on_queries (queries_of_text text)) before after ending missed.counts
-      (taken script before.files before.reads after.reads missed.once) missed.files
-      (judged_script script before.files) missed.read misses.0 misses.1
-  script_missed script before after read (Err halt) was got is =
-      comes_halted script (λ text. on_queries (queries_of_text text)) before after halt got.counts
-      (taken script before.files before.reads after.reads got.once) got.files
-      (judged_script script before.files) (subst (Stops before after) (sym is) tt)
-
-  pub script_unread : (script : List ℕ) (before after : Shelved) (halt : Halt) → Reads script before after (Err halt)
-      → Comes (needs script (λ text. on_queries (queries_of_text text))) before after (Err halt)
-  script_unread script before after halt got =
-      comes_halted script (λ text. on_queries (queries_of_text text)) before after halt got.counts
-      (taken script before.files before.reads after.reads got.once) got.files
-      (judged_script script before.files) got.read
+      in_pieces : (found : Result (List Query) TextFault) (input : Input)
+          → reads_taken (on_queries found) input ≡ pieces_of input
+      in_pieces (Ok queries) input = refl
+      in_pieces (Err fault) input = refl

@@ -1,26 +1,33 @@
 -- `apply` behind an opened map: what comes of its changes on a copy of the map's file, and why it may stop.
-use Rattle.std.proofs.Common.{◌≡◌, ℕ, ◌+◌, ◌<◌, ◌≤◌, ◌^◌, List, [], ◌∷◌, length, refl, sym, ap, subst, ◌∙◌, inl, inr, arith}
+use Rattle.std.proofs.Common.{◌≡◌, ℕ, ◌+◌, ◌*◌, ◌<◌, ◌≤◌, ◌^◌, List, [], ◌∷◌, length, refl, sym, ap, subst, ◌∙◌, inl, inr, arith}
 use Rattle.std.specs.Prelude.{Option, Some, None, option_map, IfSome, IsNone, IfOk, MatchResult, Result, Ok, Err}
 use Rattle.mr_outside.specs.Files.{Files, with_file}
 use Rattle.mr_outside.specs.State.{Shelved}
 use Rattle.mr_outside.specs.Writing.{IsChanged}
 use Rattle.mr_outside.proofs.Changes.{with_file-twice}
-use Rattle.mr_record.specs.declared.version.Version.TheVariants.{One}
-use Rattle.mr_tree.specs.Digest.{root, root_preimage}
+use Rattle.mr_outside.specs.declared.shelf.Shelf as shelves
+use Rattle.mr_record.specs.declared.version.Version.{Version}
+use Rattle.mr_record.specs.declared.version.Version.TheVariants.{One, Two}
+use Rattle.mr_tree.specs.Digest.{by, root, root_preimage}
 use Rattle.mr_tree.specs.Nodes.{Standing, root_entry}
 use Rattle.mr_tree.specs.View.{IsChild}
 use Rattle.mr_tree.specs.declared.child.Child.{Child}
 use Rattle.mr_tree.specs.Tree.{records}
 use Rattle.mr_tree.specs.declared.tree.Tree.{Tree}
-use Rattle.mr_pages.specs.Law.{IsMapFile, map_root}
+use Rattle.mr_pages.specs.Law.{IsMap, IsMapFile, map_in, map_root}
+use Rattle.mr_pages.specs.Page.{Form}
+use Rattle.mr_pages.specs.PageBytes.{form_of, layout_by}
 use Rattle.mr_pages.specs.Saved.{IsUnsealed, Leaves}
 use Rattle.mr_pages.specs.Source.{told_bytes}
 use Rattle.mr_pages.specs.declared.error.MapErr.TheVariants as errors
 use Rattle.mr_pages.specs.declared.head.MapHead.{MapHead}
+use Rattle.mr_pages.specs.declared.layout.Layout.{Layout}
 use Rattle.mr_pages.specs.declared.opening.Opened.{Opened}
 use Rattle.mr_pages.specs.declared.rule.MapRule.{MapRule}
 use Rattle.mr_pages.specs.declared.rule.MapRule.TheVariants as rule
-use Rattle.mr_store.specs.Stored.{stands_for}
+use Rattle.mr_store.specs.CachedFile.{name_of, page_form, state_of}
+use Rattle.mr_store.specs.Stored.{map_on, read_map}
+use Rattle.mr_store.specs.declared.cached_file.CachedFile.{CachedFile}
 use Rattle.mr_batch.specs.Applied.{IsAdmissible}
 use Rattle.mr_batch.specs.Changes.{Changes}
 use Rattle.mr_batch.specs.Directory.{Entries}
@@ -28,24 +35,24 @@ use Rattle.mr_batch.specs.Peak.{peak}
 use Rattle.mr_batch.specs.Replay.{replay}
 use Rattle.mr_edit.specs.Causes.{HasEditCause, IsOfPages}
 use Rattle.mr_draft.specs.Draft.{Drawn, DraftOf, IsTop, Copies, CopyFails, CanApply, Applied, Applies, KeepsDraft, MayBeSealed, IsSealed, Seals, SealFails}
+use Rattle.mr_draft.proofs.Sizes.{layout_is}
 use Rattle.mr_edit.specs.Outcome.{IsLow}
 use Rattle.mr_edit.specs.Reads.{reads_along}
 use Rattle.mr_edit.specs.Shelves.{HasShelfCause}
 use Rattle.mr_edit.specs.declared.error.EditErr.{EditErr}
 use Rattle.mr_edit.specs.declared.error.EditErr.TheVariants as edits
 use Rattle.mr_command.specs.Applying.{of_copy, of_edit, SaysSealed, MayApply, ComesBehind, IsFewOfCopy}
-use Rattle.mr_command.specs.Ending.{ComesBut, Gives, GivesOrStops, NoneFalls, SaysRefusal, Stops}
-use Rattle.mr_plan.specs.First.{first, first_map}
+use Rattle.mr_command.specs.Ending.{map_at, ComesBut, Gives, GivesOrStops, NoneFalls, SaysRefusal, Stops}
+use Rattle.mr_plan.specs.First.{pages_by}
 use Rattle.mr_plan.specs.Lines.{digest_line}
 use Rattle.mr_plan.specs.Outcome.{Outcome, Nothing, IsChangedMap, IsLeft, MayLeave}
 use Rattle.mr_plan.specs.Plan.{comes}
-use Rattle.mr_plan.specs.Rereading.{Rereading, applying, IsOfAgain, IsRootOfSome, MaySay}
+use Rattle.mr_plan.specs.Untold.{IsOfAgain, IsRootOfSome, MaySayApply}
 use Rattle.mr_plan.specs.Say.{prints, say_text, say_changed}
 use Rattle.mr_command.specs.declared.ending.Ending.{Ending}
 use Rattle.mr_command.specs.declared.ending.Halt.{Halt}
 use Rattle.mr_command.specs.declared.ending.Halt.TheVariants as halts
 use Rattle.mr_command.proofs.Counting.{few_none}
-use Rattle.mr_command.proofs.Pages.{map_at}
 use Rattle.mr_command.proofs.Rereading.{IsBlamed, IsStopped, page_blamed, says_refused, stops_with}
 
 -- ---- where a tree is told
@@ -87,26 +94,28 @@ record Unsealed (hash : List ℕ → List ℕ) (new : List ℕ) (before after : 
   unsealed : IsUnsealed hash bytes
   files : IsChanged (with_file new) bytes before after
 
-copied_on : (hash : List ℕ → List ℕ) (name : List ℕ) (h : MapHead) (before : Shelved) (new : List ℕ) (d e : Drawn)
-    → Copies hash name h before new d → KeepsDraft hash d e → Unsealed hash new before.files e.shelf.files
-copied_on hash name h before new d e copies keeps = elim keeps.left [
+copied_on : {S : Type 0} {G : shelves.Ghosts S} (hash : List ℕ → List ℕ) (old : CachedFile S G) (h : MapHead)
+    (new : List ℕ) (d e : Drawn) → Copies hash old h new d → KeepsDraft hash d e
+    → Unsealed hash new (state_of old).files e.shelf.files
+copied_on hash old h new d e copies keeps = elim keeps.left [
   | inl same ↦ record { bytes = copies.bytes; unsealed = copies.unsealed; files = same ∙ copies.files }
   | inr held ↦ record {
     bytes = held.0;
     unsealed = held.1;
-    files = again new copies.bytes held.0 before.files d.shelf.files e.shelf.files copies.files
+    files = again new copies.bytes held.0 (state_of old).files d.shelf.files e.shelf.files copies.files
         (subst (λ n. IsChanged (with_file n) held.0 d.shelf.files e.shelf.files) copies.named held.2);
   }
 ]
 
 -- ---- the root digest of a map that was sealed
 
-pub root_of_some : (hash : List ℕ → List ℕ) (batch count : ℕ) (root : Option Child) → batch < 2 ^ 64
+pub root_of_some : (hash : List ℕ → List ℕ) (v : Version) (batch count : ℕ) (root : Option Child) → batch < 2 ^ 64
     → IsTop count root → IsLow root → IfSome root IsChild → (r : Result (List ℕ) EditErr)
-    → IfOk r (λ (digest : List ℕ). digest ≡ hash (root_preimage One batch count (root_entry root)))
+    → IfOk r (λ (digest : List ℕ). digest ≡ hash (root_preimage v batch count (root_entry root)))
     → IfOk r (IsRootOfSome hash)
-root_of_some hash batch count root low top level node (Err e) is = tt
-root_of_some hash batch count None low top level node (Ok digest) is = record {
+root_of_some hash v batch count root low top level node (Err e) is = tt
+root_of_some hash v batch count None low top level node (Ok digest) is = record {
+  version = v;
   batch = batch;
   low = low;
   count = count;
@@ -117,7 +126,8 @@ root_of_some hash batch count None low top level node (Ok digest) is = record {
   node = tt;
   is = is;
 }
-root_of_some hash batch count (Some c) low top level node (Ok digest) is = record {
+root_of_some hash v batch count (Some c) low top level node (Ok digest) is = record {
+  version = v;
   batch = batch;
   low = low;
   count = count;
@@ -197,10 +207,10 @@ ends_but said before after ending counts quiet gives left = record {
   few = few_none before.files said after.reads after.reads refl;
 }
 
-module _ (reading : Rereading) (s : Standing) (said : Opened → Outcome) (few : Tree → Type 0)
+module _ (may_say : Outcome → Type 0) (s : Standing) (said : Opened → Outcome) (few : Tree → Type 0)
     (before after : Shelved) (counts : NoneFalls before after) (read : IfSome s.tree few) where
   abbrev behind : Result Ending Halt → Type 0
-  behind result = ComesBehind reading s (λ m. comes (said m)) few before after result
+  behind result = ComesBehind may_say s (λ m. comes (said m)) few before after result
 
   pub behind_halted : (halt : Halt) → Stops before after halt
       → ((t : Tree) → s.tree ≡ Some t → MayLeave (said (map_at s t)).written before.files after.files)
@@ -215,7 +225,7 @@ module _ (reading : Rereading) (s : Standing) (said : Opened → Outcome) (few :
 
   -- no file was written
   pub behind_given : (one : Outcome) (result : Result Ending Halt) → one.written ≡ Nothing
-      → ((t : Tree) → s.tree ≡ Some t → said (map_at s t) ≡ one) → (before.files ≡ None → MaySay reading one)
+      → ((t : Tree) → s.tree ≡ Some t → said (map_at s t) ≡ one) → (before.files ≡ None → may_say one)
       → after.files ≡ before.files → after.faults ≡ before.faults → GivesOrStops one result → behind result
   behind_given one (Ok ending) writes is may files quiet gives = record {
     counts = counts;
@@ -240,25 +250,45 @@ module _ (reading : Rereading) (s : Standing) (said : Opened → Outcome) (few :
       (subst (λ w. MayLeave w before.files after.files) (sym writes) files))
       (λ none. files)
 
+-- ---- what a map on pages stands for
+
+-- its batch is that of its head
+pub batch_in : (form : Form) (h : MapHead) (o : Option (List ℕ)) → (read_map form h o).batch ≡ h.batch
+batch_in form h None = refl
+batch_in form h (Some bytes) = refl
+
+-- its version is that of its pages
+pub version_in : (form : Form) (h : MapHead) (o : Option (List ℕ)) → (read_map form h o).version ≡ form.version
+version_in form h None = refl
+version_in form h (Some bytes) = refl
+
+-- how many pages are in so many bytes
+counted_in : (v : Version) (bytes : List ℕ) (n : ℕ) → length bytes ≡ n * (layout_by v).size → pages_by v bytes ≡ n
+counted_in One bytes n is = omega (arith, is)
+counted_in Two bytes n is = omega (arith, is)
+
 -- ---- the changes
 
-module _ (hash : List ℕ → List ℕ) (map new batch : List ℕ) (name : List ℕ) (h : MapHead) (b : Changes)
-    (before : Shelved) where
+module _ {S : Type 0} {G : shelves.Ghosts S} (hash : List ℕ → List ℕ) (map new batch : List ℕ)
+    (old : CachedFile S G) (h : MapHead) (b : Changes) where
+  abbrev before : Shelved
+  before = state_of old
+
   abbrev s : Standing
-  s = stands_for h (told_bytes before.files name)
+  s = map_on old h
 
   abbrev said : Opened → Outcome
-  said m = say_changed hash new h.pages m.tree b
+  said m = say_changed m.version hash new h.pages m.tree b
 
   abbrev few_of_copy : Shelved → Tree → Type 0
   few_of_copy after = IsFewOfCopy h.pages b before.reads after.reads
 
   abbrev changes : Shelved → Result Ending Halt → Type 0
   changes after result =
-      ComesBehind (applying hash map batch new) s (λ m. comes (said m)) (few_of_copy after) before after result
+      ComesBehind (MaySayApply hash map batch new) s (λ m. comes (said m)) (few_of_copy after) before after result
 
   may_stand : (t : Tree) (after : Option Files) → Leaves (IsUnsealed hash) new before.files after
-      → MayLeave (say_changed hash new h.pages t b).written before.files after
+      → MayLeave (said (map_at s t)).written before.files after
   may_stand t after (inl same) = inl same
   may_stand t after (inr held) = inr (held.0, inl held.1, held.2)
 
@@ -267,7 +297,7 @@ module _ (hash : List ℕ → List ℕ) (map new batch : List ℕ) (name : List 
   not_copied after e result fails says =
       let stop = shelf_stopped map e before after result fails.cause says in
       subst (changes after) (sym stop.is)
-      (behind_halted (applying hash map batch new) s said (few_of_copy after) before after
+      (behind_halted (MaySayApply hash map batch new) s said (few_of_copy after) before after
       (record { faults = fails.later; reads = fails.more })
       (by_some s.tree (few_of_copy after) (λ t told. omega (arith, fails.few))) stop.halt stop.stops
       (λ t told. may_stand t after.files fails.left)
@@ -275,8 +305,8 @@ module _ (hash : List ℕ → List ℕ) (map new batch : List ℕ) (name : List 
 
   none_told : before.files ≡ None → (t : Tree) → s.tree ≡ Some t → ⊥
   none_told none t told =
-      let no : ◌≡◌ {A = Option Tree} None (Some t) = ap (λ o. (stands_for h (told_bytes o name)).tree) (sym none)
-      ∙ told in cc
+      let no : ◌≡◌ {A = Option Tree} None (Some t) =
+      ap (λ o. (read_map (page_form old) h (told_bytes o (name_of old))).tree) (sym none) ∙ told in cc
 
   -- the map was not copied
   pub uncopied : (after : Shelved) (e : EditErr) (result : Result Ending Halt)
@@ -287,7 +317,7 @@ module _ (hash : List ℕ → List ℕ) (map new batch : List ℕ) (name : List 
     told = by_some s.tree (λ t. ComesBut (comes (said (map_at s t))) before after result)
         (λ t told. absurd (none_told (fails.untold refl) t told));
     untold = λ none.
-        says_refused hash (applying hash map batch new) map (λ said is. inl is) before after
+        says_refused hash (MaySayApply hash map batch new) map (λ said is. inl is) before after
         (left_none (IsUnsealed hash) new before.files after.files none fails.left) errors.Missing result
         (record { missing = λ is. fails.cause; fault = λ is. absurd (cc); map = λ f is. absurd (cc) }) says;
     few_read = by_some s.tree (few_of_copy after) (λ t told. omega (arith, fails.few));
@@ -296,7 +326,7 @@ module _ (hash : List ℕ → List ℕ) (map new batch : List ℕ) (name : List 
   uncopied after edits.NoMemory result fails says = not_copied after edits.NoMemory result fails says
 
   module _ (dir : Entries) (may : IfSome s.tree (MayApply dir h.batch b)) (d : Drawn)
-      (copies : Copies hash name h before new d) where
+      (copies : Copies hash old h new d) where
     can : (t : Tree) → s.tree ≡ Some t → CanApply hash d dir b t
     can t told =
         let fits = at_some s.tree t (MayApply dir h.batch b) told may in
@@ -320,12 +350,21 @@ module _ (hash : List ℕ → List ℕ) (map new batch : List ℕ) (name : List 
 
       gone : before.files ≡ None → e.shelf.files ≡ before.files
       gone none =
-          let left = copied_on hash name h before new d e copies keeps in
+          let left = copied_on hash old h new d e copies keeps in
           stays_none new left.bytes before.files e.shelf.files none left.files
 
-      may_be : (t : Tree) → MayLeave (say_changed hash new h.pages t b).written before.files e.shelf.files
+      -- it is laid out as the pages of the map's version
+      laid : e.layout ≡ layout_by s.version
+      laid = keeps.layout ∙ copies.layout ∙ layout_is old.layout old.sized
+          ∙ ap layout_by (sym (version_in (page_form old) h (told_bytes before.files (name_of old))))
+
+      version_is : e.layout.version ≡ s.version
+      version_is = ap (λ (l : Layout). l.version) (keeps.layout ∙ copies.layout)
+          ∙ sym (version_in (page_form old) h (told_bytes before.files (name_of old)))
+
+      may_be : (t : Tree) → MayLeave (said (map_at s t)).written before.files e.shelf.files
       may_be t =
-          let left = copied_on hash name h before new d e copies keeps in
+          let left = copied_on hash old h new d e copies keeps in
           inr (left.bytes, inl left.unsealed, left.files)
 
       -- the batch was not applied to the copy
@@ -341,7 +380,7 @@ module _ (hash : List ℕ → List ℕ) (map new batch : List ℕ) (name : List 
             subst (ComesBut (comes (said (map_at s t))) before e.shelf) (sym stop.is)
             (halts_but (said (map_at s t)) before e.shelf stop.halt counts stop.stops (may_be t)));
         untold = λ none.
-            says_refused hash (applying hash map batch new) map (λ said is. inl is) before e.shelf (gone none)
+            says_refused hash (MaySayApply hash map batch new) map (λ said is. inl is) before e.shelf (gone none)
             (of_edit error) result
             (edit_blamed hash error before e.shelf
             (subst (λ n. HasEditCause n e.shelf.faults error) copies.quiet cause)) says;
@@ -353,17 +392,21 @@ module _ (hash : List ℕ → List ℕ) (map new batch : List ℕ) (name : List 
         -- the file of a draft that was sealed
         is_changed : (t : Tree) (bytes : List ℕ) → Applied hash d b t e dir'
             → IsSealed hash e (replay t (b ∷ [])) bytes
-            → IsChangedMap hash h.pages (peak t b) (replay t (b ∷ [])) b.number bytes
-        is_changed t bytes a is = record {
-          stands = subst (λ n. IsMapFile hash bytes (first_map (replay t (b ∷ [])) n)) at_batch is.map;
-          no_fewer = omega (arith, copies.paged, a.no_fewer, is.size);
-          no_more = omega (arith, copies.paged, a.no_more, is.size);
-        }
+            → IsChangedMap s.version hash h.pages (peak t b) (replay t (b ∷ [])) b.number bytes
+        is_changed t bytes a is =
+            let counted : pages_by s.version bytes ≡ e.pages =
+            counted_in s.version bytes e.pages (is.size ∙ ap (λ (l : Layout). e.pages * l.size) laid) in
+            record {
+              stands = subst (λ n. IsMapFile hash bytes (map_in s.version (replay t (b ∷ [])) n)) at_batch
+                  (subst (λ l. IsMap (form_of l) hash bytes (replay t (b ∷ [])) e.batch) laid is.map);
+              no_fewer = omega (arith, copies.paged, a.no_fewer, counted);
+              no_more = omega (arith, copies.paged, a.no_more, counted);
+            }
 
         changed_files : (bytes : List ℕ) → IsChanged (with_file e.name) bytes e.shelf.files after.files
             → IsChanged (with_file new) bytes before.files after.files
         changed_files bytes is =
-            let left = copied_on hash name h before new d e copies keeps in
+            let left = copied_on hash old h new d e copies keeps in
             again new left.bytes bytes before.files e.shelf.files after.files left.files
             (subst (λ n. IsChanged (with_file n) bytes e.shelf.files after.files) (keeps.name ∙ copies.named) is)
 
@@ -381,9 +424,10 @@ module _ (hash : List ℕ → List ℕ) (map new batch : List ℕ) (name : List 
           counts = counts_on (omega (arith, seals.quiet));
           told = by_some s.tree (λ t. ComesBut (comes (said (map_at s t))) before after (Ok ending)) (λ t told.
               let a = applies t (can t told) in
-              let same : digest ≡ map_root hash (first_map (replay t (b ∷ [])) b.number) =
-              subst (λ n. digest ≡ map_root hash (first_map (replay t (b ∷ [])) n)) at_batch
-              (seals.digest_is _ a.draft) in
+              let same : digest ≡ map_root hash (map_in s.version (replay t (b ∷ [])) b.number) =
+              subst (λ n. digest ≡ map_root hash (map_in s.version (replay t (b ∷ [])) n)) at_batch
+              (subst (λ v. digest ≡ root (by v hash) (replay t (b ∷ [])) e.batch) version_is
+              (seals.digest_is _ a.draft)) in
               ends_but (said (map_at s t)) before after ending (counts_on (omega (arith, seals.quiet)))
               (seals.quiet ∙ quiet ∙ copies.quiet)
               (record {
@@ -407,7 +451,7 @@ module _ (hash : List ℕ → List ℕ) (map new batch : List ℕ) (name : List 
             content_of : (digest bytes : List ℕ) → Outcome
             content_of digest bytes = say_text (digest_line digest) new bytes
         sealed_so digest (Err halt) seals long some none =
-            behind_halted (applying hash map batch new) s said (few_of_copy after) before after
+            behind_halted (MaySayApply hash map batch new) s said (few_of_copy after) before after
             (counts_on (omega (arith, seals.quiet))) (read after unread) halt (subst (Stops before after) (sym none) tt)
             (λ t told.
             let a = applies t (can t told) in
@@ -426,16 +470,16 @@ module _ (hash : List ℕ → List ℕ) (map new batch : List ℕ) (name : List 
             let cause = subst (λ n. HasShelfCause n after.faults error) (quiet ∙ copies.quiet) fails.cause in
             let stop = shelf_stopped map error before after result cause says in
             subst (changes after) (sym stop.is)
-            (behind_halted (applying hash map batch new) s said (few_of_copy after) before after
+            (behind_halted (MaySayApply hash map batch new) s said (few_of_copy after) before after
             (counts_on fails.later) (read after unread) stop.halt stop.stops
             (λ t told. may_end t (applies t (can t told)) fails.left)
             (λ none. ends_none none fails.left))
           where
             may_end : (t : Tree) → Applied hash d b t e dir'
                 → Leaves (MayBeSealed hash e) e.name e.shelf.files after.files
-                → MayLeave (say_changed hash new h.pages t b).written before.files after.files
+                → MayLeave (said (map_at s t)).written before.files after.files
             may_end t a (inl same) =
-                subst (MayLeave (say_changed hash new h.pages t b).written before.files) (sym same) (may_be t)
+                subst (MayLeave (said (map_at s t)).written before.files) (sym same) (may_be t)
             may_end t a (inr held) = inr (
               held.0,
               elim held.1 [

@@ -19,12 +19,12 @@ use Rattle.mr_tree.specs.declared.tree.Tree.{Tree}
 use Rattle.mr_pages.specs.Page.{Form}
 use Rattle.mr_pages.specs.PageBytes.{form_by}
 use Rattle.mr_pages.specs.Law.{Agrees, IsMapFile, map_in}
-use Rattle.mr_pages.specs.Saved.{saved, MayStand, Leaves}
+use Rattle.mr_pages.specs.Saved.{saved, MayStand, Leaves, SaveCauses}
 use Rattle.mr_pages.specs.Opening.{Answers, Fails, MapCauses, OrFails, Tells}
 use Rattle.mr_pages.specs.declared.error.MapErr.{MapErr}
 use Rattle.mr_pages.specs.declared.error.MapErr.TheVariants as errors
 use Rattle.mr_pages.specs.declared.rule.MapFault.{MapFault}
-use Rattle.mr_command.specs.Ending.{Gives, GivesOrStops, Misses, Comes, Came, Stops, Ends, GivesUp, AreJudged, IsJudged, GoesOn, Blames, IsCalm, NoneFalls, IsWell, WasFound, IsAsRead, Reads, ReadsPages, HoldsMap, Opens, Saves, SaysRefusal, printed_of}
+use Rattle.mr_command.specs.Ending.{Gives, GivesOrStops, Misses, Comes, Came, Stops, Ends, GivesUp, AreJudged, IsJudged, GoesOn, Blames, IsCalm, NoneFalls, IsWell, WasFound, IsAsRead, IsUnread, Read, Reads, ReadsPages, HoldsMap, Opens, Saves, SaysRefusal, halt_of, printed_of}
 use Rattle.mr_plan.specs.Found.{Found, Shows, bad_map_line}
 use Rattle.mr_plan.specs.Outcome.{Outcome, Content, Nothing, File, map_of, IsLaidOut, IsLeft, MayLeave}
 use Rattle.mr_plan.specs.Plan.{Plan, comes, opens, Input, IsInput, IsAbsent, LacksInput}
@@ -34,7 +34,7 @@ use Rattle.mr_command.specs.declared.ending.Halt.{Halt}
 use Rattle.mr_command.specs.declared.ending.Halt.TheVariants as halts
 use Rattle.mr_pages.specs.declared.opening.Opened.{Opened}
 use Rattle.mr_plan.specs.declared.status.Status.TheVariants.{BadMap, Outside}
-use Rattle.mr_command.proofs.Counting.{AllowsFrom, TakenFrom, text_taken, map_taken, few_behind, few_stopped, few_none, few_found, once_of}
+use Rattle.mr_command.proofs.Counting.{AllowsFrom, TakenFrom, map_taken, few_behind, few_stopped, few_none, few_found, once_of}
 use Rattle.mr_pages.proofs.Answered.{form_by_is}
 use Rattle.mr_pages.proofs.SavedStands.{saved_stands}
 
@@ -115,19 +115,6 @@ module _ (name : List ℕ) (next : List ℕ → Plan) (bytes : List ℕ) (before
     few = few_behind before.files name next bytes before.reads between.reads after.reads input once
         (subst (λ told. AllowsFrom told (next bytes) between.reads after.reads) step.files on.few);
   }
-
--- bytes that were read, and what came of them
-pub comes_read : (name : List ℕ) (said : List ℕ → Outcome) (before between after : Shelved) (bytes : Vec ℕ)
-    (read : Option (Vec ℕ)) (result : Result Ending Halt) → read ≡ Some bytes
-    → Reads name before between (Ok read) → Comes (comes (said bytes.items)) between after result
-    → Comes (needs name (λ b. comes (said b))) before after result
-comes_read name said before between after bytes read result was got on =
-    let was_read : Reads name before between (Ok (Some bytes)) =
-    subst (λ r. Reads name before between (Ok r)) was got in
-    comes_on name (λ b. comes (said b)) bytes.items before between after
-    (record { counts = was_read.counts; files = was_read.files; faults = was_read.read.2 })
-    (text_taken before.files name said before.reads between.reads was_read.once) was_read.read.0 was_read.read.1
-    (judged_needs name said before.files) result on
 
 -- an outcome that writes no file, at once
 pub comes_at_once : (said : Outcome) (at : Shelved) (ending : Ending) → said.written ≡ Nothing → Gives said ending
@@ -252,41 +239,41 @@ input_is (Some files) name bytes are is = by_found (file files name) is
     by_found None is = absurd is
     by_found (Some held) is = ap (λ b. Some b) (sym is)
 
+-- what is said of a file that is missing
+pub missed_so : (name : List ℕ) (before after : Shelved) (came : Result Ending Halt)
+    → IsInput before.files name None × (Rose before.faults after.faults ⊎ IsAbsent before.files name)
+    → Misses name came → IsUnread name before after came
+missed_so name before after (Ok ending) missing says = (missing.0, missing.1, says.0, says.1)
+missed_so name before after (Err halt) missing says = subst (Stops before after) (sym says) tt
+
 -- what was read, by the answer of the call that read it
-pub reads_of : (name : List ℕ) (before after : Shelved) (read : Result (Vec ℕ) ShelfErr)
-    (result : Result (Option (Vec ℕ)) Halt) → IfOk read (λ v. OfFile before.files name ⊥ (λ bytes. v.items ≡ bytes))
-    → ShelfCauses name before after read → after.files ≡ before.files → before.reads ≤ after.reads
-    → OfFile before.files name (after.reads ≡ before.reads)
-    (λ bytes. after.reads ≤ before.reads + piece_count (length bytes))
-    → IsAsRead read result → Reads name before after result
-reads_of name before after (Ok bytes) result held causes files reads pieces is =
-    subst (Reads name before after) (sym is.0) (record {
-      counts = record { faults = causes.faults; reads = reads };
-      files = files;
-      read = (input_is before.files name bytes.items is.1 held, is.1, causes.quiet);
-      once = once_of before.files name before.reads after.reads pieces;
-    })
-reads_of name before after (Err shelf.Missing) result held causes files reads pieces is =
-    subst (Reads name before after) (sym is) (record {
-      counts = record { faults = causes.faults; reads = reads };
-      files = files;
-      read = misses before.files name before.faults after.faults (causes.missing refl);
-      once = once_of before.files name before.reads after.reads pieces;
-    })
-reads_of name before after (Err shelf.Fault) result held causes files reads pieces is =
-    subst (Reads name before after) (sym is) (record {
-      counts = record { faults = causes.faults; reads = reads };
-      files = files;
-      read = causes.fault refl;
-      once = once_of before.files name before.reads after.reads pieces;
-    })
-reads_of name before after (Err shelf.NoMemory) result held causes files reads pieces is =
-    subst (Reads name before after) (sym is) (record {
-      counts = record { faults = causes.faults; reads = reads };
-      files = files;
-      read = tt;
-      once = once_of before.files name before.reads after.reads pieces;
-    })
+module _ (name : List ℕ) (before after : Shelved) (files : after.files ≡ before.files)
+    (more : before.reads ≤ after.reads)
+    (pieces : OfFile before.files name (after.reads ≡ before.reads)
+    (λ bytes. after.reads ≤ before.reads + piece_count (length bytes))) where
+  reads_so : (result : Result (Vec ℕ) (Result Ending Halt)) → before.faults ≤ after.faults
+      → Read name before after result → Reads name before after result
+  reads_so result faults read = record {
+    counts = record { faults = faults; reads = more };
+    files = files;
+    read = read;
+    once = once_of before.files name before.reads after.reads pieces;
+  }
+
+  pub reads_of : (read : Result (Vec ℕ) ShelfErr) (result : Result (Vec ℕ) (Result Ending Halt))
+      → IfOk read (λ v. OfFile before.files name ⊥ (λ bytes. v.items ≡ bytes)) → ShelfCauses name before after read
+      → IsAsRead name read result → Reads name before after result
+  reads_of (Ok bytes) result held causes is =
+      subst (Reads name before after) (sym is.0)
+      (reads_so (Ok bytes) causes.faults (input_is before.files name bytes.items is.1 held, is.1, causes.quiet))
+  reads_of (Err shelf.Missing) (Ok bytes) held causes is = absurd is
+  reads_of (Err shelf.Missing) (Err came) held causes is =
+      reads_so (Err came) causes.faults
+      (missed_so name before after came (misses before.files name before.faults after.faults (causes.missing refl)) is)
+  reads_of (Err shelf.Fault) result held causes is =
+      subst (Reads name before after) (sym is) (reads_so (Err (Err halts.Shelf)) causes.faults (causes.fault refl))
+  reads_of (Err shelf.NoMemory) result held causes is =
+      subst (Reads name before after) (sym is) (reads_so (Err (Err halts.NoMemory)) causes.faults tt)
 
 pub comes_missing : (name : List ℕ) (next : List ℕ → Plan) (before after : Shelved) (ending : Ending)
     → NoneFalls before after → TakenFrom before.files name next before.reads after.reads
@@ -318,29 +305,6 @@ comes_halted name next before after halt counts once files judged stops = record
   quiet = tt;
   few = few_stopped before.files name next before.reads after.reads once;
 }
-
--- where the one file that is read is missing
-pub comes_missed : (name : List ℕ) (said : List ℕ → Outcome) (before after : Shelved) (read : Option (Vec ℕ))
-    (result : Result Ending Halt) → read ≡ None → Reads name before after (Ok read) → Misses name result
-    → Comes (needs name (λ b. comes (said b))) before after result
-comes_missed name said before after read (Ok ending) was got gives =
-    let missed : Reads name before after (Ok None) = subst (λ r. Reads name before after (Ok r)) was got in
-    comes_missing name (λ b. comes (said b)) before after ending missed.counts
-    (text_taken before.files name said before.reads after.reads missed.once) missed.files
-    (judged_needs name said before.files) missed.read gives.0 gives.1
-comes_missed name said before after read (Err halt) was got is =
-    comes_halted name (λ b. comes (said b)) before after halt got.counts
-    (text_taken before.files name said before.reads after.reads got.once) got.files
-    (judged_needs name said before.files)
-    (subst (Stops before after) (sym is) tt)
-
-pub comes_unread : (name : List ℕ) (said : List ℕ → Outcome) (before after : Shelved) (halt : Halt)
-    → Reads name before after (Err halt) → Comes (needs name (λ b. comes (said b))) before after (Err halt)
-comes_unread name said before after halt got =
-    comes_halted name (λ b. comes (said b)) before after halt got.counts
-    (text_taken before.files name said before.reads after.reads got.once) got.files
-    (judged_needs name said before.files)
-    got.read
 
 -- ---- what opening a file answers
 
@@ -463,7 +427,7 @@ module _ (version : List ℕ → Version) (hash : List ℕ → List ℕ) (name :
 
   pub opens_bad : (fault : MapFault) (ending : Ending) →
       Answered version hash name before after (Err (errors.Map fault))
-      → Gives (ends BadMap (bad_map_line fault)) ending → Opens version hash name before after (Ok (Err ending))
+      → Gives (ends BadMap (bad_map_line fault)) ending → Opens version hash name before after (Err (Ok ending))
   opens_bad fault ending on gives next goes =
       comes_bad version hash name next before after fault ending
       (record {
@@ -476,7 +440,7 @@ module _ (version : List ℕ → Version) (hash : List ℕ → List ℕ) (name :
 
   pub opens_missing : (ending : Ending) → Answered version hash name before after (Err errors.Missing)
       → ending.status ≡ Outside → printed_of ending ≡ (says_missing name).printed
-      → Opens version hash name before after (Ok (Err ending))
+      → Opens version hash name before after (Err (Ok ending))
   opens_missing ending on status printed next goes =
       comes_missing name (λ bytes. opens (version bytes) hash bytes (given_map next)) before after ending
       (counts_of version hash name before after (Err errors.Missing) on)
@@ -486,7 +450,7 @@ module _ (version : List ℕ → Version) (hash : List ℕ → List ℕ) (name :
 
   pub opens_halted : (halt : Halt) → NoneFalls before after
       → ReadsPages name before after → after.files ≡ before.files → Stops before after halt
-      → Opens version hash name before after (Err halt)
+      → Opens version hash name before after (Err (Err halt))
   opens_halted halt counts few files stops next goes =
       comes_halted name (λ bytes. opens (version bytes) hash bytes (given_map next)) before after halt counts
       (map_taken before.files name version hash (given_map next) before.reads after.reads few) files
@@ -494,7 +458,7 @@ module _ (version : List ℕ → Version) (hash : List ℕ → List ℕ) (name :
 
   -- by its refusal
   pub opens_refused : (error : MapErr) (ending : Ending) → Answered version hash name before after (Err error)
-      → SaysRefusal name error (Ok ending) → Opens version hash name before after (Ok (Err ending))
+      → SaysRefusal name error (Ok ending) → Opens version hash name before after (Err (Ok ending))
   opens_refused (errors.Map fault) ending on says = opens_bad fault ending on says
   opens_refused errors.Missing ending on says = opens_missing ending on says.0 says.1
   opens_refused errors.Fault ending on says = absurd (cc)
@@ -502,12 +466,12 @@ module _ (version : List ℕ → Version) (hash : List ℕ → List ℕ) (name :
 
   -- memory ran out, or the shelf failed
   out : (error : MapErr) (halt : Halt) → Answered version hash name before after (Err error) → Stops before after halt
-      → Opens version hash name before after (Err halt)
+      → Opens version hash name before after (Err (Err halt))
   out error halt on stops =
       opens_halted halt (counts_of version hash name before after (Err error) on) on.5 on.3 stops
 
   pub opens_given_up : (error : MapErr) (halt : Halt) → Answered version hash name before after (Err error)
-      → SaysRefusal name error (Err halt) → Opens version hash name before after (Err halt)
+      → SaysRefusal name error (Err halt) → Opens version hash name before after (Err (Err halt))
   opens_given_up (errors.Map fault) halt on says =
       out (errors.Map fault) halt on (subst (Stops before after) (sym says) tt)
   opens_given_up errors.Missing halt on says = out errors.Missing halt on (subst (Stops before after) (sym says) tt)
@@ -516,8 +480,15 @@ module _ (version : List ℕ → Version) (hash : List ℕ → List ℕ) (name :
   opens_given_up errors.NoMemory halt on says =
       out errors.NoMemory halt on (subst (Stops before after) (sym (halt_is halt halts.NoMemory says)) tt)
 
+  -- what the command comes to without the map
+  pub opens_unopened : (error : MapErr) (came : Result Ending Halt)
+      → Answered version hash name before after (Err error) → SaysRefusal name error came
+      → Opens version hash name before after (Err came)
+  opens_unopened error (Ok ending) on says = opens_refused error ending on says
+  opens_unopened error (Err halt) on says = opens_given_up error halt on says
+
 -- a refusal that is handed on
-pub halted_is : {A : Type 0} (result : Result A Halt) (halt : Halt) → IsErrAnd result (λ h. h ≡ halt)
+pub halted_is : {A E : Type 0} (result : Result A E) (halt : E) → IsErrAnd result (λ h. h ≡ halt)
     → result ≡ Err halt
 halted_is (Ok value) halt is = absurd is
 halted_is (Err h) halt is = ap (λ x. Err x) is
@@ -587,7 +558,7 @@ module _ (v : Version) (hash : List ℕ → List ℕ) (sized : IsSized hash) (na
     );
   }
 
-  pub unsaved : (halt : Halt) → before.faults ≤ after.faults → after.reads ≡ before.reads → Stops before after halt
+  unsaved : (halt : Halt) → before.faults ≤ after.faults → after.reads ≡ before.reads → Stops before after halt
       → Leaves (MayStand (form_by v) hash tree batch) name before.files after.files
       → Saves name (map_of v hash tree batch) before after (Err halt)
   unsaved halt faults same stops left = record {
@@ -608,3 +579,11 @@ module _ (v : Version) (hash : List ℕ → List ℕ) (sized : IsSized hash) (na
       ],
     );
   }
+
+  -- by why the shelf refused
+  pub unsaved_by : (error : ShelfErr) → after.reads ≡ before.reads → SaveCauses {A = Unit} before after (Err error)
+      → Leaves (MayStand (form_by v) hash tree batch) name before.files after.files
+      → Saves name (map_of v hash tree batch) before after (Err (halt_of error))
+  unsaved_by shelf.Missing same causes left = unsaved halts.Shelf causes.faults same (causes.missing refl) left
+  unsaved_by shelf.Fault same causes left = unsaved halts.Shelf causes.faults same (causes.fault refl) left
+  unsaved_by shelf.NoMemory same causes left = unsaved halts.NoMemory causes.faults same tt left

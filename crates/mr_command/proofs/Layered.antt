@@ -9,9 +9,8 @@ use Rattle.mr_record.specs.Record.{HasLayer}
 use Rattle.mr_record.specs.Sorting.{put_in, sorted_by}
 use Rattle.mr_record.specs.declared.record.Record.{Record}
 use Rattle.mr_record.specs.declared.version.Version.{Version}
-use Rattle.mr_record.specs.declared.version.Version.TheVariants.{Two}
 use Rattle.mr_tree.specs.Tree.{records}
-use Rattle.mr_tree.specs.WellFormed.{WellFormed, HasLayers}
+use Rattle.mr_tree.specs.WellFormed.{HasLayers}
 use Rattle.mr_tree.specs.declared.tree.Tree.{Tree}
 use Rattle.mr_query.specs.Scan.{by_number}
 
@@ -35,10 +34,6 @@ pub numbered_layers : (v : Version) (rs : List Record) → All (HasLayer v) rs �
 numbered_layers v rs all =
     All-from_recursion (HasLayer v) (by_number rs)
     (sorted_each (HasLayer v) _ rs (recursion_from_All (HasLayer v) rs all))
-
--- the second version may hold any tree
-pub two_layers : (t : Tree) → WellFormed t → HasLayers Two t
-two_layers t well k d within = (well.each k d within).layer
 
 -- records in the order of a tree
 pub tree_layers : (v : Version) (rs : List Record) (t : Tree) → All (HasLayer v) rs → IsPermutation rs (records t)

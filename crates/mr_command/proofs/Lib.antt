@@ -6,6 +6,7 @@ pub mod Layered
 pub mod Plain
 pub mod Versions
 pub mod Going
+pub mod Inputs
 pub mod Rereading
 pub mod Texts
 pub mod Pages

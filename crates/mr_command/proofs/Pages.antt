@@ -1,51 +1,61 @@
 -- `prove` and `audit` on a map that is opened page by page.
-use Rattle.std.proofs.Common.{◌≡◌, ℕ, ◌+◌, ◌*◌, ◌<◌, ◌≤◌, List, length, refl, sym, ap, subst, ◌∙◌, inl, inr, arith}
+use Rattle.std.proofs.Common.{◌≡◌, ℕ, ◌+◌, ◌*◌, ◌/◌, ◌<◌, ◌≤◌, List, length, refl, sym, ap, subst, ◌∙◌, inl, inr, arith}
 use Rattle.std.specs.Prelude.{⊤, ◌⊎◌, max, ltb, Option, Some, None, IfOk, IfErr, IfSome, IsSome, OnOk, MatchOption, Result, Ok, Err}
 use Rattle.mr_outside.specs.Files.{Files, file}
 use Rattle.mr_outside.specs.Faults.{last_count}
 use Rattle.mr_outside.specs.State.{Shelved}
 use Rattle.mr_outside.specs.Told.{OfFile, OfFiles, MayMiss}
 use Rattle.mr_record.specs.Bytes.{AreBytes}
-use Rattle.mr_record.specs.declared.version.Version.TheVariants.{One}
+use Rattle.mr_outside.specs.declared.shelf.Shelf as shelves
+use Rattle.mr_record.specs.declared.version.Version.{Version}
+use Rattle.mr_record.specs.declared.version.Version.TheVariants.{One, Two}
 use Rattle.mr_tree.specs.Digest.{by}
 use Rattle.mr_tree.specs.Nodes.{Standing, HasSomeCause}
+use Rattle.mr_tree.specs.WellFormed.{HasLayers}
+use Rattle.mr_tree.specs.declared.hash.Hashes as hashes
 use Rattle.mr_tree.specs.declared.nodes.NodesErr.{NodesErr}
 use Rattle.mr_tree.specs.declared.tree.Tree.{Tree}
-use Rattle.mr_pages.specs.Law.{Agrees, IsMapFile}
-use Rattle.mr_pages.specs.Opening.{Fails, SomeBytes, Tells, pages_in as pages_read}
-use Rattle.mr_pages.specs.PageBytes.{first_form}
+use Rattle.mr_pages.specs.File.{form_at, version_of}
+use Rattle.mr_pages.specs.Law.{Agrees, IsMap, IsMapFile, map_in}
+use Rattle.mr_pages.specs.Opening.{Fails, SomeFile, Tells, pages_in}
+use Rattle.mr_pages.specs.Page.{Form}
+use Rattle.mr_pages.specs.PageBytes.{form_by, page_size}
 use Rattle.mr_pages.specs.declared.error.MapErr.{MapErr}
 use Rattle.mr_pages.specs.declared.error.MapErr.TheVariants as errors
-use Rattle.mr_pages.specs.declared.head.MapHead.{MapHead}
 use Rattle.mr_pages.specs.declared.opening.Opened.{Opened}
 use Rattle.std.proofs.lemmas.Bool.{cases_Bool, ltb-true, ltb-false}
 use Rattle.mr_pages.proofs.Agreement.{agrees}
-use Rattle.mr_pages.proofs.HeadLaws.{first_form_is}
+use Rattle.mr_pages.proofs.Answered.{form_by_is, stands_version}
 use Rattle.mr_query.specs.declared.query.Query.{Query}
 use Rattle.mr_proof.specs.Honest.{proof as honest_proof, opened}
 use Rattle.mr_prove.specs.Causes.{rounds}
 use Rattle.mr_clash.specs.Finding.{opened_accepted}
-use Rattle.mr_store.specs.Opening.{TellsMap, RefusesMap, first_pages}
-use Rattle.mr_store.specs.Stored.{ReadsFew as FewFetches, Keeps, room, stands_for, told_bytes}
-use Rattle.mr_command.specs.Counting.{pieces_of, opened_beside, IsFewOf, IsFewBeside, ReadsFew}
-use Rattle.mr_command.specs.Ending.{Comes, ComesBut, with_reads, GoesOn, HoldsMap, IsBeside, IsJudged, KeepsProof, NoneFalls, ReadsOpened, SaysRefusal, Stops}
+use Rattle.mr_pages.specs.declared.head.MapHead.{MapHead}
+use Rattle.mr_store.specs.CachedFile.{name_of, page_form}
+use Rattle.mr_store.specs.Kept.{room}
+use Rattle.mr_store.specs.Opening.{OpensMap, RefusesMap, TellsMap, page_total}
+use Rattle.mr_store.specs.Paged.{Keeps, ReadsFew as FewFetches, shelved, stands_for}
+use Rattle.mr_store.specs.Stored.{read_map, told_bytes}
+use Rattle.mr_store.specs.declared.paged.Paged.{Paged}
+use Rattle.mr_command.specs.Counting.{pieces_of, opened_beside, AllowsProve, IsFewOf, IsFewBeside, ReadsFew}
+use Rattle.mr_command.specs.Ending.{Comes, ComesAsSaid, ComesBut, with_reads, map_at, AreJudged, GivesOrStops, GoesOn, HoldsMap, IsBeside, IsJudged, KeepsProof, NoneFalls, ReadsOpened, SaysRefusal, Stops}
+use Rattle.mr_command.specs.Inputs.{HasNoProofs, IsUnprovable, WasOpened}
 use Rattle.mr_plan.specs.First.{first, first_map}
+use Rattle.mr_plan.specs.Lines.{needs_version_2_line}
 use Rattle.mr_plan.specs.Found.{as_map_error}
 use Rattle.mr_plan.specs.Outcome.{Outcome}
-use Rattle.mr_plan.specs.Plan.{Plan, comes, rereads, Input, IsInput}
-use Rattle.mr_plan.specs.Rereading.{Rereading, proving, auditing, IsRefused, MaySay}
-use Rattle.mr_plan.specs.Say.{always_first, needs_map, say_prove_of, say_written}
+use Rattle.mr_plan.specs.Plan.{Plan, comes, Input, IsInput}
+use Rattle.mr_plan.specs.Say.{at_first, ends, needs_any_map, needs_map, say_prove_of, say_written, says_missing}
+use Rattle.mr_plan.specs.Untold.{IsRefused, LacksProofs, MaySayProve}
+use Rattle.mr_plan.specs.declared.status.Status.TheVariants.{NeedsVersion2}
 use Rattle.mr_command.specs.declared.ending.Ending.{Ending}
 use Rattle.mr_command.specs.declared.ending.Halt.{Halt}
 use Rattle.mr_bundle.specs.declared.text.Text.{Text}
 use Rattle.mr_command.proofs.Counting.{AllowsFrom}
-use Rattle.mr_command.proofs.Going.{Answered, is_judged, comes_map, opens_map, opens_refused, opens_given_up, opens_halted}
-use Rattle.mr_command.proofs.Rereading.{IsBlamed, comes_but, comes_told, comes_untold, fetch_blamed, fetch_stopped, says_last, says_refused, stops_with}
+use Rattle.mr_command.proofs.Going.{Answered, is_judged, comes_given, comes_map, opens_map, opens_unopened, opens_halted, version_by}
+use Rattle.mr_command.proofs.Rereading.{IsBlamed, comes_but, comes_told, comes_untold, fetch_blamed, fetch_stopped, says_given, says_last, says_refused, stops_with}
 use Rattle.mr_command.proofs.Texts.{says_proof}
-
--- the map of a tree that stands so
-abbrev pub map_at : Standing → Tree → Opened
-map_at s t = first_map t s.batch
+use Rattle.mr_command.proofs.Versions.{in_own}
 
 -- ---- the bytes of the map's file
 
@@ -79,6 +89,16 @@ at_input told files name bytes P Q is input has =
     subst (λ o. IsInput o name (Some bytes) → OfFile o name P Q → Q bytes) (sym is)
     (λ found all. subst (λ f. MatchOption f P Q) found all) input has
 
+-- what is known of a file that is there
+there_of : (told : Option Files) (name : List ℕ) (absent : Type 0) (P : List ℕ → Type 0) → OfFile told name ⊥ P
+    → OfFile told name absent P
+there_of None name absent P has = tt
+there_of (Some files) name absent P has = by_found (file files name) has
+  where
+    by_found : (o : Option (List ℕ)) → MatchOption o ⊥ P → MatchOption o absent P
+    by_found None has = absurd has
+    by_found (Some bytes) has = has
+
 -- what is known of a file's cells
 are_of : (told : Option Files) (name : List ℕ) (P : Type 0) (Q : List ℕ → Type 0)
     → ((bytes : List ℕ) → Q bytes → AreBytes bytes) → OfFile told name P Q → OfFile told name ⊤ AreBytes
@@ -101,18 +121,13 @@ judged_of (Some files) name P all are = by_found (file files name) are
 
 -- as many reads after as before
 same_reads : (told : Option Files) (name : List ℕ) (n : ℕ)
-    → OfFile told name (n ≡ n) (λ bytes. n ≤ n + pages_read bytes)
+    → OfFile told name (n ≡ n) (λ bytes. n ≤ n + pages_in bytes)
 same_reads None name n = tt
 same_reads (Some files) name n = by_found (file files name)
   where
-    by_found : (o : Option (List ℕ)) → MatchOption o (n ≡ n) (λ bytes. n ≤ n + pages_read bytes)
+    by_found : (o : Option (List ℕ)) → MatchOption o (n ≡ n) (λ bytes. n ≤ n + pages_in bytes)
     by_found None = refl
     by_found (Some bytes) = omega arith
-
--- a store is of the first version
-pub version_first : (h : MapHead) (o : Option (List ℕ)) → (stands_for h o).version ≡ One
-version_first h None = refl
-version_first h (Some bytes) = refl
 
 err_is : (e f : MapErr) → ◌≡◌ {A = Result Opened MapErr} (Err e) (Err f) → e ≡ f
 err_is e f is = cc
@@ -121,22 +136,39 @@ err_is e f is = cc
 pub with_same : (n : ℕ) (a b : Shelved) → b.files ≡ a.files → b.faults ≡ a.faults → with_reads n b ≡ with_reads n a
 with_same n a b files faults = λ i. record { files = files i; faults = faults i; reads = n }
 
+-- what follows on a map that has proofs opens no more
+goes_first : (next : Opened → Plan) (told : Option Files) → GoesOn next told
+    → GoesOn (λ map. at_first map.version (next map)) told
+goes_first next told goes map = at map.version
+  where
+    at : (v : Version) → AreJudged (at_first v (next map)) told
+    at One = goes map
+    at Two = tt
+
+-- an opened map, by what it stands for
+pub was_opened : {S H : Type 0} {G : shelves.Ghosts S} {K : hashes.Ghosts H} (hash : List ℕ → List ℕ)
+    (name : List ℕ) (before : Shelved) (p : Paged S H G K) → OpensMap hash name before p
+    → WasOpened hash name before (shelved p) (stands_for p)
+was_opened hash name before p o =
+    record { answers = o.answers; files = o.files; quiet = o.quiet; more = o.more; reads = o.reads }
+
 module _ (hash : List ℕ → List ℕ) (sized : (xs : List ℕ) → length (hash xs) ≡ 32) (map : List ℕ)
     (before : Shelved) where
-  judged : OfFile before.files map ⊤ AreBytes → IsJudged always_first hash before.files map
+  agreed : (bytes : List ℕ) → AreBytes bytes → Agrees (form_at bytes) hash bytes
+  agreed bytes all = agrees (form_at bytes) (form_by_is (version_of bytes)) hash sized bytes all
+
+  judged : OfFile before.files map ⊤ AreBytes → IsJudged version_of hash before.files map
   judged are =
-      is_judged always_first hash before.files map
-      (judged_of before.files map (Agrees first_form hash)
-      (λ bytes all. agrees first_form first_form_is hash sized bytes all) are)
-      (λ bytes all. agrees first_form first_form_is hash sized bytes all)
+      is_judged version_of hash before.files map
+      (judged_of before.files map (λ bytes. Agrees (form_at bytes) hash bytes) agreed are) agreed
 
   -- ---- a map that is not opened
 
   module _ (after : Shelved) (e : MapErr) (r : RefusesMap hash map before after e) where
-    refused_answer : Answered always_first hash map (with_reads after.reads before) after (Err e)
+    refused_answer : Answered version_of hash map (with_reads after.reads before) after (Err e)
     refused_answer = (
       r.answers,
-      r.some,
+      in_own hash (Err e) (λ v bytes t b. stands_version v hash bytes t b) r.some,
       record {
         missing = λ is. r.why.missing (err_is e errors.Missing is);
         fault = λ is. r.why.failed (err_is e errors.Fault is);
@@ -149,18 +181,14 @@ module _ (hash : List ℕ → List ℕ) (sized : (xs : List ℕ) → length (has
     )
 
     are_there : OfFile before.files map ⊤ AreBytes
-    are_there = are_of before.files map (Fails (Err e)) (λ bytes. Tells first_form hash bytes (Err e))
+    are_there = are_of before.files map (Fails (Err e)) (λ bytes. Tells (form_at bytes) hash bytes (Err e))
         (λ bytes tells. tells.are) r.answers
 
     -- over files that are told, what follows on a map is not reached
-    pub refused_told : (next : Opened → Plan) → GoesOn next before.files → (files : Files) → before.files ≡ Some files
-        → (result : Result Ending Halt) → SaysRefusal map e result
-        → ComesBut (needs_map hash map next) before after result
-    refused_told next goes files told (Ok ending) says =
-        opens_refused always_first hash map (with_reads after.reads before) after (judged are_there) e ending
-        refused_answer says next goes
-    refused_told next goes files told (Err halt) says =
-        opens_given_up always_first hash map (with_reads after.reads before) after (judged are_there) e halt
+    pub refused_told : (next : Opened → Plan) → GoesOn next before.files → (result : Result Ending Halt)
+        → SaysRefusal map e result → ComesBut (needs_any_map hash map next) before after result
+    refused_told next goes result says =
+        opens_unopened version_of hash map (with_reads after.reads before) after (judged are_there) e result
         refused_answer says next goes
 
     -- over others each cause is outside
@@ -169,7 +197,7 @@ module _ (hash : List ℕ → List ℕ) (sized : (xs : List ℕ) → length (has
       missing = λ is. subst (λ o. MayMiss o map before.faults after.faults) none (r.why.missing is);
       fault = r.why.failed;
       map = λ f is. (
-        inl (subst (λ (x : MapErr). SomeBytes first_form hash (Err x)) is r.some),
+        inl (subst (λ (x : MapErr). SomeFile hash (Err x)) is r.some),
         elim r.why.quiet [
           | inl same ↦ same
           | inr fails ↦ absurd (subst (λ (x : MapErr). Fails (Err x)) is fails)
@@ -177,22 +205,22 @@ module _ (hash : List ℕ → List ℕ) (sized : (xs : List ℕ) → length (has
       );
     }
 
-    pub refused : (reading : Rereading) (next : Opened → Plan) → GoesOn next before.files
-        → ((said : Outcome) → IsRefused hash map said → MaySay reading said)
-        → ReadsFew (rereads reading (needs_map hash map next)) before after
-        → (result : Result Ending Halt) → SaysRefusal map e result
-        → Comes (rereads reading (needs_map hash map next)) before after result
-    refused reading next goes may few result says = by_files before.files refl
+    pub refused : (may_say : Outcome → Type 0) (allows : Files → ℕ → Type 0) (next : Opened → Plan)
+        → GoesOn next before.files → ((said : Outcome) → IsRefused hash map said → may_say said)
+        → ReadsFew allows before after → (result : Result Ending Halt) → SaysRefusal map e result
+        → ComesAsSaid (needs_any_map hash map next) may_say allows before after result
+    refused may_say allows next goes may few result says = by_files before.files refl
       where
         by_files : (o : Option Files) → before.files ≡ o
-            → Comes (rereads reading (needs_map hash map next)) before after result
+            → ComesAsSaid (needs_any_map hash map next) may_say allows before after result
         by_files None none =
-            comes_untold reading (needs_map hash map next) before after none result
+            comes_untold (needs_any_map hash map next) may_say allows before after none
+            (says_missing map, may (says_missing map) (inl refl)) result
             (record { faults = r.later; reads = r.more })
-            (says_refused hash reading map may before after r.files e result (refused_blamed none) says)
+            (says_refused hash may_say map may before after r.files e result (refused_blamed none) says)
         by_files (Some files) told =
-            comes_told reading (needs_map hash map next) before after files told result r.more few
-            (refused_told next goes files told result says)
+            comes_told (needs_any_map hash map next) may_say allows before after files told result r.more few
+            (refused_told next goes result says)
 
   -- ---- a map that is opened
 
@@ -202,171 +230,257 @@ module _ (hash : List ℕ → List ℕ) (sized : (xs : List ℕ) → length (has
     pub told : s.tree ≡ Some tree
     pub bytes : List ℕ
     pub input : IsInput before.files map (Some bytes)
-    pub stands : IsMapFile hash bytes (first_map tree s.batch)
-    pub holds : (n : ℕ) → HoldsMap always_first hash map (with_reads n before) (with_reads n after)
-        (first_map tree s.batch)
+    -- it is read in the version that its bytes tell
+    pub own : version_of bytes ≡ s.version
+    pub stands : IsMapFile hash bytes (map_at s tree)
+    pub holds : (n : ℕ) → HoldsMap version_of hash map (with_reads n before) (with_reads n after) (map_at s tree)
 
-  module _ (s : Standing) (after : Shelved) (same : after.files ≡ before.files)
-      (quiet : after.faults ≡ before.faults) (answers : OfFile before.files map ⊥ (TellsMap hash s)) where
+  module _ (s : Standing) (after : Shelved) (w : WasOpened hash map before after s) where
     are_opened : OfFile before.files map ⊤ AreBytes
-    are_opened = are_of before.files map ⊥ (TellsMap hash s) (λ bytes tells. tells.2.are) answers
+    are_opened = are_of before.files map ⊥ (λ bytes. TellsMap (form_at bytes) hash s bytes)
+        (λ bytes tells. tells.2.are) w.answers
 
     pub has_map : (files : Files) → before.files ≡ Some files → HasMap s after
     has_map files told =
-        let there = file_has before.files files map (TellsMap hash s) told answers in
-        let m : Opened = first_map there.has.0 s.batch in
-        let tells : Tells first_form hash there.bytes (Ok m) = there.has.2 in
+        let there = file_has before.files files map (λ bytes. TellsMap (form_at bytes) hash s bytes) told w.answers in
+        let t = there.has.0 in
+        let m : Opened = map_at s t in
+        let tells : Tells (form_at there.bytes) hash there.bytes (Ok m) = there.has.2 in
+        let own : version_of there.bytes ≡ s.version =
+        sym (tells.answers.0 ∙ version_by (version_of there.bytes)) in
+        let is : IsMapFile hash there.bytes m =
+        subst (λ v. IsMap (form_by v) hash there.bytes t s.batch) own tells.answers.1 in
         record {
-          tree = there.has.0;
+          tree = t;
           told = there.has.1;
           bytes = there.bytes;
           input = there.input;
-          stands = tells.answers.1;
+          own = own;
+          stands = is;
           holds = λ n.
-              opens_map always_first hash map (with_reads n before) (with_reads n after) (judged are_opened) m (
-                of_input before.files files map there.bytes (Fails (Ok m)) (λ bytes. Tells first_form hash bytes (Ok m))
-                    told there.input tells,
+              opens_map version_of hash map (with_reads n before) (with_reads n after) (judged are_opened) m (
+                of_input before.files files map there.bytes (Fails (Ok m))
+                    (λ bytes. Tells (form_at bytes) hash bytes (Ok m)) told there.input tells,
                 (there.bytes, tells.are, tells.answers),
                 record {
                   missing = λ is. absurd (cc);
                   fault = λ is. absurd (cc);
-                  faults = omega (arith, quiet);
-                  quiet = inl quiet;
+                  faults = omega (arith, w.quiet);
+                  quiet = inl w.quiet;
                 },
-                same,
+                w.files,
                 omega arith,
                 same_reads before.files map n,
-              ) tells.answers.1.well tells.answers.1.layers tells.answers.1.stands.batch_fits;
+              ) is.well (subst (λ v. HasLayers v t) (version_by s.version) is.layers) is.stands.batch_fits;
         }
 
     module _ (next : Opened → Plan) (goes : GoesOn next before.files) where
       -- what follows on the map
       pub told_on : (has : HasMap s after) (later : Shelved) (result : Result Ending Halt)
-          → Comes (next (first_map has.tree s.batch)) (with_reads later.reads after) later result
-          → ComesBut (needs_map hash map next) before later result
+          → Comes (next (map_at s has.tree)) (with_reads later.reads after) later result
+          → ComesBut (needs_any_map hash map next) before later result
       told_on has later result on =
-          comes_map always_first hash map next (with_reads later.reads before) (with_reads later.reads after) later
-          (first_map has.tree s.batch) result (has.holds later.reads) goes on
+          comes_map version_of hash map next (with_reads later.reads before) (with_reads later.reads after) later
+          (map_at s has.tree) result (has.holds later.reads) goes on
 
       -- the store or memory failed
       pub told_halted : (later : Shelved) (halt : Halt) → later.files ≡ after.files → before.faults ≤ later.faults
-          → Stops before later halt → ComesBut (needs_map hash map next) before later (Err halt)
+          → Stops before later halt → ComesBut (needs_any_map hash map next) before later (Err halt)
       told_halted later halt kept faults stops =
-          opens_halted always_first hash map (with_reads later.reads before) later (judged are_opened) halt
-          (record { faults = faults; reads = omega arith }) (same_reads before.files map later.reads) (kept ∙ same)
-          (stops_with later.reads before later halt stops) next goes
+          opens_halted version_of hash map (with_reads later.reads before) later (judged are_opened) halt
+          (record { faults = faults; reads = omega arith }) (same_reads before.files map later.reads)
+          (kept ∙ w.files) (stops_with later.reads before later halt stops) next goes
+
+    -- what follows on a map that has proofs
+    module _ (next : Opened → Plan) (goes : GoesOn next before.files) where
+      pub first_on : s.version ≡ One → (has : HasMap s after) (later : Shelved) (result : Result Ending Halt)
+          → Comes (next (map_at s has.tree)) (with_reads later.reads after) later result
+          → ComesBut (needs_map hash map next) before later result
+      first_on first_is has later result on =
+          told_on (λ m. at_first m.version (next m)) (goes_first next before.files goes) has later result
+          (subst (λ v. Comes (at_first v (next (map_at s has.tree))) (with_reads later.reads after) later result)
+          (sym first_is) on)
+
+      pub first_halted : (later : Shelved) (halt : Halt) → later.files ≡ after.files → before.faults ≤ later.faults
+          → Stops before later halt → ComesBut (needs_map hash map next) before later (Err halt)
+      first_halted =
+          told_halted (λ m. at_first m.version (next m)) (goes_first next before.files goes)
+
+      -- of a map of the second version it is said that it has none
+      second_on : s.version ≡ Two → (has : HasMap s after) (result : Result Ending Halt)
+          → GivesOrStops (ends NeedsVersion2 needs_version_2_line) result
+          → ComesBut (needs_map hash map next) before after result
+      second_on second has result gives =
+          let said = ends NeedsVersion2 needs_version_2_line in
+          told_on (λ m. at_first m.version (next m)) (goes_first next before.files goes) has after result
+          (subst (λ v. Comes (at_first v (next (map_at s has.tree))) (with_reads after.reads after) after result)
+          (sym second)
+          (comes_but said after after result (comes_given said after result refl gives)))
+
+  -- no map is opened that has proofs
+  module _ (may_say : Outcome → Type 0) (allows : Files → ℕ → Type 0) (next : Opened → Plan)
+      (goes : GoesOn next before.files) (refused_may : (said : Outcome) → IsRefused hash map said → may_say said)
+      (lacks_may : (said : Outcome) → LacksProofs said → may_say said) (after : Shelved)
+      (result : Result Ending Halt) where
+    lacking : HasNoProofs hash map before after result → ReadsFew allows before after
+        → ComesAsSaid (needs_map hash map next) may_say allows before after result
+    lacking is few = by_files before.files refl
+      where
+        said : Outcome
+        said = ends NeedsVersion2 needs_version_2_line
+
+        counts : NoneFalls before after
+        counts = record { faults = omega (arith, is.opened.quiet); reads = is.opened.more }
+
+        by_files : (o : Option Files) → before.files ≡ o
+            → ComesAsSaid (needs_map hash map next) may_say allows before after result
+        by_files None none =
+            comes_untold (needs_map hash map next) may_say allows before after none (said, lacks_may said refl) result
+            counts
+            (says_given may_say said before after (lacks_may said refl) refl is.opened.files is.opened.quiet result
+            is.says)
+        by_files (Some files) told =
+            comes_told (needs_map hash map next) may_say allows before after files told result is.opened.more few
+            (second_on is.stands after is.opened next goes is.second
+            (has_map is.stands after is.opened files told) result is.says)
+
+    pub unprovable : IsUnprovable hash map before after result
+        → (OfFile before.files map (after.reads ≡ before.reads) (λ bytes. after.reads ≤ before.reads + pages_in bytes)
+        → ReadsFew allows before after)
+        → ComesAsSaid (needs_map hash map next) may_say allows before after result
+    unprovable (inl is) few =
+        refused after is.error is.refuses may_say allows (λ m. at_first m.version (next m))
+        (goes_first next before.files goes) refused_may (few is.refuses.reads) result is.says
+    unprovable (inr is) few =
+        lacking is (few (there_of before.files map (after.reads ≡ before.reads)
+        (λ bytes. after.reads ≤ before.reads + pages_in bytes) is.opened.reads))
 
 -- ---- how many reads
 
+-- a tree is told only where files are
+pub files_told : {S H : Type 0} {G : shelves.Ghosts S} {K : hashes.Ghosts H} (p : Paged S H G K)
+    → IsSome (stands_for p).tree → IsSome (shelved p).files
+files_told p = at (page_form p.file) p.head (shelved p).files (name_of p.file)
+  where
+    not_some : IsSome {T = Tree} None → ⊥
+    not_some e = cc
+
+    at : (form : Form) (h : MapHead) (o : Option Files) (name : List ℕ)
+        → IsSome (read_map form h (told_bytes o name)).tree → IsSome o
+    at form h None name told = absurd (not_some told)
+    at form h (Some files) name told = refl
+
+-- in version 1 the pages that are read are those that there are
+pub pages_there : (bytes : List ℕ) (pages : ℕ) → version_of bytes ≡ One → pages ≡ page_total bytes
+    → pages ≡ pages_in bytes
+pages_there bytes pages own all =
+    let size : (form_at bytes).size ≡ page_size = ap (λ v. (form_by v).size) own in
+    let total : pages ≡ length bytes / page_size = all ∙ ap (λ n. length bytes / n) size in
+    let same : length bytes / (form_at bytes).size ≡ length bytes / page_size = ap (λ n. length bytes / n) size in
+    omega (arith, total, same)
+
+module _ {S H : Type 0} {G : shelves.Ghosts S} {K : hashes.Ghosts H} (hash : List ℕ → List ℕ)
+    (sized : (xs : List ℕ) → length (hash xs) ≡ 32) (map : List ℕ) (before : Shelved) (p : Paged S H G K)
+    (o : OpensMap hash map before p) (first_is : (stands_for p).version ≡ One) where
+  -- what is known of the reads of a map of version 1 where its file is told
+  pub record IsCounted (t : Tree) (bytes : List ℕ) : Type 0 where
+    pub stands : IsMapFile hash bytes (first_map t (stands_for p).batch)
+    pub pages : p.head.pages ≡ pages_in bytes
+    pub few : (shelved p).reads ≤ before.reads + pages_in bytes
+
+  pub counted : (files : Files) → before.files ≡ Some files
+      → (has : HasMap hash sized map before (stands_for p) (shelved p)) → IsCounted has.tree has.bytes
+  counted files told has = record {
+    stands = subst (λ v. IsMapFile hash has.bytes (map_in v has.tree (stands_for p).batch)) first_is has.stands;
+    pages = pages_there has.bytes p.head.pages (has.own ∙ first_is)
+        (at_input before.files files map has.bytes ⊥ (λ bytes. p.head.pages ≡ page_total bytes) told has.input o.pages);
+    few = at_input before.files files map has.bytes ⊥ (λ bytes. (shelved p).reads ≤ before.reads + pages_in bytes) told
+        has.input o.reads;
+  }
+
 -- so few where a map is opened and its nodes are fetched for a proof
-few_pages : (hash : List ℕ → List ℕ) (q : Query) (h : MapHead) (bytes : List ℕ) (r m e f : ℕ) (t : Tree) (batch : ℕ)
-    → IsMapFile hash bytes (first_map t batch) → h.pages ≡ first_pages bytes → m ≤ r + first_pages bytes
-    → (h.pages ≤ room + 1 → e ≡ m) → FewFetches m 0 e f → e ≤ max m last_count
+few_pages : (hash : List ℕ → List ℕ) (q : Query) (pages : ℕ) (bytes : List ℕ) (r m e f : ℕ) (t : Tree) (batch : ℕ)
+    → IsMapFile hash bytes (first_map t batch) → pages ≡ pages_in bytes → m ≤ r + pages_in bytes
+    → (pages ≤ room + 1 → e ≡ m) → FewFetches m 0 e f → e ≤ max m last_count
     → f ≤ 0 + rounds q * opened (first hash) t q → (n : ℕ) × (e ≤ r + n) × IsFewOf hash q bytes n
-few_pages hash q h bytes r m e f t batch stands pages few still fetched most bound =
-    let all : ℕ = first_pages bytes + rounds q * opened (first hash) t q in
-    elim (cases_Bool (ltb (room + 1) h.pages)) [
+few_pages hash q pages bytes r m e f t batch stands pages_are few still fetched most bound =
+    let all : ℕ = pages_in bytes + rounds q * opened (first hash) t q in
+    elim (cases_Bool (ltb (room + 1) pages)) [
       | inl large ↦ (
         all,
         elim fetched [
           | inl each ↦ omega (arith, few, each, bound)
           | inr last ↦ omega (arith, few, last, most, bound)
         ],
-        inr (subst (λ n. room + 1 < n) pages (ltb-true (room + 1) h.pages large), (t, batch, stands, omega arith)),
+        inr (subst (λ n. room + 1 < n) pages_are (ltb-true (room + 1) pages large), (t, batch, stands, omega arith)),
       )
       | inr small ↦
-          (first_pages bytes, omega (arith, few, still (ltb-false (room + 1) h.pages small)), inl (omega arith))
+          (pages_in bytes, omega (arith, few, still (ltb-false (room + 1) pages small)), inl (omega arith))
     ]
 
 -- the same beside a proof, whose pieces come on top
-pub few_beside : (hash : List ℕ → List ℕ) (q : Query) (h : MapHead) (bytes : List ℕ) (proof : Input) (r m e : ℕ)
-    (t : Tree) (batch : ℕ) → IsMapFile hash bytes (first_map t batch) → h.pages ≡ first_pages bytes
-    → m ≤ r + first_pages bytes → IsBeside hash t batch q h.pages proof m e
+pub few_beside : (hash : List ℕ → List ℕ) (q : Query) (pages : ℕ) (bytes : List ℕ) (proof : Input) (r m e : ℕ)
+    (t : Tree) (batch : ℕ) → IsMapFile hash bytes (first_map t batch) → pages ≡ pages_in bytes
+    → m ≤ r + pages_in bytes → IsBeside hash t batch q pages proof m e
     → (n : ℕ) × (e ≤ r + n) × IsFewBeside hash q bytes proof n
-few_beside hash q h bytes proof r m e t batch stands pages few (inl small) = (
-  first_pages bytes + pieces_of proof,
+few_beside hash q pages bytes proof r m e t batch stands pages_are few (inl small) = (
+  pages_in bytes + pieces_of proof,
   omega (arith, few, small),
   inr (t, batch, stands, inl (omega arith)),
 )
-few_beside hash q h bytes proof r m e t batch stands pages few (inr large) =
-    let all : ℕ = first_pages bytes + pieces_of proof + opened_beside hash t batch q proof in (
+few_beside hash q pages bytes proof r m e t batch stands pages_are few (inr large) =
+    let all : ℕ = pages_in bytes + pieces_of proof + opened_beside hash t batch q proof in (
       all,
       omega (arith, few, large.1),
-      inr (t, batch, stands, inr (subst (λ n. room + 1 < n) pages large.0, omega arith)),
+      inr (t, batch, stands, inr (subst (λ n. room + 1 < n) pages_are large.0, omega arith)),
     )
 
 -- how many reads the fetches of an audit take
-pub reads_opened : (hash : List ℕ → List ℕ) (q : Query) (bytes : List ℕ) (s : Standing) (n n' : List ℕ)
-    (h h' : MapHead) (old new : Shelved) (f0 f : ℕ) → s.version ≡ One → (IsSome s.tree → IsSome old.files)
-    → Keeps n n' h h' old new f0 f
-    → IfSome s.tree (λ t. f ≤ f0 + opened_accepted (by s.version hash) t s.batch q bytes) → f0 ≡ 0
-    → ReadsOpened hash q s h.pages bytes old new
-reads_opened hash q bytes s n n' h h' old new f0 f first_is told kept fetched none = by_tree s.tree refl fetched
+pub reads_opened : {S H : Type 0} {G : shelves.Ghosts S} {K : hashes.Ghosts H} (hash : List ℕ → List ℕ) (q : Query)
+    (bytes : List ℕ) (p p' : Paged S H G K) → (stands_for p).version ≡ One → Keeps p p'
+    → IfSome (stands_for p).tree
+    (λ t. p'.fetches ≤ p.fetches + opened_accepted (by (stands_for p).version hash) t (stands_for p).batch q bytes)
+    → p.fetches ≡ 0 → ReadsOpened hash q (stands_for p) p.head.pages bytes (shelved p) (shelved p')
+reads_opened hash q bytes p p' first_is kept fetched none = by_tree (stands_for p).tree refl fetched
   where
-    few : (t : Tree) → IsSome old.files → f ≤ f0 + opened_accepted (first hash) t s.batch q bytes
-        → (new.reads ≡ old.reads) ⊎ ((room + 1 < h.pages)
-        × (new.reads ≤ old.reads + opened_accepted (first hash) t s.batch q bytes))
-    few t there bound = elim (cases_Bool (ltb (room + 1) h.pages)) [
+    batch : ℕ
+    batch = (stands_for p).batch
+
+    few : (t : Tree) → IsSome (shelved p).files → p'.fetches ≤ p.fetches + opened_accepted (first hash) t batch q bytes
+        → ((shelved p').reads ≡ (shelved p).reads) ⊎ ((room + 1 < p.head.pages)
+        × ((shelved p').reads ≤ (shelved p).reads + opened_accepted (first hash) t batch q bytes))
+    few t there bound = elim (cases_Bool (ltb (room + 1) p.head.pages)) [
       | inl large ↦ inr (
-        ltb-true (room + 1) h.pages large,
+        ltb-true (room + 1) p.head.pages large,
         elim kept.few [
           | inl each ↦ omega (arith, each, bound, none)
           | inr last ↦ omega (arith, last, kept.most, bound, none)
         ],
       )
-      | inr small ↦ inl (kept.still there (ltb-false (room + 1) h.pages small))
+      | inr small ↦ inl (kept.still there (ltb-false (room + 1) p.head.pages small))
     ]
 
-    by_tree : (o : Option Tree) → s.tree ≡ o
-        → IfSome o (λ t. f ≤ f0 + opened_accepted (by s.version hash) t s.batch q bytes)
-        → IfSome o (λ t. (new.reads ≡ old.reads) ⊎ ((room + 1 < h.pages)
-        × (new.reads ≤ old.reads + opened_accepted (first hash) t s.batch q bytes)))
+    by_tree : (o : Option Tree) → (stands_for p).tree ≡ o
+        → IfSome o (λ t. p'.fetches ≤ p.fetches + opened_accepted (by (stands_for p).version hash) t batch q bytes)
+        → IfSome o (λ t. ((shelved p').reads ≡ (shelved p).reads) ⊎ ((room + 1 < p.head.pages)
+        × ((shelved p').reads ≤ (shelved p).reads + opened_accepted (first hash) t batch q bytes)))
     by_tree None is bound = tt
     by_tree (Some t) is bound =
-        few t (told (subst IsSome (sym is) refl))
-        (subst (λ v. f ≤ f0 + opened_accepted (by v hash) t s.batch q bytes) first_is bound)
-
--- a tree is told only where files are
-pub files_told : (h : MapHead) (o : Option Files) (name : List ℕ) → IsSome (stands_for h (told_bytes o name)).tree
-    → IsSome o
-files_told h None name told = absurd (not_some told)
-  where
-    not_some : IsSome {T = Tree} None → ⊥
-    not_some e = cc
-files_told h (Some files) name told = refl
+        few t (files_told p (subst IsSome (sym is) refl))
+        (subst (λ v. p'.fetches ≤ p.fetches + opened_accepted (by v hash) t batch q bytes) first_is bound)
 
 -- where it is not opened
-pub few_refused : (told : Option Files) (name : List ℕ) (r e : ℕ) (P : List ℕ → ℕ → Type 0)
-    → ((bytes : List ℕ) → P bytes (first_pages bytes))
-    → OfFile told name (e ≡ r) (λ bytes. e ≤ r + first_pages bytes)
-    → OfFiles told (λ files. (n : ℕ) × (e ≤ r + n) × MatchOption (file files name) (n ≡ 0) (λ bytes. P bytes n))
+pub few_refused : (told : Option Files) (name : List ℕ) (r e : ℕ) (P : Files → List ℕ → ℕ → Type 0)
+    → ((files : Files) (bytes : List ℕ) → P files bytes (pages_in bytes))
+    → OfFile told name (e ≡ r) (λ bytes. e ≤ r + pages_in bytes)
+    → OfFiles told (λ files. (n : ℕ) × (e ≤ r + n) × MatchOption (file files name) (n ≡ 0) (λ bytes. P files bytes n))
 few_refused None name r e P all few = tt
 few_refused (Some files) name r e P all few = by_found (file files name) few
   where
-    by_found : (o : Option (List ℕ)) → MatchOption o (e ≡ r) (λ bytes. e ≤ r + first_pages bytes)
-        → (n : ℕ) × (e ≤ r + n) × MatchOption o (n ≡ 0) (λ bytes. P bytes n)
+    by_found : (o : Option (List ℕ)) → MatchOption o (e ≡ r) (λ bytes. e ≤ r + pages_in bytes)
+        → (n : ℕ) × (e ≤ r + n) × MatchOption o (n ≡ 0) (λ bytes. P files bytes n)
     by_found None same = (0, omega (arith, same), refl)
-    by_found (Some bytes) few = (first_pages bytes, few, all bytes)
-
-pub proving_refused : (hash : List ℕ → List ℕ) (map : List ℕ) (q : Query) (proof : List ℕ) (next : Plan)
-    (before after : Shelved) (e : MapErr) → RefusesMap hash map before after e
-    → ReadsFew (rereads (proving hash map q proof) next) before after
-proving_refused hash map q proof next before after e r =
-    few_refused before.files map before.reads after.reads (λ bytes n. IsFewOf hash q bytes n)
-    (λ bytes. inl (omega arith)) r.reads
-
-pub auditing_refused : (hash : List ℕ → List ℕ) (map : List ℕ) (q : Query) (proof : List ℕ) (next : Plan)
-    (before after : Shelved) (e : MapErr) → RefusesMap hash map before after e
-    → ReadsFew (rereads (auditing hash map q proof) next) before after
-auditing_refused hash map q proof next before after e r = by_told before.files r.reads
-  where
-    by_told : (o : Option Files)
-        → OfFile o map (after.reads ≡ before.reads) (λ bytes. after.reads ≤ before.reads + first_pages bytes)
-        → AllowsFrom o (rereads (auditing hash map q proof) next) before.reads after.reads
-    by_told None few = tt
-    by_told (Some files) few =
-        few_refused (Some files) map before.reads after.reads (λ bytes n. IsFewBeside hash q bytes (file files proof) n)
-        (λ bytes. inl (omega arith)) few
+    by_found (Some bytes) few = (pages_in bytes, few, all files bytes)
 
 -- the count over the bytes that are there
 pub few_there : (told : Option Files) (files : Files) (name bytes : List ℕ) (r e : ℕ) (P : Files → List ℕ → ℕ → Type 0)
@@ -387,95 +501,120 @@ unread_of told files said r t is few more =
 
 -- ---- a proof that is made
 
-module _ (hash : List ℕ → List ℕ) (sized : (xs : List ℕ) → length (hash xs) ≡ 32) (map : List ℕ) (q : Query)
-    (proof n n' : List ℕ) (before mid end after : Shelved) (s : Standing) (h h' : MapHead) (f0 f : ℕ) (none : f0 ≡ 0)
-    (first_is : s.version ≡ One) (same : mid.files ≡ before.files) (quiet : mid.faults ≡ before.faults)
-    (more : before.reads ≤ mid.reads) (answers : OfFile before.files map ⊥ (TellsMap hash s))
-    (pages : OfFile before.files map ⊥ (λ bytes. h.pages ≡ first_pages bytes))
-    (few : OfFile before.files map ⊥ (λ bytes. mid.reads ≤ before.reads + first_pages bytes))
-    (kept : Keeps n n' h h' mid end f0 f)
-    (fetched : IfSome s.tree (λ t. f ≤ f0 + rounds q * opened (by s.version hash) t q)) where
+pub proving_unopened : (hash : List ℕ → List ℕ) (map : List ℕ) (q : Query) (before after : Shelved)
+    → OfFile before.files map (after.reads ≡ before.reads) (λ bytes. after.reads ≤ before.reads + pages_in bytes)
+    → ReadsFew (AllowsProve hash map q) before after
+proving_unopened hash map q before after few =
+    few_refused before.files map before.reads after.reads (λ files bytes n. IsFewOf hash q bytes n)
+    (λ files bytes. inl (omega arith)) few
+
+module _ {S H : Type 0} {G : shelves.Ghosts S} {K : hashes.Ghosts H} (hash : List ℕ → List ℕ)
+    (sized : (xs : List ℕ) → length (hash xs) ≡ 32) (map : List ℕ) (q : Query) (proof : List ℕ)
+    (before after : Shelved) (p p' : Paged S H G K) (o : OpensMap hash map before p)
+    (first_is : (stands_for p).version ≡ One) (kept : Keeps p p')
+    (fetched : IfSome (stands_for p).tree
+    (λ t. p'.fetches ≤ p.fetches + rounds q * opened (by (stands_for p).version hash) t q)) where
   abbrev on_map : Opened → Plan
   on_map m = comes (say_prove_of hash q proof m)
+
+  abbrev plan : Plan
+  plan = needs_map hash map on_map
+
+  abbrev may : Outcome → Type 0
+  may = MaySayProve hash map proof
+
+  abbrev allows : Files → ℕ → Type 0
+  allows = AllowsProve hash map q
+
+  abbrev s : Standing
+  s = stands_for p
+
+  abbrev mid : Shelved
+  mid = shelved p
+
+  abbrev end : Shelved
+  end = shelved p'
+
+  w : WasOpened hash map before mid s
+  w = was_opened hash map before p o
 
   -- the reads, as nothing is read for the output
   few_proved : after.reads ≡ end.reads → (files : Files) → before.files ≡ Some files
       → HasMap hash sized map before s mid
-      → ReadsFew (rereads (proving hash map q proof) (needs_map hash map on_map)) before after
+      → ReadsFew allows before after
   few_proved unread files told has =
-      let pages_are = at_input before.files files map has.bytes ⊥ (λ bytes. h.pages ≡ first_pages bytes) told has.input
-      pages in
-      let few_are = at_input before.files files map has.bytes ⊥ (λ bytes. mid.reads ≤ before.reads + first_pages bytes)
-      told has.input few in
-      let bound = subst (λ o. IfSome o (λ t. f ≤ f0 + rounds q * opened (by s.version hash) t q)) has.told fetched in
+      let is = counted hash sized map before p o first_is files told has in
+      let bound = subst (λ o. IfSome o (λ t. p'.fetches ≤ p.fetches + rounds q * opened (by s.version hash) t q))
+      has.told fetched in
       few_there before.files files map has.bytes before.reads after.reads (λ files bytes n. IsFewOf hash q bytes n) told
       has.input
       (subst (λ e. (n : ℕ) × (e ≤ before.reads + n) × IsFewOf hash q has.bytes n) (sym unread)
-      (few_pages hash q h has.bytes before.reads mid.reads end.reads f has.tree s.batch has.stands pages_are few_are
-      (λ small. kept.still (subst IsSome (sym (same ∙ told)) refl) small)
-      (subst (λ x. FewFetches mid.reads x end.reads f) none kept.few) kept.most
-      (subst (λ x. f ≤ x + rounds q * opened (first hash) has.tree q) none
-      (subst (λ v. f ≤ f0 + rounds q * opened (by v hash) has.tree q) first_is bound))))
+      (few_pages hash q p.head.pages has.bytes before.reads mid.reads end.reads p'.fetches has.tree s.batch is.stands
+      is.pages is.few
+      (λ small. kept.still (subst IsSome (sym (o.files ∙ told)) refl) small)
+      (subst (λ x. FewFetches mid.reads x end.reads p'.fetches) o.none kept.few) kept.most
+      (subst (λ x. p'.fetches ≤ x + rounds q * opened (first hash) has.tree q) o.none
+      (subst (λ v. p'.fetches ≤ p.fetches + rounds q * opened (by v hash) has.tree q) first_is bound))))
 
   pub proved : (made : Result Text NodesErr) (result : Result Ending Halt)
       → IfSome s.tree (λ t. IfOk made (λ text. text.bytes.items ≡ honest_proof (by s.version hash) t s.batch q))
       → IfErr made (HasSomeCause s mid.faults end.faults) → OnOk made (end.faults ≡ mid.faults)
       → KeepsProof map proof made end after result
-      → Comes (rereads (proving hash map q proof) (needs_map hash map on_map)) before after result
+      → ComesAsSaid plan may allows before after result
   proved (Ok text) result written cause calm keeps = by_files before.files refl
     where
       counts : NoneFalls before after
       counts = record {
-        faults = omega (arith, quiet, kept.faults, keeps.counts.faults);
-        reads = omega (arith, more, kept.reads, keeps.counts.reads);
+        faults = omega (arith, o.quiet, kept.faults, keeps.counts.faults);
+        reads = omega (arith, o.more, kept.reads, keeps.counts.reads);
       }
 
-      by_files : (o : Option Files) → before.files ≡ o
-          → Comes (rereads (proving hash map q proof) (needs_map hash map on_map)) before after result
+      by_files : (f : Option Files) → before.files ≡ f
+          → ComesAsSaid plan may allows before after result
       by_files None none =
-          comes_untold (proving hash map q proof) (needs_map hash map on_map) before after none result counts
-          (says_last (proving hash map q proof) (say_written proof text.bytes.items) before end after result
-          (inr (text.bytes.items, refl)) none (kept.files ∙ same) (calm ∙ quiet) keeps)
+          comes_untold plan may allows before after none (says_missing map, inl (inl refl)) result counts
+          (says_last may (say_written proof text.bytes.items) before end after result
+          (inr (inr (text.bytes.items, refl))) none (kept.files ∙ o.files) (calm ∙ o.quiet) keeps)
       by_files (Some files) told =
-          let has = has_map hash sized map before s mid same quiet answers files told in
-          let m : Opened = first_map has.tree s.batch in
+          let has = has_map hash sized map before s mid w files told in
+          let m : Opened = map_at s has.tree in
           let own = subst (λ o. IfSome o (λ t. text.bytes.items ≡ honest_proof (by s.version hash) t s.batch q))
           has.told written in
           let own_first : text.bytes.items ≡ honest_proof (first hash) has.tree s.batch q =
           subst (λ v. text.bytes.items ≡ honest_proof (by v hash) has.tree s.batch q) first_is own in
           let said = say_written proof text.bytes.items in
-          let unread = unread_of end.files files said end.reads after.reads (kept.files ∙ same ∙ told) keeps.few
+          let unread = unread_of end.files files said end.reads after.reads (kept.files ∙ o.files ∙ told) keeps.few
           keeps.counts.reads in
-          comes_told (proving hash map q proof) (needs_map hash map on_map) before after files told result counts.reads
+          comes_told plan may allows before after files told result counts.reads
           (few_proved unread files told has)
-          (told_on hash sized map before s mid same quiet answers on_map (λ m. tt) has after result
+          (first_on hash sized map before s mid w on_map (λ m. tt) first_is has after result
           (subst (λ o. Comes (comes o) (with_reads after.reads mid) after result)
           (says_proof hash q proof m text.bytes.items own_first)
           (subst (λ w. Comes (comes said) w after result) (with_same after.reads mid end kept.files calm)
           (comes_but said end after result keeps))))
   proved (Err e) result written cause calm keeps =
-      subst (λ w. Comes (rereads (proving hash map q proof) (needs_map hash map on_map)) before w result) (sym keeps.0)
+      subst (λ w. ComesAsSaid plan may allows before w result) (sym keeps.0)
       (by_files before.files refl)
     where
       shifted : HasSomeCause s before.faults end.faults e
-      shifted = subst (λ n. HasSomeCause s n end.faults e) quiet cause
+      shifted = subst (λ n. HasSomeCause s n end.faults e) o.quiet cause
 
       counts : NoneFalls before end
-      counts = record { faults = omega (arith, quiet, kept.faults); reads = omega (arith, more, kept.reads) }
+      counts = record { faults = omega (arith, o.quiet, kept.faults); reads = omega (arith, o.more, kept.reads) }
 
-      by_files : (o : Option Files) → before.files ≡ o
-          → Comes (rereads (proving hash map q proof) (needs_map hash map on_map)) before end result
+      by_files : (f : Option Files) → before.files ≡ f
+          → ComesAsSaid plan may allows before end result
       by_files None none =
-          comes_untold (proving hash map q proof) (needs_map hash map on_map) before end none result counts
-          (says_refused hash (proving hash map q proof) map (λ said is. inl is) before end (kept.files ∙ same)
+          comes_untold plan may allows before end none (says_missing map, inl (inl refl)) result counts
+          (says_refused hash may map (λ said is. inl is) before end (kept.files ∙ o.files)
           (as_map_error e) result (fetch_blamed hash s e before end shifted) keeps.1)
       by_files (Some files) told =
-          let has = has_map hash sized map before s mid same quiet answers files told in
+          let has = has_map hash sized map before s mid w files told in
           let stop = fetch_stopped map s has.tree e before end result has.told shifted keeps.1 in
-          subst (Comes (rereads (proving hash map q proof) (needs_map hash map on_map)) before end) (sym stop.is)
-          (comes_told (proving hash map q proof) (needs_map hash map on_map) before end files told (Err stop.halt)
+          subst (ComesAsSaid plan may allows before end) (sym stop.is)
+          (comes_told plan may allows before end files told (Err stop.halt)
           counts.reads
-          (subst (λ w. ReadsFew (rereads (proving hash map q proof) (needs_map hash map on_map)) before w) keeps.0
+          (subst (λ w. ReadsFew allows before w) keeps.0
           (few_proved (ap (λ (w : Shelved). w.reads) keeps.0) files told has))
-          (told_halted hash sized map before s mid same quiet answers on_map (λ m. tt) end stop.halt kept.files
+          (first_halted hash sized map before s mid w on_map (λ m. tt) end stop.halt kept.files
           counts.faults stop.stops))

@@ -1,10 +1,11 @@
 -- What a command comes to that reads a map page by page: over files that are told what its plan says, over others what
 -- may be said.
-use Rattle.std.proofs.Common.{◌≡◌, ℕ, ◌≤◌, List, refl, sym, ap, subst, ◌∙◌, inl, inr, arith}
-use Rattle.std.specs.Prelude.{Option, Some, None, option_map, IsNone, Result, Ok, Err}
+use Rattle.std.proofs.Common.{◌≡◌, ℕ, ◌+◌, ◌≤◌, List, refl, sym, subst, ◌∙◌, inl, inr, arith}
+use Rattle.std.specs.Prelude.{Option, Some, None, IsNone, Result, Ok, Err}
 use Rattle.mr_outside.specs.Faults.{Rose}
-use Rattle.mr_outside.specs.Files.{Files, with_file}
+use Rattle.mr_outside.specs.Files.{Files}
 use Rattle.mr_outside.specs.State.{Shelved}
+use Rattle.mr_outside.specs.Told.{OfFiles}
 use Rattle.mr_tree.specs.Nodes.{Standing, HasSomeCause}
 use Rattle.mr_tree.specs.declared.nodes.NodesErr.{NodesErr}
 use Rattle.mr_tree.specs.declared.nodes.NodesErr.TheVariants as nodes
@@ -13,18 +14,24 @@ use Rattle.mr_pages.specs.declared.error.MapErr.{MapErr}
 use Rattle.mr_pages.specs.declared.error.MapErr.TheVariants as errors
 use Rattle.mr_pages.specs.declared.rule.MapFault.{MapFault}
 use Rattle.mr_pages.specs.declared.rule.MapRule.TheVariants as rule
-use Rattle.mr_command.specs.Counting.{ReadsFew}
-use Rattle.mr_command.specs.Ending.{Comes, ComesBut, with_reads, Came, Ends, GivesUp, AreJudged, Blames, IsCalm, NoneFalls, Stops, SaysRefusal, SaysUntold, printed_of}
+use Rattle.mr_command.specs.Counting.{AllowsReads, MayRead, ReadsFew}
+use Rattle.mr_command.specs.Ending.{Comes, ComesAsSaid, ComesBut, with_reads, Came, CameAsSaid, Ends, EndsAsSaid, GivesOrStops, GivesUp, GivesUpAsSaid, AreJudged, Blames, IsCalm, IsCarriedOut, NoneFalls, Stops, SaysRefusal, SaysUntold, printed_of}
 use Rattle.mr_plan.specs.Found.{as_map_error, bad_map_line}
-use Rattle.mr_plan.specs.Outcome.{Outcome, Written, Nothing, File, IsLeft, MayLeave}
-use Rattle.mr_plan.specs.Plan.{Plan, comes, rereads}
-use Rattle.mr_plan.specs.Rereading.{Rereading, IsSomeFault, IsRefused, MaySay}
-use Rattle.mr_plan.specs.Say.{ends, needs, says_missing}
+use Rattle.mr_plan.specs.Outcome.{Outcome, Nothing, IsLeft, MayLeave}
+use Rattle.mr_plan.specs.Plan.{Plan, comes, LacksInput, Leads}
+use Rattle.mr_plan.specs.Say.{ends, needs, say, says_missing}
+use Rattle.mr_plan.specs.Spelling.{AsksAs}
+use Rattle.mr_plan.specs.Untold.{IsSomeFault, IsRefused, MaySayUntold}
+use Rattle.mr_plan.specs.declared.words.Command.{Command}
+use Rattle.mr_plan.specs.declared.words.Command.TheVariants as commands
 use Rattle.mr_command.specs.declared.ending.Ending.{Ending}
 use Rattle.mr_command.specs.declared.ending.Halt.{Halt}
 use Rattle.mr_command.specs.declared.ending.Halt.TheVariants as halts
+use Rattle.mr_plan.specs.declared.status.Status.{Status}
 use Rattle.mr_plan.specs.declared.status.Status.TheVariants.{BadMap}
-use Rattle.mr_command.proofs.Counting.{AllowsFrom, few_none, few_stopped, taken_none}
+use Rattle.mr_plan.proofs.Asking.{as_words, asks_on, asks_plan, asks_untold}
+use Rattle.mr_command.proofs.Counting.{few_none, few_stopped, taken_none}
+use Rattle.mr_command.proofs.Plans.{ended_so, lacks_none, last_leaves, leads_on, up_none}
 
 -- ---- another count of reads
 
@@ -82,21 +89,21 @@ needs_but name next before after result on = record {
 
 -- ---- over files that are told
 
-module _ (reading : Rereading) (next : Plan) (before after : Shelved) where
+module _ (plan : Plan) (may : Outcome → Type 0) (allows : Files → ℕ → Type 0) (before after : Shelved) where
   module _ (files : Files) (told : before.files ≡ Some files) where
-    told_came : (result : Result Ending Halt) → Came next (with_reads after.reads before) after result
-        → Came (rereads reading next) before after result
+    told_came : (result : Result Ending Halt) → Came plan (with_reads after.reads before) after result
+        → CameAsSaid plan may before after result
     told_came (Ok ending) came =
-        subst (λ o. Ends (rereads reading next) o after.files ending.status (printed_of ending)) (sym told)
-        (subst (λ o. Ends next o after.files ending.status (printed_of ending)) told came)
+        subst (λ o. EndsAsSaid plan may o after.files ending.status (printed_of ending)) (sym told)
+        (subst (λ o. Ends plan o after.files ending.status (printed_of ending)) told came)
     told_came (Err halt) came = (
       stops_from after.reads before after halt came.0,
-      subst (λ o. GivesUp (rereads reading next) o after.files) (sym told)
-          (subst (λ o. GivesUp next o after.files) told came.1),
+      subst (λ o. GivesUpAsSaid plan may o after.files) (sym told)
+          (subst (λ o. GivesUp plan o after.files) told came.1),
     )
 
-    told_blames : (result : Result Ending Halt) → Blames next (with_reads after.reads before) after result
-        → Blames (rereads reading next) before after result
+    told_blames : (result : Result Ending Halt) → Blames plan (with_reads after.reads before) after result
+        → Blames plan before after result
     told_blames (Ok ending) blames = blames
     told_blames (Err halt) blames = tt
 
@@ -105,12 +112,12 @@ module _ (reading : Rereading) (next : Plan) (before after : Shelved) where
     told_calm (Ok ending) calm = calm
     told_calm (Err halt) calm = tt
 
-    pub comes_told : (result : Result Ending Halt) → before.reads ≤ after.reads
-        → ReadsFew (rereads reading next) before after → ComesBut next before after result
-        → Comes (rereads reading next) before after result
+    pub comes_told : (result : Result Ending Halt) → before.reads ≤ after.reads → ReadsFew allows before after
+        → ComesBut plan before after result → ComesAsSaid plan may allows before after result
     comes_told result reads few on = record {
       counts = record { faults = on.counts.faults; reads = reads };
-      judged = subst (AreJudged (rereads reading next)) (sym told) (subst (AreJudged next) told on.judged);
+      judged = subst (λ o. OfFiles o (λ files. AreJudged plan (Some files))) (sym told)
+          (subst (AreJudged plan) told on.judged);
       came = told_came result on.came;
       outside = told_blames result on.outside;
       quiet = told_calm result on.quiet;
@@ -119,47 +126,42 @@ module _ (reading : Rereading) (next : Plan) (before after : Shelved) where
 
   -- ---- over files that are not
 
-  module _ (none : before.files ≡ None) where
-    untold_came : (result : Result Ending Halt) → SaysUntold reading before after result
-        → Came (rereads reading next) before after result
+  module _ (none : before.files ≡ None) (some : (said : Outcome) × may said) where
+    untold_came : (result : Result Ending Halt) → SaysUntold may before after result
+        → CameAsSaid plan may before after result
     untold_came (Ok ending) says =
-        subst (λ o. Ends (rereads reading next) o after.files ending.status (printed_of ending)) (sym none)
+        subst (λ o. EndsAsSaid plan may o after.files ending.status (printed_of ending)) (sym none)
         (says.0, says.1, says.2, says.3, subst (λ o. IsLeft says.0.written o after.files) none says.4)
     untold_came (Err halt) says =
-        (says.0, subst (λ o. GivesUp (rereads reading next) o after.files) (sym none) (says.1 ∙ none))
+        (says.0, subst (λ o. GivesUpAsSaid plan may o after.files) (sym none) ((says.1 ∙ none), some))
 
-    untold_blames : (result : Result Ending Halt) → SaysUntold reading before after result
-        → Blames (rereads reading next) before after result
+    untold_blames : (result : Result Ending Halt) → SaysUntold may before after result
+        → Blames plan before after result
     untold_blames (Ok ending) says = λ outside. inl (says.5 outside)
     untold_blames (Err halt) says = tt
 
-    untold_calm : (result : Result Ending Halt) → SaysUntold reading before after result → IsCalm before after result
+    untold_calm : (result : Result Ending Halt) → SaysUntold may before after result → IsCalm before after result
     untold_calm (Ok ending) says = says.6
     untold_calm (Err halt) says = tt
 
-    pub comes_untold : (result : Result Ending Halt) → NoneFalls before after → SaysUntold reading before after result
-        → Comes (rereads reading next) before after result
+    pub comes_untold : (result : Result Ending Halt) → NoneFalls before after → SaysUntold may before after result
+        → ComesAsSaid plan may allows before after result
     comes_untold result counts says = record {
       counts = counts;
-      judged = subst (AreJudged (rereads reading next)) (sym none) tt;
+      judged = subst (λ o. OfFiles o (λ files. AreJudged plan (Some files))) (sym none) tt;
       came = untold_came result says;
       outside = untold_blames result says;
       quiet = untold_calm result says;
-      few = subst (λ o. AllowsFrom o (rereads reading next) before.reads after.reads) (sym none) tt;
+      few = subst (λ o. OfFiles o (λ files. (n : ℕ) × (after.reads ≤ before.reads + n) × allows files n))
+          (sym none) tt;
     }
 
 -- the last step is what may be said
-pub last_leaves : (written : Written) (before after : Option Files) → before ≡ None → MayLeave written before after
-    → after ≡ before
-last_leaves Nothing before after none may = may
-last_leaves (File name content) before after none (inl same) = same
-last_leaves (File name content) before after none (inr held) =
-    held.2 ∙ ap (option_map (with_file name held.0)) none ∙ sym none
-
-pub says_last : (reading : Rereading) (said : Outcome) (before between after : Shelved) (result : Result Ending Halt)
-    → MaySay reading said → before.files ≡ None → between.files ≡ before.files → between.faults ≡ before.faults
-    → Comes (comes said) between after result → SaysUntold reading before after result
-says_last reading said before between after (Ok ending) may none files faults on = (
+pub says_last : (may_say : Outcome → Type 0) (said : Outcome) (before between after : Shelved)
+    (result : Result Ending Halt) → may_say said → before.files ≡ None → between.files ≡ before.files
+    → between.faults ≡ before.faults
+    → Comes (comes said) between after result → SaysUntold may_say before after result
+says_last may_say said before between after (Ok ending) may none files faults on = (
   said,
   may,
   on.came.0,
@@ -171,7 +173,7 @@ says_last reading said before between after (Ok ending) may none files faults on
   ],
   λ settled. on.quiet settled ∙ faults,
 )
-says_last reading said before between after (Err halt) may none files faults on = (
+says_last may_say said before between after (Err halt) may none files faults on = (
   stops_after halt on.came.0,
   last_leaves said.written before.files after.files none
       (subst (λ o. MayLeave said.written o after.files) files on.came.1),
@@ -182,6 +184,143 @@ says_last reading said before between after (Err halt) may none files faults on 
     stops_after halts.Shelf stops = subst (λ n. Rose n after.faults) faults stops
     stops_after halts.NoMemory stops = stops
 
+-- the same of an outcome that writes no file, where no fault was counted
+pub says_given : (may_say : Outcome → Type 0) (said : Outcome) (before after : Shelved) → may_say said
+    → said.written ≡ Nothing → after.files ≡ before.files → after.faults ≡ before.faults
+    → (result : Result Ending Halt) → GivesOrStops said result → SaysUntold may_say before after result
+says_given may_say said before after may writes files quiet (Ok ending) gives = (
+  said,
+  may,
+  gives.status,
+  gives.printed,
+  subst (λ w. IsLeft w before.files after.files) (sym writes) files,
+  λ outside. absurd (gives.settled.0 outside),
+  λ settled. quiet,
+)
+says_given may_say said before after may writes files quiet (Err halt) is =
+    (subst (Stops before after) (sym is) tt, files)
+
+-- ---- a command that is its plan over any files
+
+module _ (plan : Plan) (before after : Shelved) where
+  but_reads : (result : Result Ending Halt) → Comes plan before after result → ComesBut plan before after result
+  but_reads result on = record {
+    counts = record { faults = on.counts.faults; reads = omega arith };
+    judged = on.judged;
+    came = came_with plan after.reads before after result on.came;
+    outside = blames_with plan after.reads before after result on.outside;
+    quiet = calm_with plan after.reads before after result on.quiet;
+    few = at_end before.files on.few;
+  }
+    where
+      at_end : (o : Option Files)
+          → OfFiles o (λ files. (n : ℕ) × (after.reads ≤ before.reads + n) × AllowsReads plan files n)
+          → OfFiles o (λ files. (n : ℕ) × (after.reads ≤ after.reads + n) × AllowsReads plan files n)
+      at_end None few = tt
+      at_end (Some files) few = (few.0, omega arith, few.2)
+
+  -- what it says over files that are not told
+  says_plan : (result : Result Ending Halt) → before.files ≡ None → Comes plan before after result
+      → SaysUntold (Leads plan None) before after result
+  says_plan (Ok ending) none on =
+      let so = ended_so plan None after.files ending.status (printed_of ending)
+      (subst (λ o. Ends plan o after.files ending.status (printed_of ending)) none on.came) in (
+        so.said,
+        so.leads,
+        so.status_is,
+        so.text_is,
+        subst (λ o. IsLeft so.said.written o after.files) (sym none) so.files,
+        λ outside. elim (on.outside outside) [
+          | inl rose ↦ rose
+          | inr lacks ↦ absurd (lacks_none plan (subst (LacksInput plan) none lacks))
+        ],
+        on.quiet,
+      )
+  says_plan (Err halt) none on =
+      (on.came.0, up_none plan after.files (subst (λ o. GivesUp plan o after.files) none on.came.1) ∙ sym none)
+
+  pub comes_plain : (may : Outcome → Type 0) (allows : Files → ℕ → Type 0) (result : Result Ending Halt)
+      → ((said : Outcome) → Leads plan None said → may said)
+      → ((files : Files) (n : ℕ) → AllowsReads plan files n → allows files n)
+      → Comes plan before after result → ComesAsSaid plan may allows before after result
+  comes_plain may allows result says few on = by_files before.files refl
+    where
+      few_so : (o : Option Files)
+          → OfFiles o (λ files. (n : ℕ) × (after.reads ≤ before.reads + n) × AllowsReads plan files n)
+          → OfFiles o (λ files. (n : ℕ) × (after.reads ≤ before.reads + n) × allows files n)
+      few_so None allowed = tt
+      few_so (Some files) allowed = (allowed.0, allowed.1, few files allowed.0 allowed.2)
+
+      may_so : (result : Result Ending Halt) → SaysUntold (Leads plan None) before after result
+          → SaysUntold may before after result
+      may_so (Ok ending) so = (so.0, says so.0 so.1, so.2, so.3, so.4, so.5, so.6)
+      may_so (Err halt) so = so
+
+      by_files : (o : Option Files) → before.files ≡ o → ComesAsSaid plan may allows before after result
+      by_files None none =
+          let some = leads_on plan None (subst (AreJudged plan) none on.judged) in
+          comes_untold plan may allows before after none (some.0, says some.0 some.1) result on.counts
+          (may_so result (says_plan result none on))
+      by_files (Some files) told =
+          comes_told plan may allows before after files told result on.counts.reads (few_so before.files on.few)
+          (but_reads result on)
+
+-- ---- a command with the same words
+
+module _ (plan : Plan) (may may' : Outcome → Type 0) (allows allows' : Files → ℕ → Type 0) (before after : Shelved)
+    (says : (said : Outcome) → may said → may' said)
+    (few : (files : Files) (n : ℕ) → allows files n → allows' files n) where
+  ends_more : (told left : Option Files) (status : Status) (text : List ℕ) → EndsAsSaid plan may told left status text
+      → EndsAsSaid plan may' told left status text
+  ends_more None left status text ends = (ends.0, says ends.0 ends.1, ends.2, ends.3, ends.4)
+  ends_more (Some files) left status text ends = ends
+
+  up_more : (told left : Option Files) → GivesUpAsSaid plan may told left → GivesUpAsSaid plan may' told left
+  up_more None left up = (up.0, (up.1.0, says up.1.0 up.1.1))
+  up_more (Some files) left up = up
+
+  came_more : (result : Result Ending Halt) → CameAsSaid plan may before after result
+      → CameAsSaid plan may' before after result
+  came_more (Ok ending) came = ends_more before.files after.files ending.status (printed_of ending) came
+  came_more (Err halt) came = (came.0, up_more before.files after.files came.1)
+
+  few_more : (told : Option Files)
+      → OfFiles told (λ files. (n : ℕ) × (after.reads ≤ before.reads + n) × allows files n)
+      → OfFiles told (λ files. (n : ℕ) × (after.reads ≤ before.reads + n) × allows' files n)
+  few_more None allowed = tt
+  few_more (Some files) allowed = (allowed.0, allowed.1, few files allowed.0 allowed.2)
+
+  comes_more : (result : Result Ending Halt) → ComesAsSaid plan may allows before after result
+      → ComesAsSaid plan may' allows' before after result
+  comes_more result on = record {
+    counts = on.counts;
+    judged = on.judged;
+    came = came_more result on.came;
+    outside = on.outside;
+    quiet = on.quiet;
+    few = few_more before.files on.few;
+  }
+
+module _ (hash : List ℕ → List ℕ) (files : Files) (n : ℕ) where
+  to_reads : (c : Command) → MayRead hash (Some c) files n → MayRead hash (Some (as_words c)) files n
+  to_reads (commands.Root records) may = may
+  to_reads c may = may
+
+  from_reads : (c : Command) → MayRead hash (Some (as_words c)) files n → MayRead hash (Some c) files n
+  from_reads (commands.Root records) may = may
+  from_reads c may = may
+
+pub carried_alike : (hash : List ℕ → List ℕ) (a b : Command) (before after : Shelved) (result : Result Ending Halt)
+    → AsksAs (Some a) (Some b) → IsCarriedOut hash b before after result → IsCarriedOut hash a before after result
+carried_alike hash a b before after result e on =
+    let more = comes_more (say hash (Some b)) (MaySayUntold hash (Some b)) (MaySayUntold hash (Some a))
+    (MayRead hash (Some b)) (MayRead hash (Some a)) before after
+    (λ said. asks_untold hash said (Some a) (Some b) e)
+    (λ files n. asks_on (λ c. MayRead hash c files n) (to_reads hash files n) (from_reads hash files n) (Some a)
+    (Some b) e) result on in
+    subst (λ plan. ComesAsSaid plan (MaySayUntold hash (Some a)) (MayRead hash (Some a)) before after result)
+    (asks_plan hash (Some a) (Some b) e) more
+
 -- ---- a refusal
 
 -- why a map is refused: its causes, and what is settled counts no fault
@@ -190,14 +329,14 @@ pub record IsBlamed (hash : List ℕ → List ℕ) (before after : Shelved) (err
   pub fault : error ≡ errors.Fault → Rose before.faults after.faults
   pub map : (f : MapFault) → error ≡ errors.Map f → IsSomeFault hash f × (after.faults ≡ before.faults)
 
-module _ (hash : List ℕ → List ℕ) (reading : Rereading) (map : List ℕ)
-    (may : (said : Outcome) → IsRefused hash map said → MaySay reading said)
+module _ (hash : List ℕ → List ℕ) (may_say : Outcome → Type 0) (map : List ℕ)
+    (may : (said : Outcome) → IsRefused hash map said → may_say said)
     (before after : Shelved) (same : after.files ≡ before.files) where
-  memory_out : (halt : Halt) → halt ≡ halts.NoMemory → SaysUntold reading before after (Err halt)
+  memory_out : (halt : Halt) → halt ≡ halts.NoMemory → SaysUntold may_say before after (Err halt)
   memory_out halt is = (subst (Stops before after) (sym is) tt, same)
 
   pub says_refused : (error : MapErr) (result : Result Ending Halt) → IsBlamed hash before after error
-      → SaysRefusal map error result → SaysUntold reading before after result
+      → SaysRefusal map error result → SaysUntold may_say before after result
   says_refused (errors.Map f) (Ok ending) why says =
       let is = why.map f refl in (
         ends BadMap (bad_map_line f),
@@ -220,8 +359,8 @@ module _ (hash : List ℕ → List ℕ) (reading : Rereading) (map : List ℕ)
   )
   says_refused errors.Missing (Err halt) why says = memory_out halt says
   says_refused errors.Fault result why says =
-      subst (SaysUntold reading before after) (sym says) (why.fault refl, same)
-  says_refused errors.NoMemory result why says = subst (SaysUntold reading before after) (sym says) (tt, same)
+      subst (SaysUntold may_say before after) (sym says) (why.fault refl, same)
+  says_refused errors.NoMemory result why says = subst (SaysUntold may_say before after) (sym says) (tt, same)
 
 fault_is : (f g : MapFault) → ◌≡◌ {A = MapErr} (errors.Map f) (errors.Map g) → f ≡ g
 fault_is f g is = cc

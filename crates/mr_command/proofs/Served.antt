@@ -7,8 +7,11 @@ use Rattle.mr_outside.specs.Faults.{Rose, last_count}
 use Rattle.mr_outside.specs.State.{Shelved}
 use Rattle.mr_outside.specs.Told.{OfFile}
 use Rattle.mr_record.specs.Bytes.{AreBytes}
+use Rattle.mr_record.specs.declared.version.Version.{Version}
 use Rattle.mr_record.specs.declared.version.Version.TheVariants.{One}
 use Rattle.mr_plan.specs.First.{first_map}
+use Rattle.mr_outside.specs.declared.shelf.Shelf as shelves
+use Rattle.mr_tree.specs.declared.hash.Hashes as hashes
 use Rattle.mr_tree.specs.Nodes.{Standing, HasSomeCause, subtrees}
 use Rattle.mr_tree.specs.Snapshot.{standing, standing_of, tree_of}
 use Rattle.mr_tree.specs.WellFormed.{WellFormed}
@@ -17,46 +20,61 @@ use Rattle.mr_tree.specs.declared.nodes.Top.{Top}
 use Rattle.mr_tree.specs.declared.stored.Stored.{Stored}
 use Rattle.mr_tree.specs.declared.tree.Tree.{Tree}
 use Rattle.mr_pages.specs.Law.{IsMapFile}
-use Rattle.mr_pages.specs.declared.error.MapErr.{MapErr}
+use Rattle.mr_pages.specs.Opening.{pages_in}
+use Rattle.mr_pages.specs.Page.{Form}
 use Rattle.mr_pages.specs.declared.head.MapHead.{MapHead}
 use Rattle.mr_pages.specs.declared.opening.Opened.{Opened}
 use Rattle.mr_query.specs.Script.{queries_of_text}
-use Rattle.mr_store.specs.Opening.{TellsMap, RefusesMap, first_pages}
-use Rattle.mr_store.specs.Stored.{ReadsFew as FewFetches, Keeps, StandsFor, room}
-use Rattle.mr_command.specs.Counting.{pieces_of, IsFewServed, ReadsFew}
-use Rattle.mr_command.specs.Ending.{Comes, Ends, GivesUp, GoesOn, NoneFalls, SaysRefusal, SaysUntold, printed_of}
+use Rattle.mr_store.specs.CachedFile.{bytes_of, page_form}
+use Rattle.mr_store.specs.Kept.{room}
+use Rattle.mr_store.specs.Opening.{OpensMap}
+use Rattle.mr_store.specs.Paged.{Keeps, ReadsFew as FewFetches, shelved, stands_for}
+use Rattle.mr_store.specs.Stored.{StandsFor, read_map}
+use Rattle.mr_store.specs.declared.paged.Paged.{Paged}
+use Rattle.mr_command.specs.Counting.{pieces_of, AllowsServe, IsFewServed, ReadsFew}
+use Rattle.mr_command.specs.Ending.{map_at, Comes, ComesAsSaid, Ends, GivesUp, GoesOn, NoneFalls, SaysRefusal, SaysUntold, printed_of}
 use Rattle.mr_plan.specs.Found.{as_map_error}
 use Rattle.mr_plan.specs.Outcome.{Outcome}
-use Rattle.mr_plan.specs.Plan.{Plan, Input, comes, rereads, LacksInput}
-use Rattle.mr_plan.specs.Rereading.{Rereading, serving, MaySay}
+use Rattle.mr_plan.specs.Plan.{Plan, Input, comes, LacksInput}
+use Rattle.mr_plan.specs.Untold.{MaySayServe}
 use Rattle.mr_plan.specs.Say.{given, needs, needs_map, held_in, say_script, say_serve_of, says_missing}
 use Rattle.mr_command.specs.declared.ending.Ending.{Ending}
 use Rattle.mr_command.specs.declared.ending.Halt.{Halt}
 use Rattle.mr_plan.specs.declared.status.Status.TheVariants.{Outside}
 use Rattle.mr_command.proofs.Audits.{untold_from}
-use Rattle.mr_command.proofs.Counting.{AllowsFrom, few_pieces}
+use Rattle.mr_command.proofs.Counting.{few_pieces}
 use Rattle.mr_command.proofs.Going.{judged_needs}
-use Rattle.mr_command.proofs.Pages.{HasMap, at_input, few_refused, few_there, has_map, told_halted, told_on, with_same}
-use Rattle.mr_command.proofs.Rereading.{comes_told, comes_untold, fetch_blamed, fetch_stopped, last_leaves, needs_but, says_refused}
+use Rattle.mr_command.proofs.Pages.{HasMap, counted, few_refused, few_there, first_halted, first_on, has_map, was_opened, with_same}
+use Rattle.mr_command.proofs.Plans.{last_leaves}
+use Rattle.mr_command.proofs.Rereading.{comes_told, comes_untold, fetch_blamed, fetch_stopped, needs_but, says_refused}
 
 same_tree : (a b : Tree) → ◌≡◌ {A = Option Tree} (Some a) (Some b) → a ≡ b
 same_tree a b e = cc
 
 -- it is the one that stands so
-one_map : (s : Standing) (nodes : List Stored) (top : Top) (t : Tree) → top.version ≡ One
-    → standing nodes top ≡ standing_of s.version s.batch t
-    → held_in nodes top ≡ first_map t s.batch
-one_map s nodes top t first_is e =
+one_map : (s : Standing) (nodes : List Stored) (top : Top) (t : Tree)
+    → standing nodes top ≡ standing_of s.version s.batch t → held_in nodes top ≡ map_at s t
+one_map s nodes top t e =
     let trees : tree_of nodes top ≡ t = same_tree (tree_of nodes top) t (ap (λ (x : Standing). x.tree) e) in
+    let versions : top.version ≡ s.version = ap (λ (x : Standing). x.version) e in
     let batches : top.batch ≡ s.batch = ap (λ (x : Standing). x.batch) e in
-    λ i. record { tree = trees i; version = first_is i; batch = batches i }
+    λ i. record { tree = trees i; version = versions i; batch = batches i }
+
+-- its version is that of the layout
+pub laid_in : {S H : Type 0} {G : shelves.Ghosts S} {K : hashes.Ghosts H} (p : Paged S H G K) (v : Version)
+    → v ≡ p.file.layout.version → (stands_for p).version ≡ One → v ≡ One
+laid_in p v laid first_is = laid ∙ sym (at (page_form p.file) p.head (bytes_of p.file)) ∙ first_is
+  where
+    at : (form : Form) (h : MapHead) (o : Option (List ℕ)) → (read_map form h o).version ≡ form.version
+    at form h None = refl
+    at form h (Some bytes) = refl
 
 -- ---- over files that are not told
 
 -- a file was read, and what came of it may be said
-module _ (reading : Rereading) (name : List ℕ) (said : List ℕ → Outcome) (before after : Shelved)
-    (none : before.files ≡ None) (may_miss : MaySay reading (says_missing name))
-    (may : (bytes : List ℕ) → AreBytes bytes → MaySay reading (said bytes)) where
+module _ (may_say : Outcome → Type 0) (name : List ℕ) (said : List ℕ → Outcome) (before after : Shelved)
+    (none : before.files ≡ None) (may_miss : may_say (says_missing name))
+    (may : (bytes : List ℕ) → AreBytes bytes → may_say (said bytes)) where
   abbrev plan : Plan
   plan = needs name (λ b. comes (said b))
 
@@ -81,7 +99,7 @@ module _ (reading : Rereading) (name : List ℕ) (said : List ℕ → Outcome) (
       at_end None same = same
       at_end (Some bytes) may = last_leaves (said bytes).written before.files after.files none may
 
-  says_needs : (result : Result Ending Halt) → Comes plan before after result → SaysUntold reading before after result
+  says_needs : (result : Result Ending Halt) → Comes plan before after result → SaysUntold may_say before after result
   says_needs (Ok ending) on = by_input on.came.0 on.came.2 on.came.3
     where
       outside : ending.status ≡ Outside → Rose before.faults after.faults
@@ -89,25 +107,19 @@ module _ (reading : Rereading) (name : List ℕ) (said : List ℕ → Outcome) (
 
       by_input : (input : Input) → IfSome input AreBytes
           → Ends (given name (λ b. comes (said b)) input) before.files after.files ending.status (printed_of ending)
-          → SaysUntold reading before after (Ok ending)
+          → SaysUntold may_say before after (Ok ending)
       by_input None are ends = (says_missing name, may_miss, ends.0, ends.1, ends.2, outside, on.quiet)
       by_input (Some bytes) are ends = (said bytes, may bytes are, ends.0, ends.1, ends.2, outside, on.quiet)
   says_needs (Err halt) on = (on.came.0, stays on.came.1)
 
 -- ---- a map that is not opened
 
-pub serving_refused : (hash : List ℕ → List ℕ) (map script bundle : List ℕ) (next : Plan) (before after : Shelved)
-    (e : MapErr) → RefusesMap hash map before after e
-    → ReadsFew (rereads (serving hash map script bundle) next) before after
-serving_refused hash map script bundle next before after e r = by_told before.files r.reads
-  where
-    by_told : (o : Option Files)
-        → OfFile o map (after.reads ≡ before.reads) (λ bytes. after.reads ≤ before.reads + first_pages bytes)
-        → AllowsFrom o (rereads (serving hash map script bundle) next) before.reads after.reads
-    by_told None few = tt
-    by_told (Some files) few =
-        few_refused (Some files) map before.reads after.reads (λ bytes n. IsFewServed hash bytes (file files script) n)
-        (λ bytes. inl (omega arith)) few
+pub serving_unopened : (hash : List ℕ → List ℕ) (map script : List ℕ) (before after : Shelved)
+    → OfFile before.files map (after.reads ≡ before.reads) (λ bytes. after.reads ≤ before.reads + pages_in bytes)
+    → ReadsFew (AllowsServe hash map script) before after
+serving_unopened hash map script before after few =
+    few_refused before.files map before.reads after.reads
+    (λ files bytes n. IsFewServed hash bytes (file files script) n) (λ files bytes. inl (omega arith)) few
 
 -- what is read for a walk that fetches so many nodes
 pub few_walked : (r r' f f' n : ℕ) → f ≡ 0 → FewFetches r f r' f' → r' ≤ max r last_count → f' ≤ f + n → r' ≤ r + n
@@ -117,47 +129,59 @@ few_walked r r' f f' n none few most bound = elim few [
 ]
 
 -- the pages of the map, and the pieces of the script; and the nodes of a large one
-few_script : (hash : List ℕ → List ℕ) (h : MapHead) (bytes : List ℕ) (script : Input) (r m e : ℕ) (t : Tree)
-    (batch : ℕ) → IsMapFile hash bytes (first_map t batch) → h.pages ≡ first_pages bytes → m ≤ r + first_pages bytes
-    → (h.pages ≤ room + 1 → e ≤ m + pieces_of script) → e ≤ m + length (subtrees t) + pieces_of script
+few_script : (hash : List ℕ → List ℕ) (pages : ℕ) (bytes : List ℕ) (script : Input) (r m e : ℕ) (t : Tree)
+    (batch : ℕ) → IsMapFile hash bytes (first_map t batch) → pages ≡ pages_in bytes → m ≤ r + pages_in bytes
+    → (pages ≤ room + 1 → e ≤ m + pieces_of script) → e ≤ m + length (subtrees t) + pieces_of script
     → (n : ℕ) × (e ≤ r + n) × IsFewServed hash bytes script n
-few_script hash h bytes script r m e t batch stands pages few still nodes =
-    elim (cases_Bool (ltb (room + 1) h.pages)) [
+few_script hash pages bytes script r m e t batch stands pages_are few still nodes =
+    elim (cases_Bool (ltb (room + 1) pages)) [
       | inl large ↦ (
-        first_pages bytes + length (subtrees t) + pieces_of script,
+        pages_in bytes + length (subtrees t) + pieces_of script,
         omega (arith, few, nodes),
         inr (
           t,
           batch,
           stands,
-          inr (subst (λ n. room + 1 < n) pages (ltb-true (room + 1) h.pages large), omega arith),
+          inr (subst (λ n. room + 1 < n) pages_are (ltb-true (room + 1) pages large), omega arith),
         ),
       )
       | inr small ↦ (
-        first_pages bytes + pieces_of script,
-        omega (arith, few, still (ltb-false (room + 1) h.pages small)),
+        pages_in bytes + pieces_of script,
+        omega (arith, few, still (ltb-false (room + 1) pages small)),
         inr (t, batch, stands, inl (omega arith)),
       )
     ]
 
 -- ---- a map that is opened, and taken into memory
 
-module _ (hash : List ℕ → List ℕ) (sized : (xs : List ℕ) → length (hash xs) ≡ 32) (map script bundle : List ℕ)
-    (n n' : List ℕ) (before mid end : Shelved) (s : Standing) (h h' : MapHead) (f0 f : ℕ)
-    (same : mid.files ≡ before.files) (quiet : mid.faults ≡ before.faults)
-    (more : before.reads ≤ mid.reads) (answers : OfFile before.files map ⊥ (TellsMap hash s))
-    (pages : OfFile before.files map ⊥ (λ bytes. h.pages ≡ first_pages bytes))
-    (few : OfFile before.files map ⊥ (λ bytes. mid.reads ≤ before.reads + first_pages bytes))
-    (kept : Keeps n n' h h' mid end f0 f) (none : f0 ≡ 0)
-    (fetched : IfSome s.tree (λ t. f ≤ f0 + length (subtrees t))) where
+module _ {S H : Type 0} {G : shelves.Ghosts S} {K : hashes.Ghosts H} (hash : List ℕ → List ℕ)
+    (sized : (xs : List ℕ) → length (hash xs) ≡ 32) (map script bundle : List ℕ) (before : Shelved)
+    (p p' : Paged S H G K) (o : OpensMap hash map before p) (first_is : (stands_for p).version ≡ One)
+    (kept : Keeps p p')
+    (fetched : IfSome (stands_for p).tree (λ t. p'.fetches ≤ p.fetches + length (subtrees t))) where
   abbrev on_map : Opened → Plan
   on_map = say_script hash script bundle
 
-  abbrev reading : Rereading
-  reading = serving hash map script bundle
+  abbrev plan_served : Plan
+  plan_served = needs_map hash map on_map
+
+  abbrev may_serve : Outcome → Type 0
+  may_serve = MaySayServe hash map script bundle
+
+  abbrev allows : Files → ℕ → Type 0
+  allows = AllowsServe hash map script
 
   abbrev said : Opened → List ℕ → Outcome
   said m text = say_serve_of hash bundle m (queries_of_text text)
+
+  abbrev s : Standing
+  s = stands_for p
+
+  abbrev mid : Shelved
+  mid = shelved p
+
+  abbrev end : Shelved
+  end = shelved p'
 
   goes : GoesOn on_map before.files
   goes m = judged_needs script (said m) before.files
@@ -165,51 +189,50 @@ module _ (hash : List ℕ → List ℕ) (sized : (xs : List ℕ) → length (has
   -- the reads, with those of the script
   few_served : (after : Shelved) (files : Files) → before.files ≡ Some files → HasMap hash sized map before s mid
       → after.reads ≤ end.reads + pieces_of (file files script)
-      → ReadsFew (rereads reading (needs_map hash map on_map)) before after
+      → ReadsFew allows before after
   few_served after files told has pieces =
-      let pages_are = at_input before.files files map has.bytes ⊥ (λ bytes. h.pages ≡ first_pages bytes) told has.input
-      pages in
-      let few_are = at_input before.files files map has.bytes ⊥ (λ bytes. mid.reads ≤ before.reads + first_pages bytes)
-      told has.input few in
-      let bound = subst (λ o. IfSome o (λ t. f ≤ f0 + length (subtrees t))) has.told fetched in
-      let walked = few_walked mid.reads end.reads f0 f (length (subtrees has.tree)) none kept.few kept.most bound in
+      let is = counted hash sized map before p o first_is files told has in
+      let bound = subst (λ o. IfSome o (λ t. p'.fetches ≤ p.fetches + length (subtrees t))) has.told fetched in
+      let walked = few_walked mid.reads end.reads p.fetches p'.fetches (length (subtrees has.tree)) o.none kept.few
+      kept.most bound in
       few_there before.files files map has.bytes before.reads after.reads
       (λ files bytes n. IsFewServed hash bytes (file files script) n) told has.input
-      (few_script hash h has.bytes (file files script) before.reads mid.reads after.reads has.tree s.batch has.stands
-      pages_are few_are
-      (λ small. omega (arith, pieces, kept.still (subst IsSome (sym (same ∙ told)) refl) small))
+      (few_script hash p.head.pages has.bytes (file files script) before.reads mid.reads after.reads has.tree s.batch
+      is.stands is.pages is.few
+      (λ small. omega (arith, pieces, kept.still (subst IsSome (sym (o.files ∙ told)) refl) small))
       (omega (arith, pieces, walked)))
 
   -- the script was read
   pub served : (nodes : List Stored) (top : Top) (after : Shelved) (result : Result Ending Halt)
       → StandsFor s nodes top → top.version ≡ One → ∥ WellFormed (tree_of nodes top) ∥₁ → end.faults ≡ mid.faults
       → Comes (on_map (held_in nodes top)) end after result
-      → Comes (rereads reading (needs_map hash map on_map)) before after result
-  served nodes top after result stands first_is well calm on = by_files before.files refl
+      → ComesAsSaid plan_served may_serve allows before after result
+  served nodes top after result stands top_is well calm on = by_files before.files refl
     where
       counts : NoneFalls before after
       counts = record {
-        faults = omega (arith, quiet, kept.faults, on.counts.faults);
-        reads = omega (arith, more, kept.reads, on.counts.reads);
+        faults = omega (arith, o.quiet, kept.faults, on.counts.faults);
+        reads = omega (arith, o.more, kept.reads, on.counts.reads);
       }
 
-      by_files : (o : Option Files) → before.files ≡ o
-          → Comes (rereads reading (needs_map hash map on_map)) before after result
+      by_files : (f : Option Files) → before.files ≡ f
+          → ComesAsSaid plan_served may_serve allows before after result
       by_files None none =
           let m = held_in nodes top in
-          comes_untold reading (needs_map hash map on_map) before after none result counts
-          (untold_from reading before end after result (kept.files ∙ same) (calm ∙ quiet)
-          (says_needs reading script (said m) end after (kept.files ∙ same ∙ none) (inr (inl refl))
-          (λ bytes are. inr (inr (m, first_is, well, bytes, are, refl))) result on))
+          comes_untold plan_served may_serve allows before after none (says_missing map, inl (inl refl)) result counts
+          (untold_from may_serve before end after result (kept.files ∙ o.files) (calm ∙ o.quiet)
+          (says_needs may_serve script (said m) end after (kept.files ∙ o.files ∙ none) (inr (inr (inl refl)))
+          (λ bytes are. inr (inr (inr (m, top_is, well, bytes, are, refl)))) result on))
       by_files (Some files) told =
-          let has = has_map hash sized map before s mid same quiet answers files told in
-          let m : Opened = first_map has.tree s.batch in
-          let own = one_map s nodes top has.tree first_is (stands has.tree has.told) in
+          let w = was_opened hash map before p o in
+          let has = has_map hash sized map before s mid w files told in
+          let m : Opened = map_at s has.tree in
+          let own = one_map s nodes top has.tree (stands has.tree has.told) in
           let pieces = few_pieces end.files files script (said (held_in nodes top)) end.reads after.reads
-          (kept.files ∙ same ∙ told) on.few in
-          comes_told reading (needs_map hash map on_map) before after files told result counts.reads
+          (kept.files ∙ o.files ∙ told) on.few in
+          comes_told plan_served may_serve allows before after files told result counts.reads
           (few_served after files told has pieces)
-          (told_on hash sized map before s mid same quiet answers on_map goes has after result
+          (first_on hash sized map before s mid w on_map goes first_is has after result
           (subst (λ w. Comes (on_map m) w after result) (with_same after.reads mid end kept.files calm)
           (needs_but script (λ b. comes (said m b)) end after result
           (subst (λ m. Comes (on_map m) end after result) own on))))
@@ -217,26 +240,27 @@ module _ (hash : List ℕ → List ℕ) (sized : (xs : List ℕ) → length (has
   -- a node was not fetched
   pub unserved : (e : NodesErr) (result : Result Ending Halt) → HasSomeCause s mid.faults end.faults e
       → SaysRefusal map (as_map_error e) result
-      → Comes (rereads reading (needs_map hash map on_map)) before end result
+      → ComesAsSaid plan_served may_serve allows before end result
   unserved e result cause says = by_files before.files refl
     where
       shifted : HasSomeCause s before.faults end.faults e
-      shifted = subst (λ n. HasSomeCause s n end.faults e) quiet cause
+      shifted = subst (λ n. HasSomeCause s n end.faults e) o.quiet cause
 
       counts : NoneFalls before end
-      counts = record { faults = omega (arith, quiet, kept.faults); reads = omega (arith, more, kept.reads) }
+      counts = record { faults = omega (arith, o.quiet, kept.faults); reads = omega (arith, o.more, kept.reads) }
 
-      by_files : (o : Option Files) → before.files ≡ o
-          → Comes (rereads reading (needs_map hash map on_map)) before end result
+      by_files : (f : Option Files) → before.files ≡ f
+          → ComesAsSaid plan_served may_serve allows before end result
       by_files None none =
-          comes_untold reading (needs_map hash map on_map) before end none result counts
-          (says_refused hash reading map (λ said is. inl is) before end (kept.files ∙ same) (as_map_error e) result
-          (fetch_blamed hash s e before end shifted) says)
+          comes_untold plan_served may_serve allows before end none (says_missing map, inl (inl refl)) result counts
+          (says_refused hash may_serve map (λ said is. inl is) before end (kept.files ∙ o.files) (as_map_error e)
+          result (fetch_blamed hash s e before end shifted) says)
       by_files (Some files) told =
-          let has = has_map hash sized map before s mid same quiet answers files told in
+          let w = was_opened hash map before p o in
+          let has = has_map hash sized map before s mid w files told in
           let stop = fetch_stopped map s has.tree e before end result has.told shifted says in
-          subst (Comes (rereads reading (needs_map hash map on_map)) before end) (sym stop.is)
-          (comes_told reading (needs_map hash map on_map) before end files told (Err stop.halt) counts.reads
+          subst (ComesAsSaid plan_served may_serve allows before end) (sym stop.is)
+          (comes_told plan_served may_serve allows before end files told (Err stop.halt) counts.reads
           (few_served end files told has (omega arith))
-          (told_halted hash sized map before s mid same quiet answers on_map goes end stop.halt kept.files
+          (first_halted hash sized map before s mid w on_map goes end stop.halt kept.files
           counts.faults stop.stops))

@@ -1,6 +1,6 @@
 -- How far the file of a proof is read: up to the piece that fixes a fault.
 use Rattle.std.proofs.Common.{◌≡◌, ℕ, ◌+◌, ◌-◌, ◌*◌, ◌≤◌, ◌<◌, min, List, length, take, Option, Some, None, MatchOption, refl, subst, inl, inr, arith}
-use Rattle.std.specs.Prelude.{◌⊎◌, ltb, Result, Ok, Err}
+use Rattle.std.specs.Prelude.{◌⊎◌, ltb, Result}
 use Rattle.std.proofs.lemmas.Bool.{cases_Bool, ltb-true, ltb-false}
 use Rattle.mr_outside.specs.Files.{Files, file}
 use Rattle.mr_outside.specs.Reading.{piece_count}
@@ -9,15 +9,15 @@ use Rattle.mr_outside.specs.Told.{OfFile, OfFiles}
 use Rattle.mr_query.specs.declared.query.Query.{Query}
 use Rattle.mr_proof.specs.Feeding.{IsUnsettled}
 use Rattle.mr_proof.specs.Tight.{question}
-use Rattle.mr_command.specs.Counting.{pieces_of, reads_taken, IsToFault}
-use Rattle.mr_command.specs.Ending.{Blames, Came, Comes, ReadsOnce}
+use Rattle.mr_command.specs.Counting.{pieces_of, reads_taken, AllowsReads, IsToFault}
+use Rattle.mr_command.specs.Ending.{Comes, ComesAsSaid, ReadsOnce}
 use Rattle.mr_plan.specs.Outcome.{Outcome}
-use Rattle.mr_plan.specs.Plan.{Input, Plan, comes, judges}
+use Rattle.mr_plan.specs.Plan.{Input, Leads, Plan, comes}
 use Rattle.mr_plan.specs.Say.{given, needs}
 use Rattle.mr_command.specs.Taking.{ReadsToFault}
 use Rattle.mr_command.specs.declared.ending.Ending.{Ending}
 use Rattle.mr_command.specs.declared.ending.Halt.{Halt}
-use Rattle.mr_command.proofs.Counting.{AllowsFrom}
+use Rattle.mr_command.proofs.Rereading.{comes_plain}
 
 -- nothing at all is read
 pub none_to_fault : (hash : List ℕ → List ℕ) (root : List ℕ) (q : Query) (told : Option Files) (name : List ℕ)
@@ -139,30 +139,26 @@ module _ (hash : List ℕ → List ℕ) (root : List ℕ) (q : Query) (name : Li
   plan = needs name (λ bytes. comes (said bytes))
 
   few_judged : (told : Option Files) (r t : ℕ) → ReadsToFault hash root q told name r t
-      → AllowsFrom told (judges hash root q name plan) r t
+      → OfFiles told (λ files. (n : ℕ) × (t ≤ r + n) × (AllowsReads plan files n × IsToFault hash root q
+      (file files name) n))
   few_judged None r t reads = tt
   few_judged (Some files) r t reads =
       let here = taken_in said name reads.0 (file files name) reads.2 in
       (reads.0, reads.1, ((reads.0, 0, omega arith, here, inl refl), reads.3))
 
-  came_judged : (result : Result Ending Halt) → Came plan before after result
-      → Came (judges hash root q name plan) before after result
-  came_judged (Ok ending) came = came
-  came_judged (Err halt) came = came
-
-  blames_judged : (result : Result Ending Halt) → Blames plan before after result
-      → Blames (judges hash root q name plan) before after result
-  blames_judged (Ok ending) blames = blames
-  blames_judged (Err halt) blames = tt
-
+  -- over any files it is what its plan says, but for the count of its reads
   pub comes_judged : (result : Result Ending Halt)
       → ReadsToFault hash root q before.files name before.reads after.reads → Comes plan before after result
-      → Comes (judges hash root q name plan) before after result
-  comes_judged result reads on = record {
-    counts = on.counts;
-    judged = on.judged;
-    came = came_judged result on.came;
-    outside = blames_judged result on.outside;
-    quiet = on.quiet;
-    few = few_judged before.files before.reads after.reads reads;
-  }
+      → ComesAsSaid plan (Leads plan None) (λ files n. AllowsReads plan files n × IsToFault hash root q
+      (file files name) n) before after result
+  comes_judged result reads on =
+      let all = comes_plain plan before after (Leads plan None) (AllowsReads plan) result (λ said leads. leads)
+      (λ files n few. few) on in
+      record {
+        counts = all.counts;
+        judged = all.judged;
+        came = all.came;
+        outside = all.outside;
+        quiet = all.quiet;
+        few = few_judged before.files before.reads after.reads reads;
+      }

@@ -13,7 +13,6 @@ use Rattle.mr_proof.specs.Halves.{AcceptsHonest}
 use Rattle.mr_proof.specs.Honest.{proof}
 use Rattle.mr_proof.specs.Reading.{verdict}
 use Rattle.mr_query.specs.Scan.{scan}
-use Rattle.mr_tree.specs.Digest as digests
 use Rattle.mr_tree.specs.Tree.{records}
 use Rattle.mr_record.specs.declared.version.Version.TheVariants.{One}
 use Rattle.mr_tree.specs.WellFormed.{WellFormed, HasLayers}

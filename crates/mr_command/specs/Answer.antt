@@ -1,13 +1,16 @@
 -- When a run of the program is right: what it may answer, and what it may leave.
-use Rattle.std.specs.Prelude.{◌≡◌, ◌⊎◌, ℕ, ◌≤◌, List}
+use Rattle.std.specs.Prelude.{◌≡◌, ◌⊎◌, ℕ, ◌≤◌, List, Option}
 use Rattle.mr_outside.specs.Faults.{Rose}
 use Rattle.mr_outside.specs.State.{Shelved, Sunk}
 use Rattle.mr_outside.specs.Told.{OfFiles, Takes, TakesFront}
 use Rattle.mr_plan.specs.Lines.{shelf_fault_line}
 use Rattle.mr_plan.specs.Outcome.{Outcome, IsLeft, MayLeave}
-use Rattle.mr_plan.specs.Plan.{Plan, Leads, LacksInput, IsOutcomeOver}
+use Rattle.mr_plan.specs.Plan.{Plan, LacksInput, IsOutcomeOver}
+use Rattle.mr_plan.specs.Say.{say}
+use Rattle.mr_plan.specs.Untold.{MaySay}
 use Rattle.mr_plan.specs.declared.status.Status.{Status}
 use Rattle.mr_plan.specs.declared.status.Status.TheVariants.{Outside, NoMemory}
+use Rattle.mr_plan.specs.declared.words.Command.{Command}
 
 -- the shelf and the sink at one moment
 pub record World : Type 0 where
@@ -69,12 +72,16 @@ pub record IsStopped (said : Outcome) (before after : World) (status : Status) :
   -- where the sink did not fail, the line on what failed stands there whole
   pub whole_line : status ≡ Outside → (SinkFailed before after → ⊥) → IsStopLine text
       × Takes before.sink after.sink text
+  -- printing comes last: where anything was printed but that line, all else was done
+  pub last : (after.sink ≡ before.sink) ⊎ IsStopLine text
+      ⊎ IsLeft said.written before.shelf.files after.shelf.files
   pub files : MayLeave said.written before.shelf.files after.shelf.files
 
--- The run answers an outcome that the plan comes to; over files that are told, it is the one that
--- they give.
-pub record IsAnswer (plan : Plan) (before after : World) (status : Status) : Type 0 where
+-- The run answers an outcome that may be said of the command; over files that are told, it is the
+-- one that they give.
+pub record IsAnswer (hash : List ℕ → List ℕ) (command : Option Command) (before after : World)
+    (status : Status) : Type 0 where
   pub said : Outcome
-  pub leads : Leads plan before.shelf.files said
-  pub told : OfFiles before.shelf.files (λ files. IsOutcomeOver plan files said)
+  pub leads : MaySay hash command before.shelf.files said
+  pub told : OfFiles before.shelf.files (λ files. IsOutcomeOver (say hash command) files said)
   pub answer : IsWhole said before after status ⊎ IsStopped said before after status

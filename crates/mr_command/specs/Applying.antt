@@ -3,7 +3,7 @@ use Rattle.std.specs.Prelude.{◌≡◌, ℕ, ◌+◌, ◌≤◌, List, length, 
 use Rattle.mr_outside.specs.Files.{Files, file}
 use Rattle.mr_outside.specs.State.{Shelved}
 use Rattle.mr_outside.specs.Told.{OfFiles}
-use Rattle.mr_plan.specs.First.{first_map}
+use Rattle.mr_record.specs.declared.version.Version.{Version}
 use Rattle.mr_tree.specs.Nodes.{Standing}
 use Rattle.mr_tree.specs.Tree.{records}
 use Rattle.mr_tree.specs.declared.tree.Tree.{Tree}
@@ -17,10 +17,10 @@ use Rattle.mr_edit.specs.Reads.{reads_along}
 use Rattle.mr_edit.specs.declared.error.EditErr.{EditErr}
 use Rattle.mr_edit.specs.declared.error.EditErr.TheVariants as edits
 use Rattle.mr_command.specs.Counting.{pieces_of, IsFewBehind, IsFewOfBatch}
-use Rattle.mr_command.specs.Ending.{ComesBut, GivesOrStops, NoneFalls, SaysRefusal, SaysUntold}
+use Rattle.mr_command.specs.Ending.{map_at, ComesBut, GivesOrStops, NoneFalls, SaysRefusal, SaysUntold}
 use Rattle.mr_plan.specs.Lines.{digest_line}
+use Rattle.mr_plan.specs.Outcome.{Outcome}
 use Rattle.mr_plan.specs.Plan.{Plan}
-use Rattle.mr_plan.specs.Rereading.{Rereading}
 use Rattle.mr_plan.specs.Saying.{prints}
 use Rattle.mr_command.specs.declared.ending.Ending.{Ending}
 use Rattle.mr_command.specs.declared.ending.Halt.{Halt}
@@ -53,12 +53,11 @@ pub record MayApply (dir : Entries) (held : ℕ) (batch : Changes) (t : Tree) : 
 -- What a command comes to behind an opened map that stands for this: what follows on the map, where
 -- its tree is told, and what may be said, where the files are not told. What it reads is counted
 -- apart.
-pub record ComesBehind (reading : Rereading) (s : Standing) (next : Opened → Plan)
+pub record ComesBehind (may : Outcome → Type 0) (s : Standing) (next : Opened → Plan)
     (few : Tree → Type 0) (before after : Shelved) (result : Result Ending Halt) : Type 0 where
   pub counts : NoneFalls before after
-  pub told : IfSome s.tree (λ t. ComesBut (next (first_map t s.batch)) before after
-      result)
-  pub untold : before.files ≡ None → SaysUntold reading before after result
+  pub told : IfSome s.tree (λ t. ComesBut (next (map_at s t)) before after result)
+  pub untold : before.files ≡ None → SaysUntold may before after result
   pub few_read : IfSome s.tree few
 
 -- what is read for the copy of a map in so many pages, and for the changes of a batch on it
@@ -70,14 +69,14 @@ abbrev pub IsFewOfChanges : (pages held : ℕ) → Changes → (before after : �
 IsFewOfChanges pages held batch before after t =
     (n : ℕ) × (after ≤ before + n) × IsFewBehind pages t held batch n
 
--- behind the text of it
-abbrev pub IsFewOfText : (pages held : ℕ) → List ℕ → (before after : ℕ) → Tree → Type 0
-IsFewOfText pages held text before after t =
-    (n : ℕ) × (after ≤ before + n) × IsFewOfBatch pages t held (Some text) n
+-- behind the text of it, whose lines are of this version
+abbrev pub IsFewOfText : Version → (pages held : ℕ) → List ℕ → (before after : ℕ) → Tree → Type 0
+IsFewOfText v pages held text before after t =
+    (n : ℕ) × (after ≤ before + n) × IsFewOfBatch v pages t held (Some text) n
 
 -- with the pieces of its file
-abbrev pub IsFewOfFile : (pages held : ℕ) → Option Files → List ℕ → (before after : ℕ) → Tree
-    → Type 0
-IsFewOfFile pages held told name before after t = OfFiles told (λ files. (n : ℕ)
+abbrev pub IsFewOfFile : Version → (pages held : ℕ) → Option Files → List ℕ → (before after : ℕ)
+    → Tree → Type 0
+IsFewOfFile v pages held told name before after t = OfFiles told (λ files. (n : ℕ)
     × (after ≤ before + pieces_of (file files name) + n)
-    × IsFewOfBatch pages t held (file files name) n)
+    × IsFewOfBatch v pages t held (file files name) n)

@@ -1,7 +1,7 @@
--- How many reads a plan takes over files that are told: an input that is read whole takes its
+-- How many reads a command takes over files that are told: an input that is read whole takes its
 -- pieces once, a map its pages once, and the nodes that are fetched beside; and of `apply` the map
 -- its pages once more for the copy, and what the changes read.
-use Rattle.std.specs.Prelude.{◌≡◌, ◌⊎◌, ⊤, ℕ, ◌+◌, ◌-◌, ◌*◌, ◌≤◌, ◌<◌, nat_lt, if◌then◌else◌, List, length, take, Some, None, MatchOption, Ok}
+use Rattle.std.specs.Prelude.{◌≡◌, ◌⊎◌, ⊤, ℕ, ◌+◌, ◌-◌, ◌*◌, ◌≤◌, ◌<◌, nat_lt, if◌then◌else◌, List, length, take, Option, Some, None, MatchOption, Ok}
 use Rattle.mr_outside.specs.Files.{Files, file}
 use Rattle.mr_outside.specs.Reading.{piece_count}
 use Rattle.mr_outside.specs.State.{Shelved}
@@ -9,8 +9,9 @@ use Rattle.mr_outside.specs.Told.{OfFiles}
 use Rattle.mr_tree.specs.Nodes.{subtrees}
 use Rattle.mr_tree.specs.Tree.{records}
 use Rattle.mr_tree.specs.declared.tree.Tree.{Tree}
-use Rattle.mr_record.specs.declared.version.Version.TheVariants.{One}
-use Rattle.mr_pages.specs.Law.{IsMapFile}
+use Rattle.mr_record.specs.declared.version.Version.{Version}
+use Rattle.mr_pages.specs.File.{version_of}
+use Rattle.mr_pages.specs.Law.{IsMapFile, map_in}
 use Rattle.mr_pages.specs.Opening.{pages_in}
 use Rattle.mr_batch.specs.Applied.{IsAdmissible}
 use Rattle.mr_batch.specs.BatchText.{batch_of_text}
@@ -22,12 +23,13 @@ use Rattle.mr_proof.specs.Honest.{opened}
 use Rattle.mr_prove.specs.Causes.{rounds}
 use Rattle.mr_clash.specs.Finding.{opened_accepted}
 use Rattle.mr_edit.specs.Reads.{reads_along}
-use Rattle.mr_store.specs.Opening.{first_pages}
-use Rattle.mr_store.specs.Stored.{room}
+use Rattle.mr_store.specs.Kept.{room}
 use Rattle.mr_plan.specs.First.{first, first_map}
 use Rattle.mr_plan.specs.Found.{Found, Shows}
-use Rattle.mr_plan.specs.Plan.{Input, Plan, comes, reads, opens, rereads, judges}
-use Rattle.mr_plan.specs.Rereading.{Rereading, proving, auditing, serving, applying}
+use Rattle.mr_plan.specs.Plan.{Input, Plan, comes, reads, opens, seeks}
+use Rattle.mr_plan.specs.Say.{say, say_check}
+use Rattle.mr_plan.specs.declared.words.Command.{Command}
+use Rattle.mr_plan.specs.declared.words.Command.TheVariants as commands
 
 -- in how many pieces an input is read whole
 abbrev pub pieces_of : Input → ℕ
@@ -41,35 +43,35 @@ reads_taken _ input = pieces_of input
 
 -- a map of these bytes has more pages than are all kept
 abbrev pub IsLarge : List ℕ → Type 0
-IsLarge bytes = room + 1 < first_pages bytes
+IsLarge bytes = room + 1 < pages_in bytes
 
--- the pages of a map of these bytes, or of a large one besides the nodes that its proof opens, once
--- or twice
+-- the pages of a map of these bytes, or of a large one of version 1 besides the nodes that its
+-- proof opens, once or twice
 abbrev pub IsFewOf : (List ℕ → List ℕ) → Query → List ℕ → ℕ → Type 0
-IsFewOf hash q bytes n = (n ≤ first_pages bytes)
+IsFewOf hash q bytes n = (n ≤ pages_in bytes)
     ⊎ (IsLarge bytes × ((t : Tree) × (batch : ℕ) × IsMapFile hash bytes (first_map t batch)
-    × (n ≤ first_pages bytes + rounds q * opened (first hash) t q)))
+    × (n ≤ pages_in bytes + rounds q * opened (first hash) t q)))
 
 -- the nodes that a proof opens, where it is there and is accepted against the map
 abbrev pub opened_beside : (List ℕ → List ℕ) → Tree → (batch : ℕ) → Query → Input → ℕ
 opened_beside hash t batch q None = 0
 opened_beside hash t batch q (Some bytes) = opened_accepted (first hash) t batch q bytes
 
--- the pages of a file of these bytes; where it stands for a map the pieces of a proof besides, and
--- where that is large the nodes that the proof opens
+-- the pages of a file of these bytes; where it stands for a map of version 1 the pieces of a proof
+-- besides, and where that is large the nodes that the proof opens
 abbrev pub IsFewBeside : (List ℕ → List ℕ) → Query → List ℕ → Input → ℕ → Type 0
-IsFewBeside hash q bytes proof n = (n ≤ first_pages bytes)
+IsFewBeside hash q bytes proof n = (n ≤ pages_in bytes)
     ⊎ ((t : Tree) × (batch : ℕ) × IsMapFile hash bytes (first_map t batch)
-    × ((n ≤ first_pages bytes + pieces_of proof) ⊎ (IsLarge bytes
-    × (n ≤ first_pages bytes + pieces_of proof + opened_beside hash t batch q proof))))
+    × ((n ≤ pages_in bytes + pieces_of proof) ⊎ (IsLarge bytes
+    × (n ≤ pages_in bytes + pieces_of proof + opened_beside hash t batch q proof))))
 
--- the pages of a file of these bytes; where it stands for a map the pieces of a script besides, and
--- where that is large each of its nodes once, of which there are fewer than pages
+-- the pages of a file of these bytes; where it stands for a map of version 1 the pieces of a script
+-- besides, and where that is large each of its nodes once, of which there are fewer than pages
 abbrev pub IsFewServed : (List ℕ → List ℕ) → List ℕ → Input → ℕ → Type 0
-IsFewServed hash bytes script n = (n ≤ first_pages bytes)
+IsFewServed hash bytes script n = (n ≤ pages_in bytes)
     ⊎ ((t : Tree) × (batch : ℕ) × IsMapFile hash bytes (first_map t batch)
-    × ((n ≤ first_pages bytes + pieces_of script) ⊎ (IsLarge bytes
-    × (n ≤ first_pages bytes + length (subtrees t) + pieces_of script))))
+    × ((n ≤ pages_in bytes + pieces_of script) ⊎ (IsLarge bytes
+    × (n ≤ pages_in bytes + length (subtrees t) + pieces_of script))))
 
 -- what the directory of a map in so many pages reads again: each node once, where it is large
 abbrev pub nodes_listed : (pages : ℕ) → Tree → ℕ
@@ -82,30 +84,39 @@ IsFewBehind pages t held batch n = (n ≤ nodes_listed pages t)
     ⊎ (IsAdmissible (records t) held batch
     × (n ≤ nodes_listed pages t + pages + reads_along t batch.list))
 
--- behind the pieces of a batch: nothing, unless its text has no fault
-abbrev pub IsFewOfBatch : (pages : ℕ) → Tree → (held : ℕ) → Input → ℕ → Type 0
-IsFewOfBatch pages t held None n = n ≡ 0
-IsFewOfBatch pages t held (Some text) n = (n ≡ 0)
-    ⊎ ((batch : Changes) × (batch_of_text One text ≡ Ok batch) × IsFewBehind pages t held batch n)
+-- behind the pieces of a batch: nothing, unless its text has no fault in the map's version
+abbrev pub IsFewOfBatch : Version → (pages : ℕ) → Tree → (held : ℕ) → Input → ℕ → Type 0
+IsFewOfBatch v pages t held None n = n ≡ 0
+IsFewOfBatch v pages t held (Some text) n = (n ≡ 0)
+    ⊎ ((batch : Changes) × (batch_of_text v text ≡ Ok batch) × IsFewBehind pages t held batch n)
 
 -- the pages of a file of these bytes; where it stands for a map the pieces of a batch besides, and
 -- what is read behind it
 abbrev pub IsFewApplied : (List ℕ → List ℕ) → List ℕ → Input → ℕ → Type 0
-IsFewApplied hash bytes batch n = (n ≤ first_pages bytes)
-    ⊎ ((t : Tree) × (held : ℕ) × IsMapFile hash bytes (first_map t held)
-    × (behind : ℕ) × (n ≤ first_pages bytes + pieces_of batch + behind)
-    × IsFewOfBatch (first_pages bytes) t held batch behind)
+IsFewApplied hash bytes batch n = (n ≤ pages_in bytes)
+    ⊎ ((t : Tree) × (held : ℕ) × IsMapFile hash bytes (map_in (version_of bytes) t held)
+    × (behind : ℕ) × (n ≤ pages_in bytes + pieces_of batch + behind)
+    × IsFewOfBatch (version_of bytes) (pages_in bytes) t held batch behind)
 
--- so many reads of the map, and of the proof for an audit, the script for a bundle, or the batch
--- and the new file for `apply`
-abbrev pub AllowsPages : Rereading → Files → ℕ → Type 0
-AllowsPages (proving hash map q proof) files n =
+-- so many reads of the map, for a proof
+abbrev pub AllowsProve : (List ℕ → List ℕ) → (map : List ℕ) → Query → Files → ℕ → Type 0
+AllowsProve hash map q files n =
     MatchOption (file files map) (n ≡ 0) (λ bytes. IsFewOf hash q bytes n)
-AllowsPages (auditing hash map q proof) files n =
+
+-- and of the proof, for an audit
+abbrev pub AllowsAudit : (List ℕ → List ℕ) → (map : List ℕ) → Query → (proof : List ℕ) → Files
+    → ℕ → Type 0
+AllowsAudit hash map q proof files n =
     MatchOption (file files map) (n ≡ 0) (λ bytes. IsFewBeside hash q bytes (file files proof) n)
-AllowsPages (serving hash map script bundle) files n =
+
+-- of the map and the script, for a bundle
+abbrev pub AllowsServe : (List ℕ → List ℕ) → (map script : List ℕ) → Files → ℕ → Type 0
+AllowsServe hash map script files n =
     MatchOption (file files map) (n ≡ 0) (λ bytes. IsFewServed hash bytes (file files script) n)
-AllowsPages (applying hash old batch new) files n =
+
+-- of the map, the batch and the new file, for `apply`
+abbrev pub AllowsApply : (List ℕ → List ℕ) → (old batch : List ℕ) → Files → ℕ → Type 0
+AllowsApply hash old batch files n =
     MatchOption (file files old) (n ≡ 0) (λ bytes. IsFewApplied hash bytes (file files batch) n)
 
 -- So many pieces of a proof are read: none behind the one with which its verdict is a fault that is
@@ -115,7 +126,8 @@ IsToFault hash root q None n = ⊤
 IsToFault hash root q (Some bytes) n =
     (n ≤ 1) ⊎ IsUnsettled hash root (question q) (take ((n - 1) * 65536) bytes)
 
--- so many reads: each input once, and no more where the command stops
+-- so many reads: each input once, and no more where the command stops; of a map in its own file
+-- nothing is said
 abbrev pub AllowsReads : Plan → Files → ℕ → Type 0
 AllowsReads (comes said) files n = n ≡ 0
 AllowsReads (reads name next) files n = (here : ℕ) × (rest : ℕ) × (n ≡ here + rest)
@@ -123,11 +135,28 @@ AllowsReads (reads name next) files n = (here : ℕ) × (rest : ℕ) × (n ≡ h
     × ((rest ≡ 0) ⊎ AllowsReads (next (file files name)) files rest)
 AllowsReads (opens v hash bytes next) files n = (found : Found) × Shows v hash bytes found
     × AllowsReads (next found) files n
-AllowsReads (rereads reading next) files n = AllowsPages reading files n
-AllowsReads (judges hash root q proof next) files n = AllowsReads next files n
+AllowsReads (seeks name next) files n = ⊤
+
+-- so many reads of a proof that is judged as it is read
+abbrev pub AllowsCheck : (List ℕ → List ℕ) → (root : List ℕ) → Query → (proof : List ℕ) → Files
+    → ℕ → Type 0
+AllowsCheck hash root q proof files n = AllowsReads (say_check hash root q proof) files n
     × IsToFault hash root q (file files proof) n
 
+-- so many reads of a command: what its plan takes, where it reads no page and no proof otherwise
+abbrev pub MayRead : (List ℕ → List ℕ) → Option Command → Files → ℕ → Type 0
+MayRead hash (Some (commands.Prove map q proof)) files n = AllowsProve hash map.now q files n
+MayRead hash (Some (commands.Audit map q proof)) files n =
+    AllowsAudit hash map.now q proof.now files n
+MayRead hash (Some (commands.Serve map script bundle)) files n =
+    AllowsServe hash map.now script.now files n
+MayRead hash (Some (commands.Apply old batch new)) files n =
+    AllowsApply hash old.now batch.now files n
+MayRead hash (Some (commands.Check root q proof)) files n =
+    AllowsCheck hash root q proof.now files n
+MayRead hash command files n = AllowsReads (say hash command) files n
+
 -- what was read in between, where the files are told
-abbrev pub ReadsFew : Plan → Shelved → Shelved → Type 0
-ReadsFew plan before after = OfFiles before.files
-    (λ files. (n : ℕ) × (after.reads ≤ before.reads + n) × AllowsReads plan files n)
+abbrev pub ReadsFew : (Files → ℕ → Type 0) → Shelved → Shelved → Type 0
+ReadsFew allows before after = OfFiles before.files
+    (λ files. (n : ℕ) × (after.reads ≤ before.reads + n) × allows files n)

@@ -1,6 +1,6 @@
--- What a command comes to before it is printed (`Comes`, `GivesOrStops`), and how it is printed.
--- All but these two, and what they are made of, serves private functions.
-use Rattle.std.specs.Prelude.{◌≡◌, ◌⊎◌, ℕ, ◌+◌, ◌^◌, ◌<◌, ◌≤◌, List, ◌++◌, All, Option, Some, None, IfSome, ⊤, Result, Ok, Err}
+-- What a command comes to before it is printed (`Comes`, `IsCarriedOut`, `GivesOrStops`), and how
+-- it is printed. All but these three, and what they are made of, serves private functions.
+use Rattle.std.specs.Prelude.{◌≡◌, ◌⊎◌, ℕ, ◌+◌, ◌^◌, ◌<◌, ◌≤◌, List, ◌++◌, All, Option, Some, None, IfSome, IsErrAnd, ⊤, Result, Ok, Err}
 use Rattle.std.specs.Global.{Vec}
 use Rattle.mr_outside.specs.Files.{Files, file}
 use Rattle.mr_outside.specs.Faults.{Rose}
@@ -18,7 +18,7 @@ use Rattle.mr_query.specs.Scan.{by_number}
 use Rattle.mr_tree.specs.Tree.{records}
 use Rattle.mr_pages.specs.PageBytes.{form_by}
 use Rattle.mr_pages.specs.Opening.{pages_in}
-use Rattle.mr_pages.specs.Law.{Agrees}
+use Rattle.mr_pages.specs.Law.{Agrees, map_in}
 use Rattle.mr_command.specs.Answer.{IsSettled}
 use Rattle.mr_command.specs.Shown.{kept_in}
 use Rattle.mr_tree.specs.WellFormed.{WellFormed, HasLayers}
@@ -31,15 +31,15 @@ use Rattle.mr_query.specs.declared.query.Query.{Query}
 use Rattle.mr_clash.specs.Finding.{opened_accepted}
 use Rattle.mr_clash.specs.declared.finding.Finding.{Finding}
 use Rattle.mr_clash.specs.declared.finding.Finding.TheVariants as findings
-use Rattle.mr_store.specs.Stored.{room}
+use Rattle.mr_store.specs.Kept.{room}
 use Rattle.mr_plan.specs.Found.{Found, Shows, as_map_error, bad_map_line}
 use Rattle.mr_plan.specs.Lines.{bad_words_line, shelf_fault_line}
 use Rattle.mr_plan.specs.Outcome.{Outcome, Content, File, IsLeft, MayLeave}
-use Rattle.mr_command.specs.Counting.{pieces_of, opened_beside, ReadsFew}
+use Rattle.mr_command.specs.Counting.{pieces_of, opened_beside, AllowsReads, MayRead, ReadsFew}
 use Rattle.mr_plan.specs.First.{first}
-use Rattle.mr_plan.specs.Plan.{Plan, comes, reads, opens, rereads, judges, Input, IsInput, IsAbsent, LacksInput}
-use Rattle.mr_plan.specs.Rereading.{Rereading, MaySay}
-use Rattle.mr_plan.specs.Say.{ends, needs_map_in, says_missing, say_written}
+use Rattle.mr_plan.specs.Plan.{Plan, comes, reads, opens, seeks, Input, IsInput, IsSought, IsAbsent, LacksInput}
+use Rattle.mr_plan.specs.Say.{ends, needs_map_in, say, says_missing, say_written}
+use Rattle.mr_plan.specs.Untold.{MaySayUntold}
 use Rattle.mr_command.specs.declared.ending.Ending.{Ending}
 use Rattle.mr_command.specs.declared.ending.Shown.{Shown}
 use Rattle.mr_command.specs.declared.ending.Shown.TheVariants as shown
@@ -49,6 +49,7 @@ use Rattle.mr_pages.specs.declared.opening.Opened.{Opened}
 use Rattle.mr_plan.specs.declared.status.Status.{Status}
 use Rattle.mr_bundle.specs.declared.text.Text.{Text}
 use Rattle.mr_plan.specs.declared.status.Status.TheVariants.{BadWords, BadMap, Outside, NoMemory}
+use Rattle.mr_plan.specs.declared.words.Command.{Command}
 
 -- the records that are printed: these, or those of a tree in rising number
 abbrev pub shown_of : Shown → List Record
@@ -124,12 +125,8 @@ Ends (reads name next) before after status text = (input : Input) × IsInput bef
     × IfSome input AreBytes × Ends (next input) before after status text
 Ends (opens v hash bytes next) before after status text = (found : Found)
     × WasFound before v hash bytes found × IsWell found × Ends (next found) before after status text
-Ends (rereads reading next) None after status text = (said : Outcome) × MaySay reading said
-    × (status ≡ said.status) × (text ≡ said.printed) × IsLeft said.written None after
-Ends (rereads reading next) (Some files) after status text =
-    Ends next (Some files) after status text
-Ends (judges hash root query proof next) before after status text =
-    Ends next before after status text
+Ends (seeks name next) before after status text = (bytes : List ℕ) × IsSought before name bytes
+    × AreBytes bytes × Ends (next bytes) before after status text
 
 -- the plan was given up, and the files are left as its outcome allows
 abbrev pub GivesUp : Plan → Option Files → Option Files → Type 0
@@ -138,9 +135,8 @@ GivesUp (reads name next) before after = (after ≡ before)
     ⊎ ((input : Input) × IsInput before name input × GivesUp (next input) before after)
 GivesUp (opens v hash bytes next) before after = (found : Found) × Shows v hash bytes found
     × GivesUp (next found) before after
-GivesUp (rereads reading next) None after = after ≡ None
-GivesUp (rereads reading next) (Some files) after = GivesUp next (Some files) after
-GivesUp (judges hash root query proof next) before after = GivesUp next before after
+GivesUp (seeks name next) before after = (after ≡ before)
+    ⊎ ((bytes : List ℕ) × IsSought before name bytes × GivesUp (next bytes) before after)
 
 -- the bytes that the plan opens stand for one map or have one fault, whichever
 abbrev pub AreJudged : Plan → Option Files → Type 0
@@ -149,9 +145,8 @@ AreJudged (reads name next) told =
     (input : Input) → IsInput told name input → AreJudged (next input) told
 AreJudged (opens v hash bytes next) told = Agrees (form_by v) hash bytes
     × ((found : Found) → Shows v hash bytes found → AreJudged (next found) told)
-AreJudged (rereads reading next) None = ⊤
-AreJudged (rereads reading next) (Some files) = AreJudged next (Some files)
-AreJudged (judges hash root query proof next) told = AreJudged next told
+AreJudged (seeks name next) told =
+    (bytes : List ℕ) → IsSought told name bytes → AreJudged (next bytes) told
 
 -- why a command is not carried out to its end
 abbrev pub Stops : Shelved → Shelved → Halt → Type 0
@@ -175,21 +170,61 @@ abbrev pub IsCalm : Shelved → Shelved → Result Ending Halt → Type 0
 IsCalm before after (Ok ending) = IsSettled ending.status → after.faults ≡ before.faults
 IsCalm before after (Err halt) = ⊤
 
--- a command comes to what is said
+-- a command comes to what its plan says, over any files
 pub record Comes (plan : Plan) (before after : Shelved) (result : Result Ending Halt) : Type 0 where
   pub counts : NoneFalls before after
   pub judged : AreJudged plan before.files
   pub came : Came plan before after result
   pub outside : Blames plan before after result
   pub quiet : IsCalm before after result
-  pub few : ReadsFew plan before after
+  pub few : ReadsFew (AllowsReads plan) before after
 
-abbrev pub Read : List ℕ → Shelved → Shelved → Result (Option (Vec ℕ)) Halt → Type 0
-Read name before after (Ok None) = IsInput before.files name None
+-- the plan comes to this over files that are told, and over others this may be said
+abbrev pub EndsAsSaid : Plan → (Outcome → Type 0) → Option Files → Option Files → Status → List ℕ
+    → Type 0
+EndsAsSaid plan may None after status text = (said : Outcome) × may said
+    × (status ≡ said.status) × (text ≡ said.printed) × IsLeft said.written None after
+EndsAsSaid plan may (Some files) after status text = Ends plan (Some files) after status text
+
+-- the plan was given up over files that are told; over others something may be said
+abbrev pub GivesUpAsSaid : Plan → (Outcome → Type 0) → Option Files → Option Files → Type 0
+GivesUpAsSaid plan may None after = (after ≡ None) × ((said : Outcome) × may said)
+GivesUpAsSaid plan may (Some files) after = GivesUp plan (Some files) after
+
+abbrev pub CameAsSaid : Plan → (Outcome → Type 0) → Shelved → Shelved → Result Ending Halt → Type 0
+CameAsSaid plan may before after (Ok ending) = EndsAsSaid plan may before.files after.files
+    ending.status (printed_of ending)
+CameAsSaid plan may before after (Err halt) = Stops before after halt
+    × GivesUpAsSaid plan may before.files after.files
+
+-- a command comes to what its plan says over files that are told, and over others to what may be
+-- said; so many reads are allowed
+pub record ComesAsSaid (plan : Plan) (may : Outcome → Type 0) (allows : Files → ℕ → Type 0)
+    (before after : Shelved) (result : Result Ending Halt) : Type 0 where
+  pub counts : NoneFalls before after
+  pub judged : OfFiles before.files (λ files. AreJudged plan (Some files))
+  pub came : CameAsSaid plan may before after result
+  pub outside : Blames plan before after result
+  pub quiet : IsCalm before after result
+  pub few : ReadsFew allows before after
+
+-- a command comes to what is said of it
+abbrev pub IsCarriedOut : (List ℕ → List ℕ) → Command → Shelved → Shelved → Result Ending Halt
+    → Type 0
+IsCarriedOut hash command before after result = ComesAsSaid (say hash (Some command))
+    (MaySayUntold hash (Some command)) (MayRead hash (Some command)) before after result
+
+-- what the command comes to where a file was not read: the line on a missing one, or why it stops
+abbrev pub IsUnread : List ℕ → Shelved → Shelved → Result Ending Halt → Type 0
+IsUnread name before after (Ok ending) = IsInput before.files name None
     × (Rose before.faults after.faults ⊎ IsAbsent before.files name)
-Read name before after (Ok (Some bytes)) = IsInput before.files name (Some bytes.items)
+    × (ending.status ≡ Outside) × (printed_of ending ≡ (says_missing name).printed)
+IsUnread name before after (Err halt) = Stops before after halt
+
+abbrev pub Read : List ℕ → Shelved → Shelved → Result (Vec ℕ) (Result Ending Halt) → Type 0
+Read name before after (Ok bytes) = IsInput before.files name (Some bytes.items)
     × AreBytes bytes.items × (after.faults ≡ before.faults)
-Read name before after (Err halt) = Stops before after halt
+Read name before after (Err came) = IsUnread name before after came
 
 -- the same shelf with this count of reads
 abbrev pub with_reads : ℕ → Shelved → Shelved
@@ -201,13 +236,13 @@ ComesBut plan before after result = Comes plan (with_reads after.reads before) a
 
 -- over files that are not told, what is said may be said, each failure has its cause, and what is
 -- settled counts no fault
-abbrev pub SaysUntold : Rereading → Shelved → Shelved → Result Ending Halt → Type 0
-SaysUntold reading before after (Ok ending) = (said : Outcome) × MaySay reading said
+abbrev pub SaysUntold : (Outcome → Type 0) → Shelved → Shelved → Result Ending Halt → Type 0
+SaysUntold may before after (Ok ending) = (said : Outcome) × may said
     × (ending.status ≡ said.status) × (printed_of ending ≡ said.printed)
     × IsLeft said.written before.files after.files
     × (ending.status ≡ Outside → Rose before.faults after.faults)
     × (IsSettled ending.status → after.faults ≡ before.faults)
-SaysUntold reading before after (Err halt) = Stops before after halt
+SaysUntold may before after (Err halt) = Stops before after halt
     × (after.files ≡ before.files)
 
 -- what is made of a proof, or of why a node of the map was not fetched
@@ -219,11 +254,12 @@ KeepsProof map name (Err e) before after result = (after ≡ before)
     × SaysRefusal map (as_map_error e) result
 
 -- what is made of the answer of a read
-abbrev pub IsAsRead : Result (Vec ℕ) ShelfErr → Result (Option (Vec ℕ)) Halt → Type 0
-IsAsRead (Ok bytes) result = (result ≡ Ok (Some bytes)) × AreBytes bytes.items
-IsAsRead (Err shelf.Missing) result = result ≡ Ok None
-IsAsRead (Err shelf.Fault) result = result ≡ Err halts.Shelf
-IsAsRead (Err shelf.NoMemory) result = result ≡ Err halts.NoMemory
+abbrev pub IsAsRead : List ℕ → Result (Vec ℕ) ShelfErr → Result (Vec ℕ) (Result Ending Halt)
+    → Type 0
+IsAsRead name (Ok bytes) result = (result ≡ Ok bytes) × AreBytes bytes.items
+IsAsRead name (Err shelf.Missing) result = IsErrAnd result (Misses name)
+IsAsRead name (Err shelf.Fault) result = result ≡ Err (Err halts.Shelf)
+IsAsRead name (Err shelf.NoMemory) result = result ≡ Err (Err halts.NoMemory)
 
 -- where the files are told, this one was read once
 abbrev pub ReadsOnce : List ℕ → Shelved → Shelved → Type 0
@@ -235,7 +271,12 @@ abbrev pub ReadsPages : List ℕ → Shelved → Shelved → Type 0
 ReadsPages name before after = OfFile before.files name (after.reads ≡ before.reads)
     (λ bytes. after.reads ≤ before.reads + pages_in bytes)
 
--- behind an opened map nothing is read, or of a large one the nodes that the bytes of a proof open
+-- the map of a tree that stands so
+abbrev pub map_at : Standing → Tree → Opened
+map_at s t = map_in s.version t s.batch
+
+-- behind an opened map of version 1 nothing is read, or of a large one the nodes that the bytes of
+-- a proof open
 abbrev pub ReadsOpened : (List ℕ → List ℕ) → Query → Standing → (pages : ℕ) → List ℕ → Shelved
     → Shelved → Type 0
 ReadsOpened hash q s pages bytes before after = IfSome s.tree (λ t.
@@ -255,9 +296,9 @@ abbrev pub ReadsBeside : (List ℕ → List ℕ) → Query → Standing → (pag
 ReadsBeside hash q s pages proof before after = IfSome s.tree (λ t. OfFiles before.files (λ files.
     IsBeside hash t s.batch q pages (file files proof) before.reads after.reads))
 
--- an input was read, or is missing
-pub record Reads (name : List ℕ) (before after : Shelved) (result : Result (Option (Vec ℕ)) Halt)
-    : Type 0 where
+-- an input that has to be there was read, or the command ends without it
+pub record Reads (name : List ℕ) (before after : Shelved)
+    (result : Result (Vec ℕ) (Result Ending Halt)) : Type 0 where
   pub counts : NoneFalls before after
   pub files : after.files ≡ before.files
   pub read : Read name before after result
@@ -289,16 +330,13 @@ pub record HoldsMap (version : List ℕ → Version) (hash : List ℕ → List �
 abbrev pub GoesOn : (Opened → Plan) → Option Files → Type 0
 GoesOn next told = (map : Opened) → AreJudged (next map) told
 
--- a map was read, or what is said without it is settled
+-- a map was read, or the command comes to its end without it
 abbrev pub Opens : (List ℕ → Version) → (List ℕ → List ℕ) → List ℕ → Shelved → Shelved
-    → Result (Result Opened Ending) Halt → Type 0
-Opens version hash name before after (Ok (Ok map)) = HoldsMap version hash name before after map
-Opens version hash name before after (Ok (Err ending)) =
+    → Result Opened (Result Ending Halt) → Type 0
+Opens version hash name before after (Ok map) = HoldsMap version hash name before after map
+Opens version hash name before after (Err came) =
     (next : Opened → Plan) → GoesOn next before.files
-    → Comes (needs_map_in version hash name next) before after (Ok ending)
-Opens version hash name before after (Err halt) =
-    (next : Opened → Plan) → GoesOn next before.files
-    → Comes (needs_map_in version hash name next) before after (Err halt)
+    → Comes (needs_map_in version hash name next) before after came
 
 -- the halt over a refusal of the shelf
 abbrev pub halt_of : ShelfErr → Halt

@@ -2,6 +2,7 @@ pub mod Counting
 pub mod Answer
 pub mod Shown
 pub mod Ending
+pub mod Inputs
 pub mod Bundled
 pub mod Listing
 pub mod Taking

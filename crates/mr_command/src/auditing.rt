@@ -1,20 +1,20 @@
 //! The command `audit`.
 
 ghost use Rattle.std.specs.Prelude.{◌≡◌, None, IfSome};
-ghost use Rattle.std.specs.String.{string_bytes};
-ghost use Rattle.mr_plan.specs.First.{first_map};
+ghost use Rattle.mr_record.specs.declared.version.Version.TheVariants.{One};
 ghost use Rattle.mr_query.specs.Word.{IsAskable};
-ghost use Rattle.mr_store.specs.Stored.{IsSameMap, stands_for, told_bytes};
-ghost use Rattle.mr_command.specs.Ending.{Comes, ComesBut, GivesOrStops, HasPlainAnswer, NoneFalls, Reads, ReadsBeside, ReadsOpened, SaysUntold};
+ghost use Rattle.mr_store.specs.Paged.{IsSameMap, shelved, stands_for};
+ghost use Rattle.mr_command.specs.Ending.{map_at, ComesBut, GivesOrStops, HasPlainAnswer, IsCarriedOut, NoneFalls, Reads, ReadsBeside, ReadsOpened, SaysUntold};
 ghost use Rattle.mr_plan.specs.Plan.{comes};
-ghost use Rattle.mr_plan.specs.Rereading.{auditing};
-ghost use Rattle.mr_plan.specs.Say.{needs, say_audit, say_audit_of, say_finding};
+ghost use Rattle.mr_plan.specs.Untold.{MaySayAudit};
+ghost use Rattle.mr_plan.specs.declared.words.Command.TheVariants as commands;
+ghost use Rattle.mr_plan.specs.Say.{needs, say_audit_of, say_finding};
 
 use crate::checking::refused;
-use crate::ending::{Ending, Halt};
+use crate::ending::{Ending, Halt, Step};
 use crate::fetching::{finding_of_nodes, unfetched};
-use crate::input::{are_bytes, as_input, missing};
-use crate::opening::unopened;
+use crate::input::{are_bytes, as_needed};
+use crate::opening::open_provable;
 use mr_clash::Finding;
 use mr_outside::Shelf;
 use mr_plan::{Status, collision_lines, sound_line};
@@ -52,21 +52,18 @@ fn audit_bytes<H: Hash32, S: Shelf>(
     bytes: &[u8],
     paged: &mut Paged<S, H>,
 ) -> Result<Ending, Halt>
-    requires { IsAskable query.now }
-    ensures told { let before = S.state paged.old.shelf in
-        let stands = stands_for paged.old.head
-        (told_bytes before.files (string_bytes paged.old.name)) in
+    requires askable { IsAskable query.now }
+    requires first { (stands_for paged.old).version ≡ One }
+    ensures told { let stands = stands_for paged.old in
         IfSome stands.tree (λ t. ComesBut (comes (say_audit_of H.of query.now
-        (first_map t stands.batch) bytes.now)) before (S.state paged.new.shelf)
-        result) }
-    ensures untold { (S.state paged.old.shelf).files ≡ None →
-        SaysUntold (auditing H.of map.now query.now proof.now) (S.state paged.old.shelf)
-        (S.state paged.new.shelf) result }
-    ensures files { (S.state paged.new.shelf).files ≡ (S.state paged.old.shelf).files }
-    ensures counts { NoneFalls (S.state paged.old.shelf) (S.state paged.new.shelf) }
-    ensures few { paged.old.fetches ≡ 0 → ReadsOpened H.of query.now (stands_for paged.old.head
-        (told_bytes (S.state paged.old.shelf).files (string_bytes paged.old.name)))
-        paged.old.head.pages bytes.now (S.state paged.old.shelf) (S.state paged.new.shelf) }
+        (map_at stands t) bytes.now)) (shelved paged.old) (shelved paged.new) result) }
+    ensures untold { (shelved paged.old).files ≡ None →
+        SaysUntold (MaySayAudit H.of map.now query.now proof.now) (shelved paged.old)
+        (shelved paged.new) result }
+    ensures files { (shelved paged.new).files ≡ (shelved paged.old).files }
+    ensures counts { NoneFalls (shelved paged.old) (shelved paged.new) }
+    ensures few { paged.old.fetches ≡ 0 → ReadsOpened H.of query.now (stands_for paged.old)
+        paged.old.head.pages bytes.now (shelved paged.old) (shelved paged.new) }
 {
     are_bytes(bytes);
     match finding_of_nodes(alloc, paged, query, bytes) {
@@ -75,17 +72,17 @@ fn audit_bytes<H: Hash32, S: Shelf>(
     }
 }
 
-// The bytes of a file beside the map's, or none where it is missing.
-pub(crate) fn read_beside<H: Hash32, S: Shelf>(
+// The bytes of a file beside the map's, which has to be there.
+pub(crate) fn needed_beside<H: Hash32, S: Shelf>(
+    alloc: Global,
     name: &str,
     paged: &mut Paged<S, H>,
-) -> Result<Option<Vec<u8>>, Halt>
-    ensures reads { Reads name.now (S.state paged.old.shelf) (S.state paged.new.shelf) result }
-    ensures same { IsSameMap (string_bytes paged.old.name) (string_bytes paged.new.name)
-        paged.old.head paged.new.head (S.state paged.old.shelf) (S.state paged.new.shelf) }
+) -> Step<Vec<u8>>
+    ensures reads { Reads name.now (shelved paged.old) (shelved paged.new) result }
+    ensures same { IsSameMap paged.old paged.new }
     ensures fetches { paged.new.fetches ≡ paged.old.fetches }
 {
-    as_input(paged.read_file(name))
+    as_needed(alloc, name, paged.read_file(name))
 }
 
 // What the proof in a file is worth against an opened map.
@@ -96,25 +93,21 @@ fn audit_file<H: Hash32, S: Shelf>(
     proof: &str,
     paged: &mut Paged<S, H>,
 ) -> Result<Ending, Halt>
-    requires { IsAskable query.now }
-    ensures told { let before = S.state paged.old.shelf in
-        let stands = stands_for paged.old.head
-        (told_bytes before.files (string_bytes paged.old.name)) in
+    requires askable { IsAskable query.now }
+    requires first { (stands_for paged.old).version ≡ One }
+    ensures told { let stands = stands_for paged.old in
         IfSome stands.tree (λ t. ComesBut (needs proof.now (λ bytes. comes (say_audit_of H.of
-        query.now (first_map t stands.batch) bytes))) before
-        (S.state paged.new.shelf) result) }
-    ensures untold { (S.state paged.old.shelf).files ≡ None →
-        SaysUntold (auditing H.of map.now query.now proof.now) (S.state paged.old.shelf)
-        (S.state paged.new.shelf) result }
-    ensures counts { NoneFalls (S.state paged.old.shelf) (S.state paged.new.shelf) }
-    ensures few { paged.old.fetches ≡ 0 → ReadsBeside H.of query.now (stands_for paged.old.head
-        (told_bytes (S.state paged.old.shelf).files (string_bytes paged.old.name)))
-        paged.old.head.pages proof.now (S.state paged.old.shelf) (S.state paged.new.shelf) }
+        query.now (map_at stands t) bytes))) (shelved paged.old) (shelved paged.new) result) }
+    ensures untold { (shelved paged.old).files ≡ None →
+        SaysUntold (MaySayAudit H.of map.now query.now proof.now) (shelved paged.old)
+        (shelved paged.new) result }
+    ensures counts { NoneFalls (shelved paged.old) (shelved paged.new) }
+    ensures few { paged.old.fetches ≡ 0 → ReadsBeside H.of query.now (stands_for paged.old)
+        paged.old.head.pages proof.now (shelved paged.old) (shelved paged.new) }
 {
-    match read_beside::<H, S>(proof, paged) {
-        Ok(Some(bytes)) => audit_bytes::<H, S>(alloc, map, query, proof, &bytes, paged),
-        Ok(None) => missing(alloc, proof),
-        Err(halt) => Err(halt),
+    match needed_beside::<H, S>(alloc, proof, paged) {
+        Ok(bytes) => audit_bytes::<H, S>(alloc, map, query, proof, &bytes, paged),
+        Err(came) => came,
     }
 }
 
@@ -128,11 +121,11 @@ pub fn audit_query<H: Hash32, S: Shelf>(
     shelf: S,
 ) -> (Result<Ending, Halt>, S)
     requires { IsAskable query.now }
-    ensures { Comes (say_audit H.of map.now query.now proof.now) (S.state shelf)
+    ensures { IsCarriedOut H.of (commands.Audit map.entry query.now proof.entry) (S.state shelf)
         (S.state result.1) result.0 }
 {
-    match Paged::<S, H>::open_map(alloc, shelf, map) {
-        Err((shelf, error)) => (unopened(alloc, map, &error), shelf),
+    match open_provable::<H, S>(alloc, map, shelf) {
+        Err(ended) => ended,
         Ok(paged) => {
             let mut paged = paged;
             let came = audit_file::<H, S>(alloc, map, query, proof, &mut paged);

@@ -1,17 +1,17 @@
 //! The command `build`, in either version.
 
 ghost use Rattle.std.specs.Prelude.{Ok};
-ghost use Rattle.mr_record.specs.RecordText.{IsRecordList, records_of_text};
+ghost use Rattle.mr_record.specs.RecordText.{IsRecordList};
 ghost use Rattle.mr_command.specs.Ending.{Comes};
 ghost use Rattle.mr_plan.specs.Plan.{comes};
 ghost use Rattle.mr_plan.specs.Say.{say_build, say_build_of};
 
 use crate::ending::{Ending, Halt};
-use crate::input::{bad_text, missing, read, records_in};
+use crate::input::records_from;
 use crate::packing::packed;
 use crate::saving::save_map;
 use mr_outside::{Gate, Shelf};
-use mr_record::{Record, TextErr, Version};
+use mr_record::{Record, Version};
 use mr_tree::Hash32;
 use std::alloc::Global;
 use std::thread::Threads;
@@ -34,26 +34,6 @@ fn build_records<H: Hash32, S: Shelf, G: Gate, R: Threads + Sync>(
     save_map::<H, S>(alloc, version, map, &made.0, 0, &made.1, shelf)
 }
 
-// The same for the records of a text, or its fault.
-fn build_text<H: Hash32, S: Shelf, G: Gate, R: Threads + Sync>(
-    rt: &R,
-    alloc: Global,
-    version: Version,
-    map: &str,
-    text: Vec<u8>,
-    shelf: &mut S,
-    gate: &G,
-) -> Result<Ending, Halt>
-    ensures { Comes (comes (say_build_of version H.of map.now (records_of_text version text.items)))
-        (S.state shelf.old) (S.state shelf.new) result }
-{
-    match records_in(alloc, version, text) {
-        Ok(records) => build_records::<H, S, G, R>(rt, alloc, version, map, records, shelf, gate),
-        Err(TextErr::Text(fault)) => bad_text(alloc, &fault),
-        Err(TextErr::NoMemory) => Err(Halt::NoMemory),
-    }
-}
-
 /// The map of the records of a file, written to another one, both of this version: its nodes stand
 /// in preorder from page 1 on, and no page is free.
 pub fn build<H: Hash32, S: Shelf, G: Gate, R: Threads + Sync>(
@@ -68,9 +48,8 @@ pub fn build<H: Hash32, S: Shelf, G: Gate, R: Threads + Sync>(
     ensures { Comes (say_build version H.of map.now records.now) (S.state shelf.old)
         (S.state shelf.new) result }
 {
-    match read(alloc, records, shelf) {
-        Ok(Some(text)) => build_text::<H, S, G, R>(rt, alloc, version, map, text, shelf, gate),
-        Ok(None) => missing(alloc, records),
-        Err(halt) => Err(halt),
+    match records_from(alloc, version, records, shelf) {
+        Ok(list) => build_records::<H, S, G, R>(rt, alloc, version, map, list, shelf, gate),
+        Err(came) => came,
     }
 }

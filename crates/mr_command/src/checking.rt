@@ -1,9 +1,10 @@
 //! The command `check`.
 
 ghost use Rattle.mr_query.specs.Word.{IsAskable};
-ghost use Rattle.mr_command.specs.Ending.{Comes, GivesOrStops};
+ghost use Rattle.mr_command.specs.Ending.{GivesOrStops, IsCarriedOut};
 ghost use Rattle.mr_plan.specs.Refusal.{refused_line as line_of};
-ghost use Rattle.mr_plan.specs.Say.{ends, say_check};
+ghost use Rattle.mr_plan.specs.Say.{ends};
+ghost use Rattle.mr_plan.specs.declared.words.Command.TheVariants as commands;
 
 use crate::ending::{Ending, Halt};
 use crate::input::missing;
@@ -32,7 +33,7 @@ pub fn check_proof<H: Hash32, S: Shelf>(
     shelf: &mut S,
 ) -> Result<Ending, Halt>
     requires { IsAskable query.now }
-    ensures { Comes (say_check H.of root.now query.now name.now) (S.state shelf.old)
+    ensures { IsCarriedOut H.of (commands.Check root.now query.now name.entry) (S.state shelf.old)
         (S.state shelf.new) result }
 {
     match judge_file::<H, S>(alloc, root, query, name, shelf) {

@@ -1,18 +1,17 @@
 //! The command `check-all`.
 
 ghost use Rattle.std.specs.Prelude.{◌≤◌, length, All};
-ghost use Rattle.mr_query.specs.Script.{queries_of_text, script_limit};
+ghost use Rattle.mr_query.specs.Script.{script_limit};
 ghost use Rattle.mr_query.specs.Word.{IsAskable};
 ghost use Rattle.mr_command.specs.Ending.{Comes, GivesOrStops};
-ghost use Rattle.mr_plan.specs.Say.{given_queries, say_check_all, say_parts, say_parts_of};
+ghost use Rattle.mr_plan.specs.Say.{say_check_all, say_parts, say_parts_of};
 
 use crate::ending::{Ending, Halt};
-use crate::input::{are_bytes, bad_text, missing, queries_in, read};
+use crate::input::{are_bytes, needed, queries_from};
 use mr_bundle::{check_all, read_bundle};
 use mr_outside::{Gate, Shelf};
 use mr_plan::{count_accepted, judged_status, judged_text};
 use mr_query::Query;
-use mr_record::TextErr;
 use mr_tree::Hash32;
 use std::alloc::Global;
 use std::thread::Threads;
@@ -63,30 +62,9 @@ fn check_file<H: Hash32, S: Shelf, G: Gate, R: Threads + Sync>(
     ensures { Comes (say_parts H.of root.now bundle.now queries.now) (S.state shelf.old)
         (S.state shelf.new) result }
 {
-    match read(alloc, bundle, shelf) {
-        Ok(Some(bytes)) => check_bytes::<H, G, R>(rt, alloc, root, queries, bytes, gate),
-        Ok(None) => missing(alloc, bundle),
-        Err(halt) => Err(halt),
-    }
-}
-
-// The same for the queries of a text, or its fault.
-fn check_text<H: Hash32, S: Shelf, G: Gate, R: Threads + Sync>(
-    rt: &R,
-    alloc: Global,
-    root: &[u8; 32],
-    text: Vec<u8>,
-    bundle: &str,
-    shelf: &mut S,
-    gate: &G,
-) -> Result<Ending, Halt>
-    ensures { Comes (given_queries (say_parts H.of root.now bundle.now)
-        (queries_of_text text.items)) (S.state shelf.old) (S.state shelf.new) result }
-{
-    match queries_in(alloc, text) {
-        Ok(queries) => { check_file::<H, S, G, R>(rt, alloc, root, &queries, bundle, shelf, gate) }
-        Err(TextErr::Text(fault)) => bad_text(alloc, &fault),
-        Err(TextErr::NoMemory) => Err(Halt::NoMemory),
+    match needed(alloc, bundle, shelf) {
+        Ok(bytes) => check_bytes::<H, G, R>(rt, alloc, root, queries, bytes, gate),
+        Err(came) => came,
     }
 }
 
@@ -104,9 +82,8 @@ pub fn check_bundle<H: Hash32, S: Shelf, G: Gate, R: Threads + Sync>(
     ensures { Comes (say_check_all H.of root.now script.now bundle.now) (S.state shelf.old)
         (S.state shelf.new) result }
 {
-    match read(alloc, script, shelf) {
-        Ok(Some(text)) => { check_text::<H, S, G, R>(rt, alloc, root, text, bundle, shelf, gate) }
-        Ok(None) => missing(alloc, script),
-        Err(halt) => Err(halt),
+    match queries_from(alloc, script, shelf) {
+        Ok(queries) => check_file::<H, S, G, R>(rt, alloc, root, &queries, bundle, shelf, gate),
+        Err(came) => came,
     }
 }

@@ -119,6 +119,9 @@ pub enum Halt {
     NoMemory,
 }
 
+// What a step of a command gives, or what the command comes to where it ends there.
+pub(crate) type Step<T> = Result<T, Result<Ending, Halt>>;
+
 impl From<AllocError> for Halt {
     ghost use Rattle.mr_command.specs.declared.ending.Halt.TheVariants as halts;
 

@@ -1,18 +1,18 @@
 //! The command `root`, in either version.
 
-ghost use Rattle.mr_record.specs.RecordText.{IsRecordList, records_of_text};
+ghost use Rattle.mr_record.specs.RecordText.{IsRecordList};
 ghost use Rattle.mr_tree.specs.Digest.{by, root as root_digest};
 ghost use Rattle.mr_pack.specs.Pack.{pack as tree_of};
 ghost use Rattle.mr_command.specs.Ending.{Comes, GivesOrStops};
 ghost use Rattle.mr_plan.specs.Lines.{digest_line as line_of};
-ghost use Rattle.mr_plan.specs.Say.{prints, say_root, say_root_of};
+ghost use Rattle.mr_plan.specs.Say.{prints, say_root};
 
 use crate::ending::{Ending, Halt};
-use crate::input::{bad_text, missing, read, records_in};
+use crate::input::records_from;
 use crate::packing::packed;
 use mr_outside::{Gate, Shelf};
 use mr_plan::{Status, digest_line};
-use mr_record::{Record, TextErr, Version};
+use mr_record::{Record, Version};
 use mr_tree::Hash32;
 use std::alloc::Global;
 use std::thread::Threads;
@@ -34,23 +34,6 @@ fn root_of_records<H: Hash32, G: Gate, R: Threads + Sync>(
     Ok(Ending::line(alloc, Status::Done, line))
 }
 
-// The root of the records of a text, or its fault.
-fn root_of_text<H: Hash32, G: Gate, R: Threads + Sync>(
-    rt: &R,
-    alloc: Global,
-    version: Version,
-    text: Vec<u8>,
-    gate: &G,
-) -> Result<Ending, Halt>
-    ensures { GivesOrStops (say_root_of version H.of (records_of_text version text.items)) result }
-{
-    match records_in(alloc, version, text) {
-        Ok(records) => root_of_records::<H, G, R>(rt, alloc, version, records, gate),
-        Err(TextErr::Text(fault)) => bad_text(alloc, &fault),
-        Err(TextErr::NoMemory) => Err(Halt::NoMemory),
-    }
-}
-
 /// The root digest of the records of a file, whose lines and map are of this version.
 pub fn root<H: Hash32, S: Shelf, G: Gate, R: Threads + Sync>(
     rt: &R,
@@ -63,9 +46,8 @@ pub fn root<H: Hash32, S: Shelf, G: Gate, R: Threads + Sync>(
     ensures { Comes (say_root version H.of name.now) (S.state shelf.old) (S.state shelf.new)
         result }
 {
-    match read(alloc, name, shelf) {
-        Ok(Some(text)) => root_of_text::<H, G, R>(rt, alloc, version, text, gate),
-        Ok(None) => missing(alloc, name),
-        Err(halt) => Err(halt),
+    match records_from(alloc, version, name, shelf) {
+        Ok(records) => root_of_records::<H, G, R>(rt, alloc, version, records, gate),
+        Err(came) => came,
     }
 }

@@ -150,8 +150,8 @@ pub fn write_tree<W: Sink>(
 pub fn list<H: Hash32, S: Shelf>(alloc: Global, name: &str, shelf: &mut S) -> Result<Ending, Halt>
     ensures { Comes (say_list H.of name.now) (S.state shelf.old) (S.state shelf.new) result }
 {
-    match open_map::<H, S>(alloc, name, shelf)? {
+    match open_map::<H, S>(alloc, name, shelf) {
         Ok(map) => Ok(Ending::tree(alloc, Status::Done, map.version, map.tree)),
-        Err(ending) => Ok(ending),
+        Err(came) => came,
     }
 }

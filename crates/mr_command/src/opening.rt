@@ -1,38 +1,40 @@
 //! A map file as an input.
 
-ghost use Rattle.std.specs.Prelude.{◌≡◌, ◌<◌, ◌^◌, IfOk};
-ghost use Rattle.mr_command.specs.Ending.{Gives, Opens, SaysRefusal};
-ghost use Rattle.mr_plan.specs.Found.{bad_map_line as line_of};
-ghost use Rattle.mr_plan.specs.Say.{ends};
+ghost use Rattle.std.specs.Prelude.{◌≡◌, ◌<◌, ◌^◌, IfOk, MatchResult};
+ghost use Rattle.mr_record.specs.declared.version.Version.TheVariants.{One};
 ghost use Rattle.mr_pages.specs.File.{version_of};
+ghost use Rattle.mr_store.specs.Opening.{OpensMap};
+ghost use Rattle.mr_store.specs.Paged.{stands_for};
+ghost use Rattle.mr_command.specs.Ending.{GivesOrStops, Opens, SaysRefusal};
+ghost use Rattle.mr_command.specs.Inputs.{IsUnopened, IsUnprovable};
+ghost use Rattle.mr_plan.specs.Lines.{needs_version_2_line as line_of_need};
+ghost use Rattle.mr_plan.specs.Saying.{ends};
+ghost use Rattle.mr_plan.specs.declared.status.Status.TheVariants.{NeedsVersion2};
 
-use crate::ending::{Ending, Halt};
+use crate::ending::{Ending, Halt, Step};
 use crate::input::missing;
 use mr_outside::Shelf;
-use mr_pages::{MapErr, MapFault, Opened, open_plain};
-use mr_plan::{Status, bad_map_line};
+use mr_pages::{MapErr, Opened, open_plain};
+use mr_plan::{Status, bad_map_line, needs_version_2_line};
+use mr_record::Version;
+use mr_store::Paged;
 use mr_tree::Hash32;
-use std::alloc::{AllocError, Global};
+use std::alloc::Global;
 
 // What the type tells of its values.
-fn is_word(_number: u64)
+pub(crate) fn is_word(_number: u64)
     ensures { _number < 2 ^ 64 }
 {}
-
-// The ending over a file that stands for no map.
-fn bad_map(alloc: Global, fault: &MapFault) -> Result<Ending, AllocError>
-    ensures { IfOk result (λ e. Gives (ends Status.BadMap (line_of fault.now)) e) }
-{
-    let line = bad_map_line(alloc, fault)?;
-    Ok(Ending::line(alloc, Status::BadMap, line))
-}
 
 // What a command comes to without the map in a file, by why that was not opened.
 pub(crate) fn unopened(alloc: Global, name: &str, error: &MapErr) -> Result<Ending, Halt>
     ensures { SaysRefusal name.now error.now result }
 {
     match error {
-        MapErr::Map(fault) => Ok(bad_map(alloc, fault)?),
+        MapErr::Map(fault) => {
+            let line = bad_map_line(alloc, fault)?;
+            Ok(Ending::line(alloc, Status::BadMap, line))
+        }
         MapErr::Missing => missing(alloc, name),
         MapErr::Fault => Err(Halt::Shelf),
         MapErr::NoMemory => Err(Halt::NoMemory),
@@ -44,14 +46,57 @@ pub(crate) fn open_map<H: Hash32, S: Shelf>(
     alloc: Global,
     name: &str,
     shelf: &mut S,
-) -> Result<Result<Opened, Ending>, Halt>
+) -> Step<Opened>
     ensures { Opens version_of H.of name.now (S.state shelf.old) (S.state shelf.new) result }
 {
     match open_plain::<H, S>(alloc, shelf, name) {
         Ok(map) => {
             is_word(map.batch);
-            Ok(Ok(map))
+            Ok(map)
         }
-        Err(error) => Ok(Err(unopened(alloc, name, &error)?)),
+        Err(error) => Err(unopened(alloc, name, &error)),
+    }
+}
+
+// The map in a file of either version, whose pages are read one by one, or what the command comes
+// to without it and the shelf.
+pub(crate) fn open_paged<H: Hash32, S: Shelf>(
+    alloc: Global,
+    name: &str,
+    shelf: S,
+) -> Result<Paged<S, H>, (Result<Ending, Halt>, S)>
+    ensures { MatchResult result (OpensMap H.of name.now (S.state shelf))
+        (λ r. IsUnopened H.of name.now (S.state shelf) (S.state r.1) r.0) }
+{
+    match Paged::<S, H>::open_map(alloc, shelf, name) {
+        Ok(paged) => Ok(paged),
+        Err((shelf, error)) => Err((unopened(alloc, name, &error), shelf)),
+    }
+}
+
+// What a command comes to on a map of version 2, of which there are no proofs yet.
+fn without_proofs(alloc: Global) -> Result<Ending, Halt>
+    ensures { GivesOrStops (ends NeedsVersion2 line_of_need) result }
+{
+    let line = needs_version_2_line(alloc)?;
+    Ok(Ending::line(alloc, Status::NeedsVersion2, line))
+}
+
+// The same of a map that has proofs, which one of version 2 has not.
+pub(crate) fn open_provable<H: Hash32, S: Shelf>(
+    alloc: Global,
+    name: &str,
+    shelf: S,
+) -> Result<Paged<S, H>, (Result<Ending, Halt>, S)>
+    ensures opened { MatchResult result (OpensMap H.of name.now (S.state shelf))
+        (λ r. IsUnprovable H.of name.now (S.state shelf) (S.state r.1) r.0) }
+    ensures first { IfOk result (λ p. (stands_for p).version ≡ One) }
+{
+    match open_paged::<H, S>(alloc, name, shelf) {
+        Err(ended) => Err(ended),
+        Ok(paged) => match paged.version() {
+            Version::One => Ok(paged),
+            Version::Two => Err((without_proofs(alloc), paged.close())),
+        },
     }
 }

@@ -1,19 +1,19 @@
 //! The command `prove`.
 
 ghost use Rattle.mr_query.specs.Word.{IsAskable};
-ghost use Rattle.mr_command.specs.Ending.{Comes, KeepsProof};
+ghost use Rattle.mr_command.specs.Ending.{Comes, IsCarriedOut, KeepsProof};
 ghost use Rattle.mr_plan.specs.Plan.{comes};
-ghost use Rattle.mr_plan.specs.Say.{say_prove, say_written};
+ghost use Rattle.mr_plan.specs.Say.{say_written};
+ghost use Rattle.mr_plan.specs.declared.words.Command.TheVariants as commands;
 
 use crate::ending::{Ending, Halt};
 use crate::fetching::unfetched;
-use crate::opening::unopened;
+use crate::opening::open_provable;
 use crate::saving::save_text;
 use mr_bundle::{Text, proof_of_nodes};
 use mr_outside::Shelf;
 use mr_plan::proof_line;
 use mr_query::Query;
-use mr_store::Paged;
 use mr_tree::{Hash32, NodesErr};
 use std::alloc::Global;
 
@@ -57,11 +57,11 @@ pub fn prove_query<H: Hash32, S: Shelf>(
     shelf: S,
 ) -> (Result<Ending, Halt>, S)
     requires { IsAskable query.now }
-    ensures { Comes (say_prove H.of map.now query.now proof.now) (S.state shelf)
+    ensures { IsCarriedOut H.of (commands.Prove map.entry query.now proof.entry) (S.state shelf)
         (S.state result.1) result.0 }
 {
-    match Paged::<S, H>::open_map(alloc, shelf, map) {
-        Err((shelf, error)) => (unopened(alloc, map, &error), shelf),
+    match open_provable::<H, S>(alloc, map, shelf) {
+        Err(ended) => ended,
         Ok(paged) => {
             let mut paged = paged;
             let made = proof_of_nodes(alloc, &mut paged, query);

@@ -2,7 +2,6 @@
 
 ghost use Rattle.std.specs.Prelude.{◌≡◌};
 ghost use Rattle.std.specs.String.{string_bytes};
-ghost use Rattle.mr_record.specs.declared.version.Version.TheVariants.{One, Two};
 ghost use Rattle.mr_tree.specs.Digest.{by, root as root_digest};
 ghost use Rattle.mr_tree.specs.WellFormed.{WellFormed, HasLayers};
 ghost use Rattle.mr_command.specs.Ending.{Comes, Saves};
@@ -11,7 +10,7 @@ ghost use Rattle.mr_plan.specs.Plan.{comes};
 ghost use Rattle.mr_plan.specs.Say.{say_map, say_text};
 
 use crate::ending::{Ending, Halt};
-use mr_outside::{Shelf, ShelfErr};
+use mr_outside::Shelf;
 use mr_pages::{save_plain, save2_plain};
 use mr_plan::{Status, digest_line};
 use mr_record::Version;
@@ -43,47 +42,6 @@ pub(crate) fn save_text<S: Shelf>(
     Ok(Ending::line(alloc, Status::Done, line))
 }
 
-// Writes a map to a file of version 1.
-fn save_first<H: Hash32, S: Shelf>(
-    alloc: Global,
-    name: &str,
-    tree: &Tree,
-    batch: u64,
-    shelf: &mut S,
-) -> Result<(), Halt>
-    requires well_formed { WellFormed tree.now }
-    requires layers { HasLayers One tree.now }
-    ensures { Saves name.now (map_of One H.of tree.now batch) (S.state shelf.old)
-        (S.state shelf.new) result }
-{
-    match save_plain::<H, S>(alloc, shelf, name, tree, batch) {
-        Ok(()) => Ok(()),
-        Err(ShelfErr::NoMemory) => Err(Halt::NoMemory),
-        Err(ShelfErr::Missing) => Err(Halt::Shelf),
-        Err(ShelfErr::Fault) => Err(Halt::Shelf),
-    }
-}
-
-// The same in version 2.
-fn save_second<H: Hash32, S: Shelf>(
-    alloc: Global,
-    name: &str,
-    tree: &Tree,
-    batch: u64,
-    shelf: &mut S,
-) -> Result<(), Halt>
-    requires { WellFormed tree.now }
-    ensures { Saves name.now (map_of Two H.of tree.now batch) (S.state shelf.old)
-        (S.state shelf.new) result }
-{
-    match save2_plain::<H, S>(alloc, shelf, name, tree, batch) {
-        Ok(()) => Ok(()),
-        Err(ShelfErr::NoMemory) => Err(Halt::NoMemory),
-        Err(ShelfErr::Missing) => Err(Halt::Shelf),
-        Err(ShelfErr::Fault) => Err(Halt::Shelf),
-    }
-}
-
 // Writes a map to a file of this version.
 fn save<H: Hash32, S: Shelf>(
     alloc: Global,
@@ -99,8 +57,8 @@ fn save<H: Hash32, S: Shelf>(
         (S.state shelf.new) result }
 {
     match version {
-        Version::One => save_first::<H, S>(alloc, name, tree, batch, shelf),
-        Version::Two => save_second::<H, S>(alloc, name, tree, batch, shelf),
+        Version::One => Ok(save_plain::<H, S>(alloc, shelf, name, tree, batch)?),
+        Version::Two => Ok(save2_plain::<H, S>(alloc, shelf, name, tree, batch)?),
     }
 }
 

@@ -1,23 +1,22 @@
 //! The command `serve`.
 
 ghost use Rattle.std.specs.Prelude.{◌≤◌, length, All, Ok};
-ghost use Rattle.mr_query.specs.Script.{queries_of_text, script_limit};
+ghost use Rattle.mr_query.specs.Script.{script_limit};
 ghost use Rattle.mr_query.specs.Word.{IsAskable};
-ghost use Rattle.mr_command.specs.Ending.{Comes};
+ghost use Rattle.mr_command.specs.Ending.{Comes, IsCarriedOut};
 ghost use Rattle.mr_plan.specs.Plan.{comes};
-ghost use Rattle.mr_plan.specs.Say.{held_in, say_script, say_serve, say_serve_of};
+ghost use Rattle.mr_plan.specs.Say.{held_in, say_script, say_serve_of};
+ghost use Rattle.mr_plan.specs.declared.words.Command.TheVariants as commands;
 
 use crate::bundling::{bundle_size, save_proofs};
 use crate::ending::{Ending, Halt};
 use crate::fetching::unfetched;
-use crate::input::{bad_text, missing, queries_in, read};
-use crate::opening::unopened;
+use crate::input::queries_from;
+use crate::opening::open_provable;
 use mr_bundle::prove_all;
 use mr_outside::{Gate, Shelf};
 use mr_plan::served_line;
 use mr_query::Query;
-use mr_record::TextErr;
-use mr_store::Paged;
 use mr_tree::{Hash32, Snapshot};
 use std::alloc::Global;
 use std::thread::Threads;
@@ -43,29 +42,6 @@ fn serve_queries<H: Hash32, S: Shelf, G: Gate, R: Threads + Sync>(
     save_proofs(alloc, line, bundle, &list, shelf)
 }
 
-// The same for the queries of a text, or its fault.
-fn serve_text<H: Hash32, S: Shelf, G: Gate, R: Threads + Sync>(
-    rt: &R,
-    alloc: Global,
-    nodes: &Snapshot<H>,
-    text: Vec<u8>,
-    bundle: &str,
-    shelf: &mut S,
-    gate: &G,
-) -> Result<Ending, Halt>
-    ensures { let map = held_in nodes.now.nodes.items nodes.now.top in
-        Comes (comes (say_serve_of H.of bundle.now map (queries_of_text text.items)))
-        (S.state shelf.old) (S.state shelf.new) result }
-{
-    match queries_in(alloc, text) {
-        Ok(queries) => {
-            serve_queries::<H, S, G, R>(rt, alloc, nodes, &queries, bundle, shelf, gate)
-        }
-        Err(TextErr::Text(fault)) => bad_text(alloc, &fault),
-        Err(TextErr::NoMemory) => Err(Halt::NoMemory),
-    }
-}
-
 // The same for the script in a file.
 fn serve_script<H: Hash32, S: Shelf, G: Gate, R: Threads + Sync>(
     rt: &R,
@@ -80,10 +56,11 @@ fn serve_script<H: Hash32, S: Shelf, G: Gate, R: Threads + Sync>(
         Comes (say_script H.of script.now bundle.now map) (S.state shelf.old)
         (S.state shelf.new) result }
 {
-    match read(alloc, script, shelf) {
-        Ok(Some(text)) => { serve_text::<H, S, G, R>(rt, alloc, nodes, text, bundle, shelf, gate) }
-        Ok(None) => missing(alloc, script),
-        Err(halt) => Err(halt),
+    match queries_from(alloc, script, shelf) {
+        Ok(queries) => {
+            serve_queries::<H, S, G, R>(rt, alloc, nodes, &queries, bundle, shelf, gate)
+        }
+        Err(came) => came,
     }
 }
 
@@ -98,11 +75,11 @@ pub fn serve<H: Hash32, S: Shelf, G: Gate, R: Threads + Sync>(
     shelf: S,
     gate: &G,
 ) -> (Result<Ending, Halt>, S)
-    ensures { Comes (say_serve H.of map.now script.now bundle.now) (S.state shelf)
+    ensures { IsCarriedOut H.of (commands.Serve map.entry script.entry bundle.entry) (S.state shelf)
         (S.state result.1) result.0 }
 {
-    match Paged::<S, H>::open_map(alloc, shelf, map) {
-        Err((shelf, error)) => (unopened(alloc, map, &error), shelf),
+    match open_provable::<H, S>(alloc, map, shelf) {
+        Err(ended) => ended,
         Ok(paged) => {
             let mut paged = paged;
             match paged.snapshot() {

@@ -23,7 +23,7 @@ pub fn upgrade<H: Hash32, S: Shelf>(
     ensures { Comes (say_upgrade H.of old.now new.now) (S.state shelf.old) (S.state shelf.new)
         result }
 {
-    match open_map::<H, S>(alloc, old, shelf)? {
+    match open_map::<H, S>(alloc, old, shelf) {
         Ok(map) => {
             let digest = root2_of::<H>(&map.tree, map.batch);
             save_map::<H, S>(
@@ -36,6 +36,6 @@ pub fn upgrade<H: Hash32, S: Shelf>(
                 shelf,
             )
         }
-        Err(ending) => Ok(ending),
+        Err(came) => came,
     }
 }

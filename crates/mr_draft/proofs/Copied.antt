@@ -12,13 +12,14 @@ use Rattle.mr_outside.specs.Writing.{IsChanged, IsChangedPartly}
 use Rattle.mr_outside.specs.declared.shelf.ShelfErr.{ShelfErr}
 use Rattle.mr_outside.specs.declared.shelf.ShelfErr.TheVariants as shelf
 use Rattle.mr_outside.proofs.Changes.{IsChanged-grown, file-with_file, file-with_other}
-use Rattle.mr_pages.specs.PageBytes.{page_size}
+use Rattle.mr_pages.specs.Page.{Form}
 use Rattle.mr_pages.specs.Source.{told_bytes}
 use Rattle.mr_draft.specs.Sheets.{zeros, IsMade, WasRead, HasCopied, CopyStops, IsFiled}
 use Rattle.mr_edit.specs.Shelves.{HasShelfCause, Refuses, RefusesMade}
 use Rattle.mr_edit.specs.declared.error.EditErr.{EditErr}
 use Rattle.mr_edit.specs.declared.error.EditErr.TheVariants as errors
 use Rattle.mr_draft.proofs.Filed.{shelf_cause}
+use Rattle.mr_draft.proofs.Sizes.{no_pages, pages_behind, pages_most, pages_sum}
 
 -- ---- files of which one was set
 
@@ -102,10 +103,10 @@ made_cause name before after shelf.NoMemory r there c is = shelf_cause name befo
 create_rose : (told : Option Files) (name : List ℕ) (a b : ℕ) → told ≡ None → MayMiss told name a b → Rose a b
 create_rose told name a b none miss = subst (λ o. MayMiss o name a b) none miss
 
-pub create_stops : {A : Type 0} (new : List ℕ) (pages : ℕ) (s b : Shelved) (e : ShelfErr) (r : EditErr) →
+pub create_stops : {A : Type 0} (form : Form) (new : List ℕ) (pages : ℕ) (s b : Shelved) (e : ShelfErr) (r : EditErr) →
     (IsErrOf {T = A} (Err e) shelf.Missing → s.files ≡ None) → b.files ≡ s.files → b.reads ≡ s.reads →
-    ShelfCauses {A = A} new s b (Err e) → RefusesMade e r → CopyStops new pages s b r
-create_stops {A = A} new pages s b e r never files reads c is = record {
+    ShelfCauses {A = A} new s b (Err e) → RefusesMade e r → CopyStops form new pages s b r
+create_stops {A = A} form new pages s b e r never files reads c is = record {
   left = inl files;
   cause = at e c never is;
   untold = λ missing. absurd (not_missing e r is missing);
@@ -123,28 +124,28 @@ create_stops {A = A} new pages s b e r never files reads c is = record {
     at shelf.Fault c never is = subst (HasShelfCause s.faults b.faults) (sym is) (c.fault refl)
     at shelf.NoMemory c never is = subst (HasShelfCause s.faults b.faults) (sym is) tt
 
-module _ (new : List ℕ) (pages : ℕ) (page : List ℕ) (zero_page : page ≡ zeros page_size) (s a b : Shelved)
-    (made : IsMade new s a) (same : b.reads ≡ a.reads) where
+module _ (form : Form) (new : List ℕ) (pages : ℕ) (page : List ℕ) (zero_page : page ≡ zeros form.size)
+    (s a b : Shelved) (made : IsMade new s a) (same : b.reads ≡ a.reads) where
   pub first_copied : (old : List ℕ) → b.faults ≡ a.faults → IsChanged (grown new) page a.files b.files →
-      HasCopied old new pages 1 s b
+      HasCopied form old new pages 1 s b
   first_copied old quiet put = record {
     some = omega arith;
     nodes = [];
     files = subst (λ bytes. IsChanged (with_file new) bytes s.files b.files)
-        (zero_page ∙ sym (append-nil (zeros page_size))) (IsChanged-grown new [] page s.files a.files b.files made.files
+        (zero_page ∙ sym (append-nil (zeros form.size))) (IsChanged-grown new [] page s.files a.files b.files made.files
         put);
-    so_far = λ bytes told whole. refl;
+    so_far = λ bytes told whole. sym (ap (λ k. take k (drop form.size bytes)) (no_pages form.size));
     quiet = quiet ∙ made.quiet;
     more = omega (arith, same, made.reads);
     few = omega (arith, same, made.reads);
   }
 
   pub first_stops : {A : Type 0} (e : ShelfErr) (r : EditErr) → IsChangedPartly (grown new) page a.files b.files →
-      ShelfCauses {A = A} new a b (Err e) → RefusesMade e r → CopyStops new pages s b r
+      ShelfCauses {A = A} new a b (Err e) → RefusesMade e r → CopyStops form new pages s b r
   first_stops e r p c is = record {
     left = inr (
       p.front,
-      ([], p.rest, append-nil (zeros page_size) ∙ sym zero_page ∙ p.whole),
+      ([], p.rest, append-nil (zeros form.size) ∙ sym zero_page ∙ p.whole),
       IsChanged-grown new [] p.front s.files a.files b.files made.files p.changed,
     );
     cause = subst (λ n. HasShelfCause n b.faults r) made.quiet
@@ -160,13 +161,13 @@ module _ (new : List ℕ) (pages : ℕ) (page : List ℕ) (zero_page : page ≡ 
 read_few : (a b : ℕ) → b ≡ next_count a → (a ≤ b) × (b ≤ a + 1)
 read_few a b e = (omega (arith, e), omega (arith, e))
 
-module _ (old new : List ℕ) (pages page count : ℕ) (s a : Shelved) (differ : old ≢ new) (within : page + count ≤ pages)
-    (h : HasCopied old new pages page s a) where
-  pub was_read : {A : Type 0} (x : A) (b : Shelved) (piece : List ℕ) → length piece ≡ count * page_size →
+module _ (form : Form) (old new : List ℕ) (pages page count : ℕ) (s a : Shelved) (differ : old ≢ new)
+    (within : page + count ≤ pages) (h : HasCopied form old new pages page s a) where
+  pub was_read : {A : Type 0} (x : A) (b : Shelved) (piece : List ℕ) → length piece ≡ count * form.size →
       b.files ≡ a.files →
       b.faults ≡ a.faults → CountsRead a b (Ok x) →
-      OfFile a.files old ⊥ (λ file. page * page_size + count * page_size ≤ length file →
-      piece ≡ take (count * page_size) (drop (page * page_size) file)) → WasRead old new pages page piece s b
+      OfFile a.files old ⊥ (λ file. page * form.size + count * form.size ≤ length file →
+      piece ≡ take (count * form.size) (drop (page * form.size) file)) → WasRead form old new pages page piece s b
   was_read x b piece size files quiet reads filled =
       let one = read_few a.reads b.reads reads.answered in
       record {
@@ -175,81 +176,92 @@ module _ (old new : List ℕ) (pages page count : ℕ) (s a : Shelved) (differ :
         files = files ∙ h.files;
         so_far = λ bytes told whole.
             let there : told_bytes a.files old ≡ Some bytes =
-            other_bytes old new (zeros page_size ++ h.nodes) s.files a.files differ h.files ∙ told in
-            let part : piece ≡ take (count * page_size) (drop (page * page_size) bytes) =
-            of_bytes a.files old bytes (λ file. page * page_size + count * page_size ≤ length file →
-            piece ≡ take (count * page_size) (drop (page * page_size) file)) there filled
-            (omega (arith, whole, within)) in
-            let n : ℕ = (page - 1) * page_size in
-            let at : page_size + n ≡ page * page_size = omega (arith, h.some) in
+            other_bytes old new (zeros form.size ++ h.nodes) s.files a.files differ h.files ∙ told in
+            let part : piece ≡ take (count * form.size) (drop (page * form.size) bytes) =
+            of_bytes a.files old bytes (λ file. page * form.size + count * form.size ≤ length file →
+            piece ≡ take (count * form.size) (drop (page * form.size) file)) there filled
+            (omega (
+              arith,
+              whole,
+              pages_sum page count form.size,
+              pages_most (page + count) pages form.size within,
+            )) in
+            let n : ℕ = (page - 1) * form.size in
+            let at : form.size + n ≡ page * form.size = pages_behind page form.size h.some in
             (λ i. h.so_far bytes told whole i ++ part i)
-            ∙ ap (λ k. take n (drop page_size bytes) ++ take (count * page_size) (drop k bytes)) (sym at)
-            ∙ ap (λ xs. take n (drop page_size bytes) ++ take (count * page_size) xs)
-            (sym (drop-drop n page_size bytes))
-            ∙ sym (take-add n (count * page_size) (drop page_size bytes))
-            ∙ ap (λ m. take (n + m) (drop page_size bytes)) (sym size);
+            ∙ ap (λ k. take n (drop form.size bytes) ++ take (count * form.size) (drop k bytes)) (sym at)
+            ∙ ap (λ xs. take n (drop form.size bytes) ++ take (count * form.size) xs)
+            (sym (drop-drop n form.size bytes))
+            ∙ sym (take-add n (count * form.size) (drop form.size bytes))
+            ∙ ap (λ m. take (n + m) (drop form.size bytes)) (sym size);
         quiet = quiet ∙ h.quiet;
         more = omega (arith, h.more, one.0);
         few = omega (arith, h.few, one.1);
       }
 
   pub read_stops : {A : Type 0} (b : Shelved) (e : ShelfErr) (r : EditErr) → IsFiled s.files old → b.files ≡ a.files →
-      CountsRead {A = A} a b (Err e) → ShelfCauses {A = A} old a b (Err e) → Refuses e r → CopyStops new pages s b r
+      CountsRead {A = A} a b (Err e) → ShelfCauses {A = A} old a b (Err e) → Refuses e r →
+      CopyStops form new pages s b r
   read_stops b e r there files reads c is = record {
     left = inr (
-      zeros page_size ++ h.nodes,
-      (h.nodes, [], sym (append-nil (zeros page_size ++ h.nodes))),
+      zeros form.size ++ h.nodes,
+      (h.nodes, [], sym (append-nil (zeros form.size ++ h.nodes))),
       files ∙ h.files,
     );
     cause = subst (λ n. HasShelfCause n b.faults r) h.quiet
-        (shelf_cause old a b e r (other_there old new (zeros page_size ++ h.nodes) s.files a.files differ h.files there)
+        (shelf_cause old a b e r (other_there old new (zeros form.size ++ h.nodes) s.files a.files differ h.files there)
         c is);
-    untold = λ missing. none_before new (zeros page_size ++ h.nodes) s.files a.files h.files
+    untold = λ missing. none_before new (zeros form.size ++ h.nodes) s.files a.files h.files
         (not_told old a b e r
-        (other_there old new (zeros page_size ++ h.nodes) s.files a.files differ h.files there) c is
+        (other_there old new (zeros form.size ++ h.nodes) s.files a.files differ h.files there) c is
         missing);
     later = omega (arith, c.faults, h.quiet);
     more = omega (arith, h.more, reads.refused);
     few = omega (arith, h.few, reads.refused, within);
   }
 
-module _ (old new : List ℕ) (pages page count : ℕ) (piece : List ℕ) (s a b : Shelved)
-    (size : length piece ≡ count * page_size)
-    (within : page + count ≤ pages) (some : 1 ≤ count) (w : WasRead old new pages page piece s a)
+module _ (form : Form) (old new : List ℕ) (pages page count : ℕ) (piece : List ℕ) (s a b : Shelved)
+    (size : length piece ≡ count * form.size)
+    (within : page + count ≤ pages) (some : 1 ≤ count) (w : WasRead form old new pages page piece s a)
     (same : b.reads ≡ a.reads)
   where
     pub piece_copied : b.faults ≡ a.faults → IsChanged (grown new) piece a.files b.files →
-        HasCopied old new pages (page + count) s b
+        HasCopied form old new pages (page + count) s b
     piece_copied quiet put = record {
       some = omega (arith, w.some);
       nodes = w.nodes ++ piece;
       files = subst (λ bytes. IsChanged (with_file new) bytes s.files b.files)
-          (append_assoc (zeros page_size) w.nodes piece)
-          (IsChanged-grown new (zeros page_size ++ w.nodes) piece s.files a.files b.files w.files put);
+          (append_assoc (zeros form.size) w.nodes piece)
+          (IsChanged-grown new (zeros form.size ++ w.nodes) piece s.files a.files b.files w.files put);
       so_far = λ bytes told whole. w.so_far bytes told whole
-          ∙ ap (λ n. take n (drop page_size bytes))
-          (let n : (page - 1) * page_size + length piece ≡ (page + count - 1) * page_size =
-          omega (arith, size, w.some) in n);
+          ∙ ap (λ n. take n (drop form.size bytes))
+          (let n : (page - 1) * form.size + length piece ≡ (page + count - 1) * form.size = omega (
+            arith,
+            size,
+            pages_sum page count form.size,
+            pages_behind page form.size w.some,
+            pages_behind (page + count) form.size (omega (arith, w.some)),
+          ) in n);
       quiet = quiet ∙ w.quiet;
       more = omega (arith, w.more, same);
       few = omega (arith, w.few, same, some);
     }
 
     pub piece_stops : {A : Type 0} (e : ShelfErr) (r : EditErr) → IsChangedPartly (grown new) piece a.files b.files →
-        ShelfCauses {A = A} new a b (Err e) → RefusesMade e r → CopyStops new pages s b r
+        ShelfCauses {A = A} new a b (Err e) → RefusesMade e r → CopyStops form new pages s b r
     piece_stops e r p c is = record {
       left = inr (
-        (zeros page_size ++ w.nodes) ++ p.front,
+        (zeros form.size ++ w.nodes) ++ p.front,
         (
           w.nodes ++ p.front,
           [],
-          sym (append_assoc (zeros page_size) w.nodes p.front)
-              ∙ sym (append-nil ((zeros page_size ++ w.nodes) ++ p.front)),
+          sym (append_assoc (zeros form.size) w.nodes p.front)
+              ∙ sym (append-nil ((zeros form.size ++ w.nodes) ++ p.front)),
         ),
-        IsChanged-grown new (zeros page_size ++ w.nodes) p.front s.files a.files b.files w.files p.changed,
+        IsChanged-grown new (zeros form.size ++ w.nodes) p.front s.files a.files b.files w.files p.changed,
       );
       cause = subst (λ n. HasShelfCause n b.faults r) w.quiet
-          (made_cause new a b e r (set_there new (zeros page_size ++ w.nodes) s.files a.files w.files) c is);
+          (made_cause new a b e r (set_there new (zeros form.size ++ w.nodes) s.files a.files w.files) c is);
       untold = λ missing. absurd (not_missing e r is missing);
       later = omega (arith, c.faults, w.quiet);
       more = omega (arith, w.more, same);

@@ -1,16 +1,17 @@
 -- What the calls of a draft come to.
-use Rattle.std.proofs.Common.{◌≡◌, ℕ, ◌+◌, ◌≤◌, List, [], ◌++◌, length, inl, inr, refl, sym, ap, subst, ◌∙◌, append-nil, arith}
-use Rattle.std.specs.Prelude.{max, Option, Some, None, option_map, IfSome, IfErr, OnOk, Result, Ok, Err}
-use Rattle.mr_record.specs.declared.version.Version.TheVariants.{One}
+use Rattle.std.proofs.Common.{◌≡◌, ℕ, ◌+◌, ◌≤◌, List, [], ◌∷◌, ◌++◌, length, inl, inr, sym, ap, subst, ◌∙◌, append-nil, arith}
+use Rattle.std.specs.Prelude.{⊤, Option, Some, None, option_map, IfSome, IfErr, OnOk, Result, Ok, Err}
+use Rattle.mr_record.specs.declared.version.Version.{Version}
 use Rattle.mr_outside.specs.Files.{Files, with_file}
 use Rattle.mr_outside.specs.State.{Shelved}
 use Rattle.mr_outside.specs.Writing.{IsChanged}
 use Rattle.mr_outside.proofs.Changes.{file-with_file}
-use Rattle.mr_pages.specs.PageBytes.{page_size}
+use Rattle.mr_pages.specs.declared.layout.Layout.{Layout}
+use Rattle.mr_pages.specs.PageBytes.{form_of, layout_by}
 use Rattle.mr_pages.specs.Saved.{IsUnsealed, Leaves}
 use Rattle.mr_pages.specs.Source.{told_bytes}
 use Rattle.mr_pages.specs.declared.head.MapHead.{MapHead}
-use Rattle.mr_tree.specs.Digest.{by}
+use Rattle.mr_tree.specs.Digest.{Scheme, by}
 use Rattle.mr_tree.specs.Tree.{nodes, nodes_step, records}
 use Rattle.mr_tree.specs.declared.child.Child.{Child}
 use Rattle.mr_tree.specs.declared.tree.Tree.{Tree}
@@ -23,19 +24,21 @@ use Rattle.mr_pages.specs.Walking.{child_link}
 use Rattle.mr_batch.specs.Changes.{Changes}
 use Rattle.mr_batch.specs.Directory.{Entries as Directed}
 use Rattle.mr_store.specs.Kept.{Entries}
-use Rattle.mr_store.specs.Stored.{IsRootOf, IsStore}
+use Rattle.mr_store.specs.Stored.{IsRootOf, IsStored}
 use Rattle.mr_edit.specs.Causes.{HasEditCause}
 use Rattle.mr_edit.specs.Changing.{CanReplay}
-use Rattle.mr_draft.specs.Draft.{Drawn, drawn, DraftOf, IsTop, IsOff, Copies, CopyFails, CanApply, Applies, KeepsDraft}
+use Rattle.mr_draft.specs.Draft.{Drawn, DraftOf, IsTop, IsOff, CopyFails, CanApply, Applies, KeepsDraft}
 use Rattle.mr_edit.specs.Outcome.{NeverMap, IsLow}
 use Rattle.mr_edit.specs.Replayed.{Replays}
 use Rattle.mr_edit.specs.Shelves.{HasShelfCause}
-use Rattle.mr_draft.specs.Sheets.{zeros, book_on, HasPages, ArePages, HasCopied, CopyStops, KeepsSheets}
+use Rattle.mr_draft.specs.Sheets.{zeros, book_on, HasPages, ArePages, CopyStops}
+use Rattle.mr_edit.specs.Book.{Book}
+use Rattle.mr_edit.specs.Drafted.{Drafted}
+use Rattle.mr_batch.specs.Replay.{replay}
 use Rattle.mr_edit.specs.declared.error.EditErr.{EditErr}
 use Rattle.mr_edit.specs.Counted.{ReplaysWithin}
 use Rattle.mr_edit.specs.Reads.{reads_along}
 use Rattle.mr_edit.specs.declared.error.EditErr.TheVariants as errors
-use Rattle.mr_draft.proofs.Copies.{copy_draft, copy_same}
 use Rattle.mr_draft.proofs.ReadPages.{book_size}
 use Rattle.mr_edit.proofs.Room.{few_nodes}
 use Rattle.mr_draft.proofs.Seals.{unsealed_front, unsealed_none, unsealed_pages}
@@ -46,40 +49,25 @@ pub moved : (Q : Shelved → List ℕ → MapHead → Type 0) (a b : Shelved) (m
     g ≡ h → Q a m g → Q b n h
 moved Q a b m n g h p q r x = subst (λ s. Q s n h) p (subst (λ k. Q a k h) q (subst (λ k. Q a m k) r x))
 
-low_at : (pages : ℕ) (root : Option Child) → IfSome root (IsRootOf pages) → IsLow root
-low_at pages None r = tt
-low_at pages (Some c) r = r.low
+low_at : (v : Version) (count pages : ℕ) (root : Option Child) → IfSome root (IsRootOf v count pages) → IsLow root
+low_at v count pages None r = tt
+low_at v count pages (Some c) r = r.low
 
-module _ (hash : List ℕ → List ℕ) (h : MapHead) (es : Entries) (cap : ℕ) (old name : List ℕ)
-    (before after : Shelved) where
-  pub copies : IsStore hash before.files old h es cap → HasCopied old name h.pages (max 1 h.pages) before after →
-      Copies hash old h before name (drawn after name h.pages h.free h.root h.count h.batch)
-  copies store c = record {
-    of_tree = copy_draft hash h es cap old name before after store c;
-    named = refl;
-    at_batch = refl;
-    paged = refl;
-    root = refl;
-    free = refl;
-    count = refl;
-    low = low_at h.pages h.root store.root;
-    bytes = zeros page_size ++ c.nodes;
-    others = c.nodes;
-    blank = refl;
-    same = copy_same hash h es cap old name before after store c;
-    unsealed = unsealed_front hash (zeros page_size ++ c.nodes)
-        (c.nodes, [], sym (append-nil (zeros page_size ++ c.nodes)));
-    files = c.files;
-    quiet = c.quiet;
-    more = c.more;
-    few = omega (arith, c.few);
-  }
+module _ (layout : Layout) (sized : layout.size ≡ (layout_by layout.version).size) (hash : List ℕ → List ℕ)
+    (h : MapHead) (old name : List ℕ) (before after : Shelved) where
+  pub copy_low : (es : Entries) (cap : ℕ) → IsStored (form_of layout) hash before.files old h es cap → IsLow h.root
+  copy_low es cap store = low_at layout.version h.count h.pages h.root store.root
 
-  pub copy_fails : (e : EditErr) → CopyStops name h.pages before after e → CopyFails hash h before name after e
+  pub copy_unsealed : (nodes : List ℕ) → IsUnsealed hash (zeros layout.size ++ nodes)
+  copy_unsealed nodes = unsealed_front layout sized hash (zeros layout.size ++ nodes)
+      (nodes, [], sym (append-nil (zeros layout.size ++ nodes)))
+
+  pub copy_fails : (e : EditErr) → CopyStops (form_of layout) name h.pages before after e →
+      CopyFails hash h before name after e
   copy_fails e c = record {
     left = elim c.left [
       | inl same ↦ inl same
-      | inr set ↦ inr (set.0, unsealed_front hash set.0 set.1, set.2)
+      | inr set ↦ inr (set.0, unsealed_front layout sized hash set.0 set.1, set.2)
     ];
     cause = c.cause;
     untold = c.untold;
@@ -90,32 +78,35 @@ module _ (hash : List ℕ → List ℕ) (h : MapHead) (es : Entries) (cap : ℕ)
 
 -- ---- what stays of a file under edit
 
-unsealed_at : (hash : List ℕ → List ℕ) (name bytes : List ℕ) (pages : ℕ) (before after : Option Files) →
-    IsChanged (with_file name) bytes before after → ArePages after name pages →
-    Leaves (IsUnsealed hash) name before after
-unsealed_at hash name bytes pages None after put are = inr ([], unsealed_none hash, put)
-unsealed_at hash name bytes pages (Some files) after put are =
+unsealed_at : (layout : Layout) → layout.size ≡ (layout_by layout.version).size → (hash : List ℕ → List ℕ)
+    (name bytes : List ℕ) (pages : ℕ) (before after : Option Files) → IsChanged (with_file name) bytes before after →
+    ArePages (form_of layout) after name pages → Leaves (IsUnsealed hash) name before after
+unsealed_at layout sized hash name bytes pages None after put are = inr ([], unsealed_none layout sized hash, put)
+unsealed_at layout sized hash name bytes pages (Some files) after put are =
     let there : told_bytes after name ≡ Some bytes = ap (λ o. told_bytes o name) put
     ∙ file-with_file name bytes files in
     inr (
       bytes,
-      unsealed_pages hash pages bytes (subst (λ o. IfSome o (HasPages pages)) there are.have),
+      unsealed_pages layout sized hash pages bytes
+          (subst (λ o. IfSome o (HasPages (form_of layout) pages)) there are.have),
       put,
     )
 
-pub keeps_draft : (hash : List ℕ → List ℕ) (d e : Drawn) →
-    KeepsSheets d.name e.name d.pages e.pages d.shelf e.shelf → ArePages e.shelf.files e.name e.pages →
-    KeepsDraft hash d e
-keeps_draft hash d e k are = record {
-  name = k.name;
-  pages = k.pages;
-  left = elim k.files [
+pub keeps_draft : (hash : List ℕ → List ℕ) (d e : Drawn) → e.layout.size ≡ (layout_by e.layout.version).size →
+    e.name ≡ d.name → d.pages ≤ e.pages → Leaves (λ bytes. ⊤) d.name d.shelf.files e.shelf.files →
+    d.shelf.faults ≤ e.shelf.faults → d.shelf.reads ≤ e.shelf.reads → e.layout ≡ d.layout →
+    ArePages (form_of e.layout) e.shelf.files e.name e.pages → KeepsDraft hash d e
+keeps_draft hash d e sized name pages files faults reads layout are = record {
+  name = name;
+  layout = layout;
+  pages = pages;
+  left = elim files [
     | inl same ↦ inl same
-    | inr set ↦ unsealed_at hash d.name set.0 e.pages d.shelf.files e.shelf.files set.2
-        (subst (λ n. ArePages e.shelf.files n e.pages) k.name are)
+    | inr set ↦ unsealed_at e.layout sized hash d.name set.0 e.pages d.shelf.files e.shelf.files set.2
+        (subst (λ n. ArePages (form_of e.layout) e.shelf.files n e.pages) name are)
   ];
-  faults = k.faults;
-  reads = k.reads;
+  faults = faults;
+  reads = reads;
 }
 
 -- ---- a batch
@@ -128,21 +119,25 @@ blames_none P before after errors.Fault p cause never = cause
 blames_none P before after errors.NoMemory p cause never = tt
 
 module _ (hash : List ℕ → List ℕ) (d : Drawn) (dir : Directed) (b : Changes) where
+  abbrev scheme : Scheme
+  scheme = by d.layout.version hash
+
+  abbrev told : Option Book
+  told = book_on (form_of d.layout) d.shelf.files d.name d.pages
+
   pub can_replay : (t : Tree) → CanApply hash d dir b t →
-      CanReplay (by One hash) (book_on d.shelf.files d.name d.pages) d.free d.root dir b
+      CanReplay scheme told d.free d.root dir b
   can_replay t can = record {
     map = record { tree = t; draft = can.draft.drafted; well = can.draft.well; directory = can.directory };
     held = d.batch;
     admissible = can.admissible;
   }
 
-  pub applied : (e : Drawn) (dir' : Directed) →
-      Replays (by One hash) (book_on d.shelf.files d.name d.pages) d.free d.root dir
-      (book_on e.shelf.files e.name e.pages) e.free e.root dir' b → e.count ≡ length dir' →
-      Applies hash d dir b e dir'
-  applied e dir' replays counted t can =
-      let told = book_on d.shelf.files d.name d.pages in
-      let size = book_size d.shelf.files d.name d.pages can.draft.drafted.book can.draft.drafted.is in
+  pub applied : (e : Drawn) (dir' : Directed) → e.layout ≡ d.layout →
+      Replays scheme told d.free d.root dir (book_on (form_of e.layout) e.shelf.files e.name e.pages) e.free e.root
+      dir' b → e.count ≡ length dir' → Applies hash d dir b e dir'
+  applied e dir' same replays counted t can =
+      let size = book_size d.layout d.shelf.files d.name d.pages can.draft.drafted.book can.draft.drafted.is in
       let n = replays t d.batch d.pages d.pages (nodes t) (record {
         reaches = record {
           draft = can.draft.drafted;
@@ -152,10 +147,12 @@ module _ (hash : List ℕ → List ℕ) (d : Drawn) (dir : Directed) (b : Change
         well = can.draft.well;
         directory = can.directory;
       }) can.admissible in
-      let after = book_size e.shelf.files e.name e.pages n.reaches.draft.book n.reaches.draft.is in
+      let after = book_size e.layout e.shelf.files e.name e.pages n.reaches.draft.book n.reaches.draft.is in
       record {
         draft = record {
-          drafted = n.reaches.draft;
+          drafted = subst (λ (l : Layout). Drafted (by l.version hash)
+              (book_on (form_of e.layout) e.shelf.files e.name e.pages) e.free e.root (replay t (b ∷ []))) (sym same)
+              n.reaches.draft;
           well = n.well;
           counted = counted ∙ n.directory.count;
         };
@@ -165,11 +162,10 @@ module _ (hash : List ℕ → List ℕ) (d : Drawn) (dir : Directed) (b : Change
       }
 
   -- and what it reads
-  pub applied_within : (r r' : ℕ) → ReplaysWithin (by One hash) (book_on d.shelf.files d.name d.pages) d.free d.root dir
-      b
-      r r' → (t : Tree) → CanApply hash d dir b t → r' ≤ r + reads_along t b.list
+  pub applied_within : (r r' : ℕ) → ReplaysWithin scheme told d.free d.root dir b r r' → (t : Tree) →
+      CanApply hash d dir b t → r' ≤ r + reads_along t b.list
   applied_within r r' within t can =
-      let size = book_size d.shelf.files d.name d.pages can.draft.drafted.book can.draft.drafted.is in
+      let size = book_size d.layout d.shelf.files d.name d.pages can.draft.drafted.book can.draft.drafted.is in
       within t d.batch d.pages d.pages (nodes t) (record {
         reaches = record {
           draft = can.draft.drafted;
@@ -188,11 +184,12 @@ some_node (stands.Inner p Ps) = omega (arith, fold-Inner ℕ nodes_step (trees_o
 pub is_top : (hash : List ℕ → List ℕ) (d : Drawn) (t : Tree) → DraftOf hash d t → IsTop d.count d.root
 is_top hash d t of = at d.root of.drafted.placed of.drafted.root_is of.drafted.tree
   where
-    at : (r : Option Child) (po : Option Placed) → option_map child_link r ≡ option_map (link_of (by One hash)) po →
+    at : (r : Option Child) (po : Option Placed) →
+        option_map child_link r ≡ option_map (link_of (by d.layout.version hash)) po →
         whole_tree po ≡ t → IsTop d.count r
     at None None said same = of.counted ∙ ap (λ u. length (records u)) (sym same) ∙ ap length records-Empty
     at None (Some P) said same =
-        let no : ◌≡◌ {A = Option Link} None (Some (link_of (by One hash) P)) = said in absurd cc
+        let no : ◌≡◌ {A = Option Link} None (Some (link_of (by d.layout.version hash) P)) = said in absurd cc
     at (Some c) None said same = let no : ◌≡◌ {A = Option Link} (Some (child_link c)) None = said in absurd cc
     at (Some c) (Some P) said same =
         let few = few_nodes t (record { one_level = of.well.one_level; filled = of.well.filled }) in

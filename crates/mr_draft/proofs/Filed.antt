@@ -2,6 +2,7 @@
 use Rattle.std.proofs.Common.{◌≡◌, ℕ, ◌+◌, ◌*◌, ◌<◌, ◌≤◌, List, ◌++◌, length, inl, inr, refl, sym, ap, subst, ◌∙◌, arith}
 use Rattle.std.specs.Prelude.{⊤, Option, Some, None, option_map, IfSome, IsSome, MatchOption, Err}
 use Rattle.std.specs.Option.{option_and_then}
+use Rattle.std.specs.String.{string_bytes}
 use Rattle.mr_record.specs.Bytes.{AreBytes}
 use Rattle.mr_outside.specs.Faults.{Rose}
 use Rattle.mr_outside.specs.Files.{Files, file, with_file, with_change, grown, replaced, overwritten}
@@ -11,10 +12,14 @@ use Rattle.mr_outside.specs.Causes.{ShelfCauses}
 use Rattle.mr_outside.specs.declared.shelf.ShelfErr.{ShelfErr}
 use Rattle.mr_outside.specs.declared.shelf.ShelfErr.TheVariants as shelf
 use Rattle.mr_outside.proofs.Changes.{with_change-found, file-with_file}
-use Rattle.mr_pages.specs.PageBytes.{page_size}
-use Rattle.mr_pages.specs.Page.{page_limit}
+use Rattle.mr_outside.specs.declared.shelf.Shelf.{Ghosts}
+use Rattle.mr_pages.specs.declared.layout.Layout.{Layout}
+use Rattle.mr_pages.specs.PageBytes.{form_of}
+use Rattle.mr_pages.specs.Page.{Form, page_limit}
 use Rattle.mr_pages.specs.Saved.{Leaves}
 use Rattle.mr_pages.specs.Source.{told_bytes}
+use Rattle.mr_store.specs.CachedFile.{IsSameFile, name_of, state_of}
+use Rattle.mr_store.specs.declared.cached_file.CachedFile.{CachedFile}
 use Rattle.mr_edit.specs.Book.{with_sheet, longer}
 use Rattle.mr_edit.specs.Causes.{HasEditCause}
 use Rattle.mr_edit.specs.Outcome.{NeverMap}
@@ -27,7 +32,7 @@ use Rattle.mr_draft.proofs.ZeroPages.{has_grown, has_more, book_more, book_loses
 
 -- ---- why it refuses
 
-absent_rose : (told : Option Files) (name : List ℕ) (before after : ℕ) →
+pub absent_rose : (told : Option Files) (name : List ℕ) (before after : ℕ) →
     MatchOption told ⊤ (λ files. IsSome (file files name)) → MayMiss told name before after → Rose before after
 absent_rose None name before after there miss = miss
 absent_rose (Some files) name before after there miss =
@@ -88,105 +93,124 @@ changed change name (Some files) after there e = at (file files name) refl there
 
 -- ---- a page is written
 
-module _ (told after : Option Files) (name : List ℕ) (pages page : ℕ) (front : List ℕ) (are : ArePages told name pages)
-    (low : 1 ≤ page) (within : page < pages) (new : AreBytes front) (short : length front ≤ page_size)
-    (put : after ≡ option_map (overwritten name (page * page_size) front) told) where
-  made : Changed (replaced (page * page_size) front) name told after
-  made = changed (replaced (page * page_size) front) name told after are.there put
+module _ (layout : Layout) (told after : Option Files) (name : List ℕ) (pages page : ℕ) (front : List ℕ)
+    (are : ArePages (form_of layout) told name pages) (low : 1 ≤ page) (within : page < pages) (new : AreBytes front)
+    (short : length front ≤ layout.size)
+    (put : after ≡ option_map (overwritten name (page * layout.size) front) told) where
+  abbrev form : Form
+  form = form_of layout
 
-  pub put_pages : ArePages after name pages
+  abbrev size : ℕ
+  size = layout.size
+
+  made : Changed (replaced (page * size) front) name told after
+  made = changed (replaced (page * size) front) name told after are.there put
+
+  pub put_pages : ArePages form after name pages
   put_pages = record {
     there = made.there;
-    have = subst (λ o. IfSome o (HasPages pages)) (sym made.bytes) (at (told_bytes told name) are.have);
+    have = subst (λ o. IfSome o (HasPages form pages)) (sym made.bytes) (at (told_bytes told name) are.have);
   }
     where
-      at : (o : Option (List ℕ)) → IfSome o (HasPages pages) →
-          IfSome (option_map (replaced (page * page_size) front) o) (HasPages pages)
+      at : (o : Option (List ℕ)) → IfSome o (HasPages form pages) →
+          IfSome (option_map (replaced (page * size) front) o) (HasPages form pages)
       at None have = tt
-      at (Some held) have = has_replaced pages page held front have low within short new
+      at (Some held) have = has_replaced layout pages page held front have low within short new
 
-  pub put_others : ChangesPage page (book_on told name pages) (book_on after name pages)
+  pub put_others : ChangesPage page (book_on form told name pages) (book_on form after name pages)
   put_others =
-      subst (λ o. ChangesPage page (book_on told name pages) (option_and_then (book_in pages) o)) (sym made.bytes)
+      subst (λ o. ChangesPage page (book_on form told name pages) (option_and_then (book_in form pages) o))
+      (sym made.bytes)
       (at (told_bytes told name) are.have)
     where
-      at : (o : Option (List ℕ)) → IfSome o (HasPages pages) → ChangesPage page (option_and_then (book_in pages) o)
-          (option_and_then (book_in pages) (option_map (replaced (page * page_size) front) o))
+      at : (o : Option (List ℕ)) → IfSome o (HasPages form pages) →
+          ChangesPage page (option_and_then (book_in form pages) o)
+          (option_and_then (book_in form pages) (option_map (replaced (page * size) front) o))
       at None have = tt
-      at (Some held) have = book_others pages page held front have low within short
+      at (Some held) have = book_others layout pages page held front have low within short
 
-  pub put_whole : length front ≡ page_size →
-      book_on after name pages ≡ option_map (with_sheet page (sheet_of front)) (book_on told name pages)
-  put_whole whole = ap (option_and_then (book_in pages)) made.bytes ∙ at (told_bytes told name) are.have
+  pub put_whole : length front ≡ size →
+      book_on form after name pages ≡ option_map (with_sheet page (sheet_of form front)) (book_on form told name pages)
+  put_whole whole = ap (option_and_then (book_in form pages)) made.bytes ∙ at (told_bytes told name) are.have
     where
-      at : (o : Option (List ℕ)) → IfSome o (HasPages pages) →
-          option_and_then (book_in pages) (option_map (replaced (page * page_size) front) o)
-          ≡ option_map (with_sheet page (sheet_of front)) (option_and_then (book_in pages) o)
+      at : (o : Option (List ℕ)) → IfSome o (HasPages form pages) →
+          option_and_then (book_in form pages) (option_map (replaced (page * size) front) o)
+          ≡ option_map (with_sheet page (sheet_of form front)) (option_and_then (book_in form pages) o)
       at None have = refl
-      at (Some held) have = book_put pages page held front have low within short whole
+      at (Some held) have = book_put layout pages page held front have low within short whole
 
   pub put_left : Leaves (λ bytes. ⊤) name told after
   put_left = made.left
 
 -- ---- a page is added
 
-module _ (told after : Option Files) (name : List ℕ) (pages : ℕ) (front : List ℕ) (are : ArePages told name pages)
-    (put : after ≡ option_map (grown name front) told) where
+module _ (layout : Layout) (told after : Option Files) (name : List ℕ) (pages : ℕ) (front : List ℕ)
+    (are : ArePages (form_of layout) told name pages) (put : after ≡ option_map (grown name front) told) where
+  abbrev form2 : Form
+  form2 = form_of layout
+
+  abbrev size2 : ℕ
+  size2 = layout.size
+
   longer_ : Changed (λ held. held ++ front) name told after
   longer_ = changed (λ held. held ++ front) name told after are.there put
 
-  pub add_pages : AreBytes front → ArePages after name pages
+  pub add_pages : AreBytes front → ArePages form2 after name pages
   add_pages new = record {
     there = longer_.there;
-    have = subst (λ o. IfSome o (HasPages pages)) (sym longer_.bytes) (at (told_bytes told name) are.have);
+    have = subst (λ o. IfSome o (HasPages form2 pages)) (sym longer_.bytes) (at (told_bytes told name) are.have);
   }
     where
-      at : (o : Option (List ℕ)) → IfSome o (HasPages pages) →
-          IfSome (option_map (λ held. held ++ front) o) (HasPages pages)
+      at : (o : Option (List ℕ)) → IfSome o (HasPages form2 pages) →
+          IfSome (option_map (λ held. held ++ front) o) (HasPages form2 pages)
       at None have = tt
-      at (Some held) have = has_grown held pages have front new
+      at (Some held) have = has_grown layout held pages have front new
 
-  pub add_loses : LosesPages (book_on told name pages) (book_on after name pages)
+  pub add_loses : LosesPages (book_on form2 told name pages) (book_on form2 after name pages)
   add_loses =
-      subst (λ o. LosesPages (book_on told name pages) (option_and_then (book_in pages) o)) (sym longer_.bytes)
+      subst (λ o. LosesPages (book_on form2 told name pages) (option_and_then (book_in form2 pages) o))
+      (sym longer_.bytes)
       (at (told_bytes told name) are.have)
     where
-      at : (o : Option (List ℕ)) → IfSome o (HasPages pages) → LosesPages (option_and_then (book_in pages) o)
-          (option_and_then (book_in pages) (option_map (λ held. held ++ front) o))
+      at : (o : Option (List ℕ)) → IfSome o (HasPages form2 pages) →
+          LosesPages (option_and_then (book_in form2 pages) o)
+          (option_and_then (book_in form2 pages) (option_map (λ held. held ++ front) o))
       at None have = inl refl
-      at (Some held) have = book_loses held pages front have.long
+      at (Some held) have = book_loses layout held pages front have.long
 
-  pub add_more : pages < page_limit → front ≡ zeros page_size → ArePages after name (pages + 1)
+  pub add_more : pages < page_limit → front ≡ zeros size2 → ArePages form2 after name (pages + 1)
   add_more few whole = record {
     there = longer_.there;
-    have = subst (λ o. IfSome o (HasPages (pages + 1))) (sym longer_.bytes) (at (told_bytes told name) are.have);
+    have = subst (λ o. IfSome o (HasPages form2 (pages + 1))) (sym longer_.bytes) (at (told_bytes told name) are.have);
   }
     where
-      at : (o : Option (List ℕ)) → IfSome o (HasPages pages) →
-          IfSome (option_map (λ held. held ++ front) o) (HasPages (pages + 1))
+      at : (o : Option (List ℕ)) → IfSome o (HasPages form2 pages) →
+          IfSome (option_map (λ held. held ++ front) o) (HasPages form2 (pages + 1))
       at None have = tt
       at (Some held) have =
-          subst (λ xs. HasPages (pages + 1) (held ++ xs)) (sym whole) (has_more held pages have few)
+          subst (λ xs. HasPages form2 (pages + 1) (held ++ xs)) (sym whole) (has_more layout held pages have few)
 
-  pub add_longer : front ≡ zeros page_size →
-      book_on after name (pages + 1) ≡ option_map longer (book_on told name pages)
-  add_longer whole = ap (option_and_then (book_in (pages + 1))) longer_.bytes ∙ at (told_bytes told name)
+  pub add_longer : front ≡ zeros size2 →
+      book_on form2 after name (pages + 1) ≡ option_map longer (book_on form2 told name pages)
+  add_longer whole = ap (option_and_then (book_in form2 (pages + 1))) longer_.bytes ∙ at (told_bytes told name)
     where
-      at : (o : Option (List ℕ)) → option_and_then (book_in (pages + 1)) (option_map (λ held. held ++ front) o)
-          ≡ option_map longer (option_and_then (book_in pages) o)
+      at : (o : Option (List ℕ)) → option_and_then (book_in form2 (pages + 1)) (option_map (λ held. held ++ front) o)
+          ≡ option_map longer (option_and_then (book_in form2 pages) o)
       at None = refl
-      at (Some held) = ap (λ xs. book_in (pages + 1) (held ++ xs)) whole ∙ book_more held pages
+      at (Some held) = ap (λ xs. book_in form2 (pages + 1) (held ++ xs)) whole ∙ book_more layout held pages
 
   pub add_left : Leaves (λ bytes. ⊤) name told after
   add_left = longer_.left
 
 -- ---- what a call leaves
 
-pub keeps : (name : List ℕ) (pages : ℕ) (before after : Shelved) → Leaves (λ bytes. ⊤) name before.files after.files →
-    before.faults ≤ after.faults → before.reads ≤ after.reads → KeepsSheets name name pages pages before after
-keeps name pages before after left faults reads = record {
-  name = refl;
-  pages = omega arith;
+pub keeps : {S : Type 0} {G : Ghosts S} (f f' : CachedFile S G) → IsSameFile f f' →
+    Leaves (λ bytes. ⊤) (name_of f) (state_of f).files (state_of f').files →
+    (state_of f).faults ≤ (state_of f').faults → (state_of f).reads ≤ (state_of f').reads → KeepsSheets f f'
+keeps f f' same left faults reads = record {
+  name = ap string_bytes same.name;
+  layout = same.layout;
+  pages = omega (arith, same.pages);
   files = left;
   faults = faults;
   reads = reads;

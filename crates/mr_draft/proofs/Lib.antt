@@ -1,3 +1,4 @@
+pub mod Sizes
 pub mod Overwrites
 pub mod ZeroPages
 pub mod Filed
@@ -6,4 +7,7 @@ pub mod Copies
 pub mod Seals
 pub mod ReadPages
 pub mod NodesKept
+pub mod Objects
 pub mod Ends
+pub mod Taken
+pub mod Replays

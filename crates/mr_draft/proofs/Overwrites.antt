@@ -7,10 +7,13 @@ use Rattle.std.proofs.lemmas.List.Elements.{All-append, All-take, All-drop}
 use Rattle.std.proofs.Math.Seq.{drop-append-add}
 use Rattle.mr_record.specs.Bytes.{AreBytes}
 use Rattle.mr_outside.specs.Files.{replaced}
-use Rattle.mr_pages.specs.PageBytes.{page_size, first_form}
+use Rattle.mr_pages.specs.declared.layout.Layout.{Layout}
+use Rattle.mr_pages.specs.Page.{Form}
+use Rattle.mr_pages.specs.PageBytes.{form_of}
 use Rattle.mr_pages.specs.File.{page_at}
 use Rattle.mr_edit.specs.Book.{Book, with_sheet}
 use Rattle.mr_draft.specs.Sheets.{sheet_of, book_in, zeros, HasPages, ChangesPage}
+use Rattle.mr_draft.proofs.Sizes.{pages_within}
 use Rattle.mr_draft.proofs.ZeroPages.{bytes_zeros}
 
 -- ---- a piece of a list of which another piece was replaced
@@ -74,88 +77,97 @@ bytes_replaced n front held new old =
 
 -- ---- a page is written
 
-module _ (pages page : ℕ) (held front : List ℕ) (have : HasPages pages held) (low : 1 ≤ page) (within : page < pages)
-    (short : length front ≤ page_size) where
+module _ (layout : Layout) (pages page : ℕ) (held front : List ℕ) (have : HasPages (form_of layout) pages held)
+    (low : 1 ≤ page) (within : page < pages) (short : length front ≤ layout.size) where
+  abbrev form : Form
+  form = form_of layout
+
+  abbrev size : ℕ
+  size = layout.size
+
   abbrev after : List ℕ
-  after = replaced (page * page_size) front held
+  after = replaced (page * size) front held
 
-  room : page * page_size + length front ≤ length held
-  room = omega (arith, have.long, within, short)
+  room : page * size + length front ≤ length held
+  room = omega (arith, have.long, pages_within page pages size within, short)
 
-  start : page * page_size ≤ length held
+  start : page * size ≤ length held
   start = omega (arith, room)
 
   same_length : length after ≡ length held
-  same_length = length_replaced (page * page_size) front held room
+  same_length = length_replaced (page * size) front held room
 
-  pub other_page : (q : ℕ) → q ≢ page → page_at first_form after q ≡ page_at first_form held q
+  pub other_page : (q : ℕ) → q ≢ page → page_at form after q ≡ page_at form held q
   other_page q other = elim (cases_lt q page) [
     | inl before ↦
-        ap (λ xs. take page_size (drop (q * page_size) xs))
-        (append_assoc (take (page * page_size) held) front (drop (page * page_size + length front) held))
-        ∙ piece_before page_size held (q * page_size) (page * page_size)
-        (front ++ drop (page * page_size + length front) held)
-        (omega (arith, before)) start
+        ap (λ xs. take size (drop (q * size) xs))
+        (append_assoc (take (page * size) held) front (drop (page * size + length front) held))
+        ∙ piece_before size held (q * size) (page * size)
+        (front ++ drop (page * size + length front) held)
+        (omega (arith, pages_within q page size before)) start
     | inr past ↦
         let behind : page < q = omega (arith, past, other) in
-        ap (take page_size)
-        (piece_behind held front (q * page_size) (page * page_size) (omega (arith, behind, short)) start)
+        ap (take size)
+        (piece_behind held front (q * size) (page * size)
+        (omega (arith, pages_within page q size behind, short)) start)
   ]
 
-  pub has_replaced : AreBytes front → HasPages pages after
+  pub has_replaced : AreBytes front → HasPages form pages after
   has_replaced new = record {
     some = have.some;
     few = have.few;
-    are = bytes_replaced (page * page_size) front held new have.are;
+    are = bytes_replaced (page * size) front held new have.are;
     long = omega (arith, have.long, same_length);
     blank = other_page 0 (λ e. omega (arith, e, low)) ∙ have.blank;
   }
 
-  pub this_page : length front ≡ page_size → page_at first_form after page ≡ front
+  pub this_page : length front ≡ size → page_at form after page ≡ front
   this_page whole =
-      ap (λ n. take n (drop (page * page_size) after)) (sym whole)
-      ∙ piece_here held front (drop (page * page_size + length front) held) (page * page_size) start
+      ap (λ n. take n (drop (page * size) after)) (sym whole)
+      ∙ piece_here held front (drop (page * size + length front) held) (page * size) start
 
-  same_test : (length after == pages * page_size) ≡ (length held == pages * page_size)
-  same_test = ap (λ n. n == pages * page_size) same_length
+  same_test : (length after == pages * size) ≡ (length held == pages * size)
+  same_test = ap (λ n. n == pages * size) same_length
 
-  sheet_after : length front ≡ page_size → (q : ℕ) → sheet_of (page_at first_form after q)
-      ≡ (if q == page then sheet_of front else sheet_of (page_at first_form held q))
+  sheet_after : length front ≡ size → (q : ℕ) → sheet_of form (page_at form after q)
+      ≡ (if q == page then sheet_of form front else sheet_of form (page_at form held q))
   sheet_after whole q = at (q == page) refl
     where
-      at : (b : Bool) → (q == page) ≡ b → sheet_of (page_at first_form after q)
-          ≡ (if b then sheet_of front else sheet_of (page_at first_form held q))
-      at true e = ap (λ p. sheet_of (page_at first_form after p)) (eqb-true q page e) ∙ ap sheet_of (this_page whole)
-      at false e = ap sheet_of (other_page q (λ same. no (sym e ∙ eq-eqb q page same)))
+      at : (b : Bool) → (q == page) ≡ b → sheet_of form (page_at form after q)
+          ≡ (if b then sheet_of form front else sheet_of form (page_at form held q))
+      at true e =
+          ap (λ p. sheet_of form (page_at form after p)) (eqb-true q page e)
+          ∙ ap (sheet_of form) (this_page whole)
+      at false e = ap (sheet_of form) (other_page q (λ same. no (sym e ∙ eq-eqb q page same)))
         where
           no : false ≡ true → ⊥
           no h = cc
 
   -- the pages as they are read then
-  pub book_put : length front ≡ page_size →
-      book_in pages after ≡ option_map (with_sheet page (sheet_of front)) (book_in pages held)
+  pub book_put : length front ≡ size →
+      book_in form pages after ≡ option_map (with_sheet page (sheet_of form front)) (book_in form pages held)
   book_put whole =
-      ap (λ b. if b then Some (told_book after) else None) same_test ∙ at (length held == pages * page_size)
+      ap (λ b. if b then Some (told_book after) else None) same_test ∙ at (length held == pages * size)
     where
       told_book : List ℕ → Book
-      told_book bytes = record { size = pages; sheet = λ p. sheet_of (page_at first_form bytes p) }
+      told_book bytes = record { size = pages; sheet = λ p. sheet_of form (page_at form bytes p) }
 
       at : (b : Bool) → (if b then Some (told_book after) else None)
-          ≡ option_map (with_sheet page (sheet_of front)) (if b then Some (told_book held) else None)
+          ≡ option_map (with_sheet page (sheet_of form front)) (if b then Some (told_book held) else None)
       at true = λ i. Some (record { size = pages; sheet = λ q. sheet_after whole q i })
       at false = refl
 
   -- and whatever was written of it
-  pub book_others : ChangesPage page (book_in pages held) (book_in pages after)
-  book_others = at (length held == pages * page_size) same_test
+  pub book_others : ChangesPage page (book_in form pages held) (book_in form pages after)
+  book_others = at (length held == pages * size) same_test
     where
       told_book : List ℕ → Book
-      told_book bytes = record { size = pages; sheet = λ p. sheet_of (page_at first_form bytes p) }
+      told_book bytes = record { size = pages; sheet = λ p. sheet_of form (page_at form bytes p) }
 
-      at : (b : Bool) → (length after == pages * page_size) ≡ b →
-          ChangesPage page (if b then Some (told_book held) else None) (book_in pages after)
+      at : (b : Bool) → (length after == pages * size) ≡ b →
+          ChangesPage page (if b then Some (told_book held) else None) (book_in form pages after)
       at true e = subst (λ t. ChangesPage page (Some (told_book held)) (if t then Some (told_book after) else None))
-          (sym e) (told_book held, refl, λ q other. ap sheet_of (other_page q other))
+          (sym e) (told_book held, refl, λ q other. ap (sheet_of form) (other_page q other))
       at false e = subst (λ t. ChangesPage page None (if t then Some (told_book after) else None)) (sym e) tt
 
 -- ---- a front of what was to be written
@@ -165,10 +177,9 @@ front_bytes whole front rest is all =
     subst AreBytes (ap (take (length front)) is ∙ take_at front rest (length front) refl)
     (All-take (λ b. b < 2 ^ 8) (length front) whole all)
 
-pub front_short : (whole front rest : List ℕ) → whole ≡ front ++ rest → length whole ≡ page_size →
-    length front ≤ page_size
-front_short whole front rest is size = omega (arith, size, ap length is, length-append front rest)
+pub front_short : (n : ℕ) (whole front rest : List ℕ) → whole ≡ front ++ rest → length whole ≡ n → length front ≤ n
+front_short n whole front rest is size = omega (arith, size, ap length is, length-append front rest)
 
-pub front_zeros : (whole front rest : List ℕ) → whole ≡ front ++ rest → whole ≡ zeros page_size → AreBytes front
-front_zeros whole front rest is zero_page =
-    front_bytes whole front rest is (subst AreBytes (sym zero_page) (bytes_zeros page_size))
+pub front_zeros : (n : ℕ) (whole front rest : List ℕ) → whole ≡ front ++ rest → whole ≡ zeros n → AreBytes front
+front_zeros n whole front rest is zero_page =
+    front_bytes whole front rest is (subst AreBytes (sym zero_page) (bytes_zeros n))

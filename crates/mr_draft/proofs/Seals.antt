@@ -9,7 +9,6 @@ use Rattle.std.proofs.lemmas.List.Elements.{All-take, All-drop, All-from_recursi
 use Rattle.mr_record.specs.Bytes.{AreBytes}
 use Rattle.mr_record.specs.Record.{HasLayer}
 use Rattle.mr_record.specs.declared.version.Version.{Version}
-use Rattle.mr_record.specs.declared.version.Version.TheVariants.{One}
 use Rattle.mr_outside.specs.Files.{Files, file, with_file, replaced, overwritten}
 use Rattle.mr_outside.specs.State.{Shelved}
 use Rattle.mr_outside.specs.Writing.{IsChanged, IsChangedPartly}
@@ -26,16 +25,18 @@ use Rattle.mr_tree.specs.declared.tree.Tree.TheOpen as node
 use Rattle.mr_tree.proofs.Equations.{records-Empty, records-Leaf}
 use Rattle.mr_grow.proofs.Kept.{records_below}
 use Rattle.mr_pages.specs.Law.{IsMap}
-use Rattle.mr_pages.specs.Page.{Link, Node, Head, IsNode}
-use Rattle.mr_pages.specs.PageBytes.{page_size, first_form, first_layout}
+use Rattle.mr_pages.specs.declared.layout.Layout.{Layout}
+use Rattle.mr_pages.specs.Page.{Form, Link, Node, Head, IsForm, IsNode}
+use Rattle.mr_pages.specs.PageBytes.{layout_by, form_of, IsLayout}
 use Rattle.mr_pages.specs.File.{page_at}
 use Rattle.mr_pages.specs.Saved.{IsUnsealed}
 use Rattle.mr_pages.specs.Source.{told_bytes}
 use Rattle.mr_pages.specs.Stands as stands
 use Rattle.mr_pages.specs.Stands.{Placed, Row, no_more, first, tree_of, trees_of, IsWritten, AreWritten, IsChain, AreAllPages, link_of, whole_tree, whole_pages, Stands}
-use Rattle.mr_pages.specs.Walking.{child_link}
+use Rattle.mr_pages.specs.Walking.{child_link, head_of}
+use Rattle.mr_pages.specs.declared.head.MapHead.{MapHead}
 use Rattle.mr_pages.proofs.Agreement.{written_as, chain_as}
-use Rattle.mr_pages.proofs.HeadLaws.{first_form_is, first_layout_is}
+use Rattle.mr_pages.proofs.HeadLaws.{form_is}
 use Rattle.mr_pages.proofs.Imaged.{front_unsealed, head_front_says, part_unsealed}
 use Rattle.mr_pages.proofs.Lists.{all_append}
 use Rattle.mr_edit.specs.Book.{Sheet, Book, HasNode, HasFree, Owned}
@@ -46,37 +47,43 @@ use Rattle.mr_draft.specs.Sheets.{sheet_of, book_in, zeros, HasPages, ArePages, 
 use Rattle.mr_edit.specs.declared.error.EditErr.{EditErr}
 use Rattle.mr_draft.proofs.Copies.{sheet_node, sheet_free, pages_in}
 use Rattle.mr_draft.proofs.Overwrites.{piece_behind, length_replaced}
+use Rattle.mr_draft.proofs.Sizes.{first_page, layout_fits, layout_is, page_large, pages_some}
 use Rattle.mr_edit.proofs.OwnedOnce.{all_of_owned}
 use Rattle.mr_draft.proofs.ZeroPages.{no_sheet, sheet_in_zeros, length_zeros}
 
+-- ---- a page of zeros in front
+
+zero_front : (size : ℕ) (held : List ℕ) → take size held ≡ zeros size → held ≡ zeros size ++ drop size held
+zero_front size held blank = sym (take-append-drop size held) ∙ ap (λ xs. xs ++ drop size held) blank
+
 -- ---- not sealed yet
 
-front_of : (hash : List ℕ → List ℕ) (bytes rest nodes : List ℕ) → zeros page_size ++ nodes ≡ bytes ++ rest →
-    IsUnsealed hash bytes
-unfolding zeros
-front_of hash bytes rest nodes e = front_unsealed page_size (omega arith) hash bytes rest nodes e
+module _ (layout : Layout) (sized : layout.size ≡ (layout_by layout.version).size) (hash : List ℕ → List ℕ) where
+  front_of : (bytes rest nodes : List ℕ) → zeros layout.size ++ nodes ≡ bytes ++ rest → IsUnsealed hash bytes
+  unfolding zeros
+  front_of bytes rest nodes e = front_unsealed layout.size (page_large layout sized) hash bytes rest nodes e
 
-part_of : (hash : List ℕ → List ℕ) (h : Head) (front rest held nodes : List ℕ) →
-    held ≡ zeros page_size ++ nodes → length front < page_size → first_form.head_page h ≡ front ++ rest →
-    IsUnsealed hash (replaced 0 front held)
-unfolding zeros
-part_of hash h front rest held nodes e short whole =
-    part_unsealed first_layout refl first_layout_is hash (replaced 0 front held) front held nodes e short
-    (head_front_says first_layout h front rest whole) refl
+  part_of : (h : Head) (front rest held nodes : List ℕ) → held ≡ zeros layout.size ++ nodes →
+      length front < layout.size → (form_of layout).head_page h ≡ front ++ rest →
+      IsUnsealed hash (replaced 0 front held)
+  unfolding zeros
+  part_of h front rest held nodes e short whole =
+      part_unsealed layout (layout_is layout sized) (layout_fits layout sized) hash (replaced 0 front held) front held
+      nodes e short (head_front_says layout h front rest whole) refl
 
-pub unsealed_front : (hash : List ℕ → List ℕ) (bytes : List ℕ) → IsFront bytes → IsUnsealed hash bytes
-unsealed_front hash bytes f = front_of hash bytes f.1 f.0 f.2
+  pub unsealed_front : (bytes : List ℕ) → IsFront layout.size bytes → IsUnsealed hash bytes
+  unsealed_front bytes f = front_of bytes f.1 f.0 f.2
 
-pub unsealed_none : (hash : List ℕ → List ℕ) → IsUnsealed hash []
-unsealed_none hash = unsealed_front hash [] ([], zeros page_size ++ [], refl)
+  pub unsealed_none : IsUnsealed hash []
+  unsealed_none = unsealed_front [] ([], zeros layout.size ++ [], refl)
 
-zero_front : (pages : ℕ) (held : List ℕ) → HasPages pages held → held ≡ zeros page_size ++ drop page_size held
-zero_front pages held have = sym (take-append-drop page_size held) ∙ ap (λ xs. xs ++ drop page_size held) have.blank
-
-pub unsealed_pages : (hash : List ℕ → List ℕ) (pages : ℕ) (held : List ℕ) → HasPages pages held →
-    IsUnsealed hash held
-unsealed_pages hash pages held have =
-    unsealed_front hash held (drop page_size held, [], sym (zero_front pages held have) ∙ sym (append-nil held))
+  pub unsealed_pages : (pages : ℕ) (held : List ℕ) → HasPages (form_of layout) pages held → IsUnsealed hash held
+  unsealed_pages pages held have =
+      unsealed_front held (
+        drop layout.size held,
+        [],
+        sym (zero_front layout.size held (sym (first_page layout.size held) ∙ have.blank)) ∙ sym (append-nil held),
+      )
 
 -- ---- the layers of the records on pages
 
@@ -100,19 +107,35 @@ mutual
 
 -- ---- the pages are those of a map
 
-book_is : (pages : ℕ) (held : List ℕ) (b : Book) → book_in pages held ≡ Some b →
-    (length held ≡ pages * page_size) × (pages_in pages held ≡ b)
-book_is pages held b e = at (length held == pages * page_size) refl e
+book_is : (form : Form) (pages : ℕ) (held : List ℕ) (b : Book) → book_in form pages held ≡ Some b →
+    (length held ≡ pages * form.size) × (pages_in form pages held ≡ b)
+book_is form pages held b e = at (length held == pages * form.size) refl e
   where
-    at : (t : Bool) → (length held == pages * page_size) ≡ t →
-        (if t then Some (pages_in pages held) else None) ≡ Some b →
-        (length held ≡ pages * page_size) × (pages_in pages held ≡ b)
-    at true test e = (eqb-true (length held) (pages * page_size) test, cc)
+    at : (t : Bool) → (length held == pages * form.size) ≡ t →
+        (if t then Some (pages_in form pages held) else None) ≡ Some b →
+        (length held ≡ pages * form.size) × (pages_in form pages held ≡ b)
+    at true test e = (eqb-true (length held) (pages * form.size) test, cc)
     at false test e = absurd cc
 
-module _ (hash : List ℕ → List ℕ) (pages free : ℕ) (top : Option Child) (count batch : ℕ) (t : Tree)
-    (held page : List ℕ) (have : HasPages pages held) (d : Drafted (by One hash) (book_in pages held) free top t)
+module _ (layout : Layout) (room : IsLayout layout) (hash : List ℕ → List ℕ) (pages free : ℕ) (top : Option Child)
+    (count batch : ℕ) (t : Tree) (held page : List ℕ) (have : HasPages (form_of layout) pages held)
+    (d : Drafted (by layout.version hash) (book_in (form_of layout) pages held) free top t)
     (well : WellFormed t) (counted : count ≡ length (records t)) (low : batch < 2 ^ 64) where
+  abbrev form : Form
+  form = form_of layout
+
+  abbrev size : ℕ
+  size = layout.size
+
+  abbrev v : Version
+  v = layout.version
+
+  abbrev scheme : Scheme
+  scheme = by layout.version hash
+
+  is_form : IsForm form
+  is_form = form_is layout room
+
   abbrev head : Head
   head = record {
     batch = batch;
@@ -122,71 +145,73 @@ module _ (hash : List ℕ → List ℕ) (pages free : ℕ) (top : Option Child) 
     free = free;
   }
 
-  module _ (is : page ≡ first_form.head_page head) (size : length page ≡ page_size) where
+  module _ (is : page ≡ form.head_page head) (whole_page : length page ≡ size) where
     abbrev after : List ℕ
     after = replaced 0 page held
 
-    whole : length held ≡ pages * page_size
-    whole = (book_is pages held d.book d.is).0
+    whole : length held ≡ pages * size
+    whole = (book_is form pages held d.book d.is).0
 
-    book : pages_in pages held ≡ d.book
-    book = (book_is pages held d.book d.is).1
+    book : pages_in form pages held ≡ d.book
+    book = (book_is form pages held d.book d.is).1
 
-    size_after : length after ≡ pages * page_size
-    size_after = length_replaced 0 page held (omega (arith, size, whole, have.some)) ∙ whole
+    size_after : length after ≡ pages * size
+    size_after = length_replaced 0 page held
+        (omega (arith, whole_page, whole, pages_some pages size have.some)) ∙ whole
 
-    page_after : (q : ℕ) → q ≢ 0 → page_at first_form after q ≡ page_at first_form held q
-    page_after q some = ap (take page_size)
-        (piece_behind held page (q * page_size) 0 (omega (arith, size, some)) (omega arith))
+    page_after : (q : ℕ) → q ≢ 0 → page_at form after q ≡ page_at form held q
+    page_after q some = ap (take size)
+        (piece_behind held page (q * size) 0 (omega (arith, whole_page, pages_some q size (omega (arith, some))))
+        (omega arith))
 
-    node_held : (p : ℕ) (n : Node) → HasNode d.book p n → first_form.node_in (page_at first_form held p) ≡ Some n
+    node_held : (p : ℕ) (n : Node) → HasNode d.book p n → form.node_in (page_at form held p) ≡ Some n
     node_held p n e =
-        sym (sheet_node (page_at first_form held p)) ∙ ap (λ (b : Book). (b.sheet p).node) book ∙ e
+        sym (sheet_node form (page_at form held p)) ∙ ap (λ (b : Book). (b.sheet p).node) book ∙ e
 
-    free_held : (p g : ℕ) → (d.book.sheet p).free ≡ Some g → first_form.free_in (page_at first_form held p) ≡ Some g
+    free_held : (p g : ℕ) → (d.book.sheet p).free ≡ Some g → form.free_in (page_at form held p) ≡ Some g
     free_held p g e =
-        sym (sheet_free (page_at first_form held p)) ∙ ap (λ (b : Book). (b.sheet p).free) book ∙ e
+        sym (sheet_free form (page_at form held p)) ∙ ap (λ (b : Book). (b.sheet p).free) book ∙ e
 
-    bytes_of : (p : ℕ) → AreBytes (page_at first_form held p)
-    bytes_of p = All-take (λ b. b < 2 ^ 8) page_size (drop (p * page_size) held) (All-drop (λ b. b < 2 ^ 8)
-        (p * page_size) held have.are)
+    bytes_of : (p : ℕ) → AreBytes (page_at form held p)
+    bytes_of p = All-take (λ b. b < 2 ^ 8) size (drop (p * size) held) (All-drop (λ b. b < 2 ^ 8)
+        (p * size) held have.are)
 
     -- no node stands on page 0
     no_first : (n : Node) → HasNode d.book 0 n → ⊥
     no_first n e =
-        let none : sheet_of (page_at first_form held 0) ≡ no_sheet = ap sheet_of have.blank ∙ zero_sheet in
+        let none : sheet_of form (page_at form held 0) ≡ no_sheet = ap (sheet_of form) have.blank ∙ zero_sheet in
         let both : None ≡ Some n =
         sym (ap (λ (s : Sheet). s.node) none) ∙ ap (λ (b : Book). (b.sheet 0).node) book ∙ e in
         absurd cc
       where
-        zero_sheet : sheet_of (zeros page_size) ≡ no_sheet
-        zero_sheet = ap sheet_of (sym (take_at (zeros page_size) [] page_size (length_zeros page_size))
-            ∙ ap (take page_size) (append-nil (zeros page_size))) ∙ sheet_in_zeros page_size 0 page_size
+        zero_sheet : sheet_of form (zeros size) ≡ no_sheet
+        zero_sheet = ap (sheet_of form) (sym (take_at (zeros size) [] size (length_zeros size))
+            ∙ ap (take size) (append-nil (zeros size))) ∙ sheet_in_zeros layout size 0 size
 
-    node_as : (p : ℕ) (n : Node) → HasNode d.book p n → stands.HasNode first_form after p n
+    node_as : (p : ℕ) (n : Node) → HasNode d.book p n → stands.HasNode form after p n
     node_as zero n e = absurd (no_first n e)
     node_as (suc p) n e =
         page_after (suc p) (λ same. omega (arith, same))
-        ∙ sym (first_form_is.nodes.spelled (page_at first_form held (suc p)) n (bytes_of (suc p)) (node_held
+        ∙ sym (is_form.nodes.spelled (page_at form held (suc p)) n (bytes_of (suc p)) (node_held
         (suc p) n e)).1
 
-    free_as : (p g : ℕ) → HasFree d.book p g → stands.HasFree first_form after p g
+    free_as : (p g : ℕ) → HasFree d.book p g → stands.HasFree form after p g
     free_as p g e =
         page_after p (λ same. omega (arith, same, e.0))
-        ∙ sym (first_form_is.frees.spelled (page_at first_form held p) g (bytes_of p) (free_held p g e.1)).1
+        ∙ sym (is_form.frees.spelled (page_at form held p) g (bytes_of p) (free_held p g e.1)).1
 
-    written : (po : Option Placed) → IfSome po (IsWritten (by One hash) (HasNode d.book)) →
-        IfSome po (IsWritten (by One hash) (stands.HasNode first_form after))
+    written : (po : Option Placed) → IfSome po (IsWritten scheme (HasNode d.book)) →
+        IfSome po (IsWritten scheme (stands.HasNode form after))
     written None w = tt
-    written (Some P) w = written_as (by One hash) (HasNode d.book) (stands.HasNode first_form after) node_as P w
+    written (Some P) w = written_as scheme (HasNode d.book) (stands.HasNode form after) node_as P w
 
-    sealed_stands : Stands first_form hash after t batch
+    sealed_stands : Stands form hash after t batch
     sealed_stands = record {
       head = head;
       size = size_after;
       some = have.some;
       few = have.few;
-      sealed = ap (λ n. take n (page ++ drop (0 + length page) held)) (sym size)
+      sealed = first_page size after ∙ ap (λ n. take n (page ++ drop (0 + length page) held)) (sym whole_page)
           ∙ take_at page (drop (0 + length page) held) (length page) refl ∙ is;
       at_batch = refl;
       batch_fits = low;
@@ -197,32 +222,32 @@ module _ (hash : List ℕ → List ℕ) (pages free : ℕ) (top : Option Child) 
       lies = record {
         written = written d.placed d.written;
         chain = d.chain;
-        linked = chain_as (HasFree d.book) (stands.HasFree first_form after) free_as free d.chain d.linked;
+        linked = chain_as (HasFree d.book) (stands.HasFree form after) free_as free d.chain d.linked;
         all = all_of_owned pages (whole_pages d.placed ++ d.chain)
             (subst (λ (b : Book). Owned b.size (0 ∷ (whole_pages d.placed ++ d.chain))) (sym book) d.owned);
       };
     }
 
     -- and their records have the layers of its version
-    fits_held : (p : ℕ) (n : Node) → HasNode d.book p n → IsNode One n
+    fits_held : (p : ℕ) (n : Node) → HasNode d.book p n → IsNode v n
     fits_held p n e =
-        (first_form_is.nodes.spelled (page_at first_form held p) n (bytes_of p) (node_held p n e)).0
+        (is_form.nodes.spelled (page_at form held p) n (bytes_of p) (node_held p n e)).0
 
-    layered : (po : Option Placed) → IfSome po (IsWritten (by One hash) (HasNode d.book)) →
-        HasLayers One (whole_tree po)
-    layered None w = All-from_recursion (HasLayer One) (records tree.Empty)
-        (subst (AllByRecursion (HasLayer One)) (sym records-Empty) tt)
-    layered (Some P) w = All-from_recursion (HasLayer One) (records (tree_of P))
-        (layers_on One (by One hash) (HasNode d.book) fits_held P w)
+    layered : (po : Option Placed) → IfSome po (IsWritten scheme (HasNode d.book)) →
+        HasLayers v (whole_tree po)
+    layered None w = All-from_recursion (HasLayer v) (records tree.Empty)
+        (subst (AllByRecursion (HasLayer v)) (sym records-Empty) tt)
+    layered (Some P) w = All-from_recursion (HasLayer v) (records (tree_of P))
+        (layers_on v scheme (HasNode d.book) fits_held P w)
 
-    pub sealed_map : IsMap first_form hash after t batch
+    pub sealed_map : IsMap form hash after t batch
     sealed_map = record {
       well = well;
-      layers = subst (HasLayers One) d.tree (layered d.placed d.written);
+      layers = subst (HasLayers v) d.tree (layered d.placed d.written);
       stands = sealed_stands;
     }
 
-    pub sealed_size : length after ≡ pages * page_size
+    pub sealed_size : length after ≡ pages * size
     sealed_size = size_after
 
 -- ---- the root digest
@@ -230,22 +255,22 @@ module _ (hash : List ℕ → List ℕ) (pages free : ℕ) (top : Option Child) 
 some_link : (c : Child) (l : Link) → Some (child_link c) ≡ Some l → child_link c ≡ l
 some_link c l e = cc
 
-root_said : (hash : List ℕ → List ℕ) (top : Option Child) (po : Option Placed) (t : Tree) (count batch : ℕ) →
-    option_map child_link top ≡ option_map (link_of (by One hash)) po → whole_tree po ≡ t →
+root_said : (s : Scheme) (top : Option Child) (po : Option Placed) (t : Tree) (count batch : ℕ) →
+    option_map child_link top ≡ option_map (link_of s) po → whole_tree po ≡ t →
     count ≡ length (records t) →
-    hash (root_preimage One batch count (root_entry top)) ≡ root (by One hash) t batch
-root_said hash None None t count batch said same counted =
+    s.of (root_preimage s.version batch count (root_entry top)) ≡ root s t batch
+root_said s None None t count batch said same counted =
     let none : length (records t) ≡ 0 = ap (λ u. length (records u)) (sym same) ∙ ap length records-Empty in
-    ap (λ n. hash (root_preimage One batch n no_entry)) (counted ∙ none)
-    ∙ ap (λ n. hash (root_preimage One batch n (entry (by One hash) t))) (sym none)
-root_said hash None (Some P) t count batch said same counted =
-    let no : ◌≡◌ {A = Option Link} None (Some (link_of (by One hash) P)) = said in absurd cc
-root_said hash (Some c) None t count batch said same counted =
+    ap (λ n. s.of (root_preimage s.version batch n no_entry)) (counted ∙ none)
+    ∙ ap (λ n. s.of (root_preimage s.version batch n (entry s t))) (sym none)
+root_said s None (Some P) t count batch said same counted =
+    let no : ◌≡◌ {A = Option Link} None (Some (link_of s P)) = said in absurd cc
+root_said s (Some c) None t count batch said same counted =
     let no : ◌≡◌ {A = Option Link} (Some (child_link c)) None = said in absurd cc
-root_said hash (Some c) (Some P) t count batch said same counted =
-    let known : entry_of c ≡ entry (by One hash) t =
-    ap (λ (l : Link). l.entry) (some_link c (link_of (by One hash) P) said) ∙ ap (entry (by One hash)) same in
-    λ i. hash (root_preimage One batch (counted i) (known i))
+root_said s (Some c) (Some P) t count batch said same counted =
+    let known : entry_of c ≡ entry s t =
+    ap (λ (l : Link). l.entry) (some_link c (link_of s P) said) ∙ ap (entry s) same in
+    λ i. s.of (root_preimage s.version batch (counted i) (known i))
 
 -- ---- what the calls of a seal leave
 
@@ -276,29 +301,41 @@ first_put (Some files) after name front there put = at (file files name) refl th
       none = λ e. let no : ◌≡◌ {A = Option Files} (Some files) None = e in absurd cc;
     }
 
-module _ (hash : List ℕ → List ℕ) (d : Drawn) (page : List ℕ) (low : d.batch < 2 ^ 64)
-    (is : page ≡ first_form.head_page (head_in_draft d)) (size : length page ≡ page_size)
-    (are : ArePages d.shelf.files d.name d.pages) where
-  pages_told : (xs : List ℕ) → told_bytes d.shelf.files d.name ≡ Some xs → HasPages d.pages xs
-  pages_told xs e = subst (λ o. IfSome o (HasPages d.pages)) e are.have
+module _ (hash : List ℕ → List ℕ) (d : Drawn) (sized : d.layout.size ≡ (layout_by d.layout.version).size)
+    (page : List ℕ) (low : d.batch < 2 ^ 64) (is : page ≡ (form_of d.layout).head_page (head_in_draft d))
+    (size : length page ≡ d.layout.size) (are : ArePages (form_of d.layout) d.shelf.files d.name d.pages) where
+  abbrev of_form : Form
+  of_form = form_of d.layout
+
+  abbrev of_scheme : Scheme
+  of_scheme = by d.layout.version hash
+
+  fits : IsLayout d.layout
+  fits = layout_fits d.layout sized
+
+  pages_told : (xs : List ℕ) → told_bytes d.shelf.files d.name ≡ Some xs → HasPages of_form d.pages xs
+  pages_told xs e = subst (λ o. IfSome o (HasPages of_form d.pages)) e are.have
 
   sealed_at : (xs : List ℕ) → told_bytes d.shelf.files d.name ≡ Some xs → (t : Tree) → DraftOf hash d t →
       IsSealed hash d t (replaced 0 page xs)
   sealed_at xs e t of =
       let have = pages_told xs e in
-      let draft : Drafted (by One hash) (book_in d.pages xs) d.free d.root t =
-      subst (λ o. Drafted (by One hash) o d.free d.root t) (ap (option_and_then (book_in d.pages)) e) of.drafted in
+      let draft : Drafted of_scheme (book_in of_form d.pages xs) d.free d.root t =
+      subst (λ o. Drafted of_scheme o d.free d.root t) (ap (option_and_then (book_in of_form d.pages)) e) of.drafted in
       record {
-        map = sealed_map hash d.pages d.free d.root d.count d.batch t xs page have draft of.well of.counted low is size;
-        size = sealed_size hash d.pages d.free d.root d.count d.batch t xs page have draft of.well of.counted low is
-            size;
+        map = sealed_map d.layout fits hash d.pages d.free d.root d.count d.batch t xs page have draft of.well
+            of.counted
+            low is size;
+        size = sealed_size d.layout fits hash d.pages d.free d.root d.count d.batch t xs page have draft of.well
+            of.counted
+            low is size;
       }
 
   -- a file that is not told has no draft on it
   none_told : (t : Tree) → DraftOf hash d t → told_bytes d.shelf.files d.name ≡ None → ⊥
   none_told t of e =
       let no : None ≡ Some of.drafted.book =
-      sym (ap (option_and_then (book_in d.pages)) e) ∙ of.drafted.is in
+      sym (ap (option_and_then (book_in of_form d.pages)) e) ∙ of.drafted.is in
       absurd cc
 
   sealed_any : (o : Option (List ℕ)) → told_bytes d.shelf.files d.name ≡ o → (bytes : List ℕ) →
@@ -309,7 +346,8 @@ module _ (hash : List ℕ → List ℕ) (d : Drawn) (page : List ℕ) (low : d.b
       subst (IsSealed hash d t) (sym (held xs e)) (sealed_at xs e t of)
 
   pub seals : (digest : List ℕ) (after : Shelved) → IsChanged (overwritten d.name 0) page d.shelf.files after.files →
-      after.faults ≡ d.shelf.faults → digest ≡ hash (root_preimage One d.batch d.count (root_entry d.root)) →
+      after.faults ≡ d.shelf.faults →
+      digest ≡ hash (root_preimage d.layout.version d.batch d.count (root_entry d.root)) →
       Seals hash d digest after
   seals digest after put quiet said =
       let f = first_put d.shelf.files after.files d.name page are.there put in
@@ -318,7 +356,8 @@ module _ (hash : List ℕ → List ℕ) (d : Drawn) (page : List ℕ) (low : d.b
         files = f.files;
         map = λ t of. sealed_any (told_bytes d.shelf.files d.name) refl f.bytes f.held t of;
         digest_is = λ t of. said
-            ∙ root_said hash d.root of.drafted.placed t d.count d.batch of.drafted.root_is of.drafted.tree of.counted;
+            ∙ root_said of_scheme d.root of.drafted.placed t d.count d.batch of.drafted.root_is of.drafted.tree
+            of.counted;
         quiet = quiet;
       }
 
@@ -327,12 +366,13 @@ module _ (hash : List ℕ → List ℕ) (d : Drawn) (page : List ℕ) (low : d.b
       ((xs : List ℕ) → told_bytes d.shelf.files d.name ≡ Some xs → bytes ≡ replaced 0 front xs) →
       (told_bytes d.shelf.files d.name ≡ None → bytes ≡ []) → MayBeSealed hash d bytes
   may_be front rest whole None e bytes held none =
-      inl (subst (IsUnsealed hash) (sym (none e)) (unsealed_none hash))
-  may_be front rest whole (Some xs) e bytes held none = elim (cases_lt (length front) page_size) [
+      inl (subst (IsUnsealed hash) (sym (none e)) (unsealed_none d.layout sized hash))
+  may_be front rest whole (Some xs) e bytes held none = elim (cases_lt (length front) d.layout.size) [
     | inl short ↦
         inl (subst (IsUnsealed hash) (sym (held xs e))
-        (part_of hash (head_in_draft d) front rest xs (drop page_size xs)
-        (zero_front d.pages xs (pages_told xs e)) short (sym is ∙ whole)))
+        (part_of d.layout sized hash (head_in_draft d) front rest xs (drop d.layout.size xs)
+        (zero_front d.layout.size xs (sym (first_page d.layout.size xs) ∙ (pages_told xs e).blank)) short
+        (sym is ∙ whole)))
     | inr long ↦
         let all : page ≡ front = whole_front front rest whole (omega (
           arith,
@@ -372,6 +412,22 @@ module _ (hash : List ℕ → List ℕ) (d : Drawn) (page : List ℕ) (low : d.b
       untold None there e = refl
       untold (Some files) there e =
           let none : IsSome {T = List ℕ} None = subst (IsSome {T = List ℕ}) e there in absurd cc
+
+-- page 0 says how many pages there are
+pub head_pages : (h : MapHead) (pages : ℕ) → h.pages ≡ pages → head_of h ≡ record {
+  batch = h.batch;
+  count = h.count;
+  pages = pages;
+  root = option_map child_link h.root;
+  free = h.free;
+}
+head_pages h pages same = λ i. record {
+  batch = h.batch;
+  count = h.count;
+  pages = same i;
+  root = option_map child_link h.root;
+  free = h.free;
+}
 
 -- nothing was written
 pub none_written : (name : List ℕ) (page : List ℕ) (told end : Option Files) → end ≡ told →

@@ -6,16 +6,16 @@ use Rattle.std.proofs.lemmas.List.{take-append-le, drop-append-le, drop-replicat
 use Rattle.std.proofs.lemmas.List.Elements.{All-append, All-nil, All-cons}
 use Rattle.std.proofs.Math.Seq.{drop-append-add}
 use Rattle.mr_record.specs.Bytes.{AreBytes}
-use Rattle.mr_record.specs.declared.version.Version.TheVariants.{One}
 use Rattle.mr_tree.specs.declared.tree.Tree.TheOpen.{Empty, Leaf, Inner}
 use Rattle.mr_pages.specs.declared.layout.Layout.{Layout}
-use Rattle.mr_pages.specs.Page.{Node, IsNode, page_limit}
-use Rattle.mr_pages.specs.PageBytes.{page_size, first_form, first_layout, node_in, node_page, free_in, free_page}
+use Rattle.mr_pages.specs.Page.{Form, Node, IsNode, page_limit}
+use Rattle.mr_pages.specs.PageBytes.{form_of, IsLayout, node_in, node_page, free_in, free_page}
 use Rattle.mr_pages.specs.File.{page_at}
 use Rattle.mr_pages.proofs.HeadLaws.{free_again}
 use Rattle.mr_pages.proofs.PageLaws.{node_again}
 use Rattle.mr_edit.specs.Book.{Sheet, Book, node_sheet, free_sheet, longer}
 use Rattle.mr_draft.specs.Sheets.{sheet_of, book_in, zeros, HasPages, LosesPages}
+use Rattle.mr_draft.proofs.Sizes.{no_pages, pages_most, pages_next, pages_some, pages_within}
 
 -- what is neither
 abbrev pub no_sheet : Sheet
@@ -48,26 +48,28 @@ free_of_node size layout Empty is = absurd is
 free_of_node size layout (Leaf rs) is = refl
 free_of_node size layout (Inner links) is = refl
 
-sheet_of_zeros : (n : ℕ) → sheet_of (replicate n 0) ≡ no_sheet
+sheet_of_zeros : (layout : Layout) (n : ℕ) → sheet_of (form_of layout) (replicate n 0) ≡ no_sheet
 unfolding sheet_of
-sheet_of_zeros zero = λ i. record { node = node_of_none first_layout i; free = free_of_none page_size i }
-sheet_of_zeros (suc n) = λ i. record {
-  node = node_of_zero first_layout (replicate n 0) i;
-  free = free_of_zero page_size (replicate n 0) i;
+sheet_of_zeros layout zero = λ i. record { node = node_of_none layout i; free = free_of_none layout.size i }
+sheet_of_zeros layout (suc n) = λ i. record {
+  node = node_of_zero layout (replicate n 0) i;
+  free = free_of_zero layout.size (replicate n 0) i;
 }
 
-pub sheet_of_node : (n : Node) → IsNode One n → sheet_of (first_form.node_page n) ≡ node_sheet n
+pub sheet_of_node : (layout : Layout) → IsLayout layout → (n : Node) → IsNode layout.version n →
+    sheet_of (form_of layout) ((form_of layout).node_page n) ≡ node_sheet n
 unfolding sheet_of
-sheet_of_node n is = λ i. record {
-  node = node_again first_layout n (omega arith) is i;
-  free = free_of_node page_size first_layout n is i;
+sheet_of_node layout fits n is = λ i. record {
+  node = node_again layout n fits.room is i;
+  free = free_of_node layout.size layout n is i;
 }
 
-pub sheet_of_free : (next : ℕ) → next < 2 ^ 32 → sheet_of (first_form.free_page next) ≡ free_sheet next
+pub sheet_of_free : (layout : Layout) (next : ℕ) → next < 2 ^ 32 →
+    sheet_of (form_of layout) ((form_of layout).free_page next) ≡ free_sheet next
 unfolding sheet_of
-sheet_of_free next low = λ i. record {
-  node = node_of_free first_layout page_size next i;
-  free = free_again page_size next low i;
+sheet_of_free layout next low = λ i. record {
+  node = node_of_free layout layout.size next i;
+  free = free_again layout.size next low i;
 }
 
 -- ---- a piece of zeros is zeros
@@ -88,13 +90,18 @@ piece_of_zeros n k m =
     let z = take_zeros n (m - k) in
     record { count = z.count; is = ap (take n) (drop-replicate {X = ℕ} k m 0) ∙ z.is }
 
-pub sheet_in_zeros : (n k m : ℕ) → sheet_of (take n (drop k (zeros m))) ≡ no_sheet
+pub sheet_in_zeros : (layout : Layout) (n k m : ℕ) →
+    sheet_of (form_of layout) (take n (drop k (zeros m))) ≡ no_sheet
 unfolding zeros
-sheet_in_zeros n k m =
-    let z = piece_of_zeros n k m in ap sheet_of z.is ∙ sheet_of_zeros z.count
+sheet_in_zeros layout n k m =
+    let z = piece_of_zeros n k m in ap (sheet_of (form_of layout)) z.is ∙ sheet_of_zeros layout z.count
 
-pub sheet_none : sheet_of [] ≡ no_sheet
-sheet_none = sheet_of_zeros 0
+take_none : (n : ℕ) → take {A = ℕ} n [] ≡ []
+take_none zero = refl
+take_none (suc n) = refl
+
+pub sheet_none : (layout : Layout) → sheet_of (form_of layout) [] ≡ no_sheet
+sheet_none layout = sheet_of_zeros layout 0
 
 pub length_zeros : (n : ℕ) → length (zeros n) ≡ n
 unfolding zeros
@@ -110,106 +117,117 @@ bytes_zeros n = replicated n
 
 -- ---- pages behind the end
 
-module _ (held : List ℕ) (pages : ℕ) where
+module _ (layout : Layout) (held : List ℕ) (pages : ℕ) where
+  abbrev form : Form
+  form = form_of layout
+
+  abbrev size : ℕ
+  size = layout.size
+
   -- a page of the front stays
-  pub page_of_front : (more : List ℕ) (q : ℕ) → q * page_size + page_size ≤ length held →
-      page_at first_form (held ++ more) q ≡ page_at first_form held q
+  pub page_of_front : (more : List ℕ) (q : ℕ) → q * size + size ≤ length held →
+      page_at form (held ++ more) q ≡ page_at form held q
   page_of_front more q within =
-      ap (take page_size) (drop-append-le (q * page_size) held more (omega (arith, within)))
-      ∙ take-append-le page_size (drop (q * page_size) held) more
-      (omega (arith, within, length-drop (q * page_size) held))
+      ap (take size) (drop-append-le (q * size) held more (omega (arith, within)))
+      ∙ take-append-le size (drop (q * size) held) more (omega (arith, within, length-drop (q * size) held))
 
-  pub sheet_behind : length held ≡ pages * page_size → (q : ℕ) → pages ≤ q →
-      sheet_of (page_at first_form held q) ≡ no_sheet
+  pub sheet_behind : length held ≡ pages * size → (q : ℕ) → pages ≤ q →
+      sheet_of form (page_at form held q) ≡ no_sheet
   sheet_behind exact q past =
-      ap (λ xs. sheet_of (take page_size xs)) (drop_all (q * page_size) held (omega (arith, exact, past))) ∙ sheet_none
+      ap (λ xs. sheet_of form (take size xs))
+      (drop_all (q * size) held (omega (arith, exact, pages_most pages q size past)))
+      ∙ ap (sheet_of form) (take_none size) ∙ sheet_none layout
 
-  sheet_more : length held ≡ pages * page_size → (q : ℕ) → sheet_of (page_at first_form (held ++ zeros page_size) q)
-      ≡ sheet_of (page_at first_form held q)
+  sheet_more : length held ≡ pages * size → (q : ℕ) → sheet_of form (page_at form (held ++ zeros size) q)
+      ≡ sheet_of form (page_at form held q)
   sheet_more exact q = elim (cases_lt q pages) [
-    | inl within ↦ ap sheet_of (page_of_front (zeros page_size) q (omega (arith, exact, within)))
+    | inl within ↦
+        ap (sheet_of form) (page_of_front (zeros size) q (omega (arith, exact, pages_within q pages size within)))
     | inr past ↦
-        let more : ℕ = q * page_size - length held in
-        let at : q * page_size ≡ length held + more = omega (arith, exact, past) in
-        ap (λ k. sheet_of (take page_size (drop k (held ++ zeros page_size)))) at
-        ∙ ap (λ xs. sheet_of (take page_size xs)) (drop-append-add held (zeros page_size) more)
-        ∙ sheet_in_zeros page_size more page_size ∙ sym (sheet_behind exact q past)
+        let more : ℕ = q * size - length held in
+        let at : q * size ≡ length held + more = omega (arith, exact, pages_most pages q size past) in
+        ap (λ k. sheet_of form (take size (drop k (held ++ zeros size)))) at
+        ∙ ap (λ xs. sheet_of form (take size xs)) (drop-append-add held (zeros size) more)
+        ∙ sheet_in_zeros layout size more size ∙ sym (sheet_behind exact q past)
   ]
 
-  module _ (have : HasPages pages held) where
-    pub has_grown : (front : List ℕ) → AreBytes front → HasPages pages (held ++ front)
+  module _ (have : HasPages form pages held) where
+    first_within : 0 * size + size ≤ length held
+    first_within = omega (arith, have.long, no_pages size, pages_some pages size have.some)
+
+    pub has_grown : (front : List ℕ) → AreBytes front → HasPages form pages (held ++ front)
     has_grown front new = record {
       some = have.some;
       few = have.few;
       are = All-append (λ b. b < 2 ^ 8) held front have.are new;
       long = omega (arith, have.long, length-append held front);
-      blank = page_of_front front 0 (omega (arith, have.long, have.some)) ∙ have.blank;
+      blank = page_of_front front 0 first_within ∙ have.blank;
     }
 
-    pub has_more : pages < page_limit → HasPages (pages + 1) (held ++ zeros page_size)
+    pub has_more : pages < page_limit → HasPages form (pages + 1) (held ++ zeros size)
     has_more few = record {
       some = omega arith;
       few = omega (arith, few);
-      are = All-append (λ b. b < 2 ^ 8) held (zeros page_size) have.are (bytes_zeros page_size);
-      long = omega (arith, have.long, length-append held (zeros page_size), length_zeros page_size);
-      blank = page_of_front (zeros page_size) 0 (omega (arith, have.long, have.some)) ∙ have.blank;
+      are = All-append (λ b. b < 2 ^ 8) held (zeros size) have.are (bytes_zeros size);
+      long = omega (arith, have.long, length-append held (zeros size), length_zeros size, pages_next pages size);
+      blank = page_of_front (zeros size) 0 first_within ∙ have.blank;
     }
 
-  same_test : (length (held ++ zeros page_size) == (pages + 1) * page_size) ≡ (length held == pages * page_size)
-  same_test = at (length held == pages * page_size) refl
+  same_test : (length (held ++ zeros size) == (pages + 1) * size) ≡ (length held == pages * size)
+  same_test = at (length held == pages * size) refl
     where
-      at : (b : Bool) → (length held == pages * page_size) ≡ b →
-          (length (held ++ zeros page_size) == (pages + 1) * page_size) ≡ b
+      at : (b : Bool) → (length held == pages * size) ≡ b →
+          (length (held ++ zeros size) == (pages + 1) * size) ≡ b
       at true e =
-          let exact : length held ≡ pages * page_size = eqb-true (length held) (pages * page_size) e in
-          eq-eqb (length (held ++ zeros page_size)) ((pages + 1) * page_size)
-          (omega (arith, exact, length-append held (zeros page_size), length_zeros page_size))
-      at false e = ne_eqb (length (held ++ zeros page_size)) ((pages + 1) * page_size) (λ same.
-          no (sym e ∙ eq-eqb (length held) (pages * page_size)
-          (omega (arith, same, length-append held (zeros page_size), length_zeros page_size))))
+          let exact : length held ≡ pages * size = eqb-true (length held) (pages * size) e in
+          eq-eqb (length (held ++ zeros size)) ((pages + 1) * size)
+          (omega (arith, exact, length-append held (zeros size), length_zeros size, pages_next pages size))
+      at false e = ne_eqb (length (held ++ zeros size)) ((pages + 1) * size) (λ same.
+          no (sym e ∙ eq-eqb (length held) (pages * size)
+          (omega (arith, same, length-append held (zeros size), length_zeros size, pages_next pages size))))
         where
           no : false ≡ true → ⊥
           no h = cc
 
-  pub book_more : book_in (pages + 1) (held ++ zeros page_size) ≡ option_map longer (book_in pages held)
+  pub book_more : book_in form (pages + 1) (held ++ zeros size) ≡ option_map longer (book_in form pages held)
   book_more =
       ap (λ b. if b then Some (record {
         size = pages + 1;
-        sheet = λ p. sheet_of (page_at first_form (held ++ zeros page_size) p);
+        sheet = λ p. sheet_of form (page_at form (held ++ zeros size) p);
       }) else None) same_test
-      ∙ at (length held == pages * page_size) refl
+      ∙ at (length held == pages * size) refl
     where
-      at : (b : Bool) → (length held == pages * page_size) ≡ b →
+      at : (b : Bool) → (length held == pages * size) ≡ b →
           ◌≡◌ {A = Option Book}
           (if b then Some (record {
             size = pages + 1;
-            sheet = λ p. sheet_of (page_at first_form (held ++ zeros page_size) p);
+            sheet = λ p. sheet_of form (page_at form (held ++ zeros size) p);
           }) else None)
           (option_map longer (if b then Some (record {
             size = pages;
-            sheet = λ p. sheet_of (page_at first_form held p);
+            sheet = λ p. sheet_of form (page_at form held p);
           }) else None))
       at true e =
-          let exact : length held ≡ pages * page_size = eqb-true (length held) (pages * page_size) e in
+          let exact : length held ≡ pages * size = eqb-true (length held) (pages * size) e in
           λ i. Some (record { size = add-one pages i; sheet = λ q. sheet_more exact q i })
       at false e = refl
 
-  pub book_loses : (front : List ℕ) → pages * page_size ≤ length held →
-      LosesPages (book_in pages held) (book_in pages (held ++ front))
-  book_loses front long = at (length (held ++ front) == pages * page_size) refl
+  pub book_loses : (front : List ℕ) → pages * size ≤ length held →
+      LosesPages (book_in form pages held) (book_in form pages (held ++ front))
+  book_loses front long = at (length (held ++ front) == pages * size) refl
     where
       none : (xs : List ℕ) → length xs ≡ 0 → xs ≡ []
       none [] e = refl
       none (x ∷ xs) e = absurd (omega (arith, e))
 
-      at : (b : Bool) → (length (held ++ front) == pages * page_size) ≡ b →
-          LosesPages (book_in pages held) (book_in pages (held ++ front))
+      at : (b : Bool) → (length (held ++ front) == pages * size) ≡ b →
+          LosesPages (book_in form pages held) (book_in form pages (held ++ front))
       at true e =
-          let exact : length (held ++ front) ≡ pages * page_size =
-          eqb-true (length (held ++ front)) (pages * page_size) e in
+          let exact : length (held ++ front) ≡ pages * size =
+          eqb-true (length (held ++ front)) (pages * size) e in
           let empty : front ≡ [] = none front (omega (arith, exact, long, length-append held front)) in
-          inr (ap (λ xs. book_in pages (held ++ xs)) empty ∙ ap (book_in pages) (append-nil held))
+          inr (ap (λ xs. book_in form pages (held ++ xs)) empty ∙ ap (book_in form pages) (append-nil held))
       at false e = inl (ap (λ b. if b then Some (record {
         size = pages;
-        sheet = λ p. sheet_of (page_at first_form (held ++ front) p);
+        sheet = λ p. sheet_of form (page_at form (held ++ front) p);
       }) else None) e)

@@ -1,24 +1,27 @@
 -- A draft of a map: a copy of its file on whose pages changes are made, until it is sealed.
 use Rattle.std.specs.Prelude.{◌≡◌, ◌⊎◌, ℕ, ◌+◌, ◌*◌, ◌<◌, ◌≤◌, max, List, [], ◌∷◌, ◌++◌, length, drop, Option, Some, None, option_map, IfSome}
-use Rattle.mr_record.specs.declared.version.Version.TheVariants.{One}
 use Rattle.mr_outside.specs.Files.{with_file}
 use Rattle.mr_outside.specs.State.{Shelved}
 use Rattle.mr_outside.specs.Writing.{IsChanged}
+use Rattle.mr_outside.specs.declared.shelf.Shelf as shelf
 use Rattle.mr_tree.specs.Digest.{by, root}
 use Rattle.mr_tree.specs.Limits.{count_limit}
 use Rattle.mr_tree.specs.Tree.{records}
 use Rattle.mr_tree.specs.WellFormed.{WellFormed}
 use Rattle.mr_tree.specs.declared.child.Child.{Child}
+use Rattle.mr_tree.specs.declared.hash.Hashes as hashes
 use Rattle.mr_tree.specs.declared.tree.Tree.{Tree}
 use Rattle.mr_pages.specs.Law.{IsMap}
 use Rattle.mr_pages.specs.Page.{Head}
-use Rattle.mr_pages.specs.PageBytes.{page_size, first_form}
+use Rattle.mr_pages.specs.declared.layout.Layout.{Layout}
+use Rattle.mr_pages.specs.PageBytes.{form_of}
 use Rattle.mr_pages.specs.Saved.{IsUnsealed, Leaves}
-use Rattle.mr_pages.specs.Source.{told_bytes}
 use Rattle.mr_pages.specs.Walking.{child_link}
 use Rattle.mr_pages.specs.declared.head.MapHead.{MapHead}
 use Rattle.mr_pages.specs.declared.rule.MapRule.TheVariants as rule
-use Rattle.mr_store.specs.Stored.{stands_for}
+use Rattle.mr_store.specs.CachedFile.{state_of, name_of, bytes_of}
+use Rattle.mr_store.specs.Stored.{map_on}
+use Rattle.mr_store.specs.declared.cached_file.CachedFile.{CachedFile}
 use Rattle.mr_batch.specs.Applied.{IsAdmissible}
 use Rattle.mr_batch.specs.Changes.{Changes}
 use Rattle.mr_batch.specs.Directory.{Entries, IsDirectoryOf}
@@ -28,6 +31,7 @@ use Rattle.mr_edit.specs.Drafted.{Drafted}
 use Rattle.mr_edit.specs.Outcome.{IsLow}
 use Rattle.mr_draft.specs.Sheets.{book_on, zeros}
 use Rattle.mr_edit.specs.Shelves.{HasShelfCause}
+use Rattle.mr_draft.specs.declared.draft.Draft.{Draft}
 use Rattle.mr_edit.specs.declared.error.EditErr.{EditErr}
 use Rattle.mr_edit.specs.declared.error.EditErr.TheVariants as errors
 
@@ -36,6 +40,7 @@ pub record Drawn : Type 0 where
   -- the shelf, and the file on it
   pub shelf : Shelved
   pub name : List ℕ
+  pub layout : Layout
   -- how many pages the file has, and the first free one
   pub pages : ℕ
   pub free : ℕ
@@ -44,17 +49,27 @@ pub record Drawn : Type 0 where
   pub count : ℕ
   pub batch : ℕ
 
-abbrev pub drawn : Shelved → (name : List ℕ) → (pages free : ℕ) → Option Child →
+-- that of a file with these
+abbrev pub drawn : {S : Type 0} {G : shelf.Ghosts S} → CachedFile S G → (free : ℕ) → Option Child →
     (count batch : ℕ) → Drawn
-drawn shelf name pages free root count batch = record {
-  shelf = shelf;
-  name = name;
-  pages = pages;
+drawn f free root count batch = record {
+  shelf = state_of f;
+  name = name_of f;
+  layout = f.layout;
+  pages = f.pages;
   free = free;
   root = root;
   count = count;
   batch = batch;
 }
+
+module _ {S H : Type 0} {G : shelf.Ghosts S} {K : hashes.Ghosts H} where
+  abbrev pub draft_of : Draft S H G K → Drawn
+  draft_of d = drawn d.sheets.file d.free d.root d.count d.batch
+
+  -- the shelf's files, where they are told, and its counts
+  abbrev pub shelved : Draft S H G K → Shelved
+  shelved d = state_of d.sheets.file
 
 -- what page 0 is to say
 abbrev pub head_in_draft : Drawn → Head
@@ -68,7 +83,8 @@ head_in_draft d = record {
 
 -- the draft stands for this tree, which is well formed
 pub record DraftOf (hash : List ℕ → List ℕ) (d : Drawn) (t : Tree) : Type 0 where
-  pub drafted : Drafted (by One hash) (book_on d.shelf.files d.name d.pages) d.free d.root t
+  pub drafted : Drafted (by d.layout.version hash)
+      (book_on (form_of d.layout) d.shelf.files d.name d.pages) d.free d.root t
   pub well : WellFormed t
   pub counted : d.count ≡ length (records t)
 
@@ -84,13 +100,15 @@ IsOff count root e = ⊥
 
 -- ---- a map is copied
 
--- The map whose page 0 says this was copied: the draft is of its tree, where that is told, and has
--- its batch, its root, its count, its first free page and as many pages; the file that was made is
--- not sealed, and each other file is as before. There were no more reads than pages.
-pub record Copies (hash : List ℕ → List ℕ) (name : List ℕ) (h : MapHead) (before : Shelved)
-    (new : List ℕ) (d : Drawn) : Type 0 where
-  pub of_tree : IfSome (stands_for h (told_bytes before.files name)).tree (DraftOf hash d)
+-- The map in a file whose page 0 says this was copied: the draft is of its tree, where that is
+-- told, and of its version, and has its batch, its root, its count, its first free page and as many
+-- pages; the file that was made is not sealed, and each other file is as before. There were no more
+-- reads than pages.
+pub record Copies {S : Type 0} {G : shelf.Ghosts S} (hash : List ℕ → List ℕ) (old : CachedFile S G)
+    (h : MapHead) (new : List ℕ) (d : Drawn) : Type 0 where
+  pub of_tree : IfSome (map_on old h).tree (DraftOf hash d)
   pub named : d.name ≡ new
+  pub layout : d.layout ≡ old.layout
   pub at_batch : d.batch ≡ h.batch
   pub paged : d.pages ≡ h.pages
   pub root : d.root ≡ h.root
@@ -101,13 +119,13 @@ pub record Copies (hash : List ℕ → List ℕ) (name : List ℕ) (h : MapHead)
   pub bytes : List ℕ
   -- page 0 is zeros, and each other page as in the map's file, where that is told
   pub others : List ℕ
-  pub blank : bytes ≡ zeros page_size ++ others
-  pub same : IfSome (told_bytes before.files name) (λ was. others ≡ drop page_size was)
+  pub blank : bytes ≡ zeros old.layout.size ++ others
+  pub same : IfSome (bytes_of old) (λ was. others ≡ drop old.layout.size was)
   pub unsealed : IsUnsealed hash bytes
-  pub files : IsChanged (with_file new) bytes before.files d.shelf.files
-  pub quiet : d.shelf.faults ≡ before.faults
-  pub more : before.reads ≤ d.shelf.reads
-  pub few : d.shelf.reads ≤ before.reads + h.pages
+  pub files : IsChanged (with_file new) bytes (state_of old).files d.shelf.files
+  pub quiet : d.shelf.faults ≡ (state_of old).faults
+  pub more : (state_of old).reads ≤ d.shelf.reads
+  pub few : d.shelf.reads ≤ (state_of old).reads + h.pages
 
 -- It was not: the files are as before, or the one that was made is not sealed. That a file is
 -- missing comes only where none is told.
@@ -143,9 +161,11 @@ abbrev pub Applies : (List ℕ → List ℕ) → (before : Drawn) → (dir : Ent
 Applies hash before dir b after dir' =
     (t : Tree) → CanApply hash before dir b t → Applied hash before b t after dir'
 
--- Whatever was answered, the file is not sealed, and each other file is as before.
+-- Whatever was answered, the file is laid out as before and not sealed, and each other file is as
+-- before.
 pub record KeepsDraft (hash : List ℕ → List ℕ) (before after : Drawn) : Type 0 where
   pub name : after.name ≡ before.name
+  pub layout : after.layout ≡ before.layout
   pub pages : before.pages ≤ after.pages
   pub left : Leaves (IsUnsealed hash) before.name before.shelf.files after.shelf.files
   pub faults : before.shelf.faults ≤ after.shelf.faults
@@ -155,8 +175,8 @@ pub record KeepsDraft (hash : List ℕ → List ℕ) (before after : Drawn) : Ty
 
 -- the file of these bytes stands for the draft's tree at its batch, and has as many pages
 pub record IsSealed (hash : List ℕ → List ℕ) (d : Drawn) (t : Tree) (bytes : List ℕ) : Type 0 where
-  pub map : IsMap first_form hash bytes t d.batch
-  pub size : length bytes ≡ d.pages * page_size
+  pub map : IsMap (form_of d.layout) hash bytes t d.batch
+  pub size : length bytes ≡ d.pages * d.layout.size
 
 -- The file now stands for whatever tree the draft was of, and this is the map's root digest.
 pub record Seals (hash : List ℕ → List ℕ) (d : Drawn) (digest : List ℕ) (after : Shelved)
@@ -164,7 +184,7 @@ pub record Seals (hash : List ℕ → List ℕ) (d : Drawn) (digest : List ℕ) 
   pub bytes : List ℕ
   pub files : IsChanged (with_file d.name) bytes d.shelf.files after.files
   pub map : (t : Tree) → DraftOf hash d t → IsSealed hash d t bytes
-  pub digest_is : (t : Tree) → DraftOf hash d t → digest ≡ root (by One hash) t d.batch
+  pub digest_is : (t : Tree) → DraftOf hash d t → digest ≡ root (by d.layout.version hash) t d.batch
   pub quiet : after.faults ≡ d.shelf.faults
 
 -- what a seal that is refused may leave: no map yet, or all

@@ -2,10 +2,12 @@
 use Rattle.std.proofs.Common.{◌≡◌, ℕ, List, inl, inr, refl, ap, subst, ◌∙◌, arith}
 use Rattle.std.specs.Prelude.{⊤, Option, Some, None, option_map}
 use Rattle.mr_outside.specs.Files.{Files, with_file}
-use Rattle.mr_outside.specs.State.{Shelved}
+use Rattle.mr_outside.specs.declared.shelf.Shelf.{Ghosts}
 use Rattle.mr_outside.proofs.Changes.{with_file-twice}
 use Rattle.mr_pages.specs.Saved.{Leaves}
-use Rattle.mr_draft.specs.Sheets.{KeepsSheets}
+use Rattle.mr_store.specs.CachedFile.{name_of, state_of}
+use Rattle.mr_store.specs.declared.cached_file.CachedFile.{CachedFile}
+use Rattle.mr_draft.specs.Sheets.{KeepsSheets, KeepsLent}
 
 pub set_twice : (name first second : List ℕ) (told : Option Files) →
     option_map (with_file name second) (option_map (with_file name first) told)
@@ -26,22 +28,36 @@ leaves_on P Q name a b c f (inr set) (inr set') = inr (
   set'.2 ∙ ap (option_map (with_file name set'.0)) set.2 ∙ set_twice name set.0 set'.0 a,
 )
 
-pub sheets_self : (n : List ℕ) (p : ℕ) (s : Shelved) → KeepsSheets n n p p s s
-sheets_self n p s = record {
-  name = refl;
-  pages = omega arith;
-  files = inl refl;
-  faults = omega arith;
-  reads = omega arith;
-}
+module _ {S : Type 0} {G : Ghosts S} where
+  pub sheets_self : (f : CachedFile S G) → KeepsSheets f f
+  sheets_self f = record {
+    name = refl;
+    layout = refl;
+    pages = omega arith;
+    files = inl refl;
+    faults = omega arith;
+    reads = omega arith;
+  }
 
-pub sheets_on : (n n' n'' : List ℕ) (p p' p'' : ℕ) (s s' s'' : Shelved) →
-    KeepsSheets n n' p p' s s' → KeepsSheets n' n'' p' p'' s' s'' → KeepsSheets n n'' p p'' s s''
-sheets_on n n' n'' p p' p'' s s' s'' a b = record {
-  name = b.name ∙ a.name;
-  pages = omega (arith, a.pages, b.pages);
-  files = leaves_on (λ bytes. ⊤) (λ bytes. ⊤) n s.files s'.files s''.files (λ bytes h. h) a.files
-      (subst (λ m. Leaves (λ bytes. ⊤) m s'.files s''.files) a.name b.files);
-  faults = omega (arith, a.faults, b.faults);
-  reads = omega (arith, a.reads, b.reads);
-}
+  pub sheets_on : (f g h : CachedFile S G) → KeepsSheets f g → KeepsSheets g h → KeepsSheets f h
+  sheets_on f g h a b = record {
+    name = b.name ∙ a.name;
+    layout = b.layout ∙ a.layout;
+    pages = omega (arith, a.pages, b.pages);
+    files = leaves_on (λ bytes. ⊤) (λ bytes. ⊤) (name_of f) (state_of f).files (state_of g).files
+        (state_of h).files (λ bytes k. k) a.files
+        (subst (λ m. Leaves (λ bytes. ⊤) m (state_of g).files (state_of h).files) a.name b.files);
+    faults = omega (arith, a.faults, b.faults);
+    reads = omega (arith, a.reads, b.reads);
+  }
+
+  pub lent_self : (n : ℕ) (f : CachedFile S G) → KeepsLent n n f f
+  lent_self n f = record { same = refl; file = sheets_self f }
+
+  pub lent_on : (n n' n'' : ℕ) (f g h : CachedFile S G) → KeepsLent n n' f g →
+      KeepsLent n' n'' g h →
+      KeepsLent n n'' f h
+  lent_on n n' n'' f g h a b = record {
+    same = b.same ∙ a.same;
+    file = sheets_on f g h a.file b.file;
+  }

@@ -2,24 +2,27 @@
 use Rattle.std.specs.Prelude.{◌≡◌, ◌≢◌, ⊤, ◌⊎◌, ℕ, ◌+◌, ◌-◌, ◌*◌, ◌≤◌, ◌==◌, if◌then◌else◌, List, [], ◌++◌, length, take, drop, replicate, Contains, Option, Some, None, IfSome, IsSome, MatchOption}
 use Rattle.std.specs.Option.{option_and_then}
 use Rattle.mr_record.specs.Bytes.{AreBytes}
-use Rattle.mr_record.specs.declared.version.Version.TheVariants.{One}
 use Rattle.mr_outside.specs.Files.{Files, file, with_file}
 use Rattle.mr_outside.specs.State.{Shelved}
 use Rattle.mr_outside.specs.Writing.{IsChanged}
+use Rattle.mr_outside.specs.declared.shelf.Shelf.{Ghosts}
+use Rattle.mr_tree.specs.Digest.{Scheme, by}
 use Rattle.mr_tree.specs.View.{AreTold, level_of, preimage_of}
 use Rattle.mr_tree.specs.Snapshot.{HasShape}
 use Rattle.mr_tree.specs.declared.child.Child.{Child}
 use Rattle.mr_tree.specs.declared.nodes.NodesErr.{NodesErr}
 use Rattle.mr_tree.specs.declared.nodes.NodesErr.TheVariants as nodes
-use Rattle.mr_pages.specs.Page.{page_limit}
-use Rattle.mr_pages.specs.PageBytes.{page_size, first_form}
+use Rattle.mr_pages.specs.Page.{Form, page_limit}
+use Rattle.mr_pages.specs.declared.layout.Layout.{Layout}
+use Rattle.mr_pages.specs.PageBytes.{form_of, layout_by}
 use Rattle.mr_pages.specs.File.{page_at}
 use Rattle.mr_pages.specs.Saved.{Leaves}
 use Rattle.mr_pages.specs.Source.{told_bytes}
 use Rattle.mr_pages.specs.Walking.{page_node}
 use Rattle.mr_store.specs.Again.{IsGiven}
-use Rattle.mr_store.specs.Kept.{Entries, node_of}
-use Rattle.mr_store.specs.Stored.{room}
+use Rattle.mr_store.specs.CachedFile.{IsSameFile, state_of, name_of, page_form, entries_of}
+use Rattle.mr_store.specs.Kept.{Entries, node_of, room}
+use Rattle.mr_store.specs.declared.cached_file.CachedFile.{CachedFile}
 use Rattle.mr_store.specs.declared.kept.Kept.{Kept}
 use Rattle.mr_edit.specs.Book.{Sheet, Book, HasNode}
 use Rattle.mr_edit.specs.Shelves.{HasShelfCause, blamed}
@@ -29,83 +32,67 @@ use Rattle.mr_edit.specs.declared.error.EditErr.TheVariants as errors
 -- ---- the pages
 
 -- what a page of these bytes is read as
-unfoldable pub sheet_of : List ℕ → Sheet
-sheet_of page = record { node = first_form.node_in page; free = first_form.free_in page }
+unfoldable pub sheet_of : Form → List ℕ → Sheet
+sheet_of form page = record { node = form.node_in page; free = form.free_in page }
 
 -- so many pages, if the file has just these
-abbrev pub book_in : (pages : ℕ) → List ℕ → Option Book
-book_in pages bytes =
-    if length bytes == pages * page_size
-    then Some (record { size = pages; sheet = λ p. sheet_of (page_at first_form bytes p) })
+abbrev pub book_in : Form → (pages : ℕ) → List ℕ → Option Book
+book_in form pages bytes =
+    if length bytes == pages * form.size
+    then Some (record { size = pages; sheet = λ p. sheet_of form (page_at form bytes p) })
     else None
 
 -- the same of a file on a shelf, where it is told
-abbrev pub book_on : Option Files → (name : List ℕ) → (pages : ℕ) → Option Book
-book_on told name pages = option_and_then (book_in pages) (told_bytes told name)
+abbrev pub book_on : Form → Option Files → (name : List ℕ) → (pages : ℕ) → Option Book
+book_on form told name pages = option_and_then (book_in form pages) (told_bytes told name)
 
 -- so many zeros
 unfoldable pub zeros : ℕ → List ℕ
 zeros n = replicate n 0
 
 -- these bytes are so many pages at least, of which page 0 is not yet written
-pub record HasPages (pages : ℕ) (bytes : List ℕ) : Type 0 where
+pub record HasPages (form : Form) (pages : ℕ) (bytes : List ℕ) : Type 0 where
   pub some : 1 ≤ pages
   pub few : pages ≤ page_limit
   pub are : AreBytes bytes
-  pub long : pages * page_size ≤ length bytes
-  pub blank : page_at first_form bytes 0 ≡ zeros page_size
+  pub long : pages * form.size ≤ length bytes
+  pub blank : page_at form bytes 0 ≡ zeros form.size
 
 -- a file that is told is there, and has such bytes
-pub record ArePages (told : Option Files) (name : List ℕ) (pages : ℕ) : Type 0 where
+pub record ArePages (form : Form) (told : Option Files) (name : List ℕ) (pages : ℕ) : Type 0 where
   pub there : MatchOption told ⊤ (λ files. IsSome (file files name))
-  pub have : IfSome (told_bytes told name) (HasPages pages)
+  pub have : IfSome (told_bytes told name) (HasPages form pages)
 
 -- ---- the nodes that are kept
 
 -- what is kept of a page can be shown, and has its level and its digest
-pub record IsKeptAs (hash : List ℕ → List ℕ) (k : Kept) : Type 0 where
+pub record IsKeptAs (s : Scheme) (k : Kept) : Type 0 where
   pub shape : HasShape (node_of k.node)
   pub level : level_of (node_of k.node) ≡ k.level
   -- what its version may tell
-  pub told : AreTold One (node_of k.node)
-  pub digest : hash (preimage_of One (node_of k.node)) ≡ k.digest
+  pub told : AreTold s.version (node_of k.node)
+  pub digest : s.of (preimage_of s.version (node_of k.node)) ≡ k.digest
 
 -- each page that is kept holds what is kept of it
 abbrev pub AreOn : Entries → Book → Type 0
 AreOn es b = (e : ℕ × Kept) → Contains es e → HasNode b e.0 (page_node (node_of e.1.node))
 
 -- the same where the pages are told
-pub record AreKept (hash : List ℕ → List ℕ) (told : Option Book) (es : Entries) (cap : ℕ)
-    : Type 0 where
+pub record AreKept (s : Scheme) (told : Option Book) (es : Entries) (cap : ℕ) : Type 0 where
   pub cap_is : cap ≡ room
-  pub each : (e : ℕ × Kept) → Contains es e → IsKeptAs hash e.1
+  pub each : (e : ℕ × Kept) → Contains es e → IsKeptAs s e.1
   pub on : IfSome told (AreOn es)
-
--- what is known of a file under edit, whether or not it is told
-pub record IsSheets (hash : List ℕ → List ℕ) (told : Option Files) (name : List ℕ) (pages : ℕ)
-    (es : Entries) (cap : ℕ) : Type 0 where
-  pub few : pages ≤ page_limit
-  pub file_ : ArePages told name pages
-  pub kept : AreKept hash (book_on told name pages) es cap
 
 -- why a read of the child's node is refused, in a change's own words: what was read is refused just
 -- as some bytes of a page are, or the child's page is not in the file
-pub record RefusesRead (hash : List ℕ → List ℕ) (pages : ℕ) (c : Child) (e : EditErr) : Type 0
-  where
-    pub error : NodesErr
-    pub is : e ≡ blamed error
-    pub given : IsGiven hash pages c error
-        ⊎ ((error ≡ nodes.Outside c.id) × (1 ≤ c.id → pages ≤ c.id))
+pub record RefusesRead (form : Form) (hash : List ℕ → List ℕ) (pages : ℕ) (c : Child) (e : EditErr)
+    : Type 0 where
+  pub error : NodesErr
+  pub is : e ≡ blamed error
+  pub given : IsGiven form hash pages c error
+      ⊎ ((error ≡ nodes.Outside c.id) × (1 ≤ c.id → pages ≤ c.id))
 
 -- ---- what calls leave
-
--- The name, and each other file; the pages and the counts do not fall.
-pub record KeepsSheets (n n' : List ℕ) (p p' : ℕ) (s s' : Shelved) : Type 0 where
-  pub name : n' ≡ n
-  pub pages : p ≤ p'
-  pub files : Leaves (λ bytes. ⊤) n s.files s'.files
-  pub faults : s.faults ≤ s'.faults
-  pub reads : s.reads ≤ s'.reads
 
 -- each page but this one is as before, where pages are still told
 abbrev pub ChangesPage : (page : ℕ) → (before after : Option Book) → Type 0
@@ -116,11 +103,6 @@ ChangesPage page before after = IfSome after (λ b. (a : Book) × (before ≡ So
 abbrev pub LosesPages : (before after : Option Book) → Type 0
 LosesPages before after = (after ≡ None) ⊎ (after ≡ before)
 
--- nothing is kept that was not before, and of this page nothing
-pub record Forgets (page : ℕ) (before after : Entries) : Type 0 where
-  pub none_new : (e : ℕ × Kept) → Contains after e → Contains before e
-  pub gone : (e : ℕ × Kept) → Contains after e → e.0 ≢ page
-
 -- ---- pages are copied from one file to another
 
 -- a file was made, and is empty
@@ -130,45 +112,91 @@ pub record IsMade (new : List ℕ) (before after : Shelved) : Type 0 where
   pub reads : after.reads ≡ before.reads
 
 -- the other file has page 0 as zeros, and those of this one from page 1 up to this page
-pub record HasCopied (old new : List ℕ) (pages page : ℕ) (before after : Shelved) : Type 0 where
+pub record HasCopied (form : Form) (old new : List ℕ) (pages page : ℕ) (before after : Shelved)
+    : Type 0 where
   pub some : 1 ≤ page
   pub nodes : List ℕ
-  pub files : IsChanged (with_file new) (zeros page_size ++ nodes) before.files after.files
+  pub files : IsChanged (with_file new) (zeros form.size ++ nodes) before.files after.files
   pub so_far : (bytes : List ℕ) → told_bytes before.files old ≡ Some bytes →
-      length bytes ≡ pages * page_size →
-      nodes ≡ take ((page - 1) * page_size) (drop page_size bytes)
+      length bytes ≡ pages * form.size →
+      nodes ≡ take ((page - 1) * form.size) (drop form.size bytes)
   pub quiet : after.faults ≡ before.faults
   pub more : before.reads ≤ after.reads
   pub few : after.reads + 1 ≤ before.reads + page
 
 -- so far, and these bytes were read behind that
-pub record WasRead (old new : List ℕ) (pages page : ℕ) (piece : List ℕ) (before after : Shelved)
-    : Type 0 where
+pub record WasRead (form : Form) (old new : List ℕ) (pages page : ℕ) (piece : List ℕ)
+    (before after : Shelved) : Type 0 where
   pub some : 1 ≤ page
   pub nodes : List ℕ
-  pub files : IsChanged (with_file new) (zeros page_size ++ nodes) before.files after.files
+  pub files : IsChanged (with_file new) (zeros form.size ++ nodes) before.files after.files
   pub so_far : (bytes : List ℕ) → told_bytes before.files old ≡ Some bytes →
-      length bytes ≡ pages * page_size →
-      nodes ++ piece ≡ take ((page - 1) * page_size + length piece) (drop page_size bytes)
+      length bytes ≡ pages * form.size →
+      nodes ++ piece ≡ take ((page - 1) * form.size + length piece) (drop form.size bytes)
   pub quiet : after.faults ≡ before.faults
   pub more : before.reads ≤ after.reads
   pub few : after.reads ≤ before.reads + page
 
 -- a front of a page of zeros and what is behind it
-abbrev pub IsFront : (bytes : List ℕ) → Type 0
-IsFront bytes =
-    (nodes : List ℕ) × (rest : List ℕ) × (zeros page_size ++ nodes ≡ bytes ++ rest)
+abbrev pub IsFront : (size : ℕ) → (bytes : List ℕ) → Type 0
+IsFront size bytes =
+    (nodes : List ℕ) × (rest : List ℕ) × (zeros size ++ nodes ≡ bytes ++ rest)
 
 -- it was not copied; that a file is missing comes only where none is told
-pub record CopyStops (new : List ℕ) (pages : ℕ) (before after : Shelved) (e : EditErr) : Type 0
-  where
-    pub left : Leaves IsFront new before.files after.files
-    pub cause : HasShelfCause before.faults after.faults e
-    pub untold : e ≡ errors.Missing → before.files ≡ None
-    pub later : before.faults ≤ after.faults
-    pub more : before.reads ≤ after.reads
-    pub few : after.reads ≤ before.reads + pages
+pub record CopyStops (form : Form) (new : List ℕ) (pages : ℕ) (before after : Shelved) (e : EditErr)
+    : Type 0 where
+  pub left : Leaves (IsFront form.size) new before.files after.files
+  pub cause : HasShelfCause before.faults after.faults e
+  pub untold : e ≡ errors.Missing → before.files ≡ None
+  pub later : before.faults ≤ after.faults
+  pub more : before.reads ≤ after.reads
+  pub few : after.reads ≤ before.reads + pages
 
 -- a file that is told is there
 abbrev pub IsFiled : Option Files → (name : List ℕ) → Type 0
 IsFiled told name = MatchOption told ⊤ (λ files. IsSome (file files name))
+
+-- What is known of a file under edit, whether or not it is told: it is laid out as its version has
+-- it, and has so many pages.
+pub record AreSheets (hash : List ℕ → List ℕ) (layout : Layout) (told : Option Files)
+    (name : List ℕ) (pages : ℕ) (es : Entries) (cap : ℕ) : Type 0 where
+  pub sized : layout.size ≡ (layout_by layout.version).size
+  pub few : pages ≤ page_limit
+  pub file_ : ArePages (form_of layout) told name pages
+  pub kept : AreKept (by layout.version hash) (book_on (form_of layout) told name pages) es cap
+
+-- ---- the file of a draft
+
+module _ {S : Type 0} {G : Ghosts S} where
+  -- its pages, where they are told
+  abbrev pub book_of : CachedFile S G → Option Book
+  book_of f = book_on (page_form f) (state_of f).files (name_of f) f.pages
+
+  -- a file that is told is there, and has as many pages
+  abbrev pub HasAllPages : CachedFile S G → Type 0
+  HasAllPages f = ArePages (page_form f) (state_of f).files (name_of f) f.pages
+
+  -- what is known of it
+  abbrev pub IsSheets : (List ℕ → List ℕ) → CachedFile S G → Type 0
+  IsSheets hash f =
+      AreSheets hash f.layout (state_of f).files (name_of f) f.pages (entries_of f) f.cache.cap
+
+  -- What calls leave: the name, the layout, and each other file; the pages and the counts do not
+  -- fall.
+  pub record KeepsSheets (f f' : CachedFile S G) : Type 0 where
+    pub name : name_of f' ≡ name_of f
+    pub layout : f'.layout ≡ f.layout
+    pub pages : f.pages ≤ f'.pages
+    pub files : Leaves (λ bytes. ⊤) (name_of f) (state_of f).files (state_of f').files
+    pub faults : (state_of f).faults ≤ (state_of f').faults
+    pub reads : (state_of f).reads ≤ (state_of f').reads
+
+  -- the same through the reference of this name
+  pub record KeepsLent (n n' : ℕ) (f f' : CachedFile S G) : Type 0 where
+    pub same : n' ≡ n
+    pub file : KeepsSheets f f'
+
+  -- the name, the layout and how many pages there are, and all that is kept
+  pub record OnlyWrites (f f' : CachedFile S G) : Type 0 where
+    pub file : IsSameFile f f'
+    pub cache : f'.cache ≡ f.cache

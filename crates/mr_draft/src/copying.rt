@@ -2,14 +2,15 @@
 
 ghost use Rattle.std.specs.Prelude.{◌≡◌, ◌≢◌, ◌+◌, ◌-◌, ◌*◌, ◌≤◌, ◌<◌, max, min, length, IfOk, MatchResult, ℕ, List};
 ghost use Rattle.mr_outside.specs.State.{Shelved};
-ghost use Rattle.mr_pages.specs.PageBytes.{page_size};
-ghost use Rattle.mr_draft.specs.Sheets.{zeros, IsMade, WasRead, HasCopied, CopyStops, IsFiled};
+ghost use Rattle.mr_store.specs.CachedFile.{state_of, name_of, page_form};
 ghost use Rattle.mr_edit.specs.Shelves.{RefusesMade};
+ghost use Rattle.mr_draft.specs.Sheets.{zeros, IsMade, WasRead, HasCopied, CopyStops, IsFiled, OnlyWrites};
 
 use crate::pages::{clear, refusal};
 use mr_edit::EditErr;
 use mr_outside::{Shelf, ShelfErr};
-use mr_pages::{PAGE_SIZE, read_filled};
+use mr_pages::{SECOND_SIZE, read_filled};
+use mr_store::CachedFile;
 use std::alloc::{AllocError, Global};
 
 // How many pages are copied at once.
@@ -34,51 +35,62 @@ fn refusal_of_made(error: ShelfErr) -> EditErr
 }
 
 // Appends page 0 to a file that was made.
-fn append_first<S: Shelf>(shelf: &mut S, new: &str, page: &[u8]) -> Result<(), EditErr>
-    requires { page.now ≡ zeros page_size }
-    ensures { (s : Shelved) (old : List ℕ) (pages : ℕ) → IsMade new.now s (S.state shelf.old) →
-        MatchResult result (λ done. HasCopied old new.now pages 1 s (S.state shelf.new))
-        (CopyStops new.now pages s (S.state shelf.new)) }
+fn append_first<S: Shelf>(file: &mut CachedFile<S>, page: &[u8]) -> Result<(), EditErr>
+    requires { page.now ≡ zeros file.old.layout.size }
+    ensures copied { (s : Shelved) (old : List ℕ) →
+        IsMade (name_of file.old) s (state_of file.old) →
+        MatchResult result
+        (λ done. HasCopied (page_form file.old) old (name_of file.old) file.old.pages 1 s
+        (state_of file.new))
+        (CopyStops (page_form file.old) (name_of file.old) file.old.pages s
+        (state_of file.new)) }
+    ensures only { OnlyWrites file.old file.new }
 {
-    match shelf.append(new, page) {
+    match file.shelf.append(file.name.as_str(), page) {
         Ok(()) => Ok(()),
         Err(error) => Err(refusal_of_made(error)),
     }
 }
 
 // Makes a file with a page of zeros.
-fn begin<S: Shelf>(shelf: &mut S, new: &str) -> Result<(), EditErr>
-    ensures { (old : List ℕ) (pages : ℕ) → MatchResult result
-        (λ done. HasCopied old new.now pages 1 (S.state shelf.old) (S.state shelf.new))
-        (CopyStops new.now pages (S.state shelf.old) (S.state shelf.new)) }
+fn begin<S: Shelf>(file: &mut CachedFile<S>) -> Result<(), EditErr>
+    ensures copied { (old : List ℕ) → MatchResult result
+        (λ done. HasCopied (page_form file.old) old (name_of file.old) file.old.pages 1
+        (state_of file.old) (state_of file.new))
+        (CopyStops (page_form file.old) (name_of file.old) file.old.pages (state_of file.old)
+        (state_of file.new)) }
+    ensures only { OnlyWrites file.old file.new }
 {
-    let mut page = [1; PAGE_SIZE];
-    clear(&mut page);
-    match shelf.create(new) {
-        Ok(()) => append_first(shelf, new, &page),
+    let mut room = [1; SECOND_SIZE];
+    let (page, _) = room.split_at_mut(file.layout.size);
+    clear(page);
+    match file.shelf.create(file.name.as_str()) {
+        Ok(()) => append_first(file, page),
         Err(error) => Err(refusal_of_made(error)),
     }
 }
 
 // Appends so many pages that were read.
 fn append_piece<S: Shelf>(
-    shelf: &mut S,
-    new: &str,
-    pages: u32,
+    file: &mut CachedFile<S>,
     page: u32,
     count: u32,
     piece: &[u8],
 ) -> Result<(), EditErr>
-    requires size { length piece.now ≡ count * page_size }
-    requires within { page + count ≤ pages }
+    requires size { length piece.now ≡ count * file.old.layout.size }
+    requires within { page + count ≤ file.old.pages }
     requires some { 1 ≤ count }
-    ensures { (s : Shelved) (old : List ℕ) →
-        WasRead old new.now pages page piece.now s (S.state shelf.old) →
+    ensures copied { (s : Shelved) (old : List ℕ) →
+        WasRead (page_form file.old) old (name_of file.old) file.old.pages page piece.now s
+        (state_of file.old) →
         MatchResult result
-        (λ done. HasCopied old new.now pages (page + count) s (S.state shelf.new))
-        (CopyStops new.now pages s (S.state shelf.new)) }
+        (λ done. HasCopied (page_form file.old) old (name_of file.old) file.old.pages
+        (page + count) s (state_of file.new))
+        (CopyStops (page_form file.old) (name_of file.old) file.old.pages s
+        (state_of file.new)) }
+    ensures only { OnlyWrites file.old file.new }
 {
-    match shelf.append(new, piece) {
+    match file.shelf.append(file.name.as_str(), piece) {
         Ok(()) => Ok(()),
         Err(error) => Err(refusal_of_made(error)),
     }
@@ -86,26 +98,29 @@ fn append_piece<S: Shelf>(
 
 // Copies so many pages from this one on.
 fn copy_piece<S: Shelf>(
-    shelf: &mut S,
+    file: &mut CachedFile<S>,
     old: &str,
-    new: &str,
-    pages: u32,
     page: u32,
     count: u32,
     piece: &mut [u8],
 ) -> Result<(), EditErr>
-    requires differ { old.now ≢ new.now }
-    requires size { length piece.old ≡ count * page_size }
-    requires within { page + count ≤ pages }
+    requires differ { old.now ≢ name_of file.old }
+    requires size { length piece.old ≡ count * file.old.layout.size }
+    requires within { page + count ≤ file.old.pages }
     requires some { 1 ≤ count }
-    ensures { (s : Shelved) → IsFiled s.files old.now →
-        HasCopied old.now new.now pages page s (S.state shelf.old) →
+    ensures copied { (s : Shelved) → IsFiled s.files old.now →
+        HasCopied (page_form file.old) old.now (name_of file.old) file.old.pages page s
+        (state_of file.old) →
         MatchResult result
-        (λ done. HasCopied old.now new.now pages (page + count) s (S.state shelf.new))
-        (CopyStops new.now pages s (S.state shelf.new)) }
+        (λ done. HasCopied (page_form file.old) old.now (name_of file.old) file.old.pages
+        (page + count) s (state_of file.new))
+        (CopyStops (page_form file.old) (name_of file.old) file.old.pages s
+        (state_of file.new)) }
+    ensures only { OnlyWrites file.old file.new }
 {
-    match read_filled(shelf, old, page as u64 * PAGE_SIZE as u64, piece) {
-        Ok(_) => append_piece(shelf, new, pages, page, count, piece),
+    let at = page as u64 * file.layout.size as u64;
+    match read_filled(&mut file.shelf, old, at, piece) {
+        Ok(_) => append_piece(file, page, count, piece),
         Err(error) => Err(refusal(error)),
     }
 }
@@ -121,46 +136,45 @@ fn next_count(left: u32) -> u32
 }
 
 // Copies the pages from page 1 on.
-fn copy_pages<S: Shelf>(
-    shelf: &mut S,
-    old: &str,
-    new: &str,
-    pages: u32,
-    room: &mut [u8],
-) -> Result<(), EditErr>
-    requires differ { old.now ≢ new.now }
-    requires size { length room.old ≡ 16 * page_size }
-    ensures { (s : Shelved) → IsFiled s.files old.now →
-        HasCopied old.now new.now pages 1 s (S.state shelf.old) →
+fn copy_pages<S: Shelf>(file: &mut CachedFile<S>, old: &str, room: &mut [u8]) -> Result<(), EditErr>
+    requires differ { old.now ≢ name_of file.old }
+    requires size { length room.old ≡ 16 * file.old.layout.size }
+    ensures copied { (s : Shelved) → IsFiled s.files old.now →
+        HasCopied (page_form file.old) old.now (name_of file.old) file.old.pages 1 s
+        (state_of file.old) →
         MatchResult result
-        (λ done. HasCopied old.now new.now pages (max 1 pages) s (S.state shelf.new))
-        (CopyStops new.now pages s (S.state shelf.new)) }
+        (λ done. HasCopied (page_form file.old) old.now (name_of file.old) file.old.pages
+        (max 1 file.old.pages) s (state_of file.new))
+        (CopyStops (page_form file.old) (name_of file.old) file.old.pages s
+        (state_of file.new)) }
+    ensures only { OnlyWrites file.old file.new }
 {
     let mut page = 1;
-    while page < pages {
-        let count = next_count(pages - page);
-        let (piece, _) = room.split_at_mut(count as usize * PAGE_SIZE);
-        copy_piece(shelf, old, new, pages, page, count, piece)?;
+    while page < file.pages {
+        let count = next_count(file.pages - page);
+        let (piece, _) = room.split_at_mut(count as usize * file.layout.size);
+        copy_piece(file, old, page, count, piece)?;
         page += count;
     }
     Ok(())
 }
 
-// Copies a file of so many pages, all but page 0, which is zeros in the copy.
+// Makes the file of a copy of another one of as many pages, all but page 0, which is zeros in the
+// copy.
 pub(crate) fn copy_file<S: Shelf>(
     alloc: Global,
-    shelf: &mut S,
+    file: &mut CachedFile<S>,
     old: &str,
-    new: &str,
-    pages: u32,
 ) -> Result<(), EditErr>
-    requires { old.now ≢ new.now }
-    ensures { IsFiled (S.state shelf.old).files old.now → MatchResult result
-        (λ done. HasCopied old.now new.now pages (max 1 pages) (S.state shelf.old)
-        (S.state shelf.new))
-        (CopyStops new.now pages (S.state shelf.old) (S.state shelf.new)) }
+    requires { old.now ≢ name_of file.old }
+    ensures copied { IsFiled (state_of file.old).files old.now → MatchResult result
+        (λ done. HasCopied (page_form file.old) old.now (name_of file.old) file.old.pages
+        (max 1 file.old.pages) (state_of file.old) (state_of file.new))
+        (CopyStops (page_form file.old) (name_of file.old) file.old.pages (state_of file.old)
+        (state_of file.new)) }
+    ensures only { OnlyWrites file.old file.new }
 {
-    let mut room = bytes_of(alloc, PIECE as usize * PAGE_SIZE)?;
-    begin(shelf, new)?;
-    copy_pages(shelf, old, new, pages, room.as_mut_slice())
+    let mut room = bytes_of(alloc, PIECE as usize * file.layout.size)?;
+    begin(file)?;
+    copy_pages(file, old, room.as_mut_slice())
 }

@@ -1,104 +1,54 @@
 //! A draft of a map.
 
-ghost use Rattle.std.specs.Prelude.{◌≡◌, ◌≢◌, ◌+◌, ◌≤◌, ◌↔◌, [], max, All, IfOk, IfErr, OnOk, MatchResult, IsTrue};
+ghost use Rattle.std.specs.Prelude.{◌≡◌, ◌≢◌, ◌+◌, ◌≤◌, ◌↔◌, All, IfOk, IfErr, OnOk, MatchResult, IsTrue};
 ghost use Rattle.std.specs.String.{string_bytes};
-ghost use Rattle.mr_record.specs.declared.version.Version.TheVariants.{One};
+ghost use Rattle.mr_tree.specs.Digest.{by};
 ghost use Rattle.mr_tree.specs.declared.tree.Tree.{Tree};
 ghost use Rattle.mr_pages.specs.Page.{page_limit};
+ghost use Rattle.mr_store.specs.CachedFile.{state_of, scheme_of};
 ghost use Rattle.mr_edit.specs.Causes.{HasEditCause};
-ghost use Rattle.mr_edit.specs.Outcome.{IsLow};
-ghost use Rattle.mr_draft.specs.Draft.{drawn, IsTop, IsOff, Copies, CopyFails, CanApply, Applies, KeepsDraft};
+ghost use Rattle.mr_edit.specs.Changing.{CanReplay};
+ghost use Rattle.mr_edit.specs.Counted.{ReplaysWithin};
+ghost use Rattle.mr_edit.specs.Outcome.{IsLow, NeverMap};
 ghost use Rattle.mr_edit.specs.Reads.{reads_along};
-ghost use Rattle.mr_edit.specs.Replayed.{IsOfVersion};
-ghost use Rattle.mr_draft.specs.Sheets.{HasCopied, CopyStops, IsFiled, IsSheets};
+ghost use Rattle.mr_edit.specs.Replayed.{IsOfVersion, Replays};
 ghost use Rattle.mr_edit.specs.Shelves.{HasShelfCause};
-ghost use Rattle.mr_store.specs.Stored.{room};
+ghost use Rattle.mr_draft.specs.Draft.{drawn, draft_of, shelved, IsTop, IsOff, Copies, CopyFails, CanApply, Applies, KeepsDraft};
+ghost use Rattle.mr_draft.specs.Sheets.{book_of, KeepsSheets};
 
 use crate::copying::copy_file;
 use crate::sheets::Sheets;
-use lru::LruCache;
+use crate::versioned::{First, Second, StaticVersion, Versioned};
 use mr_batch::{Batch, Directory};
 use mr_edit::{Desk, EditErr, replay};
 use mr_outside::Shelf;
 use mr_pages::{MapFault, MapHead, MapRule};
-use mr_store::{Kept, Paged, empty_cache};
+use mr_record::Version;
+use mr_store::{CachedFile, Paged};
 use mr_tree::{COUNT_LIMIT, Child, Hash32, Hashes};
-use std::alloc::{AllocError, Global};
+use std::alloc::Global;
 use std::marker::PhantomData;
 
-/// A copy of a map's file on which changes are made, page by page. Its file is no map until it is
-/// sealed. After a refusal it can only be closed.
+/// A copy of a map's file on which changes are made, page by page, in the map's version. Its file
+/// is no map until it is sealed. After a refusal it can only be closed.
 pub struct Draft<S: Shelf, H: Hashes> {
     pub(crate) alloc: Global,
-    pub(crate) desk: Desk<Sheets<S, H>>,
+    pub(crate) sheets: Sheets<S, H>,
+    pub(crate) free: u32,
     pub(crate) root: Option<Child>,
     pub(crate) count: u64,
     pub(crate) batch: u64,
 }
 
-// What is made before the file is.
-#[derive(Drop)]
-struct Ready {
-    name: String,
-    cache: LruCache<u32, Kept>,
-}
-
-fn make_ready(alloc: Global, new: &str) -> Result<Ready, AllocError>
-    ensures name { IfOk result (λ r. string_bytes r.name ≡ new.now) }
-    ensures entries { IfOk result (λ r. r.cache.entries ≡ []) }
-    ensures cap { IfOk result (λ r. r.cache.cap ≡ room) }
-{
-    let cache = empty_cache(alloc)?;
-    let name = String::from_str(alloc, new)?;
-    Ok(Ready { name, cache })
-}
-
-// Copies a file of so many pages.
-fn copied<S: Shelf>(
-    alloc: Global,
-    shelf: &mut S,
-    old: &str,
-    new: &str,
-    pages: u32,
-) -> Result<Ready, EditErr>
-    requires { old.now ≢ new.now }
-    ensures name { IfOk result (λ r. string_bytes r.name ≡ new.now) }
-    ensures entries { IfOk result (λ r. r.cache.entries ≡ []) }
-    ensures cap { IfOk result (λ r. r.cache.cap ≡ room) }
-    ensures copied { IsFiled (S.state shelf.old).files old.now → MatchResult result
-        (λ done. HasCopied old.now new.now pages (max 1 pages) (S.state shelf.old)
-        (S.state shelf.new))
-        (CopyStops new.now pages (S.state shelf.old) (S.state shelf.new)) }
-{
-    let ready = make_ready(alloc, new)?;
-    copy_file(alloc, shelf, old, new, pages)?;
-    Ok(ready)
-}
-
 // The draft of a map whose page 0 says this, over the copy of its pages.
-fn over<S: Shelf, H: Hashes>(alloc: Global, shelf: S, ready: Ready, head: &MapHead) -> Draft<S, H>
-    requires { IsSheets H.of (S.state shelf).files (string_bytes ready.name) head.now.pages
-        ready.cache.entries ready.cache.cap }
-    ensures shelf { result.desk.file.shelf ≡ shelf }
-    ensures name { result.desk.file.name ≡ ready.name }
-    ensures pages { result.desk.file.pages ≡ head.now.pages }
-    ensures free { result.desk.free ≡ head.now.free }
-    ensures root { result.root ≡ head.now.root }
-    ensures count { result.count ≡ head.now.count }
-    ensures batch { result.batch ≡ head.now.batch }
+fn over<S: Shelf, H: Hashes>(alloc: Global, sheets: Sheets<S, H>, head: &MapHead) -> Draft<S, H>
+    ensures { draft_of result ≡ drawn sheets.file head.now.free head.now.root head.now.count
+        head.now.batch }
 {
-    let Ready { name, cache } = ready;
-    let file = Sheets {
-        alloc,
-        shelf,
-        name,
-        pages: head.pages,
-        cache,
-        hash: PhantomData,
-    };
     Draft {
         alloc,
-        desk: Desk::new(alloc, file, head.free),
+        sheets,
+        free: head.free,
         root: head.root,
         count: head.count,
         batch: head.batch,
@@ -112,18 +62,35 @@ pub fn copy_map<S: Shelf, H: Hash32>(
     old: Paged<S, H>,
     new: &str,
 ) -> Result<Draft<S, H>, (S, EditErr)>
-    requires { string_bytes old.name ≢ new.now }
+    requires { string_bytes old.file.name ≢ new.now }
     ensures { MatchResult result
-        (λ d. Copies H.of (string_bytes old.name) old.head (S.state old.shelf) new.now
-        (drawn (S.state d.desk.file.shelf) (string_bytes d.desk.file.name) d.desk.file.pages
-        d.desk.free d.root d.count d.batch))
-        (λ r. CopyFails H.of old.head (S.state old.shelf) new.now (S.state r.0) r.1) }
+        (λ d. Copies H.of old.file old.head new.now (draft_of d))
+        (λ r. CopyFails H.of old.head (state_of old.file) new.now (S.state r.0) r.1) }
 {
-    let (shelf, name, head) = old.into_parts();
-    let mut shelf = shelf;
-    match copied(alloc, &mut shelf, name.as_str(), new, head.pages) {
-        Ok(ready) => Ok(over::<S, H>(alloc, shelf, ready, &head)),
-        Err(error) => Err((shelf, error)),
+    let (file, head) = old.into_parts();
+    let CachedFile {
+        shelf,
+        name,
+        layout,
+        pages,
+        cache: _,
+    } = file;
+    match CachedFile::new(alloc, shelf, new, layout, pages) {
+        Err(failed) => Err((failed.value, EditErr::NoMemory)),
+        Ok(made) => {
+            let mut made = made;
+            match copy_file(alloc, &mut made, name.as_str()) {
+                Err(error) => Err((made.close(), error)),
+                Ok(()) => {
+                    let sheets = Sheets {
+                        alloc,
+                        file: made,
+                        hash: PhantomData,
+                    };
+                    Ok(over::<S, H>(alloc, sheets, &head))
+                }
+            }
+        }
     }
 }
 
@@ -159,49 +126,137 @@ fn judge_top(count: u64, root: &Option<Child>) -> Result<(), EditErr>
     Ok(())
 }
 
+// A file in this version, of which nothing was seen.
+fn desk_of<'a, S: Shelf, H: Hashes, V: StaticVersion>(
+    alloc: Global,
+    sheets: &'a mut Sheets<S, H>,
+    free: u32,
+) -> Desk<Versioned<'a, S, H, V>>
+    requires { sheets.old.file.layout.version ≡ V.version }
+    ensures same_reference { result.file.sheets.ghost_name ≡ sheets.entry.ghost_name }
+    ensures sheets { result.file.sheets.now ≡ sheets.old }
+    ensures free { result.free ≡ free }
+{
+    let lent = Versioned::<'a, S, H, V> {
+        sheets,
+        version: PhantomData,
+    };
+    Desk::new(alloc, lent, free)
+}
+
+// The file again.
+fn sheets_of<'a, S: Shelf, H: Hashes, V: StaticVersion>(
+    desk: Desk<Versioned<'a, S, H, V>>,
+) -> &'a mut Sheets<S, H>
+    ensures same_reference { result.ghost_name ≡ desk.entry.file.sheets.ghost_name }
+    ensures sheets { result.now ≡ desk.entry.file.sheets.now }
+{
+    let Versioned { sheets, version: _ } = desk.into_file();
+    sheets
+}
+
+// Makes the changes of a batch on the pages of a file in this version, from a first free page and
+// a root, and answers those that there are then.
+fn replay_in<'a, S: Shelf, H: Hashes, V: StaticVersion>(
+    alloc: Global,
+    sheets: &'a mut Sheets<S, H>,
+    free: u32,
+    root: Option<Child>,
+    dir: &mut Directory,
+    batch: &Batch,
+) -> Result<(u32, Option<Child>), EditErr>
+    requires version { sheets.old.file.layout.version ≡ V.version }
+    requires batch { All (IsOfVersion sheets.old.file.layout.version) batch.now.list }
+    ensures replays { IfOk result (λ r. Replays (by V.version H.of)
+        (book_of sheets.old.file) free root dir.old (book_of sheets.new.file) r.0 r.1 dir.new
+        batch.now) }
+    ensures kept { KeepsSheets sheets.old.file sheets.new.file }
+    ensures within { ReplaysWithin (by V.version H.of) (book_of sheets.old.file)
+        free root dir.old batch.now (state_of sheets.old.file).reads
+        (state_of sheets.new.file).reads }
+    ensures quiet { OnOk result
+        ((state_of sheets.new.file).faults ≡ (state_of sheets.old.file).faults) }
+    ensures low { IfOk result (λ r. IsLow root → IsLow r.1) }
+    ensures cause { IfErr result (HasEditCause (state_of sheets.old.file).faults
+        (state_of sheets.new.file).faults) }
+    ensures sound { IfErr result (λ e. NeverMap e (CanReplay (by V.version H.of)
+        (book_of sheets.old.file) free root dir.old batch.now)) }
+{
+    let mut desk = desk_of::<S, H, V>(alloc, sheets, free);
+    let replayed = replay::<Versioned<'a, S, H, V>>(alloc, &mut desk, root, dir, batch);
+    let free = desk.free;
+    let _sheets = sheets_of(desk);
+    match replayed {
+        Ok(root) => Ok((free, root)),
+        Err(error) => Err(error),
+    }
+}
+
+// The same in the file's version.
+fn replay_any<S: Shelf, H: Hashes>(
+    alloc: Global,
+    sheets: &mut Sheets<S, H>,
+    free: u32,
+    root: Option<Child>,
+    dir: &mut Directory,
+    batch: &Batch,
+) -> Result<(u32, Option<Child>), EditErr>
+    requires { All (IsOfVersion sheets.old.file.layout.version) batch.now.list }
+    ensures replays { IfOk result (λ r. Replays (scheme_of H.of sheets.old.file)
+        (book_of sheets.old.file) free root dir.old (book_of sheets.new.file) r.0 r.1 dir.new
+        batch.now) }
+    ensures kept { KeepsSheets sheets.old.file sheets.new.file }
+    ensures within { ReplaysWithin (scheme_of H.of sheets.old.file) (book_of sheets.old.file)
+        free root dir.old batch.now (state_of sheets.old.file).reads
+        (state_of sheets.new.file).reads }
+    ensures quiet { OnOk result
+        ((state_of sheets.new.file).faults ≡ (state_of sheets.old.file).faults) }
+    ensures low { IfOk result (λ r. IsLow root → IsLow r.1) }
+    ensures cause { IfErr result (HasEditCause (state_of sheets.old.file).faults
+        (state_of sheets.new.file).faults) }
+    ensures sound { IfErr result (λ e. NeverMap e (CanReplay (scheme_of H.of sheets.old.file)
+        (book_of sheets.old.file) free root dir.old batch.now)) }
+{
+    match sheets.file.layout.version {
+        Version::One => replay_in::<S, H, First>(alloc, sheets, free, root, dir, batch),
+        Version::Two => replay_in::<S, H, Second>(alloc, sheets, free, root, dir, batch),
+    }
+}
+
 impl<S: Shelf, H: Hashes> Draft<S, H> {
     /// Makes the changes of a batch on the pages. The directory, which is that of the map's
-    /// records, follows them. Each record that comes has layer 0, as a map of version 1 has it.
+    /// records, follows them. Each record that comes has a layer of the map's version.
     ///
     /// Where the files are told, the batch is to be one that may be applied to the map.
     pub fn apply_batch(&mut self, dir: &mut Directory, batch: &Batch) -> Result<(), EditErr>
-        requires { All (IsOfVersion One) batch.now.list }
-        ensures applies { OnOk result (Applies H.of
-            (drawn (S.state self.old.desk.file.shelf) (string_bytes self.old.desk.file.name)
-            self.old.desk.file.pages self.old.desk.free self.old.root self.old.count self.old.batch)
-            dir.old batch.now
-            (drawn (S.state self.new.desk.file.shelf) (string_bytes self.new.desk.file.name)
-            self.new.desk.file.pages self.new.desk.free self.new.root self.new.count self.new.batch)
-            dir.new) }
+        requires { All (IsOfVersion self.old.sheets.file.layout.version) batch.now.list }
+        ensures applies { OnOk result (Applies H.of (draft_of self.old) dir.old batch.now
+            (draft_of self.new) dir.new) }
         ensures batch { OnOk result (self.new.batch ≡ batch.now.number) }
         // Whether or not the files are told, a map may have so many records and this root.
         ensures top { OnOk result (IsTop self.new.count self.new.root) }
         ensures low { OnOk result (IsLow self.old.root → IsLow self.new.root) }
-        ensures few { self.new.desk.file.pages ≤ page_limit }
-        ensures kept { KeepsDraft H.of
-            (drawn (S.state self.old.desk.file.shelf) (string_bytes self.old.desk.file.name)
-            self.old.desk.file.pages self.old.desk.free self.old.root self.old.count self.old.batch)
-            (drawn (S.state self.new.desk.file.shelf) (string_bytes self.new.desk.file.name)
-            self.new.desk.file.pages self.new.desk.free self.new.root self.new.count
-            self.new.batch) }
-        ensures quiet { OnOk result ((S.state self.new.desk.file.shelf).faults
-            ≡ (S.state self.old.desk.file.shelf).faults) }
-        ensures cause { IfErr result (HasEditCause (S.state self.old.desk.file.shelf).faults
-            (S.state self.new.desk.file.shelf).faults) }
+        ensures few { self.new.sheets.file.pages ≤ page_limit }
+        ensures kept { KeepsDraft H.of (draft_of self.old) (draft_of self.new) }
+        ensures quiet { OnOk result ((shelved self.new).faults ≡ (shelved self.old).faults) }
+        ensures cause { IfErr result (HasEditCause (shelved self.old).faults
+            (shelved self.new).faults) }
         // Where the files are told, the changes read no more pages than this.
-        ensures within { (t : Tree) → CanApply H.of
-            (drawn (S.state self.old.desk.file.shelf) (string_bytes self.old.desk.file.name)
-            self.old.desk.file.pages self.old.desk.free self.old.root self.old.count self.old.batch)
-            dir.old batch.now t → (S.state self.new.desk.file.shelf).reads
-            ≤ (S.state self.old.desk.file.shelf).reads + reads_along t batch.now.list }
+        ensures within { (t : Tree) → CanApply H.of (draft_of self.old) dir.old batch.now t →
+            (shelved self.new).reads ≤ (shelved self.old).reads + reads_along t batch.now.list }
         // Where the files are told, no page is blamed.
-        ensures sound { (t : Tree) → CanApply H.of
-            (drawn (S.state self.old.desk.file.shelf) (string_bytes self.old.desk.file.name)
-            self.old.desk.file.pages self.old.desk.free self.old.root self.old.count self.old.batch)
-            dir.old batch.now t → IfErr result (HasShelfCause
-            (S.state self.old.desk.file.shelf).faults (S.state self.new.desk.file.shelf).faults) }
+        ensures sound { (t : Tree) → CanApply H.of (draft_of self.old) dir.old batch.now t →
+            IfErr result (HasShelfCause (shelved self.old).faults (shelved self.new).faults) }
     {
-        let root = replay::<Sheets<S, H>>(self.alloc, &mut self.desk, self.root, dir, batch)?;
+        let (free, root) = replay_any::<S, H>(
+            self.alloc,
+            &mut self.sheets,
+            self.free,
+            self.root,
+            dir,
+            batch,
+        )?;
+        self.free = free;
         self.root = root;
         self.count = dir.len() as u64;
         self.batch = batch.number();
@@ -210,16 +265,16 @@ impl<S: Shelf, H: Hashes> Draft<S, H> {
 
     /// The shelf, as it stands.
     pub fn close(self) -> S
-        ensures { result ≡ self.desk.file.shelf }
+        ensures { result ≡ self.sheets.file.shelf }
     {
         let Draft {
             alloc: _,
-            desk,
+            sheets,
+            free: _,
             root: _,
             count: _,
             batch: _,
         } = self;
-        let Desk { file, .. } = desk;
-        file.close()
+        sheets.into_file().close()
     }
 }

@@ -8,6 +8,7 @@ mod keeping;
 mod pages;
 mod sealing;
 mod sheets;
+mod versioned;
 
 pub use draft::{Draft, copy_map};
 pub use sheets::Sheets;

@@ -1,80 +1,83 @@
 //! A draft's file becomes a map.
 
 ghost use Rattle.std.specs.Prelude.{◌≡◌, ◌<◌, ◌≤◌, ◌^◌, length, option_map, OnOk, IfOk, IfErr, IfSome, MatchResult};
-ghost use Rattle.std.specs.String.{string_bytes};
-ghost use Rattle.mr_record.specs.declared.version.Version.TheVariants.{One};
 ghost use Rattle.mr_tree.specs.Digest.{root_preimage};
 ghost use Rattle.mr_tree.specs.View.{IsChild};
 ghost use Rattle.mr_tree.specs.Nodes.{root_entry};
 ghost use Rattle.mr_outside.specs.Files.{overwritten};
 ghost use Rattle.mr_outside.specs.Writing.{IsChanged, IsChangedPartly};
-ghost use Rattle.mr_pages.specs.PageBytes.{page_size, root_level};
+ghost use Rattle.mr_pages.specs.PageBytes.{layout_by, root_level};
 ghost use Rattle.mr_pages.specs.Walking.{child_link};
-ghost use Rattle.mr_draft.specs.Draft.{drawn, Seals, SealFails};
-ghost use Rattle.mr_draft.specs.Sheets.{ArePages, IsFiled};
+ghost use Rattle.mr_store.specs.CachedFile.{state_of, name_of};
 ghost use Rattle.mr_edit.specs.Shelves.{HasShelfCause};
+ghost use Rattle.mr_draft.specs.Draft.{drawn, draft_of, shelved, Seals, SealFails};
+ghost use Rattle.mr_draft.specs.Sheets.{HasAllPages, IsFiled, OnlyWrites};
 
 use crate::draft::Draft;
 use crate::pages::refusal;
-use mr_edit::{Desk, EditErr};
+use mr_edit::EditErr;
 use mr_outside::Shelf;
-use mr_pages::{FIRST, MapHead, PAGE_SIZE, level_of_root, write_head_page};
+use mr_pages::{MapHead, SECOND_SIZE, level_of_root, put_head};
+use mr_record::Version;
+use mr_store::CachedFile;
 use mr_tree::{Child, Hashes, Top, root_digest};
 
 // Waits until the file stands as it was written.
-fn sync<S: Shelf>(shelf: &mut S, name: &str) -> Result<(), EditErr>
-    requires { IsFiled (S.state shelf.old).files name.now }
-    ensures files { (S.state shelf.new).files ≡ (S.state shelf.old).files }
-    ensures later { (S.state shelf.old).faults ≤ (S.state shelf.new).faults }
-    ensures quiet { OnOk result ((S.state shelf.new).faults ≡ (S.state shelf.old).faults) }
-    ensures cause { IfErr result (HasShelfCause (S.state shelf.old).faults
-        (S.state shelf.new).faults) }
-    ensures reads { (S.state shelf.new).reads ≡ (S.state shelf.old).reads }
+fn sync<S: Shelf>(file: &mut CachedFile<S>) -> Result<(), EditErr>
+    requires { IsFiled (state_of file.old).files (name_of file.old) }
+    ensures files { (state_of file.new).files ≡ (state_of file.old).files }
+    ensures only { OnlyWrites file.old file.new }
+    ensures later { (state_of file.old).faults ≤ (state_of file.new).faults }
+    ensures quiet { OnOk result ((state_of file.new).faults ≡ (state_of file.old).faults) }
+    ensures cause { IfErr result (HasShelfCause (state_of file.old).faults
+        (state_of file.new).faults) }
+    ensures reads { (state_of file.new).reads ≡ (state_of file.old).reads }
 {
-    match shelf.sync(name) {
+    match file.shelf.sync(file.name.as_str()) {
         Ok(()) => Ok(()),
         Err(error) => Err(refusal(error)),
     }
 }
 
 // Writes page 0.
-fn put_first<S: Shelf>(shelf: &mut S, name: &str, pages: u32, page: &[u8]) -> Result<(), EditErr>
-    requires size { length page.now ≡ page_size }
-    requires pages { ArePages (S.state shelf.old).files name.now pages }
-    ensures filed { IsFiled (S.state shelf.new).files name.now }
-    ensures whole { OnOk result (IsChanged (overwritten name.now 0) page.now
-        (S.state shelf.old).files (S.state shelf.new).files) }
-    ensures partly { IsChangedPartly (overwritten name.now 0) page.now
-        (S.state shelf.old).files (S.state shelf.new).files }
-    ensures later { (S.state shelf.old).faults ≤ (S.state shelf.new).faults }
-    ensures quiet { OnOk result ((S.state shelf.new).faults ≡ (S.state shelf.old).faults) }
-    ensures cause { IfErr result (HasShelfCause (S.state shelf.old).faults
-        (S.state shelf.new).faults) }
-    ensures reads { (S.state shelf.new).reads ≡ (S.state shelf.old).reads }
+fn put_first<S: Shelf>(file: &mut CachedFile<S>, page: &[u8]) -> Result<(), EditErr>
+    requires size { length page.now ≡ file.old.layout.size }
+    requires pages { HasAllPages file.old }
+    ensures filed { IsFiled (state_of file.new).files (name_of file.old) }
+    ensures whole { OnOk result (IsChanged (overwritten (name_of file.old) 0) page.now
+        (state_of file.old).files (state_of file.new).files) }
+    ensures partly { IsChangedPartly (overwritten (name_of file.old) 0) page.now
+        (state_of file.old).files (state_of file.new).files }
+    ensures only { OnlyWrites file.old file.new }
+    ensures later { (state_of file.old).faults ≤ (state_of file.new).faults }
+    ensures quiet { OnOk result ((state_of file.new).faults ≡ (state_of file.old).faults) }
+    ensures cause { IfErr result (HasShelfCause (state_of file.old).faults
+        (state_of file.new).faults) }
+    ensures reads { (state_of file.new).reads ≡ (state_of file.old).reads }
 {
-    match shelf.write_at(name, 0, page) {
+    match file.shelf.write_at(file.name.as_str(), 0, page) {
         Ok(()) => Ok(()),
         Err(error) => Err(refusal(error)),
     }
 }
 
 // Writes page 0 between two syncs.
-fn write_first<S: Shelf>(shelf: &mut S, name: &str, pages: u32, page: &[u8]) -> Result<(), EditErr>
-    requires size { length page.now ≡ page_size }
-    requires pages { ArePages (S.state shelf.old).files name.now pages }
-    ensures whole { OnOk result (IsChanged (overwritten name.now 0) page.now
-        (S.state shelf.old).files (S.state shelf.new).files) }
-    ensures partly { IsChangedPartly (overwritten name.now 0) page.now
-        (S.state shelf.old).files (S.state shelf.new).files }
-    ensures later { (S.state shelf.old).faults ≤ (S.state shelf.new).faults }
-    ensures quiet { OnOk result ((S.state shelf.new).faults ≡ (S.state shelf.old).faults) }
-    ensures cause { IfErr result (HasShelfCause (S.state shelf.old).faults
-        (S.state shelf.new).faults) }
-    ensures reads { (S.state shelf.new).reads ≡ (S.state shelf.old).reads }
+fn write_first<S: Shelf>(file: &mut CachedFile<S>, page: &[u8]) -> Result<(), EditErr>
+    requires size { length page.now ≡ file.old.layout.size }
+    requires pages { HasAllPages file.old }
+    ensures whole { OnOk result (IsChanged (overwritten (name_of file.old) 0) page.now
+        (state_of file.old).files (state_of file.new).files) }
+    ensures partly { IsChangedPartly (overwritten (name_of file.old) 0) page.now
+        (state_of file.old).files (state_of file.new).files }
+    ensures later { (state_of file.old).faults ≤ (state_of file.new).faults }
+    ensures quiet { OnOk result ((state_of file.new).faults ≡ (state_of file.old).faults) }
+    ensures cause { IfErr result (HasShelfCause (state_of file.old).faults
+        (state_of file.new).faults) }
+    ensures reads { (state_of file.new).reads ≡ (state_of file.old).reads }
 {
-    sync(shelf, name)?;
-    put_first(shelf, name, pages, page)?;
-    sync(shelf, name)?;
+    sync(file)?;
+    put_first(file, page)?;
+    sync(file)?;
     Ok(())
 }
 
@@ -83,42 +86,45 @@ fn is_word(_n: u64)
     ensures { _n < 2 ^ 64 }
 {}
 
-// The root digest of the map whose page 0 says this.
-fn digest_of<H: Hashes>(head: &MapHead) -> [u8; 32]
-    ensures { result ≡ H.of (root_preimage One head.now.batch head.now.count
+// The root digest of the map of this version whose page 0 says this.
+fn digest_of<H: Hashes>(version: Version, head: &MapHead) -> [u8; 32]
+    ensures { result ≡ H.of (root_preimage version head.now.batch head.now.count
         (root_entry head.now.root)) }
 {
     let top = Top {
-        version: FIRST.version,
+        version,
         batch: head.batch,
         count: head.count,
         root: head.root,
     };
-    root_digest::<H>(top.version, top.batch, top.count, &top.root_entry())
+    root_digest::<H>(version, top.batch, top.count, &top.root_entry())
 }
 
 // Writes page 0, which says this of the map, and answers the root digest.
 fn seal_file<S: Shelf, H: Hashes>(
-    shelf: &mut S,
-    name: &str,
+    file: &mut CachedFile<S>,
     head: &MapHead,
 ) -> Result<[u8; 32], EditErr>
     requires level { head.now.level ≡ root_level (option_map child_link head.now.root) }
-    requires pages { ArePages (S.state shelf.old).files name.now head.now.pages }
+    requires sized { file.old.layout.size ≡ (layout_by file.old.layout.version).size }
+    requires count { head.now.pages ≡ file.old.pages }
+    requires pages { HasAllPages file.old }
     ensures sealed { MatchResult result
-        (λ digest. Seals H.of (drawn (S.state shelf.old) name.now head.now.pages head.now.free
-        head.now.root head.now.count head.now.batch) digest (S.state shelf.new))
-        (SealFails H.of (drawn (S.state shelf.old) name.now head.now.pages head.now.free
-        head.now.root head.now.count head.now.batch) (S.state shelf.new)) }
-    ensures digest { IfOk result (λ digest. digest ≡ H.of
-        (root_preimage One head.now.batch head.now.count (root_entry head.now.root))) }
-    ensures reads { (S.state shelf.new).reads ≡ (S.state shelf.old).reads }
+        (λ digest. Seals H.of (drawn file.old head.now.free head.now.root head.now.count
+        head.now.batch) digest (state_of file.new))
+        (SealFails H.of (drawn file.old head.now.free head.now.root head.now.count
+        head.now.batch) (state_of file.new)) }
+    ensures digest { IfOk result (λ digest. digest ≡ H.of (root_preimage file.old.layout.version
+        head.now.batch head.now.count (root_entry head.now.root))) }
+    ensures reads { (state_of file.new).reads ≡ (state_of file.old).reads }
 {
     is_word(head.batch);
-    let mut page = [0; PAGE_SIZE];
-    write_head_page(head, &mut page);
-    write_first(shelf, name, head.pages, &page)?;
-    Ok(digest_of::<H>(head))
+    let layout = file.layout;
+    let mut room = [0; SECOND_SIZE];
+    let (page, _) = room.split_at_mut(layout.size);
+    put_head(layout, head, page);
+    write_first(file, page)?;
+    Ok(digest_of::<H>(layout.version, head))
 }
 
 // What the types tell of their values.
@@ -152,39 +158,35 @@ impl<S: Shelf, H: Hashes> Draft<S, H> {
     /// Makes the file a map: syncs it, writes page 0, and syncs it again. Answers the root digest.
     pub fn seal(self) -> (S, Result<[u8; 32], EditErr>)
         ensures sealed { MatchResult result.1
-            (λ digest. Seals H.of (drawn (S.state self.desk.file.shelf)
-            (string_bytes self.desk.file.name) self.desk.file.pages self.desk.free self.root
-            self.count self.batch) digest (S.state result.0))
-            (SealFails H.of (drawn (S.state self.desk.file.shelf)
-            (string_bytes self.desk.file.name) self.desk.file.pages self.desk.free self.root
-            self.count self.batch) (S.state result.0)) }
+            (λ digest. Seals H.of (draft_of self) digest (S.state result.0))
+            (SealFails H.of (draft_of self) (S.state result.0)) }
         // Told or not, the digest is that of the draft's batch, count and root, which is a node's
         // entry.
         ensures node { IfSome self.root IsChild }
         ensures digest { IfOk result.1 (λ digest. digest ≡ H.of
-            (root_preimage One self.batch self.count (root_entry self.root))) }
-        ensures reads { (S.state result.0).reads ≡ (S.state self.desk.file.shelf).reads }
+            (root_preimage self.sheets.file.layout.version self.batch self.count
+            (root_entry self.root))) }
+        ensures reads { (S.state result.0).reads ≡ (shelved self).reads }
     {
         let Draft {
             alloc: _,
-            desk,
+            sheets,
+            free,
             root,
             count,
             batch,
         } = self;
         is_root(&root);
-        let Desk { file, free, .. } = desk;
-        let (shelf, name, pages) = file.into_parts();
+        let mut file = sheets.into_file();
         let head = MapHead {
             level: level_of_root(&root),
             batch,
             count,
-            pages,
+            pages: file.pages,
             root,
             free,
         };
-        let mut shelf = shelf;
-        let result = seal_file::<S, H>(&mut shelf, name.as_str(), &head);
-        (shelf, result)
+        let result = seal_file::<S, H>(&mut file, &head);
+        (file.close(), result)
     }
 }

@@ -1,5 +1,5 @@
 -- What the changes of a batch need to know holds of each in its turn.
-use Rattle.std.proofs.Common.{◌≡◌, ◌^◌, ◌<◌, true, false, ℕ, List, length, get_or, Option, Some, None, is_some, sym, ap, subst, ◌∙◌, arith}
+use Rattle.std.proofs.Common.{◌≡◌, ◌^◌, ◌<◌, true, false, ℕ, length, get_or, Option, Some, None, is_some, sym, ap, subst, ◌∙◌, arith}
 use Rattle.std.specs.Prelude.{nat_lt}
 use Rattle.std.proofs.lemmas.Bool.{ltb-true}
 use Rattle.mr_geom.specs.Rectangle.{Rectangle}

@@ -96,6 +96,7 @@ root_sought scheme told free c n r k =
       one_level = subst (every-Tree HasOneLevel) (sym o.is) k.rooted.one_level;
       rects = subst (λ t. HaveRect n r (records t)) (sym o.is) k.rects;
       once = subst (λ t. IsOnce n (records t)) (sym o.is) k.once;
+      few = omega (arith, k.few, ap (λ t. length (records t)) o.is);
     }
 
 -- and is found

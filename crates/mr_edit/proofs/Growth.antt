@@ -1,9 +1,11 @@
 -- An insertion over told pages has room, and what it reads is there.
 use Rattle.std.proofs.Common.{◌≡◌, ℕ, suc, ◌+◌, ◌^◌, ◌<◌, ◌≤◌, Bool, true, false, List, [], ◌∷◌, ◌++◌, length, map, take, drop, get_or, refl, sym, ap, subst, ◌∙◌, arith}
 use Rattle.std.specs.Prelude.{Option, Some, None, option_map, IfSome, IsSomeAnd}
+use Rattle.std.specs.List.{flat_map}
 use Rattle.std.specs.Option.{option_to_list}
 use Rattle.std.proofs.lemmas.List.{length-append, length-map, length-take, take-map, drop-map}
 use Rattle.std.proofs.lemmas.List.Sorted.{length_permutation}
+use Rattle.mr_record.specs.Version.{told as told_by}
 use Rattle.mr_record.specs.declared.record.Record.{Record}
 use Rattle.mr_tree.specs.Digest.{Scheme}
 use Rattle.mr_tree.specs.Tree.{records, level}
@@ -15,13 +17,14 @@ use Rattle.mr_tree.specs.declared.tree.Tree.TheOpen as node
 use Rattle.mr_tree.specs.declared.tree.Tree.TheViews.{out-Tree}
 use Rattle.mr_tree.specs.declared.tree.Tree.TheFolds.{every-Tree}
 use Rattle.mr_tree.proofs.Equations.{entry_level, level-Inner}
+use Rattle.mr_tree.proofs.Induction.{every_child}
 use Rattle.mr_split.specs.Choice.{choose}
 use Rattle.mr_grow.specs.Grow.{outline, grown, ins}
 use Rattle.mr_grow.specs.Shrink.{all_in}
-use Rattle.mr_grow.specs.Views.{IsRooted}
+use Rattle.mr_grow.specs.Views.{HasRoom, IsRooted}
 use Rattle.mr_grow.proofs.Dropping.{all_in_rooted, all_in_mixes}
 use Rattle.mr_grow.proofs.Grown.{grown-Leaf}
-use Rattle.mr_grow.proofs.Kept.{ins_mixes}
+use Rattle.mr_grow.proofs.Kept.{ins_mixes, records_below}
 use Rattle.mr_grow.proofs.Sizes.{root_shallow, has_room}
 use Rattle.mr_grow.proofs.Standing.{ins_root}
 use Rattle.mr_pages.specs.Page.{Link, page_limit}
@@ -29,7 +32,7 @@ use Rattle.mr_pages.specs.Stands.{Placed, Leaf, tree_of, pages_of, link_of, IsWr
 use Rattle.mr_pages.specs.Walking.{child_link}
 use Rattle.mr_pages.proofs.Building.{FilledAs, filled_below}
 use Rattle.mr_edit.specs.Book.{Book, HasNode, Owned}
-use Rattle.mr_edit.specs.Held.{Name, trees, pages, entries}
+use Rattle.mr_edit.specs.Held.{Name, trees, pages, entries, counted, HaveFew}
 use Rattle.mr_edit.specs.Causes.{KnowsBelow}
 use Rattle.mr_edit.specs.Outcome.{Outcome, Grows, Uses, TakesPage, CanTake, CanWrite, CanPut}
 use Rattle.mr_edit.specs.Drafted.{Drafted}
@@ -40,6 +43,7 @@ use Rattle.mr_edit.proofs.Counts.{owned_length}
 use Rattle.mr_edit.proofs.Frame.{times_first}
 use Rattle.mr_edit.proofs.Places.{same_owned, owned_within}
 use Rattle.mr_edit.proofs.Rows.{row_trees}
+use Rattle.mr_edit.proofs.Sums.{count_named, counted_named, few_at, grown_length, more_few, named_few, replaced_counted}
 use Rattle.mr_edit.proofs.Levels.{all_at}
 use Rattle.mr_edit.proofs.Entries.{opens_leaf, outlines_are}
 use Rattle.mr_edit.proofs.Descending.{tree_at, among_others, owned_up, Step, step_down, joined_trees}
@@ -106,6 +110,22 @@ module _ (scheme : Scheme) (root : Bool) (told told1 : Option Book) (free : ℕ)
       (all_at (every-Tree IsFilled) at ts (tree_of s.child) (omega (arith, s.inside, length-map s.parts tree_of))
       (filled_below root ts whole))
 
+  -- its children's trees
+  below : (k : CanGrow scheme root told free c one) (s : Goes k) →
+      tree_of k.below.placed ≡ tree.Inner (trees s.parts)
+  below k s = ap tree_of s.is ∙ ap tree.Inner (row_trees s.parts)
+
+  child_roomy : (k : CanGrow scheme root told free c one) (s : Goes k) → every-Tree HasRoom (tree_of s.child)
+  child_roomy k s =
+      let ts = trees s.parts in
+      subst (every-Tree HasRoom) (sym (tree_at s.parts at s.child s.inside s.child_is))
+      (all_at (every-Tree HasRoom) at ts (tree_of s.child) (omega (arith, s.inside, length-map s.parts tree_of))
+      (every_child HasRoom ts (subst (every-Tree HasRoom) (below k s) k.roomy)))
+
+  all_below : (k : CanGrow scheme root told free c one) (s : Goes k) →
+      length (records (tree_of k.below.placed)) ≡ length (flat_map records (trees s.parts))
+  all_below k s = ap (λ t. length (records t)) (below k s) ∙ ap length (records_below (trees s.parts))
+
   -- the record can be put into the subtree of the child that takes it
   pub child_grow : told1 ≡ told → IfSome told (λ b. HasNode b c.id (node.Inner (map child_link cs))) →
       at ≡ choose (map (λ (e : Child). e.rect) cs) one.rect → at < length cs → d ≡ get_or cs at d →
@@ -142,6 +162,14 @@ module _ (scheme : Scheme) (root : Bool) (told told1 : Option Book) (free : ℕ)
           ap all_nodes (take-map tree_of at s.parts),
           ap all_nodes (drop-map tree_of (suc at) s.parts),
         );
+        roomy = child_roomy k s;
+        few = omega (
+          arith,
+          k.few,
+          all_below k s,
+          few_at ts at (tree_of s.child) (omega (arith, s.inside, length-map s.parts tree_of))
+              (tree_at s.parts at s.child s.inside s.child_is),
+        );
       }
 
   -- and its node can be put on its page, once the record went in below it
@@ -149,7 +177,7 @@ module _ (scheme : Scheme) (root : Bool) (told told1 : Option Book) (free : ℕ)
       IfSome told (λ b. HasNode b c.id (node.Inner (map child_link cs))) →
       at ≡ choose (map (λ (e : Child). e.rect) cs) one.rect → at < length cs → d ≡ get_or cs at d →
       Grows scheme told1 free told2 free2 d one new → CanGrow scheme root told free c one →
-      CanPut told2 free2 c.id
+      CanPut told2 free2 c.id × HaveFew (take at cs ++ (new ++ drop (suc at) cs))
   inner_put told2 free2 new same reads chosen within is_d grows k =
       let b = k.below in
       let s = goes reads within is_d k in
@@ -157,26 +185,36 @@ module _ (scheme : Scheme) (root : Bool) (told told1 : Option Book) (free : ℕ)
       let r = pages (drop (suc at) s.parts) in
       let o = grows b.book b.chain s.child (c.id ∷ ((l ++ r) ++ b.others)) (same ∙ b.is) s.held b.linked s.owned in
       let Qs = take at s.parts ++ (o.parts ++ drop (suc at) s.parts) in
-      record {
-        book = o.book;
-        is = o.is;
-        chain = o.chain;
-        linked = o.linked;
-        others = pages Qs ++ b.others;
-        owned = same_owned o.book.size (c.id ∷ (pages Qs ++ (o.chain ++ b.others))) _
-            (λ q. sym (raise_counts q c.id (pages Qs) o.chain b.others))
-            (owned_up o.book.size c.id at s.parts o.parts o.chain b.others o.owned);
-        few = omega (
-          arith,
-          k.room,
-          all_grown k s,
-          ap all_nodes (joined_trees one s.parts o.parts at s.child s.inside s.child_is o.stand
-              (chosen_tree k s chosen)),
-          nodes_room (trees Qs),
-          nodes_pages Qs,
-          length-append (pages Qs) b.others,
-        );
-      }
+      let v = scheme.version in
+      let n = length (records (tree_of s.child)) in (
+        record {
+          book = o.book;
+          is = o.is;
+          chain = o.chain;
+          linked = o.linked;
+          others = pages Qs ++ b.others;
+          owned = same_owned o.book.size (c.id ∷ (pages Qs ++ (o.chain ++ b.others))) _
+              (λ q. sym (raise_counts q c.id (pages Qs) o.chain b.others))
+              (owned_up o.book.size c.id at s.parts o.parts o.chain b.others o.owned);
+          few = omega (
+            arith,
+            k.room,
+            all_grown k s,
+            ap all_nodes (joined_trees one s.parts o.parts at s.child s.inside s.child_is o.stand
+                (chosen_tree k s chosen)),
+            nodes_room (trees Qs),
+            nodes_pages Qs,
+            length-append (pages Qs) b.others,
+          );
+        },
+        more_few v (counted (take at cs ++ (new ++ drop (suc at) cs))) d.count (counted cs) (counted new)
+            (length (records (tree_of b.placed))) n (replaced_counted at cs new d within is_d)
+            (counted_named scheme b.book cs s.parts s.named ∙ ap (told_by v) (sym (all_below k s)))
+            (counted_named scheme o.book new o.parts o.named
+            ∙ ap (λ us. told_by v (length (flat_map records us))) o.stand
+            ∙ ap (told_by v) (grown_length one (tree_of s.child) (child_roomy k s)))
+            (count_named scheme d s.child s.held.said) k.few,
+      )
 
 -- ---- a page that is taken and written
 
@@ -269,6 +307,8 @@ root_grow scheme told free c one k =
         ap (λ u. all_nodes (grown one u)) r.tree,
         ap length r.others,
       );
+      roomy = subst (every-Tree HasRoom) (sym r.tree) (has_room k.tree k.rooted);
+      few = omega (arith, k.few, ap (λ u. length (records u)) r.tree);
     }
 
 -- the first record
@@ -300,7 +340,8 @@ first_low scheme b x y (P ∷ Ps) named =
 pub root_raise : (scheme : Scheme) (told told1 : Option Book) (free free1 : ℕ) (c : Child) (one : Record)
     (s : Stand) (second : Child) → s.second ≡ Some second → Grows scheme told free told1 free1 c one (entries s)
     →
-    CanInsert scheme told free (Some c) 1 → CanRaise told1 free1 s.first.level
+    CanInsert scheme told free (Some c) 1 →
+    CanRaise told1 free1 s.first.level × HaveFew (s.first ∷ second ∷ [])
 root_raise scheme told told1 free free1 c one s second some grows k =
     let d = k.draft in
     let t = k.tree in
@@ -315,26 +356,33 @@ root_raise scheme told told1 free free1 c one s second some grows k =
       arith,
       length_permutation (one ∷ records t) (records (ins one t)) (ins_mixes one t (has_room t k.rooted)),
       k.few,
-    )) in
-    record {
-      add = record {
-        book = o.book;
-        is = o.is;
-        chain = o.chain;
-        linked = o.linked;
-        others = pages o.parts ++ (0 ∷ []);
-        owned = same_owned o.book.size (pages o.parts ++ (o.chain ++ (0 ∷ []))) _
-            (λ q. move_counts q (pages o.parts) o.chain (0 ∷ [])) o.owned;
-        few = omega (
-          arith,
-          few_after one t k.rooted k.few,
-          length-append (pages o.parts) (0 ∷ []),
-          nodes_pages o.parts,
-          ap all_nodes o.stand,
-        );
-      };
-      low = omega (arith, shallow, ap level high, first_low scheme o.book s.first second o.parts o.named);
-    }
+    )) in (
+      record {
+        add = record {
+          book = o.book;
+          is = o.is;
+          chain = o.chain;
+          linked = o.linked;
+          others = pages o.parts ++ (0 ∷ []);
+          owned = same_owned o.book.size (pages o.parts ++ (o.chain ++ (0 ∷ []))) _
+              (λ q. move_counts q (pages o.parts) o.chain (0 ∷ [])) o.owned;
+          few = omega (
+            arith,
+            few_after one t k.rooted k.few,
+            length-append (pages o.parts) (0 ∷ []),
+            nodes_pages o.parts,
+            ap all_nodes o.stand,
+          );
+        };
+        low = omega (arith, shallow, ap level high, first_low scheme o.book s.first second o.parts o.named);
+      },
+      named_few scheme o.book cs o.parts o.named (omega (
+        arith,
+        k.few,
+        ap (λ us. length (flat_map records us)) o.stand,
+        grown_length one t (has_room t k.rooted),
+      )),
+    )
 
 -- ---- records one after another
 

@@ -5,6 +5,7 @@ pub mod Places
 pub mod Entries
 pub mod Levels
 pub mod Shown
+pub mod Sums
 pub mod Writes
 pub mod Taking
 pub mod Splitting

@@ -2,44 +2,33 @@
 use Rattle.std.proofs.Common.{◌≡◌, ℕ, zero, suc, ◌<◌, ◌≤◌, Bool, true, false, List, [], ◌∷◌, ◌++◌, map, refl, sym, ap, subst, ◌∙◌, arith}
 use Rattle.std.specs.Prelude.{◌==◌, ◌&&◌, ◌||◌, not, nat_lt, Option, Some, IfSome}
 use Rattle.std.proofs.lemmas.Bool.{le-ltb}
-use Rattle.mr_geom.specs.Rectangle.{union_of}
-use Rattle.mr_record.specs.declared.version.Version.TheVariants.{One}
 use Rattle.mr_tree.specs.Digest.{Scheme}
 use Rattle.mr_tree.specs.View as view
 use Rattle.mr_tree.specs.declared.entry.Entry.{Entry}
 use Rattle.mr_tree.specs.declared.child.Child.{Child}
 use Rattle.mr_tree.specs.declared.tree.Tree.TheOpen.{Empty, Leaf, Inner}
 use Rattle.mr_pages.specs.Faults.{same_rect, same_sums, size, least}
-use Rattle.mr_pages.specs.Judging.{Fills}
+use Rattle.mr_pages.specs.Judging.{Fills, fits_entry}
 use Rattle.mr_pages.specs.Page.{Link, Node, entry_of}
 use Rattle.mr_pages.specs.Stands as placed
 use Rattle.mr_pages.specs.Stands.{Placed, tree_of, trees_of, pages_of, links_of}
 use Rattle.mr_pages.specs.Walking.{child_link, page_node}
 use Rattle.mr_pages.proofs.Building.{FilledAs, leaf_filled, inner_filled, length_row}
+use Rattle.mr_pages.proofs.Fits.{rect_known, all_fit}
 use Rattle.mr_pages.proofs.Judged.{entry_same}
-use Rattle.mr_pages.proofs.Rules.{same_rect_self}
+use Rattle.mr_pages.proofs.Rules.{same_rect_self, is_same_sums}
 use Rattle.mr_edit.specs.Book.{Book, HasNode, Owned, times}
 use Rattle.mr_edit.specs.Held.{Names}
 use Rattle.mr_edit.specs.Causes.{CanRead, CanLook, KnowsBelow}
 use Rattle.mr_edit.proofs.Frame.{times-append}
 use Rattle.mr_edit.proofs.Places.{owned_within}
 use Rattle.mr_edit.proofs.Entries.{same_node, said_leaf, said_inner}
-use Rattle.mr_edit.proofs.Shown.{no_mask, no_count}
 
 both : (b : Bool) → b ≡ true → b ≡ false → ⊥
 both true p q = cc
 both false p q = cc
 
 -- ---- the rectangle
-
-rects : (cs : List Child) → map (λ (e : Entry). e.rect) (map view.entry_of cs) ≡ map (λ (c : Child). Some c.rect) cs
-rects [] = refl
-rects (c ∷ cs) = ap (λ rs. Some c.rect ∷ rs) (rects cs)
-
-rect_known : (scheme : Scheme) (n : view.Node) → (view.entry_over scheme n).rect ≡ view.rect_of n
-rect_known scheme Empty = refl
-rect_known scheme (Leaf rs) = refl
-rect_known scheme (Inner cs) = ap union_of (rects cs)
 
 -- the node on the page that an entry names
 node_of : Scheme → Placed → Node
@@ -72,36 +61,14 @@ round scheme b c P n names has =
 
 -- ---- its layers and the number of its records
 
-nothing_said : (root : Bool) (found said : Entry) → found.mask ≡ 0 → found.count ≡ 0 → said.mask ≡ 0 →
-    said.count ≡ 0 → same_sums root found said ≡ true
-nothing_said true found said a b x y = ap (λ m. (m == said.mask) && true) a ∙ ap (λ m. (0 == m) && true) x
-nothing_said false found said a b x y =
-    ap (λ m. (m == said.mask) && (found.count == said.count)) a ∙ ap (λ m. (0 == m) && (found.count == said.count)) x
-    ∙ ap (λ m. m == said.count) b ∙ ap (λ m. 0 == m) y
-
-sums : (scheme : Scheme) → scheme.version ≡ One → (root : Bool) (b : Book) (c : Child) (P : Placed) (n : view.Node)
-    (found : Entry) → Names scheme b c P → HasNode b c.id (page_node n) → view.AreTold scheme.version n →
-    found.mask ≡ 0 → found.count ≡ 0 → same_sums root found (child_link c).entry ≡ true
-sums scheme first root b c P n found names has told mask count =
+sums : (scheme : Scheme) (root : Bool) (b : Book) (c : Child) (P : Placed) (n : view.Node) → Names scheme b c P →
+    HasNode b c.id (page_node n) → same_sums root (view.entry_over scheme n) (child_link c).entry ≡ true
+sums scheme root b c P n names has =
     let is : view.entry_over scheme n ≡ view.entry_of c = entry_same scheme n
     ∙ ap (entry_of scheme) (node_there scheme b c P (page_node n) names has)
     ∙ node_said scheme c P names.said in
-    nothing_said root found (child_link c).entry mask count
-    (sym (ap (λ (e : Entry). e.mask) is) ∙ no_mask scheme first n told)
-    (sym (ap (λ (e : Entry). e.count) is) ∙ no_count scheme first n told)
-
-same_as : (root : Bool) (found e said : Entry) → e.mask ≡ found.mask → e.count ≡ found.count →
-    same_sums root found said ≡ true → same_sums root e said ≡ true
-same_as root found e said masks counts same =
-    ap (λ m. (m == said.mask) && (root || e.count == said.count)) masks
-    ∙ ap (λ k. (found.mask == said.mask) && (root || k == said.count)) counts ∙ same
-
-pub sums_shown : (scheme : Scheme) → scheme.version ≡ One → (root : Bool) (n : view.Node) (found said : Entry) →
-    view.AreTold scheme.version n → found.mask ≡ 0 → found.count ≡ 0 → same_sums root found said ≡ true →
-    same_sums root (view.entry_over scheme n) said ≡ true
-sums_shown scheme first root n found said told mask count same =
-    same_as root found (view.entry_over scheme n) said (no_mask scheme first n told ∙ sym mask)
-    (no_count scheme first n told ∙ sym count) same
+    is_same_sums root (view.entry_over scheme n) (view.entry_of c)
+    (record { mask = ap (λ (e : Entry). e.mask) is; count = λ below. ap (λ (e : Entry). e.count) is })
 
 -- ---- how full it is
 
@@ -124,27 +91,16 @@ reads_in : (told : Option Book) (b : Book) (c : Child) (n : view.Node) → told 
     IfSome told (λ x. HasNode x c.id (page_node n)) → HasNode b c.id (page_node n)
 reads_in told b c n is reads = subst (λ o. IfSome o (λ x. HasNode x c.id (page_node n))) is reads
 
-pub off_blames : (scheme : Scheme) (root : Bool) (told : Option Book) (c : Child) (n : view.Node) →
-    IfSome told (λ b. HasNode b c.id (page_node n)) → same_rect (view.rect_of n) (Some c.rect) ≡ false
-    → CanLook scheme root told c → ⊥
-off_blames scheme root told c n reads off k =
-    both (same_rect (view.rect_of n) (Some c.rect)) (round scheme k.read.book c k.read.placed n k.read.names
-    (reads_in told k.read.book c n k.read.is reads)) off
-
-pub sums_blames : (scheme : Scheme) → scheme.version ≡ One →
-    (root : Bool) (told : Option Book) (c : Child) (n : view.Node)
-    (found : Entry) → IfSome told (λ b. HasNode b c.id (page_node n)) → view.AreTold scheme.version n → found.mask ≡ 0 →
-    found.count ≡ 0 → same_sums root found (child_link c).entry ≡ false → CanLook scheme root told c → ⊥
-sums_blames scheme first root told c n found reads shown mask count off k =
-    both (same_sums root found (child_link c).entry)
-    (sums scheme first root k.read.book c k.read.placed n found k.read.names
-    (reads_in told k.read.book c n k.read.is reads) shown mask count) off
-
-pub few_blames : (scheme : Scheme) (root : Bool) (told : Option Book) (c : Child) (n : view.Node) →
-    IfSome told (λ b. HasNode b c.id (page_node n)) → Fills root n ≡ false → CanLook scheme root told c → ⊥
-few_blames scheme root told c n reads few k =
-    both (Fills root n) (fills scheme root k.read.book c k.read.placed n k.read.names k.filled
-    (reads_in told k.read.book c n k.read.is reads)) few
+pub fit_blames : (scheme : Scheme) (root : Bool) (told : Option Book) (c : Child) (n : view.Node) →
+    IfSome told (λ b. HasNode b c.id (page_node n)) → fits_entry scheme.version root c n ≡ false →
+    CanLook scheme root told c → ⊥
+fit_blames scheme root told c n reads off k =
+    let b = k.read.book in
+    let P = k.read.placed in
+    let has = reads_in told b c n k.read.is reads in
+    both (fits_entry scheme.version root c n)
+    (all_fit scheme root c n (round scheme b c P n k.read.names has) (sums scheme root b c P n k.read.names has)
+    (fills scheme root b c P n k.read.names k.filled has)) off
 
 -- ---- what is known of a subtree
 

@@ -17,7 +17,7 @@ use Rattle.mr_pages.specs.Page.{Link}
 use Rattle.mr_pages.specs.Stands.{Placed, Leaf, Inner, tree_of, pages_of, all_pages, page_of}
 use Rattle.mr_pages.specs.Walking.{child_link}
 use Rattle.mr_edit.specs.Book.{Book, HasNode, Owned, times}
-use Rattle.mr_edit.specs.Held.{Names, Name, trees, pages}
+use Rattle.mr_edit.specs.Held.{Names, Name, trees, pages, HaveFew}
 use Rattle.mr_edit.specs.Causes.{KnowsBelow}
 use Rattle.mr_edit.specs.Outcome.{CanWrite}
 use Rattle.mr_edit.specs.Removal.{Freed, FreesPage, Frees}
@@ -111,6 +111,10 @@ leave_writes scheme told free page cs k =
     let rest = pages k.parts ++ (k.chain ++ k.others) in
     subst (λ x. IsSomeAnd x (λ b. page < b.size)) (sym k.is)
     (owned_within k.book.size page (page ∷ rest) k.owned (times_first page rest))
+
+pub leave_both : (scheme : Scheme) (told : Option Book) (free page : ℕ) (cs : List Child) →
+    CanLeave scheme told free page cs → CanWrite told page × HaveFew cs
+leave_both scheme told free page cs k = (leave_writes scheme told free page cs k, k.few)
 
 pub leave_some : (scheme : Scheme) (told : Option Book) (free page : ℕ) (cs : List Child) → length cs ≡ 0 →
     CanLeave scheme told free page cs → ⊥

@@ -3,7 +3,9 @@ use Rattle.std.proofs.Common.{◌≡◌, Bool, true, false, ℕ, zero, suc, ◌<
 use Rattle.std.specs.Prelude.{if◌then◌else◌, Option, IfSome}
 use Rattle.std.specs.List.{AllByRecursion, flat_map}
 use Rattle.std.proofs.lemmas.List.{length-map, length-append}
+use Rattle.std.proofs.lemmas.List.Sorted.{length_permutation}
 use Rattle.mr_geom.specs.Rectangle.{Rectangle}
+use Rattle.mr_record.specs.Version.{told as told_by}
 use Rattle.mr_record.specs.declared.record.Record.{Record}
 use Rattle.mr_tree.specs.Digest.{Scheme}
 use Rattle.mr_tree.specs.Tree.{records, level}
@@ -17,11 +19,12 @@ use Rattle.mr_tree.proofs.Induction.{every_child, here-Inner}
 use Rattle.mr_grow.specs.Found.{has}
 use Rattle.mr_grow.specs.Shrink.{Rest, is_low, stays, shrunk}
 use Rattle.mr_grow.proofs.Dropping.{shrunk_stands}
+use Rattle.mr_grow.proofs.Shrunk.{shrunk_parted}
 use Rattle.mr_pages.specs.Stands.{Placed, tree_of, IsChain}
 use Rattle.mr_pages.specs.Walking.{child_link}
 use Rattle.mr_pages.proofs.Building.{FilledAs, filled_below}
 use Rattle.mr_edit.specs.Book.{Book, HasNode, HasFree}
-use Rattle.mr_edit.specs.Held.{Names, trees, pages}
+use Rattle.mr_edit.specs.Held.{Names, trees, pages, counted}
 use Rattle.mr_edit.specs.Causes.{KnowsBelow}
 use Rattle.mr_edit.specs.Removal.{HaveRect, IsOnce, Removes}
 use Rattle.mr_edit.specs.Removable.{CanLeave, CanTakeOut}
@@ -33,6 +36,7 @@ use Rattle.mr_edit.proofs.Leaving.{placed_there}
 use Rattle.mr_edit.proofs.Searching.{all_below}
 use Rattle.mr_edit.proofs.Once.{once_below}
 use Rattle.mr_edit.proofs.Removed.{rejoined, records_opened}
+use Rattle.mr_edit.proofs.Sums.{count_named, counted_named, few_at, less_few, replaced_counted}
 
 -- ---- a child
 
@@ -92,6 +96,12 @@ sought_below scheme root told told1 free free1 c n r at cs d same same_free read
           (all_below (λ (y : Record). y.number ≡ n → y.rect ≡ r) (trees Ps) at (tree_of x) size each);
       once = subst (λ u. IsOnce n (records u)) (sym t_is)
           (once_below n (trees Ps) at (tree_of x) size (subst (IsOnce n) (records_opened P c.id Ps st.is) t.once));
+      few = omega (
+        arith,
+        t.few,
+        ap length (records_opened P c.id Ps st.is),
+        few_at (trees Ps) at (tree_of x) size t_is,
+      );
     }
 
 -- ---- what is left
@@ -127,6 +137,25 @@ stays_filled n P levels filled there =
     stays_all (every-Tree IsFilled) (shrunk n (tree_of P))
     (λ e. (shrunk_stands n (tree_of P) (level (tree_of P))
     (record { here = refl; there = placed_there P; one_level = levels; filled = filled }) there e).filled)
+
+-- and no more records than there were
+stays_few : (n : ℕ) (t : Tree) → has n (records t) ≡ true →
+    length (flat_map records (stays (shrunk n t))) ≤ length (records t)
+stays_few n t there = at (is_low r.tree)
+  where
+    r : Rest
+    r = shrunk n t
+
+    most : length (records r.tree) ≤ length (records t)
+    most = let p = shrunk_parted n t there in omega (
+      arith,
+      length_permutation (records t) (p.one ∷ (records r.tree ++ r.aside)) p.mixes,
+      length-append (records r.tree) r.aside,
+    )
+
+    at : (b : Bool) → length (flat_map records (if b then [] else r.tree ∷ [])) ≤ length (records t)
+    at true = omega arith
+    at false = omega (arith, most, length-append (records r.tree) [])
 
 -- a node has two children at least
 two_or_more : (root : Bool) (ts : List Tree) → FilledAs root (tree.Inner ts) → 2 ≤ length ts
@@ -183,4 +212,12 @@ leave_left scheme root told told1 told2 free free1 free2 c n r at cs new before 
         length-map Ps tree_of,
         same_length (Names scheme k.book) cs Ps j.had,
       ));
+      few = less_few scheme.version (counted (take at cs ++ (new ++ drop (suc at) cs))) d.count (counted cs)
+          (counted new) (length (records (tree_of k.placed))) (length (records x))
+          (length (flat_map records (stays (shrunk n x)))) (replaced_counted at cs new d within is_d)
+          (counted_named scheme k.book cs Ps j.had
+          ∙ ap (λ us. told_by scheme.version (length us)) (sym (records_opened k.placed c.id Ps j.opened)))
+          (counted_named scheme o.book new o.parts o.named
+          ∙ ap (λ us. told_by scheme.version (length (flat_map records us))) o.stand)
+          (count_named scheme d j.child j.held.said) (stays_few n x j.there) t.few;
     }

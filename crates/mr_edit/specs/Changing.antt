@@ -1,5 +1,5 @@
 -- What the changes of a batch need to know of a draft whose pages are told, so that none is blamed.
-use Rattle.std.specs.Prelude.{◌≡◌, ℕ, true, List, Option}
+use Rattle.std.specs.Prelude.{◌≡◌, ℕ, true, Option}
 use Rattle.mr_tree.specs.Digest.{Scheme}
 use Rattle.mr_tree.specs.Tree.{records}
 use Rattle.mr_tree.specs.WellFormed.{WellFormed}

@@ -6,10 +6,11 @@ use Rattle.mr_tree.specs.Limits.{count_limit, level_limit}
 use Rattle.mr_tree.specs.Tree.{records, nodes}
 use Rattle.mr_tree.specs.declared.child.Child.{Child}
 use Rattle.mr_tree.specs.declared.tree.Tree.{Tree}
+use Rattle.mr_tree.specs.declared.tree.Tree.TheFolds.{every-Tree}
 use Rattle.mr_pages.specs.Page.{page_limit}
 use Rattle.mr_pages.specs.Stands.{tree_of, IsChain}
 use Rattle.mr_grow.specs.Grow.{grown}
-use Rattle.mr_grow.specs.Views.{IsRooted}
+use Rattle.mr_grow.specs.Views.{HasRoom, IsRooted}
 use Rattle.mr_edit.specs.Book.{Book, HasFree, Owned}
 use Rattle.mr_edit.specs.Causes.{KnowsBelow}
 use Rattle.mr_edit.specs.Drafted.{Drafted}
@@ -30,11 +31,13 @@ pub record CanRaise (told : Option Book) (free level : ℕ) : Type 0 where
   pub low : level < level_limit
 
 -- a record can be put into the subtree below an entry: with the nodes that it has afterwards, and
--- the pages of others, there are few
+-- the pages of others, there are few, and it has few records then
 pub record CanGrow (scheme : Scheme) (root : Bool) (told : Option Book) (free : ℕ)
     (c : Child) (one : Record) : Type 0 where
   pub below : KnowsBelow scheme root told free c
   pub room : sum (map nodes (grown one (tree_of below.placed))) + length below.others < page_limit
+  pub roomy : every-Tree HasRoom (tree_of below.placed)
+  pub few : length (records (tree_of below.placed)) + 1 ≤ count_limit
 
 -- so many records can be put into the map that a draft stands for
 pub record CanInsert (scheme : Scheme) (told : Option Book) (free : ℕ) (root : Option Child)

@@ -1,9 +1,10 @@
 -- What the entries of nodes stand for.
-use Rattle.std.specs.Prelude.{◌≡◌, ℕ, List, ◌∷◌, map}
+use Rattle.std.specs.Prelude.{◌≡◌, ℕ, ◌≤◌, List, ◌∷◌, map, sum}
 use Rattle.std.specs.List.{flat_map, AllZip}
 use Rattle.std.specs.Option.{option_to_list}
 use Rattle.mr_record.specs.declared.version.Version.{Version}
 use Rattle.mr_tree.specs.Digest.{Scheme}
+use Rattle.mr_tree.specs.Limits.{count_limit}
 use Rattle.mr_tree.specs.View as view
 use Rattle.mr_tree.specs.declared.child.Child.{Child}
 use Rattle.mr_tree.specs.declared.tree.Tree.{Tree}
@@ -21,6 +22,13 @@ pub record Names (scheme : Scheme) (b : Book) (c : Child) (P : Placed) : Type 0 
 -- its version may tell what is told of the node
 abbrev pub IsTold : Version → Child → Type 0
 IsTold v c = view.MayTell v c.mask c.count
+
+-- how many records entries count together, and that they are no more than a map has
+abbrev pub counted : List Child → ℕ
+counted cs = sum (map (λ (c : Child). c.count) cs)
+
+abbrev pub HaveFew : List Child → Type 0
+HaveFew cs = counted cs ≤ count_limit
 
 -- the entry is that of the node that a view shows
 abbrev pub IsEntryOf : Scheme → Child → view.Node → Type 0

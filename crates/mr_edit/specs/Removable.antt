@@ -14,7 +14,7 @@ use Rattle.mr_pages.specs.Stands.{Placed, tree_of, IsChain}
 use Rattle.mr_grow.specs.Found.{has}
 use Rattle.mr_grow.specs.Views.{IsRooted}
 use Rattle.mr_edit.specs.Book.{Book, HasFree, Owned, times}
-use Rattle.mr_edit.specs.Held.{Name, trees, pages}
+use Rattle.mr_edit.specs.Held.{Name, trees, pages, HaveFew}
 use Rattle.mr_edit.specs.Causes.{KnowsBelow}
 use Rattle.mr_edit.specs.Drafted.{Drafted}
 use Rattle.mr_edit.specs.Removal.{HaveRect, IsOnce}
@@ -33,7 +33,7 @@ pub record CanFree (scheme : Scheme) (told : Option Book) (free : ℕ) (cs : Lis
   pub head : 0 < times 0 others
   pub filled : AllByRecursion (every-Tree IsFilled) (trees parts)
 
--- the same beside a page, on which they are to be written
+-- the same beside a page, on which they are to be written: some, with few records
 pub record CanLeave (scheme : Scheme) (told : Option Book) (free page : ℕ)
     (cs : List Child) : Type 0 where
   pub book : Book
@@ -47,15 +47,17 @@ pub record CanLeave (scheme : Scheme) (told : Option Book) (free page : ℕ)
   pub head : 0 < times 0 others
   pub filled : AllByRecursion (every-Tree IsFilled) (trees parts)
   pub some : 0 < length cs
+  pub few : HaveFew cs
 
 -- a record can be searched below an entry, as a root or below it, where the number has this
--- rectangle
+-- rectangle, and there are few records
 pub record CanTakeOut (scheme : Scheme) (root : Bool) (told : Option Book) (free : ℕ)
     (c : Child) (n : ℕ) (rect : Rectangle) : Type 0 where
   pub below : KnowsBelow scheme root told free c
   pub one_level : every-Tree HasOneLevel (tree_of below.placed)
   pub rects : HaveRect n rect (records (tree_of below.placed))
   pub once : IsOnce n (records (tree_of below.placed))
+  pub few : length (records (tree_of below.placed)) ≤ count_limit
 
 -- the draft stands for a tree that has a record with the number, which has this rectangle
 pub record CanDelete (scheme : Scheme) (told : Option Book) (free : ℕ)

@@ -1,18 +1,20 @@
 //! Deletion from a map.
 
-ghost use Rattle.std.specs.Prelude.{◌≡◌, ◌+◌, ◌*◌, ◌≤◌, length, All, IfOk, IfErr, IfSome, OnOk};
+ghost use Rattle.std.specs.Prelude.{◌≡◌, ◌+◌, ◌*◌, ◌≤◌, true, length, All, IfOk, IfErr, IfSome, OnOk};
 ghost use Rattle.mr_record.specs.Record.{HasLayer};
 ghost use Rattle.mr_edit.specs.Causes.{HasEditCause};
-ghost use Rattle.mr_edit.specs.Counted.{DeletesTwice};
+ghost use Rattle.mr_edit.specs.Counted.{DeletesTwice, ReadsTwice};
 ghost use Rattle.mr_edit.specs.Held.{IsTold};
-ghost use Rattle.mr_edit.specs.Outcome.{NeverMap, IsLow};
+ghost use Rattle.mr_edit.specs.Outcome.{NeverMap, IsLow, IsOfRoot};
 ghost use Rattle.mr_edit.specs.Growing.{CanInsert};
 ghost use Rattle.mr_edit.specs.Deleted.{InsertsAll, Deletes};
 ghost use Rattle.mr_edit.specs.Reads.{insertion_reads};
-ghost use Rattle.mr_edit.specs.Removable.{CanDelete};
+ghost use Rattle.mr_edit.specs.Removal.{Searches};
+ghost use Rattle.mr_edit.specs.Removable.{CanDelete, CanTakeOut};
 
 use crate::hints::Way;
 use crate::removing::take_out;
+use crate::root::at_root;
 use crate::{Desk, EditErr, Left, PageFile, insert};
 use mr_geom::Rect;
 use mr_grow::sort_by_number;
@@ -49,6 +51,37 @@ fn put_all<F: PageFile>(
     Ok(root)
 }
 
+// Takes a record out below the root, whose page is blamed where no page of a node is.
+fn take_below<F: PageFile>(
+    alloc: Global,
+    desk: &mut Desk<F>,
+    child: &Child,
+    number: u64,
+    rect: &Rect,
+    way: &Way,
+) -> Result<Option<Left>, EditErr>
+    ensures searches { IfOk result (λ found. Searches F.scheme true (F.told desk.old.file)
+        desk.old.free (F.told desk.new.file) desk.new.free child.now number rect.now found) }
+    ensures kept { F.kept desk.old.file desk.new.file }
+    ensures twice { ReadsTwice F.scheme (F.told desk.old.file) desk.old.free child.now
+        number rect.now (F.reads desk.old.file) (F.reads desk.new.file) }
+    ensures quiet { OnOk result (F.faults desk.new.file ≡ F.faults desk.old.file) }
+    ensures low { IfOk result (λ found. IfSome found (λ l. IsLow l.entry)) }
+    ensures told { IfOk result
+        (λ found. IfSome found (λ l. IfSome l.entry (IsTold F.scheme.version))) }
+    ensures layers { IfOk result
+        (λ found. IfSome found (λ l. All (HasLayer F.scheme.version) l.aside.items)) }
+    ensures page { IfErr result (IsOfRoot child.now.id) }
+    ensures cause { IfErr result (HasEditCause (F.faults desk.old.file) (F.faults desk.new.file)) }
+    ensures sound { IfErr result (λ e. NeverMap e (CanTakeOut F.scheme true
+        (F.told desk.old.file) desk.old.free child.now number rect.now)) }
+{
+    match take_out::<F>(alloc, desk, child, number, rect, way, true) {
+        Ok(found) => Ok(found),
+        Err(error) => Err(at_root(error, child.id)),
+    }
+}
+
 // Deletes the record with a number, which has this rectangle and is looked for on this way first,
 // from a map with this root, and answers its root then.
 //
@@ -80,7 +113,7 @@ pub(crate) fn delete<F: PageFile>(
             rule: MapRule::Page,
         }));
     };
-    let found = take_out::<F>(alloc, desk, &child, number, rect, way, true)?;
+    let found = take_below::<F>(alloc, desk, &child, number, rect, way)?;
     let Some(left) = found else {
         return Err(EditErr::Map(MapFault {
             page: child.id,

@@ -9,16 +9,16 @@ ghost use Rattle.mr_pages.specs.Faults.{same_rect, same_sums};
 ghost use Rattle.mr_pages.specs.Judging.{Fills};
 ghost use Rattle.mr_pages.specs.Walking.{child_link, page_node};
 ghost use Rattle.mr_edit.specs.Book.{HasNode};
-ghost use Rattle.mr_edit.specs.Held.{IsTold};
+ghost use Rattle.mr_edit.specs.Held.{IsTold, HaveFew};
 ghost use Rattle.mr_edit.specs.Causes.{HasEditCause, CanLook};
 ghost use Rattle.mr_edit.specs.Outcome.{TakesPage, Writes, NeverMap, CanTake, CanWrite};
 ghost use Rattle.mr_tree.specs.Limits.{inner_limit, leaf_limit};
 
 use crate::hints::Hints;
 use crate::{EditErr, PageFile};
-use mr_pages::{MapFault, MapRule, has_sums, is_full, is_said};
+use mr_pages::{MapFault, MapRule, is_fit};
 use mr_record::Record;
-use mr_tree::{Child, Entry, NodeView};
+use mr_tree::{COUNT_LIMIT, Child, NodeView};
 use std::alloc::Global;
 
 /// A file and its first free page, 0 for none.
@@ -41,19 +41,17 @@ impl<F> Desk<F> {
             hints: Hints::new(alloc),
         }
     }
-}
 
-// What is to be said of a node of version 1: no mask and no count.
-fn said_as_first(child: &Child) -> Entry
-    ensures mask { result.mask ≡ 0 }
-    ensures count { result.count ≡ 0 }
-{
-    Entry {
-        level: child.level,
-        rect: Some(child.rect),
-        mask: 0,
-        count: 0,
-        digest: child.digest,
+    /// The file.
+    pub fn into_file(self) -> F
+        ensures { result ≡ self.file }
+    {
+        let Desk {
+            file,
+            free: _,
+            hints: _,
+        } = self;
+        file
     }
 }
 
@@ -83,19 +81,7 @@ pub(crate) fn look<F: PageFile>(
         (CanLook F.scheme root (F.told file.old) child.now)) }
 {
     file.read(child, into)?;
-    if !is_said(into.rect(), child.rect) {
-        return Err(EditErr::Map(MapFault {
-            page: child.id,
-            rule: MapRule::Page,
-        }));
-    }
-    if !has_sums(&said_as_first(child), child, root) {
-        return Err(EditErr::Map(MapFault {
-            page: child.id,
-            rule: MapRule::Page,
-        }));
-    }
-    if !is_full(into, root) {
+    if !is_fit(file.version(), into, child, root) {
         return Err(EditErr::Map(MapFault {
             page: child.id,
             rule: MapRule::Page,
@@ -152,7 +138,8 @@ pub(crate) fn write_leaf<F: PageFile>(
     Ok(child)
 }
 
-// Writes an inner node of this level on a page.
+// Writes an inner node of this level on a page. Where the file is not told, its entry may come to
+// count more records than a map has: page 0 is blamed, since what writes a node knows no root.
 pub(crate) fn write_inner<F: PageFile>(
     desk: &mut Desk<F>,
     page: u32,
@@ -170,7 +157,8 @@ pub(crate) fn write_inner<F: PageFile>(
         (Inner (map child_link children.now)) c) }
     ensures level { IfOk result (λ c. c.level ≡ level) }
     ensures told { IfOk result (IsTold F.scheme.version) }
-    ensures sound { IfErr result (λ e. NeverMap e (CanWrite (F.told desk.old.file) page)) }
+    ensures sound { IfErr result (λ e. NeverMap e
+        (CanWrite (F.told desk.old.file) page × HaveFew children.now)) }
     ensures kept { F.kept desk.old.file desk.new.file }
     ensures reads { F.reads desk.new.file ≡ F.reads desk.old.file }
     ensures quiet { OnOk result (F.faults desk.new.file ≡ F.faults desk.old.file) }
@@ -178,6 +166,12 @@ pub(crate) fn write_inner<F: PageFile>(
 {
     let mut view = NodeView::new();
     view.set_inner(level, children);
+    if view.count(desk.file.version()) > COUNT_LIMIT {
+        return Err(EditErr::Map(MapFault {
+            page: 0,
+            rule: MapRule::Page,
+        }));
+    }
     let child = desk.file.entry(&view, page);
     desk.hints.saw_children(page, children)?;
     desk.file.write(&child, &view)?;

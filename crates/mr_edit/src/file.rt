@@ -1,7 +1,6 @@
 //! The pages of a map file under edit.
 
 ghost use Rattle.std.specs.Prelude.{◌≡◌, ℕ, ◌+◌, ◌<◌, ◌≤◌, Option, option_map, All, IfSome, IsSomeAnd, IfOk, IfErr, OnOk};
-ghost use Rattle.mr_record.specs.declared.version.Version.TheVariants.{One};
 ghost use Rattle.mr_tree.specs.Digest.{Scheme};
 ghost use Rattle.mr_tree.specs.View.{size, level_of, children_in, AreTold, HasCount};
 ghost use Rattle.mr_pages.specs.Page.{page_limit, entry_of};
@@ -12,15 +11,13 @@ ghost use Rattle.mr_edit.specs.Causes.{HasEditCause, CanRead};
 ghost use Rattle.mr_edit.specs.Outcome.{NeverMap, CanWrite};
 
 use crate::EditErr;
+use mr_record::Version;
 use mr_tree::{Child, NodeView};
 
 /// A file whose page 0 is left alone, page by page, behind a cache.
 pub trait PageFile {
     // the hash function and the version of the map that it is of
     ghost scheme: { Scheme };
-
-    // which is the first one so far
-    ghost first: { scheme.version ≡ One };
 
     // its pages, where they are told
     ghost told: { Self → Option Book };
@@ -33,6 +30,10 @@ pub trait PageFile {
 
     // what a call leaves of the object, from what it was before it
     ghost kept: { Self → Self → Type 0 };
+
+    /// The version of the map that it is of.
+    fn version(&self) -> Version
+        ensures { result ≡ scheme.version };
 
     /// What is said of the node that a view shows, where it stands on this page.
     fn entry(&self, view: &NodeView, page: u32) -> Child

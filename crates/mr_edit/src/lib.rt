@@ -1,4 +1,4 @@
-//! Changes of a map of version 1 on the pages of its file (Guttman 1984): insertion and deletion as
+//! Changes of a map on the pages of its file (Guttman 1984): insertion and deletion as
 //! recursions on the level below an entry, and the changes of a batch in their order.
 //!
 //! A change writes the nodes of one path, of what it splits and of what it sets aside, and reads

@@ -5,7 +5,7 @@ ghost use Rattle.std.specs.List.{AllByRecursion};
 ghost use Rattle.mr_record.specs.Record.{HasLayer};
 ghost use Rattle.mr_tree.specs.Limits.{level_limit, inner_limit};
 ghost use Rattle.mr_tree.specs.declared.child.Child as child_types;
-ghost use Rattle.mr_edit.specs.Held.{entries, IsTold};
+ghost use Rattle.mr_edit.specs.Held.{entries, IsTold, HaveFew};
 ghost use Rattle.mr_edit.specs.Causes.{HasEditCause};
 ghost use Rattle.mr_edit.specs.Growing.{CanGrow};
 ghost use Rattle.mr_edit.specs.Outcome.{Grows, PutsLeaf, PutsInner, Halves, NeverMap, CanPut};
@@ -123,7 +123,7 @@ fn put_inner<F: PageFile>(
         (λ s. AllByRecursion (λ (c : child_types.Child). c.level ≡ level) (entries s)) }
     ensures told { IfOk result (λ s. AllByRecursion (IsTold F.scheme.version) (entries s)) }
     ensures sound { IfErr result (λ e. NeverMap e
-        (CanPut (F.told desk.old.file) desk.old.free page)) }
+        (CanPut (F.told desk.old.file) desk.old.free page × HaveFew children.items)) }
     ensures kept { F.kept desk.old.file desk.new.file }
     ensures reads { F.reads desk.new.file ≤ F.reads desk.old.file + 1 }
     ensures quiet { OnOk result (F.faults desk.new.file ≡ F.faults desk.old.file) }

@@ -133,7 +133,7 @@ pub fn replay<F: PageFile>(
     ensures quiet { OnOk result (F.faults desk.new.file ≡ F.faults desk.old.file) }
     // Told or not, the root is no higher than a map's may be.
     ensures low { IfOk result (λ r. IsLow root → IsLow r) }
-    // Nor does it tell more than one of version 1 may.
+    // Nor does it tell more than its version may.
     ensures told { IfOk result
         (λ r. IfSome root (IsTold F.scheme.version) → IfSome r (IsTold F.scheme.version)) }
     ensures cause { IfErr result (HasEditCause (F.faults desk.old.file) (F.faults desk.new.file)) }

@@ -1,9 +1,9 @@
 //! Insertion into a map.
 
-ghost use Rattle.std.specs.Prelude.{◌≡◌, ◌+◌, ◌≤◌, IfOk, IfErr, OnOk, Some, None};
+ghost use Rattle.std.specs.Prelude.{◌≡◌, ◌+◌, ◌≤◌, ◌∷◌, [], IfOk, IfErr, OnOk, Some, None};
 ghost use Rattle.mr_record.specs.Record.{HasLayer};
 ghost use Rattle.mr_edit.specs.Causes.{HasEditCause};
-ghost use Rattle.mr_edit.specs.Held.{IsTold};
+ghost use Rattle.mr_edit.specs.Held.{IsTold, HaveFew};
 ghost use Rattle.mr_edit.specs.Outcome.{Raises, NeverMap, IsAlike, IsLow, root_page, IsOfRoot};
 ghost use Rattle.mr_edit.specs.Drafted.{Inserts};
 ghost use Rattle.mr_edit.specs.Reads.{insertion_reads};
@@ -42,7 +42,8 @@ fn raise<F: PageFile>(desk: &mut Desk<F>, first: Child, second: Child) -> Result
     ensures raises { IfOk result (λ c. Raises F.scheme (F.told desk.old.file)
         desk.old.free (F.told desk.new.file) desk.new.free first second c) }
     ensures sound { IfErr result (λ e. NeverMap e
-        (CanRaise (F.told desk.old.file) desk.old.free first.level)) }
+        (CanRaise (F.told desk.old.file) desk.old.free first.level
+        × HaveFew (first ∷ second ∷ []))) }
     ensures kept { F.kept desk.old.file desk.new.file }
     ensures reads { F.reads desk.new.file ≤ F.reads desk.old.file + 1 }
     ensures quiet { OnOk result (F.faults desk.new.file ≡ F.faults desk.old.file) }
@@ -74,9 +75,9 @@ fn on_root(fault: MapFault, page: u32) -> MapFault
     }
 }
 
-// The same refusal. Where the file would grow past its last page this one of the root is blamed,
-// since what adds a page knows no root.
-fn at_root(error: EditErr, page: u32) -> EditErr
+// The same refusal. Where the file would grow past its last page, or a node count more records
+// than a map has, this page of the root is blamed, since what writes a page knows no root.
+pub(crate) fn at_root(error: EditErr, page: u32) -> EditErr
     ensures same { IsAlike error result }
     ensures page { IsOfRoot page result }
 {

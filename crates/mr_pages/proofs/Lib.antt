@@ -34,3 +34,4 @@ mod Written
 mod Fronts
 pub mod Imaged
 mod InPieces
+pub mod Fits

@@ -1,4 +1,6 @@
 pub mod Digests
 pub mod Reading
 pub mod Spelling
+pub mod Asking
 pub mod BundleLines
+pub mod InPlace

@@ -1,20 +1,18 @@
 -- Commands by their words: the words spell one command at most, and it is the one that is read.
-use Rattle.std.proofs.Common.{◌≡◌, ℕ, ◌≤◌, Bool, true, false, ◌&&◌, leb, get_or, List, [], length, map, Option, Some, None, refl, sym, ap, subst, ◌∙◌}
-use Rattle.std.specs.Prelude.{bytes_eq, codes}
+use Rattle.std.proofs.Common.{append-nil, ◌≡◌, ℕ, ◌≤◌, Bool, true, false, ◌&&◌, leb, get_or, List, [], ◌∷◌, length, map, Option, Some, None, refl, sym, ap, subst, ◌∙◌}
+use Rattle.std.specs.Prelude.{bytes_eq, codes, if◌then◌else◌}
+use Rattle.std.specs.Borrow.{Bor}
 use Rattle.std.specs.List.{AllByRecursion, list_all}
 use Rattle.std.proofs.lemmas.Bool.{and_parts, both_ways, leb-true}
-use Rattle.std.proofs.lemmas.Slice.Eq.{bytes_eq-Decides}
-use Rattle.mr_record.specs.declared.version.Version.TheVariants.{One, Two}
 use Rattle.mr_query.specs.declared.query.Query.{Query}
 use Rattle.mr_plan.specs.Kinds.{Reading, kinds_of, name_of, no_query, first_word, start, all_next, past_all, is_complete, GivesCommand}
-use Rattle.mr_plan.specs.Say.{say_root, say_build, say_list, say_upgrade, say_apply, say_prove, say_check, say_audit, say_serve, say_check_all, say_make, say_demo}
 use Rattle.mr_plan.specs.Spelling.{IsSpelled, AsksAs}
-use Rattle.mr_plan.specs.Words.{Word, key, file, digest, query, number, spelled, words_of, IsWord, file_names, Spells}
+use Rattle.mr_plan.specs.Words.{Word, key, file, digest, query, number, spelled, words_of, IsWord, AreApart, file_names, Spells}
 use Rattle.mr_plan.specs.declared.words.Command.{Command}
 use Rattle.mr_plan.specs.declared.words.Command.TheVariants as commands
 use Rattle.mr_plan.proofs.Reading.{AreNew, is_low, stand, read_again, read_whole, apart_new, new_apart, names_named}
 
--- ---- the table: what is known of each command
+-- ---- the table: a command by its words, the first of which is its name
 
 -- what stands at a place of some words, by what it stands for
 abbrev bytes_in : Word → List ℕ
@@ -41,72 +39,49 @@ query_at place words = query_in (get_or words place (key []))
 abbrev value_at : ℕ → List Word → ℕ
 value_at place words = value_in (get_or words place (key []))
 
-other_name : {A : Type 0} (a b : List ℕ) → bytes_eq a b ≡ false → a ≡ b → A
-other_name a b differ same = absurd (both_ways (bytes_eq a b) differ ((bytes_eq-Decides a b).1 same))
+-- all texts lie at one place
+abbrev text_at : ℕ → List Word → Bor (List ℕ)
+text_at place words = record { ref_ptr = (0, 0); now = bytes_at place words }
 
--- two commands of one name have words of the same kinds, and ask for the same if these are the same
-record Matches (a b : Command) : Type 0 where
-  kinds : kinds_of a ≡ kinds_of b
-  asks : words_of a ≡ words_of b → AsksAs (Some a) (Some b)
+record Row : Type 0 where
+  name : List ℕ
+  made : List Word → Command
 
-matching : (a b : Command) → name_of a ≡ name_of b → Matches a b
-matching (commands.Root a) (commands.Root b) name = record {
-  kinds = refl;
-  asks = λ e hash i. say_root One hash (bytes_at 1 (e i));
-}
-matching (commands.Root2 a) (commands.Root2 b) name = record {
-  kinds = refl;
-  asks = λ e hash i. say_root Two hash (bytes_at 1 (e i));
-}
-matching (commands.Build a b) (commands.Build x y) name = record {
-  kinds = refl;
-  asks = λ e hash i. say_build One hash (bytes_at 1 (e i)) (bytes_at 2 (e i));
-}
-matching (commands.Build2 a b) (commands.Build2 x y) name = record {
-  kinds = refl;
-  asks = λ e hash i. say_build Two hash (bytes_at 1 (e i)) (bytes_at 2 (e i));
-}
-matching (commands.List a) (commands.List b) name = record {
-  kinds = refl;
-  asks = λ e hash i. say_list hash (bytes_at 1 (e i));
-}
-matching (commands.Upgrade a b) (commands.Upgrade x y) name = record {
-  kinds = refl;
-  asks = λ e hash i. say_upgrade hash (bytes_at 1 (e i)) (bytes_at 2 (e i));
-}
-matching (commands.Apply a b c) (commands.Apply x y z) name = record {
-  kinds = refl;
-  asks = λ e hash i. say_apply hash (bytes_at 1 (e i)) (bytes_at 2 (e i)) (bytes_at 3 (e i));
-}
-matching (commands.Prove a b c) (commands.Prove x y z) name = record {
-  kinds = refl;
-  asks = λ e hash i. say_prove hash (bytes_at 1 (e i)) (query_at 2 (e i)) (bytes_at 3 (e i));
-}
-matching (commands.Check a b c) (commands.Check x y z) name = record {
-  kinds = refl;
-  asks = λ e hash i. say_check hash (bytes_at 1 (e i)) (query_at 2 (e i)) (bytes_at 3 (e i));
-}
-matching (commands.Audit a b c) (commands.Audit x y z) name = record {
-  kinds = refl;
-  asks = λ e hash i. say_audit hash (bytes_at 1 (e i)) (query_at 2 (e i)) (bytes_at 3 (e i));
-}
-matching (commands.Serve a b c) (commands.Serve x y z) name = record {
-  kinds = refl;
-  asks = λ e hash i. say_serve hash (bytes_at 1 (e i)) (bytes_at 2 (e i)) (bytes_at 3 (e i));
-}
-matching (commands.CheckAll a b c) (commands.CheckAll x y z) name = record {
-  kinds = refl;
-  asks = λ e hash i. say_check_all hash (bytes_at 1 (e i)) (bytes_at 2 (e i)) (bytes_at 3 (e i));
-}
-matching (commands.Make a b c) (commands.Make x y z) name = record {
-  kinds = refl;
-  asks = λ e hash i. say_make (value_at 1 (e i)) (value_at 2 (e i)) (bytes_at 3 (e i));
-}
-matching (commands.Demo a b) (commands.Demo x y) name = record {
-  kinds = refl;
-  asks = λ e hash i. say_demo hash (value_at 1 (e i)) (value_at 2 (e i));
-}
-matching a b name = other_name _ _ refl name
+abbrev row : List ℕ → (List Word → Command) → Row
+row name made = record { name = name; made = made }
+
+abbrev rows : List Row
+rows =
+    row (codes "root") (λ ws. commands.Root (text_at 1 ws)) ∷
+    row (codes "root2") (λ ws. commands.Root2 (text_at 1 ws)) ∷
+    row (codes "build") (λ ws. commands.Build (text_at 1 ws) (text_at 2 ws)) ∷
+    row (codes "build2") (λ ws. commands.Build2 (text_at 1 ws) (text_at 2 ws)) ∷
+    row (codes "list") (λ ws. commands.List (text_at 1 ws)) ∷
+    row (codes "upgrade") (λ ws. commands.Upgrade (text_at 1 ws) (text_at 2 ws)) ∷
+    row (codes "apply") (λ ws. commands.Apply (text_at 1 ws) (text_at 2 ws) (text_at 3 ws)) ∷
+    row (codes "prove") (λ ws. commands.Prove (text_at 1 ws) (query_at 2 ws) (text_at 3 ws)) ∷
+    row (codes "check") (λ ws. commands.Check (bytes_at 1 ws) (query_at 2 ws) (text_at 3 ws)) ∷
+    row (codes "audit") (λ ws. commands.Audit (text_at 1 ws) (query_at 2 ws) (text_at 3 ws)) ∷
+    row (codes "serve") (λ ws. commands.Serve (text_at 1 ws) (text_at 2 ws) (text_at 3 ws)) ∷
+    row (codes "check-all") (λ ws. commands.CheckAll (bytes_at 1 ws) (text_at 2 ws) (text_at 3 ws)) ∷
+    row (codes "make") (λ ws. commands.Make (value_at 1 ws) (value_at 2 ws) (text_at 3 ws)) ∷
+    row (codes "demo") (λ ws. commands.Demo (value_at 1 ws) (value_at 2 ws)) ∷ []
+
+abbrev made_of : List Row → List ℕ → List Word → Command
+made_of [] name words = commands.Demo 0 0
+made_of (r ∷ rs) name words = if bytes_eq r.name name then r.made words else made_of rs name words
+
+-- the command that these words stand for
+abbrev pub command_of_words : List Word → Command
+command_of_words words = made_of rows (bytes_at 0 words) words
+
+-- what its words have to be goes by its name
+kinds_named : (command : Command) → kinds_of command ≡ kinds_of (made_of rows (name_of command) [])
+kinds_named (commands.Root records) = refl
+kinds_named command = refl
+
+same_kinds : (a b : Command) → name_of a ≡ name_of b → kinds_of a ≡ kinds_of b
+same_kinds a b name = kinds_named a ∙ ap (λ n. kinds_of (made_of rows n [])) name ∙ sym (kinds_named b)
 
 -- the first word is the name of no command
 pub no_command : (old new : Reading) (name : List ℕ) → name ≡ first_word old.words
@@ -158,19 +133,19 @@ found_whole words command spells =
     subst (λ ws. is_complete (past_all (kinds_of command) (start ws)) ≡ true) (sym spells.spelled)
     (read_whole (words_of command) [] [] true refl (low_numbers command) spells.each
     (new_apart (file_names (words_of command)) (few_files command) (names_named (words_of command) spells.each)
-    spells.apart))
+    (subst AreApart (append-nil (file_names (words_of command))) spells.apart)))
 
 ask_same : (words : List (List ℕ)) (a b : Command) → Spells words a → Spells words b
     → AsksAs (Some a) (Some b)
 ask_same words a b spells_a spells_b =
-    let alike = matching a b (ap first_word (sym spells_a.spelled ∙ spells_b.spelled)) in
-    alike.asks (sym (found_words words a spells_a) ∙ ap (λ kinds. all_next kinds (start words)) alike.kinds
+    let kinds = same_kinds a b (ap first_word (sym spells_a.spelled ∙ spells_b.spelled)) in
+    ap Some (sym (found_words words a spells_a) ∙ ap (λ kinds. all_next kinds (start words)) kinds
     ∙ found_words words b spells_b)
 
 -- the words spell one command at most
 pub one_command : (words : List (List ℕ)) (a b : Option Command) → IsSpelled words a
     → IsSpelled words b → AsksAs a b
-one_command words None None spelled_a spelled_b = λ hash. refl
+one_command words None None spelled_a spelled_b = refl
 one_command words (Some a) (Some b) spelled_a spelled_b = ask_same words a b spelled_a spelled_b
 one_command words (Some a) None spelled_a spelled_b = absurd (spelled_b a spelled_a)
 one_command words None (Some b) spelled_a spelled_b = absurd (spelled_a b spelled_b)
@@ -192,8 +167,9 @@ read_right words old new command is gives whole =
     gives.are_next ∙ ap (all_next (kinds_of command)) is in
     record {
       each = subst (λ ws. AllByRecursion IsWord ws) (sym same) all.each;
-      apart = apart_new (file_names (words_of command)) (few_files command)
-          (subst (λ ws. AreNew [] [] (file_names ws)) (sym same) all.new);
+      apart = subst AreApart (sym (append-nil (file_names (words_of command))))
+          (apart_new (file_names (words_of command)) (few_files command)
+          (subst (λ ws. AreNew [] [] (file_names ws)) (sym same) all.new));
       spelled = all.spelled_so ∙ ap (map spelled) (sym same);
     }
 
@@ -203,7 +179,7 @@ read_wrong : (words : List (List ℕ)) (old new : Reading) (read : Command) → 
 read_wrong words old new read is gives broken = λ command spells.
     let name : name_of command ≡ name_of read = sym (ap first_word spells.spelled)
     ∙ ap (λ (r : Reading). first_word r.words) (sym is) ∙ sym gives.bears_name in
-    let kinds = (matching command read name).kinds in
+    let kinds = same_kinds command read name in
     let past : new ≡ past_all (kinds_of command) (start words) = gives.goes_past
     ∙ ap (past_all (kinds_of read)) is ∙ ap (λ k. past_all k (start words)) (sym kinds) in
     both_ways (is_complete new) broken (ap is_complete past ∙ found_whole words command spells)

@@ -7,9 +7,9 @@ pub mod Lines
 pub mod Refusal
 pub mod Judged
 pub mod Saying
-pub mod Rereading
 pub mod Plan
 pub mod Demo
 pub mod Say
+pub mod Untold
 pub mod Spelling
 pub mod Kinds

@@ -1,6 +1,6 @@
 -- The lines that are printed: digests, lengths and numbers, and what is said of words, texts,
 -- batches and files that are refused.
-use Rattle.std.specs.Prelude.{ℕ, List, [], ◌∷◌, ◌++◌, codes, decimal}
+use Rattle.std.specs.Prelude.{ℕ, Bool, if◌then◌else◌, List, [], ◌∷◌, ◌++◌, codes, decimal}
 use Rattle.hex.specs.Hex.{encode_lower}
 use Rattle.mr_record.specs.declared.text_fault.TextFault.{TextFault}
 use Rattle.mr_record.specs.Rules.{text_rule_name}
@@ -14,6 +14,10 @@ digest_line digest = encode_lower digest ++ 10 ∷ []
 -- the words spell no command
 abbrev pub bad_words_line : List ℕ
 bad_words_line = codes "bad words" ++ 10 ∷ []
+
+-- there are no proofs of the map's version yet
+abbrev pub needs_version_2_line : List ℕ
+needs_version_2_line = codes "needs version 2" ++ 10 ∷ []
 
 -- `bad text line LINE RULE`
 unfoldable pub bad_text_line : TextFault → List ℕ
@@ -65,6 +69,10 @@ count_line name n = name ++ 32 ∷ decimal n ++ 10 ∷ []
 -- `made NUMBER`
 unfoldable pub made_line : ℕ → List ℕ
 made_line n = count_line (codes "made") n
+
+-- `recovered` or `clean`: whether there was an update to finish
+abbrev pub recovered_line : Bool → List ℕ
+recovered_line was = (if was then codes "recovered" else codes "clean") ++ 10 ∷ []
 
 -- the shelf failed
 abbrev pub shelf_fault_line : List ℕ

@@ -3,44 +3,46 @@
 -- printing comes last.
 use Rattle.std.specs.Prelude.{◌≡◌, ◌⊎◌, ℕ, List, Option, Some, None, IfSome}
 use Rattle.mr_outside.specs.Files.{Files, file}
+use Rattle.mr_journal.specs.Shelves.{held_in}
 use Rattle.mr_record.specs.Bytes.{AreBytes}
 use Rattle.mr_record.specs.declared.version.Version.{Version}
-use Rattle.mr_query.specs.declared.query.Query.{Query}
 use Rattle.mr_plan.specs.Found.{Found, Shows}
 use Rattle.mr_plan.specs.Outcome.{Outcome}
-use Rattle.mr_plan.specs.Rereading.{Rereading, MaySay}
 
 -- an input by its bytes; none where there is no such file
 abbrev pub Input : Type 0
 Input = Option (List ℕ)
 
 -- it has come to an outcome; or it reads a file and goes on by what that holds; or it goes on by
--- the map that bytes, read in a version, stand for, or by their fault; or it reads a map page by
--- page, some of them again, and over files that are told goes on as the plan says; or it reads a
--- proof in pieces, up to a fault that stays, and goes on as the plan says
+-- the map that bytes, read in a version, stand for, or by their fault; or it reads a file that may
+-- be absent, and then goes on as by one without bytes
 pub data Plan : Type 0 where
   comes : Outcome → Plan
   reads : (name : List ℕ) → (Input → Plan) → Plan
   opens : (version : Version) (hash : List ℕ → List ℕ) (bytes : List ℕ) → (Found → Plan) → Plan
-  rereads : Rereading → Plan → Plan
-  judges : (hash : List ℕ → List ℕ) (root : List ℕ) (query : Query) (proof : List ℕ) → Plan → Plan
+  seeks : (name : List ℕ) → (List ℕ → Plan) → Plan
 
 -- where the files are told, this is the named one; else it is any, of bytes
 abbrev pub IsInput : Option Files → List ℕ → Input → Type 0
 IsInput None name input = IfSome input AreBytes
 IsInput (Some files) name input = file files name ≡ input
 
+-- where the files are told, these are the bytes of the named one, none where it is absent; else
+-- they are any
+abbrev pub IsSought : Option Files → List ℕ → List ℕ → Type 0
+IsSought None name bytes = AreBytes bytes
+IsSought (Some files) name bytes = held_in files name ≡ bytes
+
 -- the outcome, by what each file holds that is read; where the files are not told, each read has
--- some content, but where pages of a map are read again: no content is behind all that was read
+-- some content
 abbrev pub Leads : Plan → Option Files → Outcome → Type 0
 Leads (comes said) told outcome = outcome ≡ said
 Leads (reads name next) told outcome = (input : Input) × IsInput told name input
     × Leads (next input) told outcome
 Leads (opens v hash bytes next) told outcome = (found : Found) × Shows v hash bytes found
     × Leads (next found) told outcome
-Leads (rereads reading next) None outcome = MaySay reading outcome
-Leads (rereads reading next) (Some files) outcome = Leads next (Some files) outcome
-Leads (judges hash root query proof next) told outcome = Leads next told outcome
+Leads (seeks name next) told outcome = (bytes : List ℕ) × IsSought told name bytes
+    × Leads (next bytes) told outcome
 
 -- the one outcome over files that are told, whatever map or fault their bytes show
 abbrev pub IsOutcomeOver : Plan → Files → Outcome → Type 0
@@ -48,20 +50,20 @@ IsOutcomeOver (comes said) files outcome = outcome ≡ said
 IsOutcomeOver (reads name next) files outcome = IsOutcomeOver (next (file files name)) files outcome
 IsOutcomeOver (opens v hash bytes next) files outcome =
     (found : Found) → Shows v hash bytes found → IsOutcomeOver (next found) files outcome
-IsOutcomeOver (rereads reading next) files outcome = IsOutcomeOver next files outcome
-IsOutcomeOver (judges hash root query proof next) files outcome = IsOutcomeOver next files outcome
+IsOutcomeOver (seeks name next) files outcome =
+    IsOutcomeOver (next (held_in files name)) files outcome
 
 -- the named file is told to be absent
 abbrev pub IsAbsent : Option Files → List ℕ → Type 0
 IsAbsent None name = ⊥
 IsAbsent (Some files) name = file files name ≡ None
 
--- a file that is read is told to be absent
+-- a file that is read, and has to be there, is told to be absent
 abbrev pub LacksInput : Plan → Option Files → Type 0
 LacksInput (comes said) told = ⊥
 LacksInput (reads name next) told = IsAbsent told name
     ⊎ ((input : Input) × IsInput told name input × LacksInput (next input) told)
 LacksInput (opens v hash bytes next) told = (found : Found) × Shows v hash bytes found
     × LacksInput (next found) told
-LacksInput (rereads reading next) told = LacksInput next told
-LacksInput (judges hash root query proof next) told = LacksInput next told
+LacksInput (seeks name next) told = (bytes : List ℕ) × IsSought told name bytes
+    × LacksInput (next bytes) told

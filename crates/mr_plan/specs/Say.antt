@@ -7,6 +7,8 @@ use Rattle.mr_record.specs.declared.version.Version.{Version}
 use Rattle.mr_record.specs.declared.version.Version.TheVariants.{One, Two}
 use Rattle.mr_tree.specs.Tree.{records}
 use Rattle.mr_tree.specs.declared.tree.Tree.{Tree}
+use Rattle.mr_journal.specs.Format.{is_open, restored}
+use Rattle.mr_journal.specs.Images.{Image}
 use Rattle.mr_pack.specs.Pack.{pack}
 use Rattle.mr_batch.specs.Admissible.{batch_fault}
 use Rattle.mr_batch.specs.BatchText.{batch_of_text}
@@ -23,20 +25,20 @@ use Rattle.mr_proof.specs.Honest as honest
 use Rattle.mr_proof.specs.Reading.{verdict}
 use Rattle.mr_clash.specs.Finding.{found}
 use Rattle.mr_plan.specs.Demo.{demo_lines}
-use Rattle.mr_plan.specs.First.{first, first_pages, first_map}
+use Rattle.mr_plan.specs.First.{first, pages_by}
 use Rattle.mr_plan.specs.Found.{Found, bad_map_line}
-use Rattle.mr_plan.specs.Lines.{digest_line, bad_words_line, bad_text_line, bad_batch_line, made_line}
+use Rattle.mr_plan.specs.Lines.{digest_line, needs_version_2_line, bad_words_line, bad_text_line, bad_batch_line, made_line, recovered_line}
 use Rattle.mr_plan.specs.Outcome.{Outcome, File, map_of, changed}
-use Rattle.mr_plan.specs.Plan.{Input, Plan, comes, reads, opens, rereads, judges}
-use Rattle.mr_plan.specs.Rereading.{proving, auditing, serving, applying}
+use Rattle.mr_plan.specs.Plan.{Input, Plan, comes, reads, opens, seeks}
 pub use Rattle.mr_plan.specs.Saying.{ends, prints, says_missing, say_text, say_written}
+pub use Rattle.mr_plan.specs.Saying.{journal_of, say_in_place}
 pub use Rattle.mr_plan.specs.Saying.{say_finding, say_bundle, held_in}
 pub use Rattle.mr_plan.specs.Saying.{say_serve_of, say_verdicts, say_parts_of}
 use Rattle.mr_plan.specs.Refusal.{refused_line}
 use Rattle.mr_pages.specs.File.{version_of}
 use Rattle.mr_pages.specs.declared.opening.Opened.{Opened}
 use Rattle.mr_pages.specs.Law.{map_root, map_in}
-use Rattle.mr_plan.specs.declared.status.Status.TheVariants.{Done, BadWords, Refused, BadText, BadMap, BadBatch}
+use Rattle.mr_plan.specs.declared.status.Status.TheVariants.{Done, BadWords, Refused, BadText, BadMap, BadBatch, NeedsVersion2}
 use Rattle.mr_plan.specs.declared.words.Command.{Command}
 use Rattle.mr_plan.specs.declared.words.Command.TheVariants as commands
 
@@ -60,22 +62,23 @@ abbrev pub needs_map_in : (List ℕ → Version) → (List ℕ → List ℕ) →
 needs_map_in version hash name next =
     needs name (λ bytes. opens (version bytes) hash bytes (given_map next))
 
--- the first version, whatever the bytes
-abbrev pub always_first : List ℕ → Version
-always_first bytes = One
-
--- a map of the first version
-abbrev pub needs_map : (List ℕ → List ℕ) → List ℕ → (Opened → Plan) → Plan
-needs_map hash name next = needs_map_in always_first hash name next
-
 -- a map of either version
 abbrev pub needs_any_map : (List ℕ → List ℕ) → List ℕ → (Opened → Plan) → Plan
 needs_any_map hash name next = needs_map_in version_of hash name next
 
--- a map of the first version, where what follows goes by the number of the file's pages besides
+-- what follows on a map of the first version; of the second one there are no proofs yet
+abbrev pub at_first : Version → Plan → Plan
+at_first One next = next
+at_first Two next = comes (ends NeedsVersion2 needs_version_2_line)
+
+-- a map of a version that has proofs
+abbrev pub needs_map : (List ℕ → List ℕ) → List ℕ → (Opened → Plan) → Plan
+needs_map hash name next = needs_any_map hash name (λ map. at_first map.version (next map))
+
+-- a map of either version, where what follows goes by the number of the file's pages besides
 abbrev pub needs_sized_map : (List ℕ → List ℕ) → List ℕ → ((pages : ℕ) → Opened → Plan) → Plan
-needs_sized_map hash name next =
-    needs name (λ bytes. opens One hash bytes (given_map (next (first_pages bytes))))
+needs_sized_map hash name next = needs name (λ bytes. opens (version_of bytes) hash bytes
+    (given_map (next (pages_by (version_of bytes) bytes))))
 
 -- the root of the tree of the records of a text at batch 0, or the text's first fault
 abbrev pub say_root_of : Version → (List ℕ → List ℕ) → Result (List Record) TextFault → Outcome
@@ -125,25 +128,27 @@ say_upgrade hash old new = needs_any_map hash old (λ map. comes (say_upgrade_of
 
 -- the map of the tree after a batch in a file, at the batch's number, and its root. The file is
 -- made by changes from one of so many pages.
-abbrev pub say_changed : (List ℕ → List ℕ) → List ℕ → (pages : ℕ) → Tree → Changes → Outcome
-say_changed hash new pages tree batch =
+abbrev pub say_changed : Version → (List ℕ → List ℕ) → List ℕ → (pages : ℕ) → Tree → Changes
+    → Outcome
+say_changed v hash new pages tree batch =
     let after = replay tree (batch ∷ []) in
     record {
       status = Done;
-      printed = digest_line (map_root hash (first_map after batch.number));
-      written = File new (changed hash pages (peak tree batch) after batch.number);
+      printed = digest_line (map_root hash (map_in v after batch.number));
+      written = File new (changed v hash pages (peak tree batch) after batch.number);
     }
 
 -- the same, or why the batch may not be applied
-abbrev pub say_admitted : (List ℕ → List ℕ) → List ℕ → (pages : ℕ) → Tree → Changes
+abbrev pub say_admitted : Version → (List ℕ → List ℕ) → List ℕ → (pages : ℕ) → Tree → Changes
     → Option BatchFault → Outcome
-say_admitted hash new pages tree batch None = say_changed hash new pages tree batch
-say_admitted hash new pages tree batch (Some fault) = ends BadBatch (bad_batch_line fault)
+say_admitted v hash new pages tree batch None = say_changed v hash new pages tree batch
+say_admitted v hash new pages tree batch (Some fault) = ends BadBatch (bad_batch_line fault)
 
 -- what is said of a batch for a map in a file of so many pages
 abbrev pub say_batch : (List ℕ → List ℕ) → List ℕ → (pages : ℕ) → Opened → Changes → Outcome
 say_batch hash new pages map batch =
-    say_admitted hash new pages map.tree batch (batch_fault (records map.tree) map.batch batch)
+    say_admitted map.version hash new pages map.tree batch
+    (batch_fault (records map.tree) map.batch batch)
 
 -- what is said of the batch of a text, or the text's first fault
 abbrev pub say_apply_of : (List ℕ → List ℕ) → List ℕ → (pages : ℕ) → Opened
@@ -151,15 +156,14 @@ abbrev pub say_apply_of : (List ℕ → List ℕ) → List ℕ → (pages : ℕ)
 say_apply_of hash new pages map (Err fault) = ends BadText (bad_text_line fault)
 say_apply_of hash new pages map (Ok batch) = say_batch hash new pages map batch
 
--- what is said of the batch in a file
+-- what is said of the batch in a file, whose lines are of the map's version
 abbrev pub say_change : (List ℕ → List ℕ) → (batch new : List ℕ) → (pages : ℕ) → Opened → Plan
 say_change hash batch new pages map =
-    needs batch (λ text. comes (say_apply_of hash new pages map (batch_of_text One text)))
+    needs batch (λ text. comes (say_apply_of hash new pages map (batch_of_text map.version text)))
 
 -- `apply OLD BATCH NEW`: the map after the batch in a file, written to another one
 abbrev pub say_apply : (List ℕ → List ℕ) → (old batch new : List ℕ) → Plan
-say_apply hash old batch new = rereads (applying hash old batch new)
-    (needs_sized_map hash old (say_change hash batch new))
+say_apply hash old batch new = needs_sized_map hash old (say_change hash batch new)
 
 -- the honest proof for a query on a map in a file, and its length
 unfoldable pub say_prove_of : (List ℕ → List ℕ) → Query → List ℕ → Opened → Outcome
@@ -168,8 +172,8 @@ say_prove_of hash query proof map =
 
 -- `prove MAP QUERY PROOF`: the proof for a query on the map in a file, written to another one
 abbrev pub say_prove : (List ℕ → List ℕ) → List ℕ → Query → List ℕ → Plan
-say_prove hash name query proof = rereads (proving hash name query proof)
-    (needs_map hash name (λ map. comes (say_prove_of hash query proof map)))
+say_prove hash name query proof =
+    needs_map hash name (λ map. comes (say_prove_of hash query proof map))
 
 -- the answer that a proof proves, a line for each record, or its fault
 abbrev pub say_verdict : Result (List Record) Fault → Outcome
@@ -182,8 +186,8 @@ say_check_of hash root query proof = say_verdict (verdict hash root query proof)
 
 -- `check ROOT QUERY PROOF`: the answer that the proof in a file proves
 abbrev pub say_check : (List ℕ → List ℕ) → List ℕ → Query → List ℕ → Plan
-say_check hash root query proof = judges hash root query proof
-    (needs proof (λ bytes. comes (say_check_of hash root query bytes)))
+say_check hash root query proof =
+    needs proof (λ bytes. comes (say_check_of hash root query bytes))
 
 -- what is said of the bytes of a proof and of a map
 unfoldable pub say_audit_of : (List ℕ → List ℕ) → Query → Opened → List ℕ → Outcome
@@ -191,9 +195,8 @@ say_audit_of hash query map bytes = say_finding (found (first hash) map.tree map
 
 -- `audit MAP QUERY PROOF`: what the proof in a file is worth against the map in another one
 abbrev pub say_audit : (List ℕ → List ℕ) → List ℕ → Query → List ℕ → Plan
-say_audit hash name query proof = rereads (auditing hash name query proof)
-    (needs_map hash name
-    (λ map. needs proof (λ bytes. comes (say_audit_of hash query map bytes))))
+say_audit hash name query proof = needs_map hash name
+    (λ map. needs proof (λ bytes. comes (say_audit_of hash query map bytes)))
 
 -- the bundle for the script in a file on a map, in another file
 abbrev pub say_script : (List ℕ → List ℕ) → (script bundle : List ℕ) → Opened → Plan
@@ -203,8 +206,7 @@ say_script hash script bundle map =
 -- `serve MAP SCRIPT BUNDLE`: the proofs for the queries of a script on the map in a file, written
 -- to another one
 abbrev pub say_serve : (List ℕ → List ℕ) → (map script bundle : List ℕ) → Plan
-say_serve hash map script bundle = rereads (serving hash map script bundle)
-    (needs_map hash map (say_script hash script bundle))
+say_serve hash map script bundle = needs_map hash map (say_script hash script bundle)
 
 -- what follows on the queries of a text, or the line on the text's first fault
 abbrev pub given_queries : (List Query → Plan) → Result (List Query) TextFault → Plan
@@ -233,6 +235,65 @@ say_make count seed records = comes (say_make_of count seed records)
 -- `demo N SEED`: what generated queries give on the map of generated records
 abbrev pub say_demo : (List ℕ → List ℕ) → (count seed : ℕ) → Plan
 say_demo hash count seed = comes (prints (demo_lines hash count seed))
+
+-- ---- a map in its own file, which no words ask for yet
+
+-- the map and its journal by their bytes
+abbrev pub beside : (map journal : List ℕ) → Image
+beside map journal = record { map = map; journal = journal }
+
+-- a map that has to be there, and the journal that may stand beside it, are read
+abbrev pub needs_both : (map : List ℕ) → (Image → Plan) → Plan
+needs_both map next =
+    needs map (λ bytes. seeks (journal_of map) (λ journal. next (beside bytes journal)))
+
+-- what is said of a map and its journal that are recovered
+abbrev pub say_recovered : (map : List ℕ) → Image → Outcome
+say_recovered map image =
+    say_in_place Done (recovered_line (is_open image)) map (restored image) None
+
+-- `recover MAP`: an update of the map in a file that a stop cut short is finished
+abbrev pub say_recover : (map : List ℕ) → Plan
+say_recover map = needs_both map (λ image. comes (say_recovered map image))
+
+-- the map of the tree after a batch in its own file, at the batch's number, and its root; or why
+-- the batch may not be applied, and the map recovered
+abbrev pub say_admitted_here : Version → (List ℕ → List ℕ) → (map held : List ℕ) → Tree → Changes
+    → Option BatchFault → Outcome
+say_admitted_here v hash map held tree batch None =
+    let after = replay tree (batch ∷ []) in
+    say_in_place Done (digest_line (map_root hash (map_in v after batch.number))) map held
+    (Some (changed v hash (pages_by v held) (peak tree batch) after batch.number))
+say_admitted_here v hash map held tree batch (Some fault) =
+    say_in_place BadBatch (bad_batch_line fault) map held None
+
+-- what is said of a batch for a map in its own file, or of a file that stands for none
+abbrev pub say_batch_here : Version → (List ℕ → List ℕ) → (map held : List ℕ) → Changes → Found
+    → Outcome
+say_batch_here v hash map held batch (Ok found) =
+    say_admitted_here v hash map held found.tree batch
+    (batch_fault (records found.tree) found.batch batch)
+say_batch_here v hash map held batch (Err fault) =
+    say_in_place BadMap (bad_map_line fault) map held None
+
+-- what is said of the batch of a text, or the text's first fault, with which nothing is written
+abbrev pub say_text_here : Version → (List ℕ → List ℕ) → (map held : List ℕ)
+    → Result Changes TextFault → Plan
+say_text_here v hash map held (Err fault) = comes (ends BadText (bad_text_line fault))
+say_text_here v hash map held (Ok batch) =
+    opens v hash held (λ found. comes (say_batch_here v hash map held batch found))
+
+-- what is said of the text of a batch for a map of these bytes, in the version that they have
+abbrev pub say_change_here : (List ℕ → List ℕ) → (map held text : List ℕ) → Plan
+say_change_here hash map held text = say_text_here (version_of held) hash map held
+    (batch_of_text (version_of held) text)
+
+-- `apply-here MAP BATCH`: the map after the batch in a file, written to its own file
+abbrev pub say_apply_here : (List ℕ → List ℕ) → (map batch : List ℕ) → Plan
+say_apply_here hash map batch =
+    needs_both map (λ image. needs batch (say_change_here hash map (restored image)))
+
+-- ---- all commands
 
 -- what is said where words spell a command, and where they spell none
 abbrev pub say : (List ℕ → List ℕ) → Option Command → Plan

@@ -1,5 +1,5 @@
 -- Outcomes, by what they say.
-use Rattle.std.specs.Prelude.{ℕ, List, ◌++◌, length, Option, Result, Ok, Err}
+use Rattle.std.specs.Prelude.{ℕ, List, ◌++◌, length, codes, Option, Result, Ok, Err}
 use Rattle.mr_record.specs.RecordText.{text_of}
 use Rattle.mr_record.specs.declared.version.Version.TheVariants.{One}
 use Rattle.mr_record.specs.declared.text_fault.TextFault.{TextFault}
@@ -17,7 +17,7 @@ use Rattle.mr_clash.specs.declared.finding.Finding.{Finding}
 use Rattle.mr_clash.specs.declared.finding.Finding.TheVariants as findings
 use Rattle.mr_plan.specs.Judged.{bundle_text, bundle_status}
 use Rattle.mr_plan.specs.Lines.{bad_text_line, missing_line, proof_line, served_line, sound_line, collision_lines}
-use Rattle.mr_plan.specs.Outcome.{Outcome, Nothing, File}
+use Rattle.mr_plan.specs.Outcome.{Outcome, Content, Nothing, File, InPlace}
 use Rattle.mr_plan.specs.Outcome as content
 use Rattle.mr_plan.specs.Refusal.{refused_line}
 use Rattle.mr_plan.specs.declared.status.Status.{Status}
@@ -41,6 +41,18 @@ say_text line name bytes = record {
   status = Done;
   printed = line;
   written = File name (content.text bytes);
+}
+
+-- the name of the journal beside a map's file
+abbrev pub journal_of : List ℕ → List ℕ
+journal_of map = map ++ codes ".journal"
+
+-- a map in its own file, of these bytes once it is recovered, and what is said of it
+abbrev pub say_in_place : Status → List ℕ → (map held : List ℕ) → Option Content → Outcome
+say_in_place status text map held made = record {
+  status = status;
+  printed = text;
+  written = InPlace map (journal_of map) held made;
 }
 
 -- these bytes in a file, and their number

@@ -1,10 +1,9 @@
 -- The command that words spell, if any.
-use Rattle.std.specs.Prelude.{◌≡◌, ◌≢◌, ℕ, ◌≤◌, nat_eq, ◌&&◌, if◌then◌else◌, List, length, ⊤, Option, Some, None}
+use Rattle.std.specs.Prelude.{◌≡◌, ◌≢◌, ℕ, ◌≤◌, nat_eq, ◌&&◌, if◌then◌else◌, List, length, ⊤, Option, Some, None, option_map}
 use Rattle.std.specs.List.{list_all}
 use Rattle.hex.specs.Hex.{decode_of}
 use Rattle.mr_record.specs.RecordText.{is_lower_digit, ok_bytes}
-use Rattle.mr_plan.specs.Say.{say}
-use Rattle.mr_plan.specs.Words.{Spells, demo_limit}
+use Rattle.mr_plan.specs.Words.{Spells, demo_limit, words_of}
 use Rattle.mr_tree.specs.Limits.{count_limit}
 use Rattle.mr_query.specs.Word.{IsAskable}
 use Rattle.mr_plan.specs.declared.words.Command.{Command}
@@ -15,9 +14,9 @@ abbrev pub IsSpelled : List (List ℕ) → Option Command → Type 0
 IsSpelled words (Some command) = Spells words command
 IsSpelled words None = (command : Command) → Spells words command → ⊥
 
--- the two ask for the same
+-- the two ask for the same: they have the same words
 abbrev pub AsksAs : Option Command → Option Command → Type 0
-AsksAs a b = (hash : List ℕ → List ℕ) → say hash a ≡ say hash b
+AsksAs a b = option_map words_of a ≡ option_map words_of b
 
 -- ---- this serves private functions
 

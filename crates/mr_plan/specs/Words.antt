@@ -1,5 +1,5 @@
 -- The words of the program's commands.
-use Rattle.std.specs.Prelude.{◌≡◌, ◌≢◌, ℕ, ◌-◌, ◌^◌, ◌<◌, ◌≤◌, List, [], ◌∷◌, length, map, codes, decimal, ⊤}
+use Rattle.std.specs.Prelude.{◌≡◌, ◌≢◌, ℕ, ◌-◌, ◌^◌, ◌<◌, ◌≤◌, List, [], ◌∷◌, ◌++◌, length, map, codes, decimal, ⊤}
 use Rattle.std.specs.List.{AllByRecursion}
 use Rattle.hex.specs.Hex.{encode_lower}
 use Rattle.mr_record.specs.Bytes.{AreBytes}
@@ -86,6 +86,14 @@ file_names (digest bytes ∷ words) = file_names words
 file_names (query asked ∷ words) = file_names words
 file_names (number least most value ∷ words) = file_names words
 
+-- the files that a command reads or writes and no word names: today there is none
+abbrev pub unnamed : Command → List (List ℕ)
+unnamed command = []
+
+-- all files of a command
+abbrev pub files_of : Command → List (List ℕ)
+files_of command = file_names (words_of command) ++ unnamed command
+
 -- no two of them are one
 abbrev pub AreApart : List (List ℕ) → Type 0
 AreApart [] = ⊤
@@ -95,5 +103,5 @@ AreApart (name ∷ names) = AllByRecursion (λ other. name ≢ other) names × A
 pub record Spells (words : List (List ℕ)) (command : Command) : Type 0 where
   pub each : AllByRecursion IsWord (words_of command)
   -- the files of a command are different ones
-  pub apart : AreApart (file_names (words_of command))
+  pub apart : AreApart (files_of command)
   pub spelled : words ≡ map spelled (words_of command)

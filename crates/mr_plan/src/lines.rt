@@ -5,7 +5,7 @@ ghost use Rattle.std.specs.String.{string_bytes};
 ghost use Rattle.hex.specs.Hex.{encode_lower};
 ghost use Rattle.mr_plan.specs.Demo.{map_lines as lines_on_map, query_lines as lines_on_queries, total_lines as lines_on_totals};
 ghost use Rattle.mr_plan.specs.Found.{kept_text, bad_map_line};
-ghost use Rattle.mr_plan.specs.Lines.{bad_text_line, bad_batch_line, batch_fault_text, numbers_text, missing_line, proof_line as line_of_proof, served_line as line_of_served, count_line as line_of_count, made_line as line_made, digest_line, collision_lines as collision_text, sound_line as line_of_sound};
+ghost use Rattle.mr_plan.specs.Lines.{bad_text_line, bad_batch_line, batch_fault_text, numbers_text, needs_version_2_line as line_of_need, missing_line, proof_line as line_of_proof, served_line as line_of_served, count_line as line_of_count, made_line as line_made, digest_line, collision_lines as collision_text, sound_line as line_of_sound};
 ghost use Rattle.mr_plan.specs.Refusal.{found_text, refused_line};
 
 use mr_batch::BatchFault;
@@ -265,6 +265,16 @@ pub fn sound_line(alloc: Global) -> Result<String, AllocError>
 {
     let mut line = String::new(alloc);
     line.push_str("sound")?;
+    line.push('\n')?;
+    Ok(line)
+}
+
+/// The line on a map of version 2, of which there are no proofs yet: `needs version 2`.
+pub fn needs_version_2_line(alloc: Global) -> Result<String, AllocError>
+    ensures { IfOk result (λ line. string_bytes line ≡ line_of_need) }
+{
+    let mut line = String::new(alloc);
+    line.push_str("needs version 2")?;
     line.push('\n')?;
     Ok(line)
 }

@@ -24,10 +24,13 @@ pub enum Status {
     Outside,
     /// There was no memory.
     NoMemory,
+    /// A map is of version 2, of which there are no proofs yet.
+    NeedsVersion2,
 }
 
 impl Status {
-    /// The exit status of the program, 0 to 8 in the order of the variants.
+    /// The exit status of the program: 0 to 8 in the order of the variants, and 10 for a map whose
+    /// version has no proofs yet.
     pub fn code(self) -> u8
         ensures { result ≡ code_of self }
     {
@@ -41,6 +44,7 @@ impl Status {
             Status::Collision => 6,
             Status::Outside => 7,
             Status::NoMemory => 8,
+            Status::NeedsVersion2 => 10,
         }
     }
 }

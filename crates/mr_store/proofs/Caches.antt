@@ -1,18 +1,21 @@
 -- What stays in a cache.
-use Rattle.std.proofs.Common.{◌≡◌, ℕ, ◌-◌, ◌<◌, Bool, true, false, List, [], ◌∷◌, length, take, inl, inr, refl, sym, ap, subst, ◌∙◌, arith}
+use Rattle.std.proofs.Common.{◌≡◌, ◌≢◌, ℕ, ◌-◌, ◌<◌, Bool, true, false, List, [], ◌∷◌, length, take, inl, inr, refl, sym, ap, subst, ◌∙◌, arith}
 use Rattle.std.specs.Prelude.{◌⊎◌, nat_eq, option_map, cond, Contains, Option, Some, None, IsSome, IsSomeAnd}
 use Rattle.std.specs.Cmp.{nat_eq_equiv}
-use Rattle.std.specs.Map.{lookup, lookup_entry, remove_entry}
+use Rattle.std.specs.List.{IsDistinct}
+use Rattle.std.specs.Map.{lookup, lookup_entry, remove_entry, keys_of}
 use Rattle.std.specs.Option.{option_map_or}
-use Rattle.std.proofs.lemmas.Bool.{eqb-true}
+use Rattle.std.proofs.lemmas.Bool.{eqb-true, eq-eqb}
+use Rattle.std.proofs.lemmas.Map.{lookup-remove_entry}
 use Rattle.std.proofs.lemmas.List.{take_all}
 use Rattle.lru.specs.LruCache.{LruCache, promoted, put_entries}
 use Rattle.lru.proofs.Pairs.{lookup-lookup_entry}
-use Rattle.lru.proofs.CallerLemmas.{Contains-lookup_entry, Contains-promoted, Contains-put_entries, Contains-lookup, lookup-put_entries}
+use Rattle.lru.proofs.CallerLemmas.{Contains-remove_entry, Contains-lookup_entry, Contains-promoted, Contains-put_entries, Contains-lookup, lookup-put_entries}
+use Rattle.lru.proofs.Splits.{Contains-cons, Contains-nil}
 use Rattle.mr_tree.specs.View.{Node}
 use Rattle.mr_tree.specs.declared.child.Child.{Child}
 use Rattle.mr_store.specs.declared.kept.Kept.{Kept}
-use Rattle.mr_store.specs.Kept.{Entries, node_of, IsThat, IsHeld, IsShown, IsFound, Finds, Stays, Gains}
+use Rattle.mr_store.specs.Kept.{Entries, node_of, IsThat, IsHeld, IsShown, IsFound, Finds, Forgets, Stays, Gains}
 
 -- ---- an entry is moved or put in its place
 
@@ -141,3 +144,34 @@ module _ {K V : Type 0} (test : K → Bool) (es : List (K × V)) where
 pub held_promoted : (es : Entries) (c : Child) (n : Node) → IsFound es c n → IsHeld (promoted (nat_eq c.id) es) c
 held_promoted es c n f =
     subst (λ o. IsSomeAnd o (IsThat c)) (sym (promoted_finds (nat_eq c.id) es ∙ f.there)) f.that
+
+-- ---- nothing is kept of a page any more
+
+not_here : (page : ℕ) (f e : ℕ × Kept) (es : Entries) (b : Bool) → nat_eq page f.0 ≡ b →
+    cond b (Some f.1) (lookup (nat_eq page) es) ≡ None →
+    (lookup (nat_eq page) es ≡ None → Contains es e → e.0 ≢ page) → Contains (f ∷ es) e → e.0 ≢ page
+not_here page f e es true test none rest there = absurd cc
+not_here page f e es false test none rest there = elim (Contains-cons f es e there) [
+  | inl same ↦ λ is. no (sym (eq-eqb page f.0 (sym is ∙ sym (ap (λ (x : ℕ × Kept). x.0) same))) ∙ test)
+  | inr behind ↦ rest none behind
+]
+  where
+    no : true ≡ false → ⊥
+    no h = cc
+
+not_among : (page : ℕ) (es : Entries) → lookup (nat_eq page) es ≡ None → (e : ℕ × Kept) → Contains es e → e.0 ≢ page
+not_among page [] none e there = absurd (Contains-nil e there)
+not_among page (f ∷ es) none e there =
+    not_here page f e es (nat_eq page f.0) refl none (λ n c. not_among page es n e c) there
+
+pub forgets : (page : ℕ) (es : Entries) → IsDistinct nat_eq (keys_of es) →
+    Forgets page es (remove_entry (nat_eq page) es)
+forgets page es apart = record {
+  none_new = Contains-remove_entry (nat_eq page) es;
+  gone = not_among page (remove_entry (nat_eq page) es)
+      (lookup-remove_entry nat_eq_equiv (nat_eq page) (λ x y p. one x y p) page es apart
+      ∙ ap (λ b. cond b None (lookup (nat_eq page) es)) (nat_eq_equiv.refl page));
+}
+  where
+    one : (x y : ℕ) → nat_eq page x ≡ true → nat_eq page y ≡ nat_eq x y
+    one x y p = ap (λ n. nat_eq n y) (eqb-true page x p)

@@ -27,7 +27,8 @@ use Rattle.mr_tree.proofs.Told.{told_counts}
 use Rattle.mr_tree.proofs.Placements.{leaf_placed, inner_placed, placed_on, links_more, trees_before}
 use Rattle.mr_store.specs.Walk.{Suits, GathersAll, moved}
 use Rattle.mr_store.specs.Copying.{trees_in, IsPut, ArePlaced}
-use Rattle.mr_store.proofs.Walks.{first_same, rest_same, no_first, levels}
+use Rattle.mr_pages.proofs.Fits.{levels}
+use Rattle.mr_store.proofs.Walks.{first_same, rest_same, no_first}
 
 -- ---- a leaf
 

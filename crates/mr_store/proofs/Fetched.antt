@@ -12,9 +12,9 @@ use Rattle.mr_outside.specs.Faults.{Rose}
 use Rattle.mr_outside.specs.State.{Shelved}
 use Rattle.mr_outside.specs.Told.{OfFile, MayMiss}
 use Rattle.mr_tree.specs.Limits.{level_limit}
-use Rattle.mr_record.specs.declared.version.Version.TheVariants.{One}
+use Rattle.mr_record.specs.declared.version.Version.{Version}
 use Rattle.mr_tree.specs.declared.entry.Entry.{Entry}
-use Rattle.mr_tree.specs.Digest.{by, entry}
+use Rattle.mr_tree.specs.Digest.{Scheme, by, entry}
 use Rattle.mr_tree.specs.View as view
 use Rattle.mr_tree.specs.Nodes.{Standing, IsEntry, MayFetch, Shows, HasCause}
 use Rattle.mr_tree.specs.Snapshot.{HasShape}
@@ -23,8 +23,7 @@ use Rattle.mr_tree.specs.declared.nodes.NodesErr.{NodesErr}
 use Rattle.mr_tree.specs.declared.tree.Tree.{Tree}
 use Rattle.mr_tree.specs.declared.nodes.NodesErr.TheVariants as errors
 use Rattle.mr_pages.specs.declared.head.MapHead.{MapHead}
-use Rattle.mr_pages.specs.Page.{Node, entry_of}
-use Rattle.mr_pages.specs.PageBytes.{first_form}
+use Rattle.mr_pages.specs.Page.{Node, Form, IsForm, entry_of}
 use Rattle.mr_pages.specs.File.{file_of}
 use Rattle.mr_pages.specs.Stands.{Placed, tree_of, whole_pages}
 use Rattle.mr_pages.specs.Walking.{page_node}
@@ -34,20 +33,20 @@ use Rattle.mr_store.specs.declared.kept.Kept.{Kept}
 use Rattle.mr_store.specs.Parts.{whole_parts, untold}
 use Rattle.mr_store.specs.Kept.{Entries, node_of, IsThat, IsHeld, IsShown, AreInside, IsGood, IsFound, Stays, IsKeptOf, Gains}
 use Rattle.mr_store.specs.Again.{IsRead, IsSaid, TellsNode, TellsAgain, IsRefused}
-use Rattle.mr_store.specs.Stored.{told_bytes, placed, stands_for, room, IsOpen, IsStore}
+use Rattle.mr_store.specs.Stored.{told_bytes, placed, read_map, room, IsOpen, IsStored}
 use Rattle.mr_store.specs.PartLaws.{whole_has}
 use Rattle.mr_store.specs.Told.{IsOn, is_on, level_known, digest_known}
 use Rattle.mr_store.specs.Laws.{opened}
 
 -- ---- what may be fetched of a map that is told
 
-on_page : (hash : List ℕ → List ℕ) (h : MapHead) (es : Entries) (bytes : List ℕ) → IsOpen hash h es bytes →
-    (c : Child) → MayFetch hash (stands_for h (Some bytes)) c →
-    IsOn hash (file_of first_form bytes).node (stands_for h (Some bytes)) c
-on_page hash h es bytes o c may =
-    let p = opened hash h es bytes o in
-    is_on hash (file_of first_form bytes).node h.batch h.pages (placed h bytes) p.pages p.reads.lies.written c
-    (may.known refl)
+on_page : (form : Form) → IsForm form → (hash : List ℕ → List ℕ) (h : MapHead) (es : Entries) (bytes : List ℕ) →
+    IsOpen form hash h es bytes → (c : Child) → MayFetch hash (read_map form h (Some bytes)) c →
+    IsOn (by form.version hash) (file_of form bytes).node (read_map form h (Some bytes)) c
+on_page form is hash h es bytes o c may =
+    let p = opened form is hash h es bytes o in
+    is_on (by form.version hash) (file_of form bytes).node h.batch h.pages (placed form h bytes) p.pages
+    p.reads.lies.written c (may.known refl)
 
 some_same : {A : Type 0} (x y : A) → Some x ≡ Some y → x ≡ y
 some_same x y e = cc
@@ -55,15 +54,16 @@ some_same x y e = cc
 -- ---- from the cache
 
 -- a view of a map that is not told
-untold_shows : (hash : List ℕ → List ℕ) (batch pages : ℕ) (c : Child) (n : view.Node) → c.level ≤ level_limit →
-    HasShape n → view.AreTold One n → view.level_of n ≡ c.level → hash (view.preimage_of One n) ≡ c.digest →
-    AreInside pages n → Shows hash (untold batch pages) c n
+untold_shows : (hash : Scheme) (batch pages : ℕ) (c : Child) (n : view.Node) → c.level ≤ level_limit →
+    HasShape n → view.AreTold hash.version n → view.level_of n ≡ c.level → hash.of (view.preimage_of hash.version n) ≡
+    c.digest →
+    AreInside pages n → Shows hash.of (untold hash.version batch pages) c n
 untold_shows hash batch pages c n low shape told level digest inside = record {
   some = shape.some;
   level = level;
   digest = digest;
   told = told;
-  children = All-from_recursion (MayFetch hash (untold batch pages)) (view.children_in n)
+  children = All-from_recursion (MayFetch hash.of (untold hash.version batch pages)) (view.children_in n)
       (all (view.children_in n) (recursion_from_All _ (view.children_in n) inside)
       (recursion_from_All (λ (d : Child). d.level + 1 ≡ view.level_of n) (view.children_in n) shape.alike));
   node = tt;
@@ -71,7 +71,7 @@ untold_shows hash batch pages c n low shape told level digest inside = record {
   where
     all : (cs : List Child) → AllByRecursion (λ (d : Child). (1 ≤ d.id) × (d.id < pages)) cs →
         AllByRecursion (λ (d : Child). d.level + 1 ≡ view.level_of n) cs →
-        AllByRecursion (MayFetch hash (untold batch pages)) cs
+        AllByRecursion (MayFetch hash.of (untold hash.version batch pages)) cs
     all [] each alike = tt
     all (d ∷ ds) each alike = (
       record {
@@ -83,8 +83,9 @@ untold_shows hash batch pages c n low shape told level digest inside = record {
       all ds each.1 alike.1,
     )
 
-module _ (hash : List ℕ → List ℕ) (told : Option Files) (name : List ℕ) (h : MapHead) (es : Entries) (cap : ℕ)
-    (s : IsStore hash told name h es cap) where
+module _ (form : Form) (is : IsForm form) (hash : List ℕ → List ℕ) (told : Option Files) (name : List ℕ) (h : MapHead)
+    (es : Entries) (cap : ℕ)
+    (s : IsStored form hash told name h es cap) where
   -- what is kept of a page
   kept_of : (page : ℕ) (k : Kept) → lookup (nat_eq page) es ≡ Some k → Contains es (page, k)
   kept_of page k e =
@@ -94,22 +95,23 @@ module _ (hash : List ℕ → List ℕ) (told : Option Files) (name : List ℕ) 
   pub shown_of : (e : ℕ × Kept) → Contains es e → IsShown e.1
   shown_of e c = record { shape = (s.good e c).shape; level = (s.good e c).level }
 
-  pub found_shows : (c : Child) (n : view.Node) → MayFetch hash (stands_for h (told_bytes told name)) c →
-      IsFound es c n → Shows hash (stands_for h (told_bytes told name)) c n
+  pub found_shows : (c : Child) (n : view.Node) → MayFetch hash (read_map form h (told_bytes told name)) c →
+      IsFound es c n → Shows hash (read_map form h (told_bytes told name)) c n
   found_shows c n may f =
       let within = kept_of c.id f.kept f.there in
       at_bytes c n f within (s.good (c.id, f.kept) within) (told_bytes told name) s.open_ may
     where
       at_bytes : (c : Child) (n : view.Node) (f : IsFound es c n) → Contains es (c.id, f.kept) →
-          IsGood hash h.pages f.kept → (o : Option (List ℕ)) → IfSome o (IsOpen hash h es) →
-          MayFetch hash (stands_for h o) c → Shows hash (stands_for h o) c n
-      at_bytes c n f within good None op may = subst (Shows hash (untold h.batch h.pages) c) (sym f.node)
-          (untold_shows hash h.batch h.pages c (node_of f.kept.node) may.low good.shape good.told (good.level ∙
+          IsGood (by form.version hash) h.pages f.kept → (o : Option (List ℕ)) → IfSome o (IsOpen form hash h es) →
+          MayFetch hash (read_map form h o) c → Shows hash (read_map form h o) c n
+      at_bytes c n f within good None op may = subst (Shows hash (untold form.version h.batch h.pages) c) (sym f.node)
+          (untold_shows (by form.version hash) h.batch h.pages c (node_of f.kept.node) may.low good.shape good.told
+          (good.level ∙
           f.that.level)
           (good.digest ∙ f.that.digest) good.inside)
       at_bytes c n f within good (Some bytes) op may =
-          let on = on_page hash h es bytes op c may in
-          subst (Shows hash (stands_for h (Some bytes)) c) (sym f.node)
+          let on = on_page form is hash h es bytes op c may in
+          subst (Shows hash (read_map form h (Some bytes)) c) (sym f.node)
           (on.shows (node_of f.kept.node)
           (some_same (page_node (node_of f.kept.node)) on.node (sym (op.same (c.id, f.kept) within) ∙ on.there))
           good.shape good.told may.low)
@@ -117,43 +119,47 @@ module _ (hash : List ℕ → List ℕ) (told : Option Files) (name : List ℕ) 
   -- ---- where all nodes are kept, nothing is missed
 
   -- the page of a child that may be fetched is one of the map's
-  on_map : (bytes : List ℕ) (c : Child) → IsEntry hash (stands_for h (Some bytes)) c →
-      Contains (whole_pages (placed h bytes)) c.id
-  on_map bytes c known = at_place (lookup (nat_eq c.id) (whole_parts (placed h bytes))) refl known
+  on_map : (bytes : List ℕ) (c : Child) → IsEntry hash (read_map form h (Some bytes)) c →
+      Contains (whole_pages (placed form h bytes)) c.id
+  on_map bytes c known = at_place (lookup (nat_eq c.id) (whole_parts (placed form h bytes))) refl known
     where
-      at_place : (o : Option Placed) → lookup (nat_eq c.id) (whole_parts (placed h bytes)) ≡ o →
-          IsSomeAnd (option_map tree_of o) (λ t. view.entry_of c ≡ entry (by One hash) t) →
-          Contains (whole_pages (placed h bytes)) c.id
+      at_place : (o : Option Placed) → lookup (nat_eq c.id) (whole_parts (placed form h bytes)) ≡ o →
+          IsSomeAnd (option_map tree_of o) (λ t. view.entry_of c ≡ entry (by form.version hash) t) →
+          Contains (whole_pages (placed form h bytes)) c.id
       at_place None e k = absurd k
       at_place (Some P) e k =
-          has_contains c.id (whole_pages (placed h bytes)) (sym (whole_has c.id (placed h bytes))
-          ∙ sym (is_some-lookup (nat_eq c.id) (whole_parts (placed h bytes))) ∙ ap is_some e)
+          has_contains c.id (whole_pages (placed form h bytes)) (sym (whole_has c.id (placed form h bytes))
+          ∙ sym (is_some-lookup (nat_eq c.id) (whole_parts (placed form h bytes))) ∙ ap is_some e)
 
-  held : (bytes : List ℕ) → IsOpen hash h es bytes → (c : Child) → MayFetch hash (stands_for h (Some bytes)) c →
+  held : (bytes : List ℕ) → IsOpen form hash h es bytes → (c : Child) → MayFetch hash (read_map form h (Some bytes)) c →
       (k : Kept) → lookup (nat_eq c.id) es ≡ Some k → IsThat c k
   held bytes op c may k e =
-      let on = on_page hash h es bytes op c may in
+      let on = on_page form is hash h es bytes op c may in
       let within = kept_of c.id k e in
       let good = s.good (c.id, k) within in
       let same : page_node (node_of k.node) ≡ on.node =
       some_same (page_node (node_of k.node)) on.node (sym (op.same (c.id, k) within) ∙ on.there) in
       record {
-        level = sym good.level ∙ level_known hash (node_of k.node) ∙ ap (λ m. (entry_of (by One hash) m).level) same
+        level = sym good.level ∙ level_known (by form.version hash) (node_of k.node) ∙ ap (λ m. (entry_of (by
+            form.version hash) m).level) same
             ∙ ap (λ (x : Entry). x.level) on.known;
-        digest = sym good.digest ∙ digest_known hash (node_of k.node) ∙ ap (λ m. (entry_of (by One hash) m).digest) same
+        digest = sym good.digest ∙ digest_known (by form.version hash) (node_of k.node) ∙ ap (λ m. (entry_of (by
+            form.version hash) m).digest) same
             ∙ ap (λ (x : Entry). x.digest) on.known;
       }
 
-  held_at : (bytes : List ℕ) → IsOpen hash h es bytes → (c : Child) → MayFetch hash (stands_for h (Some bytes)) c →
+  held_at : (bytes : List ℕ) → IsOpen form hash h es bytes → (c : Child) → MayFetch hash (read_map form h (Some bytes))
+      c →
       (o : Option Kept) → lookup (nat_eq c.id) es ≡ o → IsSome o → IsSomeAnd o (IsThat c)
   held_at bytes op c may None e some = let none : IsSome {T = Kept} None = some in cc
   held_at bytes op c may (Some k) e some = held bytes op c may k e
 
   pub none_missed : IsSome told → h.pages ≤ room + 1 → (c : Child) →
-      MayFetch hash (stands_for h (told_bytes told name)) c → IsHeld es c
-  none_missed is small c may = by_files told is s.there s.open_ may
+      MayFetch hash (read_map form h (told_bytes told name)) c → IsHeld es c
+  none_missed told_so small c may = by_files told told_so s.there s.open_ may
     where
-      by_bytes : (o : Option (List ℕ)) → IsSome o → IfSome o (IsOpen hash h es) → MayFetch hash (stands_for h o) c →
+      by_bytes : (o : Option (List ℕ)) → IsSome o → IfSome o (IsOpen form hash h es) →
+          MayFetch hash (read_map form h o) c →
           IsHeld es c
       by_bytes None some op may = let none : IsSome {T = List ℕ} None = some in cc
       by_bytes (Some bytes) some op may =
@@ -161,7 +167,7 @@ module _ (hash : List ℕ → List ℕ) (told : Option Files) (name : List ℕ) 
           (op.all small c.id (on_map bytes c (may.known refl)))
 
       by_files : (o : Option Files) → IsSome o → MatchOption o ⊤ (λ files. IsSome (file files name)) →
-          IfSome (told_bytes o name) (IsOpen hash h es) → MayFetch hash (stands_for h (told_bytes o name)) c →
+          IfSome (told_bytes o name) (IsOpen form hash h es) → MayFetch hash (read_map form h (told_bytes o name)) c →
           IsHeld es c
       by_files None some there op may = let none : IsSome {T = Files} None = some in cc
       by_files (Some files) some there op may = by_bytes (file files name) there op may
@@ -177,76 +183,79 @@ of_told (Some files) name P h = at_file (file files name) h
     at_file None h = tt
     at_file (Some bytes) h = h
 
-said_of : (hash : List ℕ → List ℕ) (at : ℕ → Option Node) (s : Standing) (c : Child) (on : IsOn hash at s c) →
+said_of : (hash : Scheme) (at : ℕ → Option Node) (s : Standing) (c : Child) (on : IsOn hash at s c) →
     IsSaid hash s.span c on.node
 said_of hash at s c on = record {
-  level = sym (level_is (by One hash) on.node) ∙ ap (λ (x : Entry). x.level) on.known;
+  level = sym (level_is hash on.node) ∙ ap (λ (x : Entry). x.level) on.known;
   digest = ap (λ (x : Entry). x.digest) on.known;
   inside = on.inside;
 }
 
-module _ (hash : List ℕ → List ℕ) (told : Option Files) (name : List ℕ) (h : MapHead) (es : Entries) (cap : ℕ)
-    (s : IsStore hash told name h es cap) (c : Child) (may : MayFetch hash (stands_for h (told_bytes told name)) c)
+module _ (form : Form) (is : IsForm form) (hash : List ℕ → List ℕ) (told : Option Files) (name : List ℕ) (h : MapHead)
+    (es : Entries) (cap : ℕ)
+    (s : IsStored form hash told name h es cap) (c : Child) (may : MayFetch hash (read_map form h (told_bytes told
+    name)) c)
   where
     -- what a read tells of the node on a page
-    told_node : {A : Type 0} (r : Result A NodesErr) (n : view.Node) (bytes : List ℕ) → IsOpen hash h es bytes →
-        (on : IsOn hash (file_of first_form bytes).node (stands_for h (Some bytes)) c) → c.id < h.pages →
-        TellsAgain hash h.pages c r n bytes → TellsNode on.node r n
+    told_node : {A : Type 0} (r : Result A NodesErr) (n : view.Node) (bytes : List ℕ) → IsOpen form hash h es bytes →
+        (on : IsOn (by form.version hash) (file_of form bytes).node (read_map form h (Some bytes)) c) → c.id < h.pages →
+        TellsAgain form hash h.pages c r n bytes → TellsNode on.node r n
     told_node r n bytes op on within t =
-        t (opened hash h es bytes op).whole within on.node on.there
-        (said_of hash (file_of first_form bytes).node (stands_for h (Some bytes)) c on)
+        t (opened form is hash h es bytes op).whole within on.node on.there
+        (said_of (by form.version hash) (file_of form bytes).node (read_map form h (Some bytes)) c on)
 
-    pub read_shows : {A : Type 0} (a : A) (n : view.Node) → IsRead hash h.pages c n →
-        OfFile told name ⊤ (TellsAgain {A = A} hash h.pages c (Ok a) n) →
-        Shows hash (stands_for h (told_bytes told name)) c n
+    pub read_shows : {A : Type 0} (a : A) (n : view.Node) → IsRead (by form.version hash) h.pages c n →
+        OfFile told name ⊤ (TellsAgain {A = A} form hash h.pages c (Ok a) n) →
+        Shows hash (read_map form h (told_bytes told name)) c n
     read_shows {A} a n r t =
-        by_bytes (told_bytes told name) s.open_ may (of_told told name (TellsAgain hash h.pages c (Ok a) n) t)
+        by_bytes (told_bytes told name) s.open_ may (of_told told name (TellsAgain form hash h.pages c (Ok a) n) t)
       where
-        by_bytes : (o : Option (List ℕ)) → IfSome o (IsOpen hash h es) → MayFetch hash (stands_for h o) c →
-            IfSome o (TellsAgain {A = A} hash h.pages c (Ok a) n) → Shows hash (stands_for h o) c n
+        by_bytes : (o : Option (List ℕ)) → IfSome o (IsOpen form hash h es) → MayFetch hash (read_map form h o) c →
+            IfSome o (TellsAgain {A = A} form hash h.pages c (Ok a) n) → Shows hash (read_map form h o) c n
         by_bytes None op may t =
-            untold_shows hash h.batch h.pages c n may.low r.shape r.told r.level r.digest r.inside
+            untold_shows (by form.version hash) h.batch h.pages c n may.low r.shape r.told r.level r.digest r.inside
         by_bytes (Some bytes) op may t =
-            let on = on_page hash h es bytes op c may in
+            let on = on_page form is hash h es bytes op c may in
             on.shows n (told_node (Ok a) n bytes op on may.within t) r.shape r.told may.low
 
     -- a file that is told is not missing
     missing : (before after : ℕ) → MayMiss told name before after →
-        IsNone (stands_for h (told_bytes told name)).tree × Rose before after
+        IsNone (read_map form h (told_bytes told name)).tree × Rose before after
     missing before after m = by_files told s.there m
       where
         by_files : (o : Option Files) → MatchOption o ⊤ (λ files. IsSome (file files name)) →
             MayMiss o name before after →
-            IsNone (stands_for h (told_bytes o name)).tree × Rose before after
+            IsNone (read_map form h (told_bytes o name)).tree × Rose before after
         by_files None there m = (refl, m)
         by_files (Some files) there m =
             let none : IsSome {T = List ℕ} None = subst (IsSome {T = List ℕ}) m there in cc
 
     -- what is blamed on the file is not told
     blamed : (A : Type 0) (e : NodesErr) (n : view.Node) →
-        OfFile told name ⊤ (TellsAgain {A = A} hash h.pages c (Err e) n) →
-        ((m : Node) → TellsNode {A = A} m (Err e) n → ⊥) → IsNone (stands_for h (told_bytes told name)).tree
+        OfFile told name ⊤ (TellsAgain {A = A} form hash h.pages c (Err e) n) →
+        ((m : Node) → TellsNode {A = A} m (Err e) n → ⊥) → IsNone (read_map form h (told_bytes told name)).tree
     blamed A e n t other =
-        by_bytes (told_bytes told name) s.open_ may (of_told told name (TellsAgain {A = A} hash h.pages c (Err e) n) t)
+        by_bytes (told_bytes told name) s.open_ may (of_told told name (TellsAgain {A = A} form hash h.pages c (Err e)
+        n) t)
       where
-        by_bytes : (o : Option (List ℕ)) → IfSome o (IsOpen hash h es) → MayFetch hash (stands_for h o) c →
-            IfSome o (TellsAgain {A = A} hash h.pages c (Err e) n) → IsNone (stands_for h o).tree
+        by_bytes : (o : Option (List ℕ)) → IfSome o (IsOpen form hash h es) → MayFetch hash (read_map form h o) c →
+            IfSome o (TellsAgain {A = A} form hash h.pages c (Err e) n) → IsNone (read_map form h o).tree
         by_bytes None op may t = refl
         by_bytes (Some bytes) op may t =
-            let on = on_page hash h es bytes op c may in
+            let on = on_page form is hash h es bytes op c may in
             absurd (other on.node (told_node {A = A} (Err e) n bytes op on may.within t))
 
-    span : (stands_for h (told_bytes told name)).span ≡ h.pages
+    span : (read_map form h (told_bytes told name)).span ≡ h.pages
     span = by_bytes (told_bytes told name)
       where
-        by_bytes : (o : Option (List ℕ)) → (stands_for h o).span ≡ h.pages
+        by_bytes : (o : Option (List ℕ)) → (read_map form h o).span ≡ h.pages
         by_bytes None = refl
         by_bytes (Some bytes) = refl
 
     pub read_cause : (A : Type 0) (before after : Shelved) (e : NodesErr) (n : view.Node) → before.files ≡ told →
-        OfFile told name ⊤ (TellsAgain {A = A} hash h.pages c (Err e) n) →
+        OfFile told name ⊤ (TellsAgain {A = A} form hash h.pages c (Err e) n) →
         IsRefused h.pages name c before after e →
-        HasCause (stands_for h (told_bytes told name)) c before.faults after.faults e
+        HasCause (read_map form h (told_bytes told name)) c before.faults after.faults e
     read_cause A before after (errors.Changed page held found) n same t r =
         (blamed A (errors.Changed page held found) n t (λ m other. other), r.0.0, r.0.1, r.0.2, r.2)
     read_cause A before after (errors.Page page) n same t r =
@@ -264,14 +273,15 @@ module _ (hash : List ℕ → List ℕ) (told : Option Files) (name : List ℕ) 
     -- ---- what stands afterwards
 
     pub larger : (IsHeld es c → ⊥) → IsSome told → room + 1 < h.pages
-    larger missed is = at_test (ltb (room + 1) h.pages) refl
+    larger missed told_so = at_test (ltb (room + 1) h.pages) refl
       where
         at_test : (b : Bool) → ltb (room + 1) h.pages ≡ b → room + 1 < h.pages
         at_test true e = ltb-true (room + 1) h.pages e
-        at_test false e = absurd (missed (none_missed hash told name h es cap s is (ltb-false (room + 1) h.pages e) c
+        at_test false e = absurd (missed (none_missed form is hash told name h es cap s told_so (ltb-false (room + 1)
+            h.pages e) c
             may))
 
-    pub still_store : (es' : Entries) (cap' : ℕ) → Stays es es' → cap' ≡ cap → IsStore hash told name h es' cap'
+    pub still_store : (es' : Entries) (cap' : ℕ) → Stays es es' → cap' ≡ cap → IsStored form hash told name h es' cap'
     still_store es' cap' stays same = record {
       few = s.few;
       paged = s.paged;
@@ -283,7 +293,7 @@ module _ (hash : List ℕ → List ℕ) (told : Option Files) (name : List ℕ) 
       open_ = by_bytes (told_bytes told name) s.open_;
     }
       where
-        by_bytes : (o : Option (List ℕ)) → IfSome o (IsOpen hash h es) → IfSome o (IsOpen hash h es')
+        by_bytes : (o : Option (List ℕ)) → IfSome o (IsOpen form hash h es) → IfSome o (IsOpen form hash h es')
         by_bytes None op = tt
         by_bytes (Some bytes) op = record {
           are = op.are;
@@ -293,9 +303,10 @@ module _ (hash : List ℕ → List ℕ) (told : Option Files) (name : List ℕ) 
           all = λ small page on. stays.none_lost page (op.all small page on);
         }
 
-    pub grown_store : {A : Type 0} (a : A) (n : view.Node) (es' : Entries) (cap' : ℕ) → IsRead hash h.pages c n →
-        OfFile told name ⊤ (TellsAgain {A = A} hash h.pages c (Ok a) n) → Gains cap es es' c n → cap' ≡ cap →
-        (IsHeld es c → ⊥) → IsStore hash told name h es' cap'
+    pub grown_store : {A : Type 0} (a : A) (n : view.Node) (es' : Entries) (cap' : ℕ) →
+        IsRead (by form.version hash) h.pages c n →
+        OfFile told name ⊤ (TellsAgain {A = A} form hash h.pages c (Ok a) n) → Gains cap es es' c n → cap' ≡ cap →
+        (IsHeld es c → ⊥) → IsStored form hash told name h es' cap'
     grown_store {A} a n es' cap' r t g same missed = record {
       few = s.few;
       paged = s.paged;
@@ -304,23 +315,25 @@ module _ (hash : List ℕ → List ℕ) (told : Option Files) (name : List ℕ) 
       cap = same ∙ s.cap;
       good = λ e within. elim (g.each e within) [ inl old ↦ s.good e old | inr new' ↦ good_of e new' ];
       there = s.there;
-      open_ = by_files told s.there s.open_ may t (λ is small. missed (none_missed hash told name h es cap s is small c
+      open_ = by_files told s.there s.open_ may t (λ told_so small. missed (none_missed form is hash told name h es cap
+          s told_so small c
           may));
     }
       where
-        good_of : (e : ℕ × Kept) → IsKeptOf c n e → IsGood hash h.pages e.1
+        good_of : (e : ℕ × Kept) → IsKeptOf c n e → IsGood (by form.version hash) h.pages e.1
         good_of e k = record {
           shape = subst HasShape (sym k.node) r.shape;
           level = ap view.level_of k.node ∙ r.level ∙ sym k.that.level;
-          told = subst (view.AreTold One) (sym k.node) r.told;
-          digest = ap (λ m. hash (view.preimage_of One m)) k.node ∙ r.digest ∙ sym k.that.digest;
+          told = subst (view.AreTold form.version) (sym k.node) r.told;
+          digest = ap (λ m. hash (view.preimage_of form.version m)) k.node ∙ r.digest ∙ sym k.that.digest;
           inside = subst (AreInside h.pages) (sym k.node) r.inside;
         }
 
-        by_bytes : (bytes : List ℕ) → IsOpen hash h es bytes → MayFetch hash (stands_for h (Some bytes)) c →
-            TellsAgain {A = A} hash h.pages c (Ok a) n bytes → (h.pages ≤ room + 1 → ⊥) → IsOpen hash h es' bytes
+        by_bytes : (bytes : List ℕ) → IsOpen form hash h es bytes → MayFetch hash (read_map form h (Some bytes)) c →
+            TellsAgain {A = A} form hash h.pages c (Ok a) n bytes → (h.pages ≤ room + 1 → ⊥) →
+            IsOpen form hash h es' bytes
         by_bytes bytes op may t large =
-            let on = on_page hash h es bytes op c may in
+            let on = on_page form is hash h es bytes op c may in
             let shown : page_node n ≡ on.node = told_node (Ok a) n bytes op on may.within t in
             record {
               are = op.are;
@@ -328,22 +341,23 @@ module _ (hash : List ℕ → List ℕ) (told : Option Files) (name : List ℕ) 
               head = op.head;
               same = λ e within. elim (g.each e within) [
                 | inl old ↦ op.same e old
-                | inr new' ↦ ap (file_of first_form bytes).node new'.page ∙ on.there ∙ ap Some (sym shown)
+                | inr new' ↦ ap (file_of form bytes).node new'.page ∙ on.there ∙ ap Some (sym shown)
                     ∙ ap (λ m. Some (page_node m)) (sym new'.node)
               ];
               all = λ small page within. absurd (large small);
             }
 
-        at_bytes : (o : Option (List ℕ)) → IsSome o → IfSome o (IsOpen hash h es) → MayFetch hash (stands_for h o) c →
-            MatchOption o ⊤ (TellsAgain {A = A} hash h.pages c (Ok a) n) → (h.pages ≤ room + 1 → ⊥) →
-            IfSome o (IsOpen hash h es')
+        at_bytes : (o : Option (List ℕ)) → IsSome o → IfSome o (IsOpen form hash h es) →
+            MayFetch hash (read_map form h o) c →
+            MatchOption o ⊤ (TellsAgain {A = A} form hash h.pages c (Ok a) n) → (h.pages ≤ room + 1 → ⊥) →
+            IfSome o (IsOpen form hash h es')
         at_bytes None some op may t large = tt
         at_bytes (Some bytes) some op may t large = by_bytes bytes op may t large
 
         by_files : (o : Option Files) → MatchOption o ⊤ (λ files. IsSome (file files name)) →
-            IfSome (told_bytes o name) (IsOpen hash h es) → MayFetch hash (stands_for h (told_bytes o name)) c →
-            OfFile o name ⊤ (TellsAgain {A = A} hash h.pages c (Ok a) n) →
-            (IsSome o → h.pages ≤ room + 1 → ⊥) → IfSome (told_bytes o name) (IsOpen hash h es')
+            IfSome (told_bytes o name) (IsOpen form hash h es) → MayFetch hash (read_map form h (told_bytes o name)) c →
+            OfFile o name ⊤ (TellsAgain {A = A} form hash h.pages c (Ok a) n) →
+            (IsSome o → h.pages ≤ room + 1 → ⊥) → IfSome (told_bytes o name) (IsOpen form hash h es')
         by_files None there op may t large = tt
         by_files (Some files) there op may t large =
             at_bytes (file files name) there op may t (large refl)

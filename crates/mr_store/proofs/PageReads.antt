@@ -1,6 +1,6 @@
 -- What is judged of a page that was read.
 use Rattle.std.proofs.Common.{◌≡◌, ℕ, zero, suc, ◌+◌, ◌<◌, ◌≤◌, Bool, true, false, List, [], ◌∷◌, map, length, get_or, take, inl, inr, refl, sym, ap, subst, ◌∙◌, arith}
-use Rattle.std.specs.Prelude.{◌==◌, ◌||◌, ◌⊎◌, ⊤, nat_le, bytes_eq, All, Option, Some, None, Result, Ok, Err, IfErr, MatchOption, if◌then◌else◌}
+use Rattle.std.specs.Prelude.{◌==◌, ◌||◌, ◌⊎◌, ⊤, nat_le, bytes_eq, All, Option, Some, None, Result, Ok, Err, IfErr, OnOk, MatchOption, if◌then◌else◌}
 use Rattle.std.specs.List.{AllByRecursion}
 use Rattle.std.proofs.lemmas.Bool.{ne_eqb, le-leb, leb-true}
 use Rattle.std.proofs.lemmas.List.{take_all}
@@ -14,19 +14,18 @@ use Rattle.mr_tree.specs.declared.nodes.NodesErr.TheVariants as errors
 use Rattle.mr_tree.specs.declared.tree.Tree.TheOpen.{Empty, Leaf, Inner}
 use Rattle.mr_outside.specs.declared.shelf.ShelfErr.{ShelfErr}
 use Rattle.mr_outside.specs.declared.shelf.ShelfErr.TheVariants as shelf
-use Rattle.mr_pages.specs.Page.{Node, level_of, entry_of}
-use Rattle.mr_pages.specs.PageBytes.{first_form, SpellsNode}
+use Rattle.mr_pages.specs.Page.{Node, Form, level_of, entry_of}
+use Rattle.mr_pages.specs.PageBytes.{SpellsNode}
 use Rattle.mr_pages.specs.Source.{IsPage, TellsPage}
 use Rattle.mr_pages.specs.Faults.{of_level}
 use Rattle.mr_pages.specs.Walking.{child_link, page_node, Shows}
-use Rattle.mr_record.specs.declared.version.Version.TheVariants.{One}
-use Rattle.mr_tree.specs.Digest.{by}
+use Rattle.mr_tree.specs.Digest.{Scheme, by}
 use Rattle.mr_pages.proofs.Judged.{level_same}
 use Rattle.mr_pages.proofs.ViewPages.{node_tells}
 use Rattle.mr_pages.proofs.Visits.{shape_of}
 use Rattle.mr_store.specs.Told.{digest_known}
 use Rattle.mr_store.specs.Kept.{AreInside}
-use Rattle.mr_store.specs.Again.{outside_in, outside_of, unless_outside, judged_node, judged, Judges, IsGiven, IsRead, IsSaid, TellsNode, TellsAgain, Refuses}
+use Rattle.mr_store.specs.Again.{outside_in, outside_of, unless_outside, judged_node, judged, Judges, IsGiven, IsRead, IsSaid, TellsNode, TellsAgain, HasNode, Refuses}
 
 -- ---- the node
 
@@ -44,17 +43,17 @@ pub shown_is : (shown : Bool) (n : view.Node) (level : ℕ) (o : Option Node) (m
 shown_is true n level o m s yes' e = at_level level m n (ap (of_level level) (sym e) ∙ s)
 shown_is false n level o m s yes' e = cc
 
-pub digest_shown : (hash : List ℕ → List ℕ) (pages : ℕ) (c : Child) (n : view.Node) (m : Node) (found : List ℕ) →
-    page_node n ≡ m → IsSaid hash pages c m → found ≡ hash (view.preimage_of One n) → c.digest ≡ found
+pub digest_shown : (hash : Scheme) (pages : ℕ) (c : Child) (n : view.Node) (m : Node) (found : List ℕ) →
+    page_node n ≡ m → IsSaid hash pages c m → found ≡ hash.of (view.preimage_of hash.version n) → c.digest ≡ found
 digest_shown hash pages c n m found e said is =
-    sym said.digest ∙ ap (λ k. (entry_of (by One hash) k).digest) (sym e) ∙ sym (digest_known hash n) ∙ sym is
+    sym said.digest ∙ ap (λ k. (entry_of hash k).digest) (sym e) ∙ sym (digest_known hash n) ∙ sym is
 
-pub read_of : (hash : List ℕ → List ℕ) (pages : ℕ) (c : Child) (n : view.Node) (page found : List ℕ) → view.IsView n →
-    SpellsNode first_form c.level page (page_node n) → found ≡ hash (view.preimage_of One n) → c.digest ≡ found →
-    AreInside pages n → IsRead hash pages c n
-read_of hash pages c n page found v is digest same inside = record {
-  shape = shape_of One n v is.fits (node_tells One n is.fits);
-  told = node_tells One n is.fits;
+pub read_of : (form : Form) (hash : List ℕ → List ℕ) (pages : ℕ) (c : Child) (n : view.Node) (page found : List ℕ) →
+    view.IsView n → SpellsNode form c.level page (page_node n) → found ≡ hash (view.preimage_of form.version n) →
+    c.digest ≡ found → AreInside pages n → IsRead (by form.version hash) pages c n
+read_of form hash pages c n page found v is digest same inside = record {
+  shape = shape_of form.version n v is.fits (node_tells form.version n is.fits);
+  told = node_tells form.version n is.fits;
   level = level_same n ∙ is.level;
   digest = sym digest ∙ sym same;
   inside = inside;
@@ -62,18 +61,35 @@ read_of hash pages c n page found v is digest same inside = record {
 
 -- ---- what a file tells
 
-pub again_told : {A : Type 0} (hash : List ℕ → List ℕ) (told : Option Files) (name : List ℕ) (pages : ℕ) (c : Child)
-    (p : List ℕ) (r : Result A NodesErr) (n : view.Node) → OfFile told name ⊥ (TellsPage first_form c.id p) →
-    ((m : Node) → first_form.node_in p ≡ Some m → IsSaid hash pages c m → TellsNode m r n) →
-    OfFile told name ⊤ (TellsAgain hash pages c r n)
-again_told {A} hash None name pages c p r n t j = tt
-again_told {A} hash (Some files) name pages c p r n t j = here (file files name) t
-  where
-    here : (o : Option (List ℕ)) → MatchOption o ⊥ (TellsPage first_form c.id p) →
-        MatchOption o ⊤ (TellsAgain {A = A} hash pages c r n)
-    here None t = tt
-    here (Some bytes) t = λ whole within m there said.
-        j m (ap first_form.node_in (t pages whole within) ∙ there) said
+module _ {A : Type 0} (form : Form) (name : List ℕ) (pages : ℕ) (c : Child) (p : List ℕ) (r : Result A NodesErr)
+    (n : view.Node) where
+  pub again_told : (hash : List ℕ → List ℕ) (told : Option Files) → OfFile told name ⊥ (TellsPage form c.id p) →
+      ((m : Node) → form.node_in p ≡ Some m → IsSaid (by form.version hash) pages c m → TellsNode m r n) →
+      OfFile told name ⊤ (TellsAgain form hash pages c r n)
+  again_told hash None t j = tt
+  again_told hash (Some files) t j = here (file files name) t
+    where
+      here : (o : Option (List ℕ)) → MatchOption o ⊥ (TellsPage form c.id p) →
+          MatchOption o ⊤ (TellsAgain {A = A} form hash pages c r n)
+      here None t = tt
+      here (Some bytes) t = λ whole within m there said.
+          j m (ap form.node_in (t pages whole within) ∙ there) said
+
+  -- the file has what was read
+  pub has_node : (told : Option Files) → OfFile told name ⊥ (TellsPage form c.id p) →
+      form.node_in p ≡ Some (page_node n) → OfFile told name ⊤ (HasNode form pages c.id n)
+  has_node None t is = tt
+  has_node (Some files) t is = here (file files name) t
+    where
+      here : (o : Option (List ℕ)) → MatchOption o ⊥ (TellsPage form c.id p) →
+          MatchOption o ⊤ (HasNode form pages c.id n)
+      here None t = tt
+      here (Some bytes) t = λ whole within. ap form.node_in (sym (t pages whole within)) ∙ is
+
+-- what follows of a node that is shown
+pub if_shown : {A E : Type 0} (r : Result A E) (P Q : Type 0) → (P → Q) → OnOk r P → OnOk r Q
+if_shown (Ok a) P Q f p = f p
+if_shown (Err e) P Q f p = tt
 
 -- ---- the first child whose page is outside
 
@@ -144,12 +160,12 @@ module _ (pages : ℕ) where
 
 -- ---- what a page gives
 
-module _ (hash : List ℕ → List ℕ) (pages : ℕ) (c : Child) (page : List ℕ) where
+module _ (form : Form) (hash : List ℕ → List ℕ) (pages : ℕ) (c : Child) (page : List ℕ) where
   -- it spells no node of the child's level
-  pub none_judged : (shown : Bool) (n : view.Node) → Shows shown n (of_level c.level (first_form.node_in page)) →
-      shown ≡ false → judged hash pages c page ≡ Err (errors.Page c.id)
+  pub none_judged : (shown : Bool) (n : view.Node) → Shows shown n (of_level c.level (form.node_in page)) →
+      shown ≡ false → judged form hash pages c page ≡ Err (errors.Page c.id)
   none_judged true n s e = cc
-  none_judged false n s e = ap (judged_node hash pages c) s
+  none_judged false n s e = ap (judged_node (by form.version hash) pages c) s
 
   wanted : (shown : Bool) (n : view.Node) (o : Option Node) → Shows shown n o → shown ≡ true → o ≡ Some (page_node n)
   wanted true n o s e = s
@@ -157,29 +173,29 @@ module _ (hash : List ℕ → List ℕ) (pages : ℕ) (c : Child) (page : List �
 
   -- it spells the node of a view
   module _ (shown : Bool) (n : view.Node) (found : List ℕ)
-      (shows : Shows shown n (of_level c.level (first_form.node_in page))) (is : shown ≡ true)
-      (digest : found ≡ hash (view.preimage_of One n)) where
-    at_test : (b : Bool) → bytes_eq c.digest found ≡ b → judged hash pages c page
+      (shows : Shows shown n (of_level c.level (form.node_in page))) (is : shown ≡ true)
+      (digest : found ≡ hash (view.preimage_of form.version n)) where
+    at_test : (b : Bool) → bytes_eq c.digest found ≡ b → judged form hash pages c page
         ≡ (if b then unless_outside (page_node n) (outside_of pages (page_node n))
         else Err (errors.Changed c.id c.digest found))
     at_test b e =
-        ap (judged_node hash pages c) (wanted shown n (of_level c.level (first_form.node_in page)) shows is)
+        ap (judged_node (by form.version hash) pages c) (wanted shown n (of_level c.level (form.node_in page)) shows is)
         ∙ ap (λ d. if bytes_eq c.digest d then unless_outside (page_node n) (outside_of pages (page_node n))
-        else Err (errors.Changed c.id c.digest d)) (sym (digest ∙ digest_known hash n))
+        else Err (errors.Changed c.id c.digest d)) (sym (digest ∙ digest_known (by form.version hash) n))
         ∙ ap (λ t. if t then unless_outside (page_node n) (outside_of pages (page_node n))
         else Err (errors.Changed c.id c.digest found)) e
 
     pub changed_judged : bytes_eq c.digest found ≡ false →
-        judged hash pages c page ≡ Err (errors.Changed c.id c.digest found)
+        judged form hash pages c page ≡ Err (errors.Changed c.id c.digest found)
     changed_judged e = at_test false e
 
     pub same_judged : (o : Option ℕ) → bytes_eq c.digest found ≡ true → o ≡ outside_of pages (page_node n) →
-        judged hash pages c page ≡ unless_outside (page_node n) o
+        judged form hash pages c page ≡ unless_outside (page_node n) o
     same_judged o e out = at_test true e ∙ ap (unless_outside (page_node n)) (sym out)
 
   -- what is answered of a page that was read
-  pub given_by : {A : Type 0} (r : Result A NodesErr) (n : view.Node) → IsPage first_form page →
-      Judges r n (judged hash pages c page) → IfErr r (IsGiven hash pages c)
+  pub given_by : {A : Type 0} (r : Result A NodesErr) (n : view.Node) → IsPage form page →
+      Judges r n (judged form hash pages c page) → IfErr r (IsGiven form hash pages c)
   given_by (Ok a) n is j = tt
   given_by (Err (errors.Changed p held found)) n is j = record { page = page; is = is; gives = j }
   given_by (Err (errors.Page p)) n is j = record { page = page; is = is; gives = j }
@@ -189,8 +205,8 @@ module _ (hash : List ℕ → List ℕ) (pages : ℕ) (c : Child) (page : List �
   given_by (Err errors.NoMemory) n is j = tt
 
 -- nothing is said of a page by a read that failed
-pub failed_given : (hash : List ℕ → List ℕ) (pages : ℕ) (c : Child) (error : ShelfErr) (e : NodesErr) →
-    Refuses error e → IsGiven hash pages c e
-failed_given hash pages c shelf.Missing e r = subst (IsGiven hash pages c) (sym r) tt
-failed_given hash pages c shelf.Fault e r = subst (IsGiven hash pages c) (sym r) tt
-failed_given hash pages c shelf.NoMemory e r = subst (IsGiven hash pages c) (sym r) tt
+pub failed_given : (form : Form) (hash : List ℕ → List ℕ) (pages : ℕ) (c : Child) (error : ShelfErr) (e : NodesErr) →
+    Refuses error e → IsGiven form hash pages c e
+failed_given form hash pages c shelf.Missing e r = subst (IsGiven form hash pages c) (sym r) tt
+failed_given form hash pages c shelf.Fault e r = subst (IsGiven form hash pages c) (sym r) tt
+failed_given form hash pages c shelf.NoMemory e r = subst (IsGiven form hash pages c) (sym r) tt

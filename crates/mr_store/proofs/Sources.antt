@@ -9,61 +9,66 @@ use Rattle.std.proofs.lemmas.Map.Steps.{length-le_from_distinct_below}
 use Rattle.lru.specs.LruCache.{LruCache, IsValid}
 use Rattle.lru.proofs.Splits.{all_from, all_map}
 use Rattle.mr_outside.specs.Files.{Files}
-use Rattle.mr_record.specs.declared.version.Version.TheVariants.{One}
+use Rattle.mr_tree.specs.Digest.{by}
 use Rattle.mr_tree.specs.View as view
 use Rattle.mr_tree.specs.declared.child.Child.{Child}
 use Rattle.mr_pages.specs.declared.node.Node as owned_type
-use Rattle.mr_pages.specs.PageBytes.{first_form}
+use Rattle.mr_pages.specs.Page.{Form}
 use Rattle.mr_pages.specs.File.{file_of}
 use Rattle.mr_pages.specs.Walking.{page_node}
-use Rattle.mr_pages.specs.Source.{HasPages, IsPaged, MayKeep}
+use Rattle.mr_pages.specs.Source.{told_bytes, HasPages, IsPaged, MayKeep}
 use Rattle.mr_pages.proofs.Lists.{all_has}
 use Rattle.mr_store.specs.declared.kept.Kept.{Kept}
-use Rattle.mr_store.specs.Kept.{Entries, node_of, AreInside, IsKeptOf, Gains}
-use Rattle.mr_store.specs.Stored.{told_bytes, room}
-use Rattle.mr_store.specs.Paging.{Holds, IsGoodEntry, IsFileOf, IsPaging}
+use Rattle.mr_store.specs.Kept.{Entries, room, node_of, AreInside, IsKeptOf, Gains}
+use Rattle.mr_store.specs.Paging.{Holds, IsGoodEntry, IsFileOf, IsPaging, IsUnchecked}
+use Rattle.mr_store.specs.declared.cached_file.CachedFile.{CachedFile}
+use Rattle.mr_store.specs.CachedFile.{state_of, name_of, page_form, entries_of, OnlyKeeps}
+use Rattle.mr_outside.specs.declared.shelf.Shelf.{Ghosts}
+use Rattle.mr_pages.specs.PageBytes.{form_of}
+use Rattle.mr_pages.specs.declared.layout.Layout.{Layout}
+use Rattle.std.specs.String.{string_bytes}
 
 -- ---- the file
 
 -- where the files are told, it has so many pages
-pub paged : (hash : List ℕ → List ℕ) (told : Option Files) (name : List ℕ) (pages : ℕ) (first : List ℕ)
-    (es : Entries) (size : ℕ) → IsPaging hash told name pages first es size → IsPaged first_form pages told name
-paged hash told name pages first es size s =
+pub paged : (form : Form) (hash : List ℕ → List ℕ) (told : Option Files) (name : List ℕ) (pages : ℕ) (first : List ℕ)
+    (es : Entries) (size : ℕ) → IsPaging form hash told name pages first es size → IsPaged form pages told name
+paged form hash told name pages first es size s =
     record { there = s.there; file_ = of_bytes (told_bytes told name) s.file_ }
   where
-    of_bytes : (o : Option (List ℕ)) → IfSome o (IsFileOf pages es) → IfSome o (HasPages first_form pages)
+    of_bytes : (o : Option (List ℕ)) → IfSome o (IsFileOf form pages es) → IfSome o (HasPages form pages)
     of_bytes None f = tt
     of_bytes (Some bytes) f = record { are = f.are; even = f.even; count = f.count }
 
 -- ---- what is kept
 
-module _ (hash : List ℕ → List ℕ) (told : Option Files) (name : List ℕ) (pages : ℕ) (first : List ℕ)
-    (c d : LruCache ℕ Kept) (s : IsPaging hash told name pages first c.entries c.cap) (child : Child) (n :
+module _ (form : Form) (hash : List ℕ → List ℕ) (told : Option Files) (name : List ℕ) (pages : ℕ) (first : List ℕ)
+    (c d : LruCache ℕ Kept) (s : IsPaging form hash told name pages first c.entries c.cap) (child : Child) (n :
     owned_type.Node)
     (faults reads : ℕ)
     (may : MayKeep hash (record {
-      origin = record { name = name; files = told; form = first_form; lent = 0 };
+      origin = record { name = name; files = told; form = form; lent = 0 };
       pages = pages;
-      file = option_map (file_of first_form) (told_bytes told name);
+      file = option_map (file_of form) (told_bytes told name);
       faults = faults;
       reads = reads;
     }) child n) where
-  good_entry : (e : ℕ × Kept) → IsKeptOf child (node_of n) e → IsGoodEntry hash pages e
+  good_entry : (e : ℕ × Kept) → IsKeptOf child (node_of n) e → IsGoodEntry (by form.version hash) pages e
   good_entry e k = record {
     low = subst (λ p. 1 ≤ p) (sym k.page) may.low;
     within = subst (λ p. p < pages) (sym k.page) may.place;
     good = record {
       shape = subst Rattle.mr_tree.specs.Snapshot.HasShape (sym k.node) may.known.shape;
       level = ap view.level_of k.node ∙ may.known.level ∙ sym k.that.level;
-      told = subst (view.AreTold One) (sym k.node) may.known.told;
-      digest = ap (λ m. hash (view.preimage_of One m)) k.node ∙ may.known.digest ∙ sym k.that.digest;
+      told = subst (view.AreTold form.version) (sym k.node) may.known.told;
+      digest = ap (λ m. hash (view.preimage_of form.version m)) k.node ∙ may.known.digest ∙ sym k.that.digest;
       inside = subst (AreInside pages) (sym k.node) may.inside;
     };
   }
 
   grown_file : Gains c.cap c.entries d.entries child (node_of n) → (o : Option (List ℕ)) →
-      IfSome (option_map (file_of first_form) o) (λ f. f.node child.id ≡ Some (page_node (node_of n))) →
-      IfSome o (IsFileOf pages c.entries) → IfSome o (IsFileOf pages d.entries)
+      IfSome (option_map (file_of form) o) (λ f. f.node child.id ≡ Some (page_node (node_of n))) →
+      IfSome o (IsFileOf form pages c.entries) → IfSome o (IsFileOf form pages d.entries)
   grown_file g None t f = tt
   grown_file g (Some bytes) t f = record {
     are = f.are;
@@ -71,12 +76,12 @@ module _ (hash : List ℕ → List ℕ) (told : Option Files) (name : List ℕ) 
     count = f.count;
     same = λ e within. elim (g.each e within) [
       | inl old ↦ f.same e old
-      | inr new' ↦ ap (file_of first_form bytes).node new'.page ∙ t ∙ ap (λ m. Some (page_node m)) (sym new'.node)
+      | inr new' ↦ ap (file_of form bytes).node new'.page ∙ t ∙ ap (λ m. Some (page_node m)) (sym new'.node)
     ];
   }
 
   grown : Gains c.cap c.entries d.entries child (node_of n) → d.cap ≡ c.cap →
-      IsPaging hash told name pages first d.entries d.cap
+      IsPaging form hash told name pages first d.entries d.cap
   grown g same = record {
     some = s.some;
     few = s.few;
@@ -89,10 +94,10 @@ module _ (hash : List ℕ → List ℕ) (told : Option Files) (name : List ℕ) 
 
   pub still_paging : {A E : Type 0} (r : Result A E) →
       OnOk r (Gains c.cap c.entries d.entries child (node_of n)) → OnErr r (d ≡ c) → d.cap ≡ c.cap →
-      IsPaging hash told name pages first d.entries d.cap
+      IsPaging form hash told name pages first d.entries d.cap
   still_paging (Ok a) g e same = grown g same
   still_paging (Err x) g e same =
-      subst (λ (m : LruCache ℕ Kept). IsPaging hash told name pages first m.entries m.cap) (sym e) s
+      subst (λ (m : LruCache ℕ Kept). IsPaging form hash told name pages first m.entries m.cap) (sym e) s
 
   -- ---- there is room for all pages of a small file
 
@@ -140,3 +145,18 @@ module _ (hash : List ℕ → List ℕ) (told : Option Files) (name : List ℕ) 
       g.none_lost (roomy valid small (lookup (nat_eq child.id) c.entries) refl) page (h small)
   keeps_more (Err x) valid g e page h =
       subst (λ (m : LruCache ℕ Kept). Holds pages m.entries page) (sym e) h
+
+-- ---- a file with its cache in which a node was kept
+
+pub unchecked_at : {S : Type 0} {G : Ghosts S} (hash : List ℕ → List ℕ) (f f' : CachedFile S G) (first : List ℕ) →
+    OnlyKeeps f f' →
+    IsPaging (page_form f) hash (state_of f).files (name_of f) f.pages first (entries_of f') f'.cache.cap →
+    IsUnchecked hash f' first
+unchecked_at {S} {G} hash f f' first k s =
+    subst (λ l. Q f'.shelf (name_of f') l f'.pages) (sym k.file.layout)
+    (subst (λ x. Q x (name_of f') f.layout f'.pages) (sym k.shelf)
+    (subst (λ n. Q f.shelf (string_bytes n) f.layout f'.pages) (sym k.file.name)
+    (subst (λ p. Q f.shelf (name_of f) f.layout p) (sym k.file.pages) s)))
+  where
+    Q : S → List ℕ → Layout → ℕ → Type 0
+    Q x n l p = IsPaging (form_of l) hash (G.state x).files n p first (entries_of f') f'.cache.cap

@@ -34,6 +34,7 @@ use Rattle.mr_pages.specs.Judging.{Fills, has_said, fits_entry}
 use Rattle.mr_pages.specs.Walking.{child_link, Saw, Counts}
 use Rattle.mr_pages.specs.declared.seen.Seen.{Seen}
 use Rattle.mr_pages.proofs.Building.{FilledAs, leaf_there, inner_there, filled_leaf, filled_inner, first_is, one_of, leaf_filled, inner_filled, filled_below, of_images}
+use Rattle.mr_pages.proofs.Fits.{first_of_both, second_of_both, level_known, rect_known, mask_known, count_known}
 use Rattle.mr_pages.proofs.Lists.{Fresh, repeats_fresh, fresh_append, all_append, all_weaker, all_right, fresh_left, fresh_right, fresh_repeats}
 use Rattle.mr_pages.proofs.PageLaws.{both_true}
 use Rattle.mr_pages.proofs.Rules.{same_rect_is, same_rect_self}
@@ -88,51 +89,7 @@ not_true : (b : Bool) → not b ≡ true → b ≡ false
 not_true true e = cc
 not_true false e = refl
 
-first_of_both : (a b : Bool) → (a && b) ≡ true → a ≡ true
-first_of_both true b e = refl
-first_of_both false b e = e
-
-second_of_both : (a b : Bool) → (a && b) ≡ true → b ≡ true
-second_of_both true b e = e
-second_of_both false b e = cc
-
 -- ---- what is said of a node that a view shows
-
-pub levels : (cs : List Child) → map (λ (e : Entry). e.level) (map view.entry_of cs) ≡ map (λ (c : Child). c.level) cs
-levels [] = refl
-levels (c ∷ cs) = ap (λ ns. c.level ∷ ns) (levels cs)
-
-rects : (cs : List Child) → map (λ (e : Entry). e.rect) (map view.entry_of cs) ≡ map (λ (c : Child). Some c.rect) cs
-rects [] = refl
-rects (c ∷ cs) = ap (λ rs. Some c.rect ∷ rs) (rects cs)
-
-masks : (cs : List Child) → map (λ (e : Entry). e.mask) (map view.entry_of cs) ≡ map (λ (c : Child). c.mask) cs
-masks [] = refl
-masks (c ∷ cs) = ap (λ ms. c.mask ∷ ms) (masks cs)
-
-counts : (cs : List Child) → map (λ (e : Entry). e.count) (map view.entry_of cs) ≡ map (λ (c : Child). c.count) cs
-counts [] = refl
-counts (c ∷ cs) = ap (λ ns. c.count ∷ ns) (counts cs)
-
-level_known : (x : Scheme) (n : view.Node) → (view.entry_over x n).level ≡ view.level_of n
-level_known x Empty = refl
-level_known x (Leaf rs) = refl
-level_known x (Inner cs) = ap (λ ns. first_level ns + 1) (levels cs)
-
-rect_known : (x : Scheme) (n : view.Node) → (view.entry_over x n).rect ≡ view.rect_of n
-rect_known x Empty = refl
-rect_known x (Leaf rs) = refl
-rect_known x (Inner cs) = ap union_of (rects cs)
-
-mask_known : (x : Scheme) (n : view.Node) → (view.entry_over x n).mask ≡ view.mask_over x.version n
-mask_known x Empty = refl
-mask_known x (Leaf rs) = refl
-mask_known x (Inner cs) = ap mask_of (masks cs)
-
-count_known : (x : Scheme) (n : view.Node) → (view.entry_over x n).count ≡ view.count_over x.version n
-count_known x Empty = refl
-count_known x (Leaf rs) = refl
-count_known x (Inner cs) = ap sum (counts cs)
 
 -- a node that was fetched and is fit suits
 has_count : (root : Bool) (a b : ℕ) → (root || a == b) ≡ true → (root ≡ true → b ≡ a) → a ≡ b

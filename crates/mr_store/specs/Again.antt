@@ -11,11 +11,9 @@ use Rattle.mr_tree.specs.Snapshot.{HasShape}
 use Rattle.mr_tree.specs.declared.child.Child.{Child}
 use Rattle.mr_tree.specs.declared.nodes.NodesErr.{NodesErr}
 use Rattle.mr_tree.specs.declared.nodes.NodesErr.TheVariants as errors
-use Rattle.mr_record.specs.declared.version.Version.TheVariants.{One}
-use Rattle.mr_tree.specs.Digest.{by}
+use Rattle.mr_tree.specs.Digest.{Scheme, by}
 use Rattle.mr_tree.specs.declared.tree.Tree.TheOpen.{Empty, Leaf, Inner}
-use Rattle.mr_pages.specs.Page.{Link, Node, level_of, entry_of}
-use Rattle.mr_pages.specs.PageBytes.{page_size, first_form}
+use Rattle.mr_pages.specs.Page.{Link, Node, Form, level_of, entry_of}
 use Rattle.mr_pages.specs.File.{file_of}
 use Rattle.mr_pages.specs.Faults.{of_level}
 use Rattle.mr_pages.specs.Source.{IsPage}
@@ -48,19 +46,19 @@ unless_outside m (Some page) = Err (errors.Outside page)
 
 -- a node that a page spells, if it is what is said of the child: if it has the digest, and then if
 -- it names no page outside
-abbrev pub judged_node : (List ℕ → List ℕ) → (pages : ℕ) → Child → Option Node →
-    Result Node NodesErr
-judged_node hash pages c None = Err (errors.Page c.id)
-judged_node hash pages c (Some m) =
-    if bytes_eq c.digest (entry_of (by One hash) m).digest
+abbrev pub judged_node : Scheme → (pages : ℕ) → Child → Option Node → Result Node NodesErr
+judged_node s pages c None = Err (errors.Page c.id)
+judged_node s pages c (Some m) =
+    if bytes_eq c.digest (entry_of s m).digest
     then unless_outside m (outside_of pages m)
-    else Err (errors.Changed c.id c.digest (entry_of (by One hash) m).digest)
+    else Err (errors.Changed c.id c.digest (entry_of s m).digest)
 
 -- What the bytes of a page in a file of so many pages give as the node of the child: the node of
 -- the child's level that they spell, or why it is refused.
-abbrev pub judged : (List ℕ → List ℕ) → (pages : ℕ) → Child → (page : List ℕ) → Result Node NodesErr
-judged hash pages c page =
-    judged_node hash pages c (of_level c.level (first_form.node_in page))
+abbrev pub judged : Form → (List ℕ → List ℕ) → (pages : ℕ) → Child → (page : List ℕ) →
+    Result Node NodesErr
+judged form hash pages c page =
+    judged_node (by form.version hash) pages c (of_level c.level (form.node_in page))
 
 -- just that is answered, and a node is shown
 abbrev pub Judges : {A : Type 0} → Result A NodesErr → view.Node → Result Node NodesErr → Type 0
@@ -68,34 +66,34 @@ Judges (Ok _) n gives = gives ≡ Ok (page_node n)
 Judges (Err e) n gives = gives ≡ Err e
 
 -- some bytes of a page are refused just so
-pub record GivenBySome (hash : List ℕ → List ℕ) (pages : ℕ) (c : Child) (e : NodesErr) : Type 0
-  where
-    pub page : List ℕ
-    pub is : IsPage first_form page
-    pub gives : judged hash pages c page ≡ Err e
+pub record GivenBySome (form : Form) (hash : List ℕ → List ℕ) (pages : ℕ) (c : Child)
+    (e : NodesErr) : Type 0 where
+  pub page : List ℕ
+  pub is : IsPage form page
+  pub gives : judged form hash pages c page ≡ Err e
 
 -- what was read is refused as some bytes are
-abbrev pub IsGiven : (List ℕ → List ℕ) → (pages : ℕ) → Child → NodesErr → Type 0
-IsGiven hash pages c errors.Missing = ⊤
-IsGiven hash pages c errors.Fault = ⊤
-IsGiven hash pages c errors.NoMemory = ⊤
-IsGiven hash pages c e = GivenBySome hash pages c e
+abbrev pub IsGiven : Form → (List ℕ → List ℕ) → (pages : ℕ) → Child → NodesErr → Type 0
+IsGiven form hash pages c errors.Missing = ⊤
+IsGiven form hash pages c errors.Fault = ⊤
+IsGiven form hash pages c errors.NoMemory = ⊤
+IsGiven form hash pages c e = GivenBySome form hash pages c e
 
 -- ---- what follows of it
 
--- the view shows a node of version 1 with the level and the digest of the child, whose children are
--- in the file
-pub record IsRead (hash : List ℕ → List ℕ) (pages : ℕ) (c : Child) (n : view.Node) : Type 0 where
+-- the view shows a node of the version with the level and the digest of the child, whose children
+-- are in the file
+pub record IsRead (s : Scheme) (pages : ℕ) (c : Child) (n : view.Node) : Type 0 where
   pub shape : HasShape n
   pub level : view.level_of n ≡ c.level
-  pub told : AreTold One n
-  pub digest : hash (preimage_of One n) ≡ c.digest
+  pub told : AreTold s.version n
+  pub digest : s.of (preimage_of s.version n) ≡ c.digest
   pub inside : AreInside pages n
 
 -- a page's node is what is said of the child
-pub record IsSaid (hash : List ℕ → List ℕ) (pages : ℕ) (c : Child) (m : Node) : Type 0 where
+pub record IsSaid (s : Scheme) (pages : ℕ) (c : Child) (m : Node) : Type 0 where
   pub level : level_of m ≡ c.level
-  pub digest : (entry_of (by One hash) m).digest ≡ c.digest
+  pub digest : (entry_of s m).digest ≡ c.digest
   pub inside : (n : view.Node) → page_node n ≡ m → AreInside pages n
 
 -- the node is shown, unless the shelf or the memory failed
@@ -109,11 +107,17 @@ TellsNode m (Err errors.Fault) n = ⊤
 TellsNode m (Err errors.NoMemory) n = ⊤
 
 -- what a file of these bytes tells of the child
-abbrev pub TellsAgain : {A : Type 0} → (List ℕ → List ℕ) → ℕ → Child → Result A NodesErr →
-    view.Node → List ℕ → Type 0
-TellsAgain hash pages c result n bytes =
-    length bytes ≡ pages * page_size → c.id < pages → (m : Node) →
-    (file_of first_form bytes).node c.id ≡ Some m → IsSaid hash pages c m → TellsNode m result n
+abbrev pub TellsAgain : {A : Type 0} → Form → (List ℕ → List ℕ) → ℕ → Child →
+    Result A NodesErr → view.Node → List ℕ → Type 0
+TellsAgain form hash pages c result n bytes =
+    length bytes ≡ pages * form.size → c.id < pages → (m : Node) →
+    (file_of form bytes).node c.id ≡ Some m → IsSaid (by form.version hash) pages c m →
+    TellsNode m result n
+
+-- a file of these bytes has on this page the node that is shown
+abbrev pub HasNode : Form → (pages page : ℕ) → view.Node → List ℕ → Type 0
+HasNode form pages page n bytes = length bytes ≡ pages * form.size → page < pages →
+    (file_of form bytes).node page ≡ Some (page_node n)
 
 -- why the page of the child is refused
 abbrev pub IsBlamed : ℕ → Child → NodesErr → Type 0

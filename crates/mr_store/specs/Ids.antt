@@ -8,6 +8,7 @@ use Rattle.std.proofs.lemmas.Bool.{eqb-true, ltb-true, ltb-false}
 use Rattle.std.proofs.lemmas.List.{length-map, get_or-map}
 use Rattle.std.proofs.lemmas.Option.{slice_get-map, slice_get-get_or, slice_get_within, get_or_from_slice_get}
 use Rattle.std.proofs.lemmas.Map.Entries.{lookup_from_place, place_from_lookup}
+use Rattle.mr_record.specs.declared.version.Version.{Version}
 use Rattle.mr_tree.specs.Nodes.{HasIds, subtrees}
 use Rattle.mr_tree.specs.declared.tree.Tree.{Tree}
 use Rattle.mr_pages.specs.Stands.{Placed, Leaf, AreAllPages, whole_tree, whole_pages}
@@ -62,72 +63,74 @@ order j k = one (ltb j k) refl (ltb k j) refl
         let p : k ≤ j = ltb-false j k e in
         let q : j ≤ k = ltb-false k j f in inr (inl (omega (arith, p, q)))
 
-module _ (batch span : ℕ) (po : Option Placed) (are : ArePages span (whole_parts po)) where
-  abbrev es : List (ℕ × Placed)
-  es = whole_parts po
+module _ (v : Version) (batch span : ℕ) (po : Option Placed) (are : ArePages span (whole_parts po))
+  where
+    abbrev es : List (ℕ × Placed)
+    es = whole_parts po
 
-  abbrev none : ℕ × Placed
-  none = (0, Leaf 0 [])
+    abbrev none : ℕ × Placed
+    none = (0, Leaf 0 [])
 
-  long : length (subtrees (whole_tree po)) ≡ length es
-  long = ap length (sym (whole_subtrees po)) ∙ length-map es below
+    long : length (subtrees (whole_tree po)) ≡ length es
+    long = ap length (sym (whole_subtrees po)) ∙ length-map es below
 
-  abbrev id : ℕ → ℕ
-  id k = get_or (keys_of es) k 0
+    abbrev id : ℕ → ℕ
+    id k = get_or (keys_of es) k 0
 
-  at : (k : ℕ) → k < length es → slice_get es k ≡ Some (get_or es k none)
-  at k within = slice_get-get_or es k none within
+    at : (k : ℕ) → k < length es → slice_get es k ≡ Some (get_or es k none)
+    at k within = slice_get-get_or es k none within
 
-  key : (k : ℕ) → k < length es → id k ≡ (get_or es k none).0
-  key k within = get_or-map (λ (e : ℕ × Placed). e.0) es k none 0 within
+    key : (k : ℕ) → k < length es → id k ≡ (get_or es k none).0
+    key k within = get_or-map (λ (e : ℕ × Placed). e.0) es k none 0 within
 
-  shows : (k : ℕ) → k < length es → tree_on es (id k) ≡ slice_get (subtrees (whole_tree po)) k
-  shows k within =
-      let e = get_or es k none in
-      ap (tree_on es) (key k within)
-      ∙ ap (option_map (λ P. below (e.0, P))) (found_at span es are k e.0 e.1 (at k within))
-      ∙ ap (option_map below) (sym (at k within))
-      ∙ sym (slice_get-map below es k)
-      ∙ ap (λ ts. slice_get ts k) (whole_subtrees po)
+    shows : (k : ℕ) → k < length es → tree_on es (id k) ≡ slice_get (subtrees (whole_tree po)) k
+    shows k within =
+        let e = get_or es k none in
+        ap (tree_on es) (key k within)
+        ∙ ap (option_map (λ P. below (e.0, P))) (found_at span es are k e.0 e.1 (at k within))
+        ∙ ap (option_map below) (sym (at k within))
+        ∙ sym (slice_get-map below es k)
+        ∙ ap (λ ts. slice_get ts k) (whole_subtrees po)
 
-  keys : length (keys_of es) ≡ length es
-  keys = length-map es (λ (e : ℕ × Placed). e.0)
+    keys : length (keys_of es) ≡ length es
+    keys = length-map es (λ (e : ℕ × Placed). e.0)
 
-  others_at : (i : ℕ) (o : Option Placed) → lookup (nat_eq i) es ≡ o →
-      IsSome (option_map (λ P. below (i, P)) o) →
-      (k : ℕ) × (k < length (subtrees (whole_tree po))) × (id k ≡ i)
-  others_at i None e some = let none : IsSome {T = Tree} None = some in cc
-  others_at i (Some P) e some =
-      let p = place_from_lookup (nat_eq i) es P e in
-      let within : p.0 < length es = slice_get_within es p.0 (p.1, P) p.2 in (
-        p.0,
-        omega (arith, within, long),
-        key p.0 within ∙ ap (λ (e : ℕ × Placed). e.0) (get_or_from_slice_get es p.0 (
-          p.1,
-          P,
-        ) none p.2)
-            ∙ sym (eqb-true i p.1 p.3),
-      )
+    others_at : (i : ℕ) (o : Option Placed) → lookup (nat_eq i) es ≡ o →
+        IsSome (option_map (λ P. below (i, P)) o) →
+        (k : ℕ) × (k < length (subtrees (whole_tree po))) × (id k ≡ i)
+    others_at i None e some = let none : IsSome {T = Tree} None = some in cc
+    others_at i (Some P) e some =
+        let p = place_from_lookup (nat_eq i) es P e in
+        let within : p.0 < length es = slice_get_within es p.0 (p.1, P) p.2 in (
+          p.0,
+          omega (arith, within, long),
+          key p.0 within ∙ ap (λ (e : ℕ × Placed). e.0) (get_or_from_slice_get es p.0 (
+            p.1,
+            P,
+          ) none p.2)
+              ∙ sym (eqb-true i p.1 p.3),
+        )
 
-  pub ids : HasIds (stood batch span po) (whole_tree po)
-  ids = record {
-    id = id;
-    within = λ k h. inside k (omega (arith, h, long));
-    shows = λ k h. shows k (omega (arith, h, long));
-    apart = λ j k h l e. same j k (omega (arith, h, long)) (omega (arith, l, long)) e;
-    others = λ i some. others_at i (lookup (nat_eq i) es) refl some;
-  }
-    where
-      inside : (k : ℕ) → k < length es → (1 ≤ id k) × (id k < span)
-      inside k within =
-          let p = all_at (Inside span) (keys_of es) are.inside k 0 (omega (arith, within, keys)) in
-          (omega (arith, p.0), p.1)
+    pub ids : HasIds (stood v batch span po) (whole_tree po)
+    ids = record {
+      id = id;
+      within = λ k h. inside k (omega (arith, h, long));
+      shows = λ k h. shows k (omega (arith, h, long));
+      apart = λ j k h l e. same j k (omega (arith, h, long)) (omega (arith, l, long)) e;
+      others = λ i some. others_at i (lookup (nat_eq i) es) refl some;
+    }
+      where
+        inside : (k : ℕ) → k < length es → (1 ≤ id k) × (id k < span)
+        inside k within =
+            let p = all_at (Inside span) (keys_of es) are.inside k 0 (omega (arith, within, keys))
+            in
+            (omega (arith, p.0), p.1)
 
-      same : (j k : ℕ) → j < length es → k < length es → id j ≡ id k → j ≡ k
-      same j k low high e = elim (order j k) [
-        | inl less ↦ absurd (are.apart j k 0 less (omega (arith, high, keys)) e)
-        | inr rest ↦ elim rest [
-          | inl equal ↦ equal
-          | inr more ↦ absurd (are.apart k j 0 more (omega (arith, low, keys)) (sym e))
+        same : (j k : ℕ) → j < length es → k < length es → id j ≡ id k → j ≡ k
+        same j k low high e = elim (order j k) [
+          | inl less ↦ absurd (are.apart j k 0 less (omega (arith, high, keys)) e)
+          | inr rest ↦ elim rest [
+            | inl equal ↦ equal
+            | inr more ↦ absurd (are.apart k j 0 more (omega (arith, low, keys)) (sym e))
+          ]
         ]
-      ]

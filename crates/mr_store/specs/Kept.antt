@@ -1,8 +1,8 @@
 -- What a cache of node pages holds.
-use Rattle.std.specs.Prelude.{◌≡◌, ℕ, ◌<◌, ◌≤◌, ◌⊎◌, Bool, true, false, List, length, All, Contains, Some, IsSome, IsSomeAnd, nat_eq}
+use Rattle.std.specs.Prelude.{◌≡◌, ◌≢◌, ℕ, ◌<◌, ◌≤◌, ◌⊎◌, Bool, true, false, List, length, All, Contains, Some, IsSome, IsSomeAnd, nat_eq}
 use Rattle.std.specs.Map.{lookup}
 use Rattle.lru.specs.LruCache.{lru_cache, promoted, put_entries}
-use Rattle.mr_record.specs.declared.version.Version.TheVariants.{One}
+use Rattle.mr_tree.specs.Digest.{Scheme}
 use Rattle.mr_tree.specs.View.{Node, AreTold, children_in, level_of, preimage_of}
 use Rattle.mr_tree.specs.Snapshot.{HasShape}
 use Rattle.mr_tree.specs.declared.child.Child.{Child}
@@ -12,6 +12,10 @@ use Rattle.mr_store.specs.declared.kept.Kept.{Kept}
 
 abbrev pub node_of : owned_type.Node → Node
 node_of = owned
+
+-- the most pages besides page 0 that are all kept
+abbrev pub room : ℕ
+room = 256
 
 -- the pages with what is kept of them
 abbrev pub Entries : Type 0
@@ -35,13 +39,13 @@ pub record IsShown (k : Kept) : Type 0 where
   pub shape : HasShape (node_of k.node)
   pub level : level_of (node_of k.node) ≡ k.level
 
--- what is kept is a node of version 1 with this level and this digest, whose children are in the
+-- what is kept is a node of the version with this level and this digest, whose children are in the
 -- file
-pub record IsGood (hash : List ℕ → List ℕ) (pages : ℕ) (k : Kept) : Type 0 where
+pub record IsGood (s : Scheme) (pages : ℕ) (k : Kept) : Type 0 where
   pub shape : HasShape (node_of k.node)
   pub level : level_of (node_of k.node) ≡ k.level
-  pub told : AreTold One (node_of k.node)
-  pub digest : hash (preimage_of One (node_of k.node)) ≡ k.digest
+  pub told : AreTold s.version (node_of k.node)
+  pub digest : s.of (preimage_of s.version (node_of k.node)) ≡ k.digest
   pub inside : AreInside pages (node_of k.node)
 
 -- the node of the child was found there
@@ -76,6 +80,11 @@ pub record Gains (room : ℕ) (before after : Entries) (c : Child) (n : Node) : 
   pub none_lost : IsSome (lookup (nat_eq c.id) before) ⊎ (length before < room) → (page : ℕ) →
       IsSome (lookup (nat_eq page) before) →
       IsSome (lookup (nat_eq page) after)
+
+-- nothing is kept that was not before, and of this page nothing
+pub record Forgets (page : ℕ) (before after : Entries) : Type 0 where
+  pub none_new : (e : ℕ × Kept) → Contains after e → Contains before e
+  pub gone : (e : ℕ × Kept) → Contains after e → e.0 ≢ page
 
 -- ---- the order of the last use, and what is dropped
 

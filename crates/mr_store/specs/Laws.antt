@@ -2,91 +2,87 @@
 -- version, each of its nodes has an id, and what a call leaves, the next one leaves too.
 use Rattle.std.proofs.Common.{◌≡◌, ℕ, ◌+◌, ◌*◌, ◌/◌, ◌≤◌, List, ◌++◌, length, inl, inr, refl, sym, ap, subst, ◌∙◌, arith}
 use Rattle.std.specs.Prelude.{Option, Some, None, IfSome, IsSome}
+use Rattle.std.specs.String.{string_bytes}
 use Rattle.mr_outside.specs.Files.{Files}
-use Rattle.mr_outside.specs.State.{Shelved}
+use Rattle.mr_outside.specs.declared.shelf.Shelf as shelf
+use Rattle.mr_tree.specs.declared.hash.Hashes as hashes
 use Rattle.mr_tree.specs.WellFormed.{WellFormed, HasLayers}
 use Rattle.mr_tree.specs.Nodes.{HasIds}
 use Rattle.mr_pages.specs.declared.head.MapHead.{MapHead}
-use Rattle.mr_pages.specs.PageBytes.{page_size, first_form}
+use Rattle.mr_pages.specs.Page.{Form, IsForm}
+use Rattle.mr_pages.specs.PageBytes.{form_of}
 use Rattle.mr_pages.specs.File.{file_of}
 use Rattle.mr_pages.specs.Stands.{AreAllPages, whole_pages}
 use Rattle.mr_pages.specs.Walking.{head_of}
-use Rattle.mr_pages.proofs.HeadLaws.{first_form_is}
+use Rattle.mr_pages.proofs.HeadLaws.{form_is}
 use Rattle.mr_pages.proofs.Agreement.{is_file, head_read}
 use Rattle.mr_pages.proofs.AsRead.{ReadsAt, reads_there}
+use Rattle.mr_store.specs.declared.cached_file.CachedFile.{CachedFile}
+use Rattle.mr_store.specs.declared.paged.Paged.{Paged}
+use Rattle.mr_store.specs.CachedFile.{page_form, bytes_of, IsSameFile}
 use Rattle.mr_store.specs.Parts.{whole_parts}
-use Rattle.mr_store.specs.Kept.{Entries}
-use Rattle.mr_store.specs.Stored.{told_bytes, placed, stands_for, room, IsOpen, IsStore, ReadsFew, Keeps}
+use Rattle.mr_store.specs.Kept.{Entries, room}
+use Rattle.mr_store.specs.Stored.{told_bytes, placed, read_map, map_on, IsOpen, IsStore}
+use Rattle.mr_store.specs.Paged.{shelved, stands_for, ReadsFew, Keeps}
 use Rattle.mr_store.specs.Ids.{ArePages, are_pages, ids}
 
 -- ---- a map that is told
 
-pub record Opened (hash : List ℕ → List ℕ) (h : MapHead) (bytes : List ℕ) : Type 0 where
-  pub whole : length bytes ≡ h.pages * page_size
-  pub reads : ReadsAt hash (file_of first_form bytes) (head_of h) (placed h bytes)
-  pub pages : ArePages h.pages (whole_parts (placed h bytes))
+pub record Opened (form : Form) (hash : List ℕ → List ℕ) (h : MapHead) (bytes : List ℕ) : Type 0
+  where
+    pub whole : length bytes ≡ h.pages * form.size
+    pub reads : ReadsAt hash (file_of form bytes) (head_of h) (placed form h bytes)
+    pub pages : ArePages h.pages (whole_parts (placed form h bytes))
 
-pub opened : (hash : List ℕ → List ℕ) (h : MapHead) (es : Entries) (bytes : List ℕ) →
-    IsOpen hash h es bytes →
-    Opened hash h bytes
-opened hash h es bytes o =
-    let good = is_file first_form first_form_is bytes o.are in
-    let head = head_read first_form first_form_is bytes o.are (head_of h) o.head in
-    let r = reads_there hash (file_of first_form bytes) good o.fault (head_of h) o.head in
-    let same : h.pages ≡ length bytes / page_size = head.same in
-    record {
-      whole = head.whole.whole ∙ ap (λ n. n * page_size) (sym same);
-      reads = r;
-      pages = are_pages h.pages (placed h bytes) r.lies.chain
-          (subst (λ n. AreAllPages n (whole_pages (placed h bytes) ++ r.lies.chain)) (sym same)
-          r.lies.all);
-    }
+module _ (form : Form) (is : IsForm form) (hash : List ℕ → List ℕ) (h : MapHead) (es : Entries)
+  where
+    pub opened : (bytes : List ℕ) → IsOpen form hash h es bytes → Opened form hash h bytes
+    opened bytes o =
+        let good = is_file form is bytes o.are in
+        let head = head_read form is bytes o.are (head_of h) o.head in
+        let r = reads_there hash (file_of form bytes) good o.fault (head_of h) o.head in
+        let same : h.pages ≡ length bytes / form.size = head.same in
+        record {
+          whole = head.whole.whole ∙ ap (λ n. n * form.size) (sym same);
+          reads = r;
+          pages = are_pages h.pages (placed form h bytes) r.lies.chain
+              (subst (λ n. AreAllPages n (whole_pages (placed form h bytes) ++ r.lies.chain))
+              (sym same) r.lies.all);
+        }
 
-module _ (hash : List ℕ → List ℕ) (told : Option Files) (name : List ℕ) (h : MapHead) (es : Entries)
-    (cap : ℕ) where
-  pub is_well_formed : IsStore hash told name h es cap →
-      IfSome (stands_for h (told_bytes told name)).tree (λ t. ∥ WellFormed t ∥₁)
-  is_well_formed s = here (told_bytes told name) s.open_
-    where
-      here : (o : Option (List ℕ)) → IfSome o (IsOpen hash h es) →
-          IfSome (stands_for h o).tree (λ t. ∥ WellFormed t ∥₁)
-      here None op = tt
-      here (Some bytes) o = ∣ (opened hash h es bytes o).reads.well ∣₁
+    well_at : (o : Option (List ℕ)) → IfSome o (IsOpen form hash h es) →
+        IfSome (read_map form h o).tree (λ t. ∥ WellFormed t ∥₁)
+    well_at None op = tt
+    well_at (Some bytes) op = ∣ (opened bytes op).reads.well ∣₁
 
-  pub is_layered : IsStore hash told name h es cap →
-      IfSome (stands_for h (told_bytes told name)).tree
-      (HasLayers (stands_for h (told_bytes told name)).version)
-  is_layered s = here (told_bytes told name) s.open_
-    where
-      here : (o : Option (List ℕ)) → IfSome o (IsOpen hash h es) →
-          IfSome (stands_for h o).tree (HasLayers (stands_for h o).version)
-      here None op = tt
-      here (Some bytes) o = (opened hash h es bytes o).reads.layers
+    layers_at : (o : Option (List ℕ)) → IfSome o (IsOpen form hash h es) →
+        IfSome (read_map form h o).tree (HasLayers (read_map form h o).version)
+    layers_at None op = tt
+    layers_at (Some bytes) op = (opened bytes op).reads.layers
 
-  pub has_ids : IsStore hash told name h es cap →
-      IfSome (stands_for h (told_bytes told name)).tree (HasIds (stands_for h (told_bytes told
-      name)))
-  has_ids s = here (told_bytes told name) s.open_
-    where
-      here : (o : Option (List ℕ)) → IfSome o (IsOpen hash h es) →
-          IfSome (stands_for h o).tree (HasIds (stands_for h o))
-      here None o = tt
-      here (Some bytes) o = ids h.batch h.pages (placed h bytes) (opened hash h es bytes o).pages
+    ids_at : (o : Option (List ℕ)) → IfSome o (IsOpen form hash h es) →
+        IfSome (read_map form h o).tree (HasIds (read_map form h o))
+    ids_at None op = tt
+    ids_at (Some bytes) op =
+        ids form.version h.batch h.pages (placed form h bytes) (opened bytes op).pages
+
+module _ {S : Type 0} {G : shelf.Ghosts S} (hash : List ℕ → List ℕ) (f : CachedFile S G)
+    (h : MapHead) where
+  pub is_well_formed : IsStore hash f h → IfSome (map_on f h).tree (λ t. ∥ WellFormed t ∥₁)
+  is_well_formed s =
+      well_at (page_form f) (form_is f.layout f.fits) hash h f.cache.entries (bytes_of f) s.is.open_
+
+  pub is_layered : IsStore hash f h →
+      IfSome (map_on f h).tree (HasLayers (map_on f h).version)
+  is_layered s =
+      layers_at (page_form f) (form_is f.layout f.fits) hash h f.cache.entries (bytes_of f)
+      s.is.open_
+
+  pub has_ids : IsStore hash f h → IfSome (map_on f h).tree (HasIds (map_on f h))
+  has_ids s =
+      ids_at (page_form f) (form_is f.layout f.fits) hash h f.cache.entries (bytes_of f) s.is.open_
 
 -- ---- what calls leave
-
-pub keeps_self : (n : List ℕ) (h : MapHead) (s : Shelved) (f : ℕ) → Keeps n n h h s s f f
-keeps_self n h s f = record {
-  name = refl;
-  head = refl;
-  files = refl;
-  fetches = omega arith;
-  faults = omega arith;
-  reads = omega arith;
-  few = inl (omega arith);
-  most = omega arith;
-  still = λ told small. refl;
-}
 
 few_on : (r f r' f' r'' f'' : ℕ) → ReadsFew r f r' f' → ReadsFew r' f' r'' f'' → f' ≤ f'' →
     ReadsFew r f r'' f''
@@ -94,22 +90,47 @@ few_on r f r' f' r'' f'' (inl a) (inl b) up = inl (omega (arith, a, b))
 few_on r f r' f' r'' f'' (inr a) q up = inr (omega (arith, a, up))
 few_on r f r' f' r'' f'' (inl a) (inr b) up = inr b
 
-pub keeps_on : (n n' n'' : List ℕ) (h h' h'' : MapHead) (s s' s'' : Shelved) (f f' f'' : ℕ) →
-    Keeps n n' h h' s s' f f' → Keeps n' n'' h' h'' s' s'' f' f'' → Keeps n n'' h h'' s s'' f f''
-keeps_on n n' n'' h h' h'' s s' s'' f f' f'' a b = record {
-  name = b.name ∙ a.name;
-  head = b.head ∙ a.head;
-  files = b.files ∙ a.files;
-  fetches = omega (arith, a.fetches, b.fetches);
-  faults = omega (arith, a.faults, b.faults);
-  reads = omega (arith, a.reads, b.reads);
-  few = few_on s.reads f s'.reads f' s''.reads f'' a.few b.few b.fetches;
-  most = omega (arith, a.most, b.most);
-  still = λ told small. b.still (subst (IsSome {T = Files}) (sym a.files) told)
-      (subst (λ (k : MapHead). k.pages ≤ room + 1) (sym a.head) small) ∙ a.still told small;
-}
+module _ {S : Type 0} {G : shelf.Ghosts S} where
+  pub same_self : (f : CachedFile S G) → IsSameFile f f
+  same_self f = record { name = refl; layout = refl; pages = refl }
 
-pub keeps_stands : (n n' : List ℕ) (h h' : MapHead) (s s' : Shelved) (f f' : ℕ) →
-    Keeps n n' h h' s s' f f' →
-    stands_for h' (told_bytes s'.files n') ≡ stands_for h (told_bytes s.files n)
-keeps_stands n n' h h' s s' f f' k = λ i. stands_for (k.head i) (told_bytes (k.files i) (k.name i))
+  pub same_on : (f f' f'' : CachedFile S G) → IsSameFile f f' → IsSameFile f' f'' →
+      IsSameFile f f''
+  same_on f f' f'' a b = record {
+    name = b.name ∙ a.name;
+    layout = b.layout ∙ a.layout;
+    pages = b.pages ∙ a.pages;
+  }
+
+module _ {S H : Type 0} {G : shelf.Ghosts S} {K : hashes.Ghosts H} where
+  pub keeps_self : (p : Paged S H G K) → Keeps p p
+  keeps_self p = record {
+    file = same_self p.file;
+    head = refl;
+    files = refl;
+    fetches = omega arith;
+    faults = omega arith;
+    reads = omega arith;
+    few = inl (omega arith);
+    most = omega arith;
+    still = λ told small. refl;
+  }
+
+  pub keeps_on : (p p' p'' : Paged S H G K) → Keeps p p' → Keeps p' p'' → Keeps p p''
+  keeps_on p p' p'' a b = record {
+    file = same_on p.file p'.file p''.file a.file b.file;
+    head = b.head ∙ a.head;
+    files = b.files ∙ a.files;
+    fetches = omega (arith, a.fetches, b.fetches);
+    faults = omega (arith, a.faults, b.faults);
+    reads = omega (arith, a.reads, b.reads);
+    few = few_on (shelved p).reads p.fetches (shelved p').reads p'.fetches (shelved p'').reads
+        p''.fetches a.few b.few b.fetches;
+    most = omega (arith, a.most, b.most);
+    still = λ told small. b.still (subst (IsSome {T = Files}) (sym a.files) told)
+        (subst (λ (k : MapHead). k.pages ≤ room + 1) (sym a.head) small) ∙ a.still told small;
+  }
+
+  pub keeps_stands : (p p' : Paged S H G K) → Keeps p p' → stands_for p' ≡ stands_for p
+  keeps_stands p p' k = λ i. read_map (form_of (k.file.layout i)) (k.head i)
+      (told_bytes (k.files i) (string_bytes (k.file.name i)))

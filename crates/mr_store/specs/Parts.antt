@@ -1,7 +1,7 @@
 -- The nodes of a tree on pages, and what a map on pages stands for.
 use Rattle.std.specs.Prelude.{ℕ, List, [], ◌∷◌, ◌++◌, Option, Some, None, option_map, nat_eq}
 use Rattle.std.specs.Map.{lookup}
-use Rattle.mr_record.specs.declared.version.Version.TheVariants.{One}
+use Rattle.mr_record.specs.declared.version.Version.{Version}
 use Rattle.mr_tree.specs.Nodes.{Standing}
 use Rattle.mr_tree.specs.declared.tree.Tree.{Tree}
 use Rattle.mr_pages.specs.Stands.{Placed, Row, Leaf, Inner, no_more, first, tree_of, whole_tree}
@@ -25,9 +25,9 @@ abbrev pub tree_on : List (ℕ × Placed) → ℕ → Option Tree
 tree_on ps page = option_map tree_of (lookup (nat_eq page) ps)
 
 -- what a map of so many pages stands for, whose tree stands on these
-abbrev pub stood : (batch span : ℕ) → Option Placed → Standing
-stood batch span po = record {
-  version = One;
+abbrev pub stood : Version → (batch span : ℕ) → Option Placed → Standing
+stood v batch span po = record {
+  version = v;
   batch = batch;
   span = span;
   tree = Some (whole_tree po);
@@ -35,9 +35,9 @@ stood batch span po = record {
 }
 
 -- the same of a map that is not told
-abbrev pub untold : (batch span : ℕ) → Standing
-untold batch span = record {
-  version = One;
+abbrev pub untold : Version → (batch span : ℕ) → Standing
+untold v batch span = record {
+  version = v;
   batch = batch;
   span = span;
   tree = None;

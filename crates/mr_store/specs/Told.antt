@@ -10,9 +10,8 @@ use Rattle.std.proofs.lemmas.Map.Entries.{place_from_lookup}
 use Rattle.std.proofs.lemmas.Option.{slice_get_within, get_or_from_slice_get}
 use Rattle.mr_record.specs.declared.record.Record.{Record}
 use Rattle.mr_tree.specs.Limits.{level_limit}
-use Rattle.mr_record.specs.declared.version.Version.TheVariants.{One}
 use Rattle.mr_tree.specs.declared.entry.Entry.{Entry}
-use Rattle.mr_tree.specs.Digest.{by, entry}
+use Rattle.mr_tree.specs.Digest.{Scheme, entry}
 use Rattle.mr_tree.specs.View as view
 use Rattle.mr_tree.specs.Nodes.{Standing, IsEntry, MayFetch, IsNodeOf, Shows, tree_under}
 use Rattle.mr_tree.specs.Snapshot.{HasShape}
@@ -35,13 +34,13 @@ use Rattle.mr_store.specs.Stored.{IsRootOf}
 
 -- ---- what a view shows, as what is to be said of it
 
-pub level_known : (hash : List ℕ → List ℕ) (n : view.Node) →
-    view.level_of n ≡ (entry_of (by One hash) (page_node n)).level
-level_known hash n = level_same n ∙ sym (level_is (by One hash) (page_node n))
+pub level_known : (hash : Scheme) (n : view.Node) →
+    view.level_of n ≡ (entry_of hash (page_node n)).level
+level_known hash n = level_same n ∙ sym (level_is hash (page_node n))
 
-pub digest_known : (hash : List ℕ → List ℕ) (n : view.Node) →
-    hash (view.preimage_of One n) ≡ (entry_of (by One hash) (page_node n)).digest
-digest_known hash n = ap (λ (k : Entry). k.digest) (entry_same (by One hash) n)
+pub digest_known : (hash : Scheme) (n : view.Node) →
+    hash.of (view.preimage_of hash.version n) ≡ (entry_of hash (page_node n)).digest
+digest_known hash n = ap (λ (k : Entry). k.digest) (entry_same hash n)
 
 -- ---- each node of the map is on its page, and its children are nodes of the map
 
@@ -54,11 +53,11 @@ abbrev pub AreAmong : List (ℕ × Placed) → Row → Type 0
 AreAmong es no_more = ⊤
 AreAmong es (first P Ps) = (lookup (nat_eq (page_of P)) es ≡ Some P) × AreAmong es Ps
 
-pub record IsPart (hash : List ℕ → List ℕ) (at : ℕ → Option Node) (es : List (ℕ × Placed))
+pub record IsPart (hash : Scheme) (at : ℕ → Option Node) (es : List (ℕ × Placed))
     (e : ℕ × Placed)
     : Type 0 where
   pub page : page_of e.1 ≡ e.0
-  pub read : IsRead (by One hash) at e.1
+  pub read : IsRead hash at e.1
   pub below : AreAmong es (rows_of e.1)
 
 get_middle : {A : Type 0} (xs : List A) (x : A) (ys : List A) →
@@ -66,7 +65,7 @@ get_middle : {A : Type 0} (xs : List A) (x : A) (ys : List A) →
 get_middle [] x ys = refl
 get_middle (y ∷ xs) x ys = get_middle xs x ys
 
-module _ (hash : List ℕ → List ℕ) (at : ℕ → Option Node) (span : ℕ)
+module _ (hash : Scheme) (at : ℕ → Option Node) (span : ℕ)
     (es : List (ℕ × Placed)) (are : ArePages span es)
   where
     -- a tree that stands among them is found
@@ -93,7 +92,7 @@ module _ (hash : List ℕ → List ℕ) (at : ℕ → Option Node) (span : ℕ)
     )
 
     mutual
-      pub parts_are : (P : Placed) → IsRead (by One hash) at P → (us vs : List (ℕ × Placed)) →
+      pub parts_are : (P : Placed) → IsRead hash at P → (us vs : List (ℕ × Placed)) →
           es ≡ us ++ (parts P ++ vs) →
           AllByRecursion (IsPart hash at es) (parts P)
       parts_are (Leaf p rs) read us vs is = (record { page = refl; read = read; below = tt }, tt)
@@ -104,7 +103,7 @@ module _ (hash : List ℕ → List ℕ) (at : ℕ → Option Node) (span : ℕ)
           (rows_are Ps read.1 us ((p, Inner p Ps) ∷ vs) row)
           (record { page = refl; read = read; below = among Ps us ((p, Inner p Ps) ∷ vs) row }, tt)
 
-      pub rows_are : (Ps : Row) → AreRead (by One hash) at Ps → (us vs : List (ℕ × Placed)) →
+      pub rows_are : (Ps : Row) → AreRead hash at Ps → (us vs : List (ℕ × Placed)) →
           es ≡ us ++ (all_parts Ps ++ vs) →
           AllByRecursion (IsPart hash at es) (all_parts Ps)
       rows_are no_more read us vs is = tt
@@ -115,9 +114,9 @@ module _ (hash : List ℕ → List ℕ) (at : ℕ → Option Node) (span : ℕ)
           (rows_are Ps read.1 (us ++ parts P) vs (one ∙
           sym (append_assoc us (parts P) (all_parts Ps ++ vs))))
 
-pub whole_parts_are : (hash : List ℕ → List ℕ) (at : ℕ →
+pub whole_parts_are : (hash : Scheme) (at : ℕ →
     Option Node) (span : ℕ) (po : Option Placed) →
-    ArePages span (whole_parts po) → IfSome po (IsRead (by One hash) at) →
+    ArePages span (whole_parts po) → IfSome po (IsRead hash at) →
     AllByRecursion (IsPart hash at (whole_parts po)) (whole_parts po)
 whole_parts_are hash at span None are read = tt
 whole_parts_are hash at span (Some P) are read =
@@ -126,21 +125,21 @@ whole_parts_are hash at span (Some P) are read =
 -- ---- what is found of a child that may be fetched
 
 -- what a page is to hold of a child, and what is shown then
-pub record IsOn (hash : List ℕ → List ℕ) (at : ℕ →
+pub record IsOn (hash : Scheme) (at : ℕ →
     Option Node) (s : Standing) (c : Child) : Type 0 where
   pub node : Node
   pub there : at c.id ≡ Some node
-  pub known : entry_of (by One hash) node ≡ view.entry_of c
+  pub known : entry_of hash node ≡ view.entry_of c
   pub inside : (n : view.Node) → page_node n ≡ node → AreInside s.span n
-  pub shows : (n : view.Node) → page_node n ≡ node → HasShape n → view.AreTold One n →
-      c.level ≤ level_limit → Shows hash s c n
+  pub shows : (n : view.Node) → page_node n ≡ node → HasShape n → view.AreTold hash.version n →
+      c.level ≤ level_limit → Shows hash.of s c n
 
-pub record IsChildOf (hash : List ℕ → List ℕ) (s : Standing) (c : Child) : Type 0 where
+pub record IsChildOf (hash : Scheme) (s : Standing) (c : Child) : Type 0 where
   pub positive : 1 ≤ c.id
   pub within : c.id < s.span
-  pub known : IsEntry hash s c
+  pub known : IsEntry hash.of s c
 
-record Below (hash : List ℕ → List ℕ) (s : Standing) (cs : List Child) (ts : List Tree) : Type 0
+record Below (hash : Scheme) (s : Standing) (cs : List Child) (ts : List Tree) : Type 0
   where
     each : AllByRecursion (IsChildOf hash s) cs
     ids : map (λ (c : Child). s.node c.id) cs ≡ map Some ts
@@ -158,13 +157,13 @@ each_at P [] all k d within = absurd (omega (arith, within))
 each_at P (x ∷ xs) all zero d within = all.0
 each_at P (x ∷ xs) all (suc k) d within = each_at P xs all.1 k d (omega (arith, within))
 
-module _ (hash : List ℕ → List ℕ) (at : ℕ → Option Node) (batch span : ℕ) (po : Option Placed)
+module _ (hash : Scheme) (at : ℕ → Option Node) (batch span : ℕ) (po : Option Placed)
     (are : ArePages span (whole_parts po)) where
   abbrev all : List (ℕ × Placed)
   all = whole_parts po
 
   abbrev s : Standing
-  s = stood batch span po
+  s = stood hash.version batch span po
 
   -- a page that is found is in the file
   inside_at : (p : ℕ) (P : Placed) → lookup (nat_eq p) all ≡ Some P → (0 < p) × (p < span)
@@ -179,7 +178,7 @@ module _ (hash : List ℕ → List ℕ) (at : ℕ → Option Node) (batch span :
       (all_at (λ k. (0 < k) × (k < span)) (keys_of all) are.inside q.0 0
       (omega (arith, within, length-map all (λ (e : ℕ × Placed). e.0))))
 
-  pub child_is : (c : Child) (P : Placed) → child_link c ≡ link_of (by One hash) P →
+  pub child_is : (c : Child) (P : Placed) → child_link c ≡ link_of hash P →
       lookup (nat_eq (page_of P)) all ≡ Some P →
       IsChildOf hash s c
   child_is c P e found =
@@ -188,36 +187,36 @@ module _ (hash : List ℕ → List ℕ) (at : ℕ → Option Node) (batch span :
       record {
         positive = omega (arith, page, inside.0);
         within = omega (arith, page, inside.1);
-        known = subst (λ p. IsSomeAnd (tree_on all p) (λ t. view.entry_of c ≡ entry (by One hash)
+        known = subst (λ p. IsSomeAnd (tree_on all p) (λ t. view.entry_of c ≡ entry hash
             t)) (sym page)
-            (subst (λ o. IsSomeAnd (option_map tree_of o) (λ t. view.entry_of c ≡ entry (by One
-            hash) t)) (sym found)
+            (subst (λ o. IsSomeAnd (option_map tree_of o) (λ t. view.entry_of c ≡ entry hash t))
+            (sym found)
             (ap (λ (l : Link). l.entry) e));
       }
 
-  pub child_on : (c : Child) (P : Placed) → child_link c ≡ link_of (by One hash) P →
+  pub child_on : (c : Child) (P : Placed) → child_link c ≡ link_of hash P →
       lookup (nat_eq (page_of P)) all ≡ Some P →
       s.node c.id ≡ Some (tree_of P)
   child_on c P e found = ap (tree_on all) (ap (λ (l : Link). l.page) e) ∙
       ap (option_map tree_of) found
 
-  below_is : (cs : List Child) (Ps : Row) → map child_link cs ≡ links_of (by One hash) Ps →
+  below_is : (cs : List Child) (Ps : Row) → map child_link cs ≡ links_of hash Ps →
       AreAmong all Ps →
       Below hash s cs (trees_of Ps)
   below_is [] no_more e among = record { each = tt; ids = refl }
   below_is [] (first P Ps) e among = absurd (no e)
     where
-      no : ◌≡◌ {A = List Link} [] (link_of (by One hash) P ∷ links_of (by One hash) Ps) → ⊥
+      no : ◌≡◌ {A = List Link} [] (link_of hash P ∷ links_of hash Ps) → ⊥
       no h = cc
   below_is (c ∷ cs) no_more e among = absurd (no e)
     where
       no : ◌≡◌ {A = List Link} (child_link c ∷ map child_link cs) [] → ⊥
       no h = cc
   below_is (c ∷ cs) (first P Ps) e among =
-      let here = first_same (child_link c) (link_of (by One hash) P) (map child_link cs) (links_of
-      (by One hash) Ps) e in
-      let rest = below_is cs Ps (rest_same (child_link c) (link_of (by One hash) P) (map child_link
-      cs) (links_of (by One hash) Ps) e)
+      let here = first_same (child_link c) (link_of hash P) (map child_link cs) (links_of
+      hash Ps) e in
+      let rest = below_is cs Ps (rest_same (child_link c) (link_of hash P) (map child_link
+      cs) (links_of hash Ps) e)
       among.1 in
       record {
         each = (child_is c P here among.0, rest.each);
@@ -225,7 +224,7 @@ module _ (hash : List ℕ → List ℕ) (at : ℕ → Option Node) (batch span :
       }
 
   may : (n : ℕ) (cs : List Child) → n ≤ level_limit → AllByRecursion (IsChildOf hash s) cs →
-      AllByRecursion (λ (c : Child). c.level + 1 ≡ n) cs → AllByRecursion (MayFetch hash s) cs
+      AllByRecursion (λ (c : Child). c.level + 1 ≡ n) cs → AllByRecursion (MayFetch hash.of s) cs
   may n [] low each alike = tt
   may n (c ∷ cs) low each alike = (
     record {
@@ -243,22 +242,22 @@ module _ (hash : List ℕ → List ℕ) (at : ℕ → Option Node) (batch span :
   insides (c ∷ cs) each = ((each.0.positive, each.0.within), insides cs each.1)
 
   level_is_known : (c : Child) (n : view.Node) (m : Node) → page_node n ≡ m →
-      entry_of (by One hash) m ≡ view.entry_of c →
+      entry_of hash m ≡ view.entry_of c →
       view.level_of n ≡ c.level
-  level_is_known c n m e known = level_known hash n ∙ ap (λ k. (entry_of (by One hash) k).level) e
+  level_is_known c n m e known = level_known hash n ∙ ap (λ k. (entry_of hash k).level) e
       ∙ ap (λ (x : Entry). x.level) known
 
   digest_is_known : (c : Child) (n : view.Node) (m : Node) → page_node n ≡ m →
-      entry_of (by One hash) m ≡ view.entry_of c →
-      hash (view.preimage_of One n) ≡ c.digest
+      entry_of hash m ≡ view.entry_of c →
+      hash.of (view.preimage_of hash.version n) ≡ c.digest
   digest_is_known c n m e known = digest_known hash n ∙
-      ap (λ k. (entry_of (by One hash) k).digest) e
+      ap (λ k. (entry_of hash k).digest) e
       ∙ ap (λ (x : Entry). x.digest) known
 
   leaf_shows : (c : Child) (rs : List Record) → s.node c.id ≡ Some (tree.Leaf rs) →
-      entry_of (by One hash) (node.Leaf rs) ≡ view.entry_of c →
-      (n : view.Node) → page_node n ≡ node.Leaf rs → HasShape n → view.AreTold One n →
-      Shows hash s c n
+      entry_of hash (node.Leaf rs) ≡ view.entry_of c →
+      (n : view.Node) → page_node n ≡ node.Leaf rs → HasShape n → view.AreTold hash.version n →
+      Shows hash.of s c n
   leaf_shows c rs here known node.Empty e shape told = absurd (no e)
     where
       no : ◌≡◌ {A = Node} node.Empty (node.Leaf rs) → ⊥
@@ -274,7 +273,7 @@ module _ (hash : List ℕ → List ℕ) (at : ℕ → Option Node) (batch span :
         told = told;
         level = level_is_known c (node.Leaf qs) (node.Leaf rs) e known;
         digest = digest_is_known c (node.Leaf qs) (node.Leaf rs) e known;
-        children = All-nil (MayFetch hash s);
+        children = All-nil (MayFetch hash.of s);
         node = subst (λ o. IfSome o (λ t. IsNodeOf s t (node.Leaf qs))) (sym here) (ap tree.Leaf
             (sym same));
       }
@@ -284,28 +283,29 @@ module _ (hash : List ℕ → List ℕ) (at : ℕ → Option Node) (batch span :
 
   inner_shows : (c : Child) (Ps : Row) → s.node c.id ≡ Some (tree.Inner (trees_of Ps)) →
       AreAmong all Ps →
-      entry_of (by One hash) (node.Inner (links_of (by One hash) Ps)) ≡ view.entry_of c →
-      (n : view.Node) → page_node n ≡ node.Inner (links_of (by One hash) Ps) → HasShape n →
-      view.AreTold One n → c.level ≤ level_limit →
-      Shows hash s c n
+      entry_of hash (node.Inner (links_of hash Ps)) ≡ view.entry_of c →
+      (n : view.Node) → page_node n ≡ node.Inner (links_of hash Ps) → HasShape n →
+      view.AreTold hash.version n → c.level ≤ level_limit →
+      Shows hash.of s c n
   inner_shows c Ps here among known node.Empty e shape told low = absurd (no e)
     where
-      no : ◌≡◌ {A = Node} node.Empty (node.Inner (links_of (by One hash) Ps)) → ⊥
+      no : ◌≡◌ {A = Node} node.Empty (node.Inner (links_of hash Ps)) → ⊥
       no h = cc
   inner_shows c Ps here among known (node.Leaf rs) e shape told low = absurd (no e)
     where
-      no : ◌≡◌ {A = Node} (node.Leaf rs) (node.Inner (links_of (by One hash) Ps)) → ⊥
+      no : ◌≡◌ {A = Node} (node.Leaf rs) (node.Inner (links_of hash Ps)) → ⊥
       no h = cc
   inner_shows c Ps here among known (node.Inner cs) e shape told low =
       let b = below_is cs Ps (of_inner e) among in
-      let level = level_is_known c (node.Inner cs) (node.Inner (links_of (by One hash) Ps)) e known
+      let level = level_is_known c (node.Inner cs) (node.Inner (links_of hash Ps)) e known
       in
       record {
         some = shape.some;
         told = told;
         level = level;
-        digest = digest_is_known c (node.Inner cs) (node.Inner (links_of (by One hash) Ps)) e known;
-        children = All-from_recursion (MayFetch hash s) cs (may (view.level_of (node.Inner cs)) cs
+        digest = digest_is_known c (node.Inner cs) (node.Inner (links_of hash Ps)) e known;
+        children = All-from_recursion (MayFetch hash.of s) cs (may (view.level_of (node.Inner cs))
+            cs
             (omega (arith, level, low)) b.each
             (recursion_from_All (λ (d : Child). d.level + 1 ≡ view.level_of (node.Inner cs)) cs
             shape.alike));
@@ -316,13 +316,13 @@ module _ (hash : List ℕ → List ℕ) (at : ℕ → Option Node) (batch span :
         );
       }
     where
-      of_inner : ◌≡◌ {A = Node} (node.Inner (map child_link cs)) (node.Inner (links_of (by One hash)
+      of_inner : ◌≡◌ {A = Node} (node.Inner (map child_link cs)) (node.Inner (links_of hash
           Ps)) →
-          map child_link cs ≡ links_of (by One hash) Ps
+          map child_link cs ≡ links_of hash Ps
       of_inner h = cc
 
   inner_inside : (Ps : Row) → AreAmong all Ps → (n : view.Node) →
-      page_node n ≡ node.Inner (links_of (by One hash) Ps) →
+      page_node n ≡ node.Inner (links_of hash Ps) →
       AreInside span n
   inner_inside Ps among node.Empty e = All-nil _
   inner_inside Ps among (node.Leaf rs) e = All-nil _
@@ -330,9 +330,9 @@ module _ (hash : List ℕ → List ℕ) (at : ℕ → Option Node) (batch span :
       All-from_recursion (λ (c : Child). (1 ≤ c.id) × (c.id < span)) cs
       (insides cs (below_is cs Ps (of_inner e) among).each)
     where
-      of_inner : ◌≡◌ {A = Node} (node.Inner (map child_link cs)) (node.Inner (links_of (by One hash)
+      of_inner : ◌≡◌ {A = Node} (node.Inner (map child_link cs)) (node.Inner (links_of hash
           Ps)) →
-          map child_link cs ≡ links_of (by One hash) Ps
+          map child_link cs ≡ links_of hash Ps
       of_inner h = cc
 
   leaf_inside : (rs : List Record) (n : view.Node) → page_node n ≡ node.Leaf rs → AreInside span n
@@ -344,23 +344,23 @@ module _ (hash : List ℕ → List ℕ) (at : ℕ → Option Node) (batch span :
       no h = cc
 
   on_part : (c : Child) (P : Placed) → s.node c.id ≡ Some (tree_of P) → page_of P ≡ c.id →
-      IsRead (by One hash) at P →
-      AreAmong all (rows_of P) → view.entry_of c ≡ entry (by One hash) (tree_of P) →
+      IsRead hash at P →
+      AreAmong all (rows_of P) → view.entry_of c ≡ entry hash (tree_of P) →
       IsOn hash at s c
   on_part c (Leaf p rs) here page read among known = record {
     node = node.Leaf rs;
     there = ap at (sym page) ∙ read;
-    known = entry_leaf (by One hash) rs ∙ sym known;
+    known = entry_leaf hash rs ∙ sym known;
     inside = leaf_inside rs;
-    shows = λ n e shape told low. leaf_shows c rs here (entry_leaf (by One hash) rs ∙
+    shows = λ n e shape told low. leaf_shows c rs here (entry_leaf hash rs ∙
         sym known) n e shape told;
   }
   on_part c (Inner p Ps) here page read among known = record {
-    node = node.Inner (links_of (by One hash) Ps);
+    node = node.Inner (links_of hash Ps);
     there = ap at (sym page) ∙ read.0;
-    known = entry_inner (by One hash) Ps ∙ sym known;
+    known = entry_inner hash Ps ∙ sym known;
     inside = inner_inside Ps among;
-    shows = inner_shows c Ps here among (entry_inner (by One hash) Ps ∙ sym known);
+    shows = inner_shows c Ps here among (entry_inner hash Ps ∙ sym known);
   }
 
   part_at : AllByRecursion (IsPart hash at all) all → (p : ℕ) (P : Placed) →
@@ -377,12 +377,12 @@ module _ (hash : List ℕ → List ℕ) (at : ℕ → Option Node) (batch span :
       (each_at (IsPart hash at all) all each q.0 (p, P) within)
 
   -- what is found of a child that is the entry of one of the map's nodes
-  pub is_on : IfSome po (IsRead (by One hash) at) → (c : Child) → IsEntry hash s c →
+  pub is_on : IfSome po (IsRead hash at) → (c : Child) → IsEntry hash.of s c →
       IsOn hash at s c
   is_on read c known = here (lookup (nat_eq c.id) all) refl known
     where
       here : (o : Option Placed) → lookup (nat_eq c.id) all ≡ o →
-          IsSomeAnd (option_map tree_of o) (λ t. view.entry_of c ≡ entry (by One hash) t) →
+          IsSomeAnd (option_map tree_of o) (λ t. view.entry_of c ≡ entry hash t) →
           IsOn hash at s c
       here None e k = absurd k
       here (Some P) e k =
@@ -391,24 +391,23 @@ module _ (hash : List ℕ → List ℕ) (at : ℕ → Option Node) (batch span :
 
 -- ---- the root
 
-pub record IsRoot (hash : List ℕ →
-    List ℕ) (s : Standing) (root : Option Child) (t : Tree) : Type 0 where
-  pub may : IfSome root (MayFetch hash s)
+pub record IsRoot (hash : Scheme) (s : Standing) (root : Option Child) (t : Tree) : Type 0 where
+  pub may : IfSome root (MayFetch hash.of s)
   pub tree : tree_under s root ≡ Some t
 
-pub root_on : (hash : List ℕ → List ℕ) (at : ℕ →
+pub root_on : (hash : Scheme) (at : ℕ →
     Option Node) (batch span : ℕ) (root : Option Child) →
-    option_map child_link root ≡ option_map (link_of (by One hash)) (placed_at at (option_map
+    option_map child_link root ≡ option_map (link_of hash) (placed_at at (option_map
     child_link root)) →
     ArePages span (whole_parts (placed_at at (option_map child_link root))) →
-    IfSome root (IsRootOf span) →
-    IsRoot hash (stood batch span (placed_at at (option_map child_link root))) root
+    (count : ℕ) → IfSome root (IsRootOf hash.version count span) →
+    IsRoot hash (stood hash.version batch span (placed_at at (option_map child_link root))) root
     (whole_tree (placed_at at (option_map child_link root)))
-root_on hash at batch span None e are known = record { may = tt; tree = refl }
-root_on hash at batch span (Some c) e are known =
+root_on hash at batch span None e are count known = record { may = tt; tree = refl }
+root_on hash at batch span (Some c) e are count known =
     let P = place at c.level (child_link c) in
-    let link : child_link c ≡ link_of (by One hash) P =
-    of_some (child_link c) (link_of (by One hash) P) e in
+    let link : child_link c ≡ link_of hash P =
+    of_some (child_link c) (link_of hash P) e in
     let found = one_among hash at span (parts P) are P [] [] (sym (append-nil (parts P))) in
     record {
       may = record {

@@ -91,8 +91,8 @@ nodes_in s children = sum_by (λ (d : Child). nodes_at (s.node d.id)) children
 -- ---- what was walked over
 
 -- what comes of adding nodes one after another, where this comes of adding one
-unfoldable pub GathersAll : {S : Type 0} → (S → S → Child → Tree → Type 0) → S → S → List Child → List Tree →
-    Type 0
+unfoldable pub GathersAll : {S : Type 0} → (S → S → Child → Tree → Type 0) → S → S → List Child
+    → List Tree → Type 0
 GathersAll gathers s u [] [] = u ≡ s
 GathersAll gathers s u (c ∷ cs) (t ∷ ts) =
     (m : _) × gathers s m c t × GathersAll gathers m u cs ts

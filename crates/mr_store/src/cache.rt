@@ -1,8 +1,9 @@
 //! The cache of node pages.
 
-ghost use Rattle.std.specs.Prelude.{◌≡◌, ℕ, true, false, OnOk, OnErr, Contains};
+ghost use Rattle.std.specs.Prelude.{◌≡◌, ℕ, true, false, [], nat_eq, IfOk, OnOk, OnErr, Contains};
+ghost use Rattle.std.specs.Map.{remove_entry};
 ghost use Rattle.mr_store.specs.declared.kept.Kept.{Kept};
-ghost use Rattle.mr_store.specs.Kept.{node_of, IsHeld, IsShown, Finds, Stays, Gains, used, Puts};
+ghost use Rattle.mr_store.specs.Kept.{node_of, room, IsShown, Finds, Forgets, Stays, Gains, used, Puts};
 
 use crate::kept::{Kept, show};
 use crate::reading::are_same;
@@ -10,9 +11,24 @@ use lru::LruCache;
 use mr_pages::Node;
 use mr_tree::{Child, NodeView};
 use std::alloc::{AllocError, Global};
+use std::num::NonZeroUsize;
+
+// The node pages that are kept.
+const ROOM: usize = 256;
+
+// A cache of node pages in which none is kept yet.
+pub(crate) fn empty_cache(alloc: Global) -> Result<LruCache<u32, Kept>, AllocError>
+    ensures entries { IfOk result (λ c. c.entries ≡ []) }
+    ensures cap { IfOk result (λ c. c.cap ≡ room) }
+{
+    match NonZeroUsize::new(ROOM) {
+        Some(room) => LruCache::new(alloc, room),
+        None => Err(AllocError),
+    }
+}
 
 // Shows the node of the child, if its page is kept with its level and its digest.
-fn find(cache: &LruCache<u32, Kept>, child: &Child, into: &mut NodeView) -> bool
+pub(crate) fn find(cache: &LruCache<u32, Kept>, child: &Child, into: &mut NodeView) -> bool
     requires { (e : ℕ × Kept) → Contains cache.now.entries e → IsShown e.1 }
     ensures { Finds cache.now.entries child.now result into.new }
 {
@@ -31,22 +47,13 @@ fn find(cache: &LruCache<u32, Kept>, child: &Child, into: &mut NodeView) -> bool
     }
 }
 
-/// Shows the node of the child, if its page is kept with its level and its digest. It then becomes
-/// the last one that would be dropped.
-pub fn recall(cache: &mut LruCache<u32, Kept>, child: &Child, into: &mut NodeView) -> bool
-    requires { (e : ℕ × Kept) → Contains cache.old.entries e → IsShown e.1 }
-    ensures finds { Finds cache.old.entries child.now result into.new }
+// What is kept of a page becomes the last that would be dropped.
+pub(crate) fn touch(cache: &mut LruCache<u32, Kept>, page: u32)
     ensures stays { Stays cache.old.entries cache.new.entries }
-    ensures same { result ≡ false → cache.new.entries ≡ cache.old.entries }
-    ensures caches { result ≡ true → IsHeld cache.new.entries child.now }
-    ensures uses { result ≡ true → cache.new.entries ≡ used child.now.id cache.old.entries }
+    ensures uses { cache.new.entries ≡ used page cache.old.entries }
     ensures cap { cache.new.cap ≡ cache.old.cap }
 {
-    if !find(cache, child, into) {
-        return false;
-    }
-    cache.promote(&child.id);
-    true
+    cache.promote(&page);
 }
 
 // Keeps the node of the child. Where the cache is full, what was not used for the longest time is
@@ -72,21 +79,12 @@ pub(crate) fn put(
     Ok(())
 }
 
-/// Keeps what a view shows.
-pub fn remember(
-    alloc: Global,
-    cache: &mut LruCache<u32, Kept>,
-    child: &Child,
-    view: &NodeView,
-) -> Result<(), AllocError>
-    ensures gains { OnOk result
-        (Gains cache.old.cap cache.old.entries cache.new.entries child.now view.now) }
-    // All else is kept but for what was used longest ago, where the cache is full.
-    ensures puts { OnOk result
-        (Puts cache.old.cap cache.old.entries cache.new.entries child.now view.now) }
-    ensures same { OnErr result (cache.new ≡ cache.old) }
+// Keeps nothing of a page any more.
+pub(crate) fn forget(cache: &mut LruCache<u32, Kept>, page: u32)
+    ensures exact { cache.new.entries ≡ remove_entry (nat_eq page) cache.old.entries }
+    ensures forgets { Forgets page cache.old.entries cache.new.entries }
     ensures cap { cache.new.cap ≡ cache.old.cap }
 {
-    let node = Node::of(alloc, view)?;
-    put(cache, child, node)
+    let _len = cache.len();
+    cache.pop(&page);
 }

@@ -3,6 +3,7 @@
 #![tactic(auto)]
 
 mod cache;
+mod cached_file;
 mod copying;
 mod fetching;
 mod kept;
@@ -14,10 +15,8 @@ mod paging;
 mod reading;
 mod walk;
 
-pub use cache::{recall, remember};
+pub use cached_file::CachedFile;
 pub use kept::Kept;
 pub use listing::directory;
-pub use opening::empty_cache;
 pub use paged::Paged;
 pub use paging::Paging;
-pub use reading::judge;

@@ -1,10 +1,10 @@
 //! Maps that are taken into memory whole.
 
 ghost use Rattle.std.specs.Prelude.{◌≡◌, ◌≤◌, ◌+◌, length, IfOk, IfErr, IfSome, OnOk};
-ghost use Rattle.std.specs.String.{string_bytes};
 ghost use Rattle.mr_tree.specs.Nodes.{HasSomeCause, TellsRefusal, subtrees};
 ghost use Rattle.mr_tree.specs.Snapshot.{standing, tree_of};
-ghost use Rattle.mr_store.specs.Stored.{told_bytes, stands_for, top_in, IsSaid, Keeps, StandsFor};
+ghost use Rattle.mr_store.specs.Paged.{shelved, stands_for, Keeps};
+ghost use Rattle.mr_store.specs.Stored.{top_in, IsSaid, StandsFor};
 
 use crate::copying::copied;
 use crate::paged::Paged;
@@ -13,12 +13,12 @@ use mr_pages::MapHead;
 use mr_record::Version;
 use mr_tree::{Hash32, NodesErr, Snapshot, Top};
 
-// What page 0 says of the map.
-fn top_of(head: &MapHead) -> Top
-    ensures { result ≡ top_in head.now }
+// What page 0 says of a map of this version.
+fn top_of(version: Version, head: &MapHead) -> Top
+    ensures { result ≡ top_in version head.now }
 {
     Top {
-        version: Version::One,
+        version,
         batch: head.batch,
         count: head.count,
         root: head.root,
@@ -28,36 +28,30 @@ fn top_of(head: &MapHead) -> Top
 impl<S: Shelf, H: Hash32> Paged<S, H> {
     /// The whole map in memory, made as its nodes are fetched, with no tree beside it.
     ///
-    /// Where the tree is not told, `Page` names besides a node whose rectangle is not the one that
-    /// its parent tells of, a node with too few entries, or one with a record's number that was
-    /// met before; and the root, where the map has another number of records than it tells.
+    /// Where the tree is not told, `Page` names besides a node whose rectangle, mask or count is
+    /// not the one that its parent tells of, a node with too few entries, or one with a record's
+    /// number that was met before; and the root, where the map has another number of records than
+    /// it tells.
     pub fn snapshot(&mut self) -> Result<Snapshot<H>, NodesErr>
-        ensures kept { Keeps (string_bytes self.old.name) (string_bytes self.new.name)
-            self.old.head self.new.head (S.state self.old.shelf) (S.state self.new.shelf)
-            self.old.fetches self.new.fetches }
-        ensures stands { IfOk result (λ p. StandsFor (stands_for self.old.head
-            (told_bytes (S.state self.old.shelf).files (string_bytes self.old.name)))
-            p.nodes.items p.top) }
+        ensures kept { Keeps self.old self.new }
+        ensures stands { IfOk result (λ p. StandsFor (stands_for self.old) p.nodes.items p.top) }
         // Told or not, it is of the map that page 0 told of.
-        ensures says { IfOk result (λ p.
-            IsSaid H.of (top_in self.old.head) (standing p.nodes.items p.top)) }
+        ensures says { IfOk result (λ p. IsSaid H.of
+            (top_in self.old.file.layout.version self.old.head) (standing p.nodes.items p.top)) }
         // There are no more fetches than nodes.
-        ensures fetched { IfSome (stands_for self.old.head
-            (told_bytes (S.state self.old.shelf).files (string_bytes self.old.name))).tree
+        ensures fetched { IfSome (stands_for self.old).tree
             (λ t. self.new.fetches ≤ self.old.fetches + length (subtrees t)) }
         // Told or not, there are no more of them than nodes of the map in memory.
         ensures once { IfOk result (λ p. self.new.fetches
             ≤ self.old.fetches + length (subtrees (tree_of p.nodes.items p.top))) }
-        ensures cause { IfErr result (HasSomeCause (stands_for self.old.head
-            (told_bytes (S.state self.old.shelf).files (string_bytes self.old.name)))
-            (S.state self.old.shelf).faults (S.state self.new.shelf).faults) }
-        ensures quiet { OnOk result
-            ((S.state self.new.shelf).faults ≡ (S.state self.old.shelf).faults) }
+        ensures cause { IfErr result (HasSomeCause (stands_for self.old)
+            (shelved self.old).faults (shelved self.new).faults) }
+        ensures quiet { OnOk result ((shelved self.new).faults ≡ (shelved self.old).faults) }
         // What a fetch refused is what is answered.
         ensures answered { TellsRefusal (λ e. e) self.old.refusal self.new.refusal result }
     {
         let pages = self.head.pages;
-        let top = top_of(&self.head);
+        let top = top_of(self.file.layout.version, &self.head);
         copied::<Paged<S, H>>(self.alloc, self, &top, pages)
     }
 }

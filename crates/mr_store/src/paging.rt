@@ -1,62 +1,50 @@
 //! A file of pages on a shelf, of which it is not known yet whether it stands for a map.
 
-ghost use Rattle.std.specs.Prelude.{◌≡◌, ⊤, ℕ, List, IfOk, OnOk, ◌≤◌, ◌+◌, IsSome, option_map, nat_eq};
-ghost use Rattle.std.specs.Map.{lookup};
-ghost use Rattle.std.specs.String.{string_bytes};
+ghost use Rattle.std.specs.Prelude.{◌≡◌, ⊤, ℕ, List, IfOk, OnOk};
 ghost use Rattle.std.proofs.Props.{props};
-ghost use Rattle.mr_pages.specs.PageBytes.{first_form};
-ghost use Rattle.mr_pages.specs.File.{file_of};
-ghost use Rattle.mr_store.specs.Stored.{told_bytes, room};
 ghost use Rattle.mr_tree.specs.declared.tree.Tree.{Tree};
 ghost use Rattle.mr_pages.specs.Source.{MayKeep, AreMade, Stay};
-ghost use Rattle.mr_store.specs.Paging.{sourced, Holds, IsPaging};
+ghost use Rattle.mr_store.specs.CachedFile.{entries_of};
+ghost use Rattle.mr_store.specs.Paging.{sourced, Holds, IsUnchecked};
 ghost use Rattle.mr_store.specs.Kept.{node_of, Puts};
 
-use crate::cache::put;
-use crate::kept::Kept;
-use lru::LruCache;
+use crate::cached_file::CachedFile;
 use mr_outside::{Shelf, ShelfErr};
-use mr_pages::{
-    FIRST, Layout, MapHead, MapRule, Node, PAGE_SIZE, Source, free_on, head_on, node_on, page_into,
-};
+use mr_pages::{Layout, MapHead, MapRule, Node, Source, head_on, node_on};
 use mr_tree::{Child, Hashes, NodeView};
 use std::alloc::AllocError;
 use std::marker::PhantomData;
 
 /// A file of whole pages, of which page 0 was read and the others are read one by one, and the
 /// nodes of it that are kept.
-pub struct Paging<S: Shelf, H: Hashes> {
-    pub(crate) shelf: S,
-    pub(crate) name: String,
-    pub(crate) pages: u32,
-    pub(crate) first: [u8; PAGE_SIZE],
-    pub(crate) cache: LruCache<u32, Kept>,
+pub struct Paging<'a, S: Shelf, H: Hashes> {
+    pub(crate) file: CachedFile<S>,
+    pub(crate) first: &'a [u8],
     pub(crate) hash: PhantomData<H>,
-    ghost paging: { IsPaging H.of (S.state shelf).files (string_bytes name) pages first
-        cache.entries cache.cap } by { Prim.hlevel props },
+    ghost paging: { IsUnchecked H.of file first.now } by { Prim.hlevel props },
 }
 
-impl<S: Shelf, H: Hashes> Source for Paging<S, H> {
+impl<S: Shelf, H: Hashes> Source for Paging<'_, S, H> {
     type Hash = H;
 
     type Made = ();
 
-    ghost state = { λ s. sourced s.pages (S.state s.shelf) (string_bytes s.name) };
+    ghost state = { λ s. sourced s.file };
 
-    ghost keeps = { λ s page. Holds s.pages s.cache.entries page };
+    ghost keeps = { λ s page. Holds s.file.pages (entries_of s.file) page };
 
     ghost makes = { λ made t. ⊤ };
 
     fn count(&self) -> u32 {
-        self.pages
+        self.file.pages
     }
 
     fn layout(&self) -> Layout {
-        FIRST
+        self.file.layout
     }
 
     fn head(&self) -> Result<MapHead, MapRule> {
-        head_on(FIRST, &self.first, self.pages)
+        head_on(self.file.layout, self.first, self.file.pages)
     }
 
     fn node(
@@ -66,33 +54,30 @@ impl<S: Shelf, H: Hashes> Source for Paging<S, H> {
         bytes: &mut [u8],
         into: &mut NodeView,
     ) -> Result<bool, ShelfErr> {
-        page_into(&mut self.shelf, self.name.as_str(), FIRST, page, bytes)?;
-        Ok(node_on(FIRST, bytes, level, into))
+        let layout = self.file.layout;
+        self.file.read_page(page, bytes)?;
+        Ok(node_on(layout, bytes, level, into))
     }
 
     fn free(&mut self, page: u32) -> Result<Option<u32>, ShelfErr> {
-        let mut bytes = [0; PAGE_SIZE];
-        page_into(&mut self.shelf, self.name.as_str(), FIRST, page, &mut bytes)?;
-        Ok(free_on(FIRST, &bytes))
+        self.file.read_free(page)
     }
 
     fn none(&self) {}
 
     fn make(&mut self, child: &Child, node: Node, _below: Vec<()>) -> Result<(), AllocError>
-        requires { MayKeep H.of
-            (sourced self.old.pages (S.state self.old.shelf) (string_bytes self.old.name))
-            child.now node }
-        ensures same { sourced self.new.pages (S.state self.new.shelf) (string_bytes self.new.name)
-            ≡ sourced self.old.pages (S.state self.old.shelf) (string_bytes self.old.name) }
+        requires { MayKeep H.of (sourced self.old.file) child.now node }
+        ensures same { sourced self.new.file ≡ sourced self.old.file }
         ensures made { IfOk result (λ m. (ts : List Tree) →
             AreMade (λ one t. ⊤) _below.items ts → ⊤) }
-        ensures kept { OnOk result (Holds self.new.pages self.new.cache.entries child.now.id) }
-        ensures puts { OnOk result (Puts self.old.cache.cap self.old.cache.entries
-            self.new.cache.entries child.now (node_of node)) }
-        ensures stay { Stay (Holds self.old.pages self.old.cache.entries)
-            (Holds self.new.pages self.new.cache.entries) }
+        ensures kept { OnOk result
+            (Holds self.new.file.pages (entries_of self.new.file) child.now.id) }
+        ensures puts { OnOk result (Puts self.old.file.cache.cap (entries_of self.old.file)
+            (entries_of self.new.file) child.now (node_of node)) }
+        ensures stay { Stay (Holds self.old.file.pages (entries_of self.old.file))
+            (Holds self.new.file.pages (entries_of self.new.file)) }
     {
-        let _len = self.cache.len();
-        put(&mut self.cache, child, node)
+        let _len = self.file.cache.len();
+        self.file.keep(child, node)
     }
 }

@@ -1,15 +1,15 @@
 //! Pages that are read again.
 
-ghost use Rattle.std.specs.Prelude.{◌≡◌, OnOk, IfErr, MatchOption, Some, bytes_eq, ⊤};
-ghost use Rattle.mr_outside.specs.Told.{OfFile};
+ghost use Rattle.std.specs.Prelude.{◌≡◌, OnOk, IfErr, MatchOption, Some, bytes_eq};
+ghost use Rattle.mr_tree.specs.Digest.{by};
 ghost use Rattle.mr_pages.specs.Page as pages_spec;
-ghost use Rattle.mr_pages.specs.PageBytes.{first_form};
+ghost use Rattle.mr_pages.specs.PageBytes.{form_of, IsLayout};
 ghost use Rattle.mr_pages.specs.Walking.{page_node};
 ghost use Rattle.mr_store.specs.Kept.{AreInside};
-ghost use Rattle.mr_store.specs.Again.{outside_of, judged, Judges, IsGiven, Outside, IsRead, IsSaid, TellsNode, TellsAgain, IsBlamed, IsRefused, ReadsOne, Refuses};
+ghost use Rattle.mr_store.specs.Again.{outside_of, judged, Judges, Outside, IsRead, IsSaid, TellsNode, IsBlamed, Refuses};
 
-use mr_outside::{Shelf, ShelfErr};
-use mr_pages::{FIRST, PAGE_SIZE, digest_on, page_into, read_page};
+use mr_outside::ShelfErr;
+use mr_pages::{Layout, digest_on, node_on};
 use mr_tree::{Child, Hashes, NodeView, NodesErr, is_view};
 
 // Whether two digests are the same.
@@ -33,25 +33,29 @@ fn outside(view: &NodeView, pages: u32) -> Option<u32>
     None
 }
 
-/// The node that a page of a file of so many pages spells, if it is what is said of the child.
-pub fn judge<H: Hashes>(
-    page: &[u8; PAGE_SIZE],
+// The node that a page of a file of so many pages spells, if it is what is said of the child.
+pub(crate) fn judge<H: Hashes>(
+    layout: Layout,
+    page: &[u8],
     pages: u32,
     child: &Child,
     into: &mut NodeView,
 ) -> Result<(), NodesErr>
-    ensures exact { Judges result into.new (judged H.of pages child.now page.now) }
-    ensures read { OnOk result (IsRead H.of pages child.now into.new) }
-    ensures told { (m : pages_spec.Node) → first_form.node_in page.now ≡ Some m →
-        IsSaid H.of pages child.now m → TellsNode m result into.new }
-    ensures spelled { OnOk result (first_form.node_in page.now ≡ Some (page_node into.new)) }
+    requires { IsLayout layout }
+    ensures exact { Judges result into.new
+        (judged (form_of layout) H.of pages child.now page.now) }
+    ensures read { OnOk result (IsRead (by layout.version H.of) pages child.now into.new) }
+    ensures told { (m : pages_spec.Node) → (form_of layout).node_in page.now ≡ Some m →
+        IsSaid (by layout.version H.of) pages child.now m → TellsNode m result into.new }
+    ensures spelled { OnOk result
+        ((form_of layout).node_in page.now ≡ Some (page_node into.new)) }
     ensures blamed { IfErr result (IsBlamed pages child.now) }
 {
-    if !read_page(page, child.level, into) {
+    if !node_on(layout, page, child.level, into) {
         return Err(NodesErr::Page { page: child.id });
     }
     is_view(into);
-    let found = digest_on::<H>(FIRST, page, into);
+    let found = digest_on::<H>(layout, page, into);
     if !are_same(&child.digest, &found) {
         return Err(NodesErr::Changed {
             page: child.id,
@@ -66,36 +70,12 @@ pub fn judge<H: Hashes>(
 }
 
 // The same cause in a fetch's own words.
-fn refusal(error: ShelfErr) -> NodesErr
+pub(crate) fn refusal(error: ShelfErr) -> NodesErr
     ensures { Refuses error result }
 {
     match error {
         ShelfErr::Missing => NodesErr::Missing,
         ShelfErr::Fault => NodesErr::Fault,
         ShelfErr::NoMemory => NodesErr::NoMemory,
-    }
-}
-
-// Reads the page of the child, and shows its node if it is what is said of the child.
-pub(crate) fn read_again<H: Hashes, S: Shelf>(
-    shelf: &mut S,
-    name: &str,
-    pages: u32,
-    child: &Child,
-    into: &mut NodeView,
-) -> Result<(), NodesErr>
-    ensures read { OnOk result (IsRead H.of pages child.now into.new) }
-    ensures told { OfFile (S.state shelf.old).files name.now ⊤
-        (TellsAgain H.of pages child.now result into.new) }
-    ensures given { IfErr result (IsGiven H.of pages child.now) }
-    ensures refused { IfErr result
-        (IsRefused pages name.now child.now (S.state shelf.old) (S.state shelf.new)) }
-    ensures quiet { OnOk result ((S.state shelf.new).faults ≡ (S.state shelf.old).faults) }
-    ensures one { ReadsOne (S.state shelf.old) (S.state shelf.new) }
-{
-    let mut page = [0; PAGE_SIZE];
-    match page_into(shelf, name, FIRST, child.id, &mut page) {
-        Ok(()) => judge::<H>(&page, pages, child, into),
-        Err(error) => Err(refusal(error)),
     }
 }

@@ -276,6 +276,66 @@ fn a_large_map_that_turns_is_not_listed(rt: HostRuntime) {
     all_hold(&rt, first_unsaid(&rt, rt.alloc(), &LARGE, LISTED));
 }
 
+// The same map in version 2, each record on layer 0: page 2 is an inner node, whose first entries
+// are the leaves of the pages 3 and 4, of 15 and of 16 records.
+const LARGE2: Scene<'static> = Scene {
+    files: &[("r", "points 5000"), ("b", "| batch 1\n| - 7")],
+    made: &["build l r", "upgrade l m"],
+    words: "apply m b n",
+    map: "m",
+    after: 321,
+};
+
+const LISTED2: &[Case<'static>] = &[
+    Case {
+        name: "an entry with another mask",
+        edits: &[(16_414, b"\x03")],
+        gone: "none",
+        status: BadMap,
+        says: "bad map page 2 Changed held ..0c found ..0e\n",
+    },
+    Case {
+        name: "two entries with another mask, under one digest",
+        edits: &[(16_414, b"\x03"), (16_482, b"\x03")],
+        gone: "none",
+        status: BadMap,
+        says: "bad map page 2 Page\n",
+    },
+    Case {
+        name: "an entry with another count",
+        edits: &[(16_422, b"\x0e")],
+        gone: "none",
+        status: BadMap,
+        says: "bad map page 2 Changed held ..0c found ..0d\n",
+    },
+    Case {
+        name: "two entries with more records, under one digest",
+        edits: &[(16_490, b"\x11"), (16_558, b"\x11")],
+        gone: "none",
+        status: BadMap,
+        says: "bad map page 2 Page\n",
+    },
+    Case {
+        name: "an entry of a record less, and one of a record more",
+        edits: &[(16_422, b"\x0e"), (16_490, b"\x11")],
+        gone: "none",
+        status: BadMap,
+        says: "bad map page 3 Page\n",
+    },
+    Case {
+        name: "two records on another layer, under one digest",
+        edits: &[(24_602, b"\x01"), (24_628, b"\x01")],
+        gone: "none",
+        status: BadMap,
+        says: "bad map page 3 Page\n",
+    },
+];
+
+#[test]
+fn a_large_map_of_version_2_that_turns_is_not_listed(rt: HostRuntime) {
+    all_hold(&rt, first_unsaid(&rt, rt.alloc(), &LARGE2, LISTED2));
+}
+
 // A leaf of 16 records was split: page 1 has the records 1 to 11, page 2 the others, page 3 is the
 // root.
 const SPLIT: Scene<'static> = Scene {
@@ -334,6 +394,62 @@ const COPIED: &[Case<'static>] = &[
 #[test]
 fn a_map_that_turns_while_it_is_copied(rt: HostRuntime) {
     all_hold(&rt, first_unsaid(&rt, rt.alloc(), &SPLIT, COPIED));
+}
+
+// The same in version 2, each record on layer 0.
+const SPLIT2: Scene<'static> = Scene {
+    files: &[
+        ("r", "points 16"),
+        ("b", "| batch 1\n| + 17 100 100 100 100 0 -"),
+        ("c", "| batch 2\n| - 17"),
+    ],
+    made: &["build l r", "upgrade l m", "apply m b n"],
+    words: "apply n c o",
+    map: "n",
+    after: 5,
+};
+
+const COPIED2: &[Case<'static>] = &[
+    Case {
+        name: "two entries with another mask",
+        edits: &[(24_606, b"\x03"), (24_674, b"\x03")],
+        gone: "none",
+        status: BadMap,
+        says: "bad map page 3 Page\n",
+    },
+    Case {
+        name: "an entry of a record less, and one of a record more",
+        edits: &[(24_614, b"\x0a"), (24_682, b"\x07")],
+        gone: "none",
+        status: BadMap,
+        says: "bad map page 2 Page\n",
+    },
+    Case {
+        name: "two records on another layer",
+        edits: &[(16_410, b"\x01"), (16_436, b"\x01")],
+        gone: "none",
+        status: BadMap,
+        says: "bad map page 2 Page\n",
+    },
+    Case {
+        name: "a mask of zero",
+        edits: &[(24_606, b"\0"), (24_674, b"\0")],
+        gone: "none",
+        status: BadMap,
+        says: "bad map page 3 Page\n",
+    },
+    Case {
+        name: "a count of zero",
+        edits: &[(24_614, b"\0"), (24_682, b"\x0d")],
+        gone: "none",
+        status: BadMap,
+        says: "bad map page 3 Page\n",
+    },
+];
+
+#[test]
+fn a_map_of_version_2_that_turns_while_it_is_copied(rt: HostRuntime) {
+    all_hold(&rt, first_unsaid(&rt, rt.alloc(), &SPLIT2, COPIED2));
 }
 
 // The same leaf was put together again: page 1 has all records, the pages 3 and 2 are free.

@@ -14,7 +14,6 @@ use Rattle.mr_record.specs.declared.text_fault.TextFault.{TextFault}
 use Rattle.mr_record.specs.declared.version.Version.{Version}
 use Rattle.mr_record.specs.declared.version.Version.TheVariants.{One, Two}
 use Rattle.mr_tree.specs.Digest.{by}
-use Rattle.mr_tree.specs.Digest as digests
 use Rattle.mr_tree.specs.Tree.{records}
 use Rattle.mr_tree.specs.WellFormed.{WellFormed, HasLayers}
 use Rattle.mr_tree.specs.declared.tree.Tree.{Tree}
@@ -48,14 +47,14 @@ use Rattle.mr_batch.specs.Changes.{Changes}
 use Rattle.mr_batch.specs.Replay.{replay}
 use Rattle.mr_batch.specs.declared.admission.BatchFault.{BatchFault}
 use Rattle.mr_command.specs.Answer.{World, HasStopped, IsWhole}
-use Rattle.mr_command.specs.Ending.{Comes, Ends, Finishes, FindsMap, IsWell, printed_of}
-use Rattle.mr_plan.specs.First.{first, first_map, first_pages}
+use Rattle.mr_command.specs.Ending.{Ends, EndsAsSaid, Finishes, FindsMap, IsCarriedOut, IsWell, printed_of}
+use Rattle.mr_plan.specs.First.{first, first_map, pages_by}
 use Rattle.mr_plan.specs.Found.{Found, Shows}
 use Rattle.mr_plan.specs.Outcome.{Outcome, IsHeld}
-use Rattle.mr_plan.specs.Plan.{Plan, comes, opens, rereads, Input, IsInput}
-use Rattle.mr_plan.specs.Rereading.{Rereading, proving, auditing, serving, applying, MaySay}
+use Rattle.mr_plan.specs.Plan.{Plan, comes, opens, Input, IsInput, Leads}
+use Rattle.mr_plan.specs.Untold.{MaySayApply, MaySayAudit, MaySayServe, MaySayUntold}
 use Rattle.mr_tool.specs.Promises.{Holds, HoldsRecords, HoldsMap, HoldsProof, HoldsBatch, HoldsScript, HoldsBundle, IsInOrder, CompletesWords, AnswersHonest, PrintsScan, IsWorth, AcceptsHonestOrCollides, Delivers, SaysWorth, AuditsAccepted, CollidesRightly, IsApplied, AppliesAlike, IsUpgraded, UpgradesAll}
-use Rattle.mr_plan.specs.Say.{always_first, given, given_map, needs, needs_map, needs_map_in, needs_sized_map, prints, say, say_root_of, say_build_of, say_list_of, say_upgrade_of, say_admitted, say_batch, say_change, say_apply, say_apply_of, say_prove_of, say_check, say_check_of, say_audit, say_audit_of, say_finding, say_script, say_serve, say_serve_of, given_queries, say_parts, say_parts_of, say_check_all, say_make_of}
+use Rattle.mr_plan.specs.Say.{at_first, given, given_map, needs, needs_any_map, needs_map, prints, say, say_root_of, say_build_of, say_list_of, say_upgrade, say_upgrade_of, say_admitted, say_batch, say_change, say_apply, say_apply_of, say_prove_of, say_check, say_check_of, say_audit, say_audit_of, say_finding, say_script, say_serve, say_serve_of, given_queries, say_parts, say_parts_of, say_check_all, say_make_of}
 use Rattle.mr_plan.specs.Lines.{digest_line, sound_line, collision_lines}
 use Rattle.mr_plan.specs.Words.{IsWord, words_of, Spells}
 use Rattle.mr_command.specs.declared.ending.Ending.{Ending}
@@ -63,19 +62,20 @@ use Rattle.mr_command.specs.declared.ending.Halt.{Halt}
 use Rattle.mr_command.specs.declared.ending.Halt.TheVariants as halts
 use Rattle.mr_pages.specs.declared.opening.Opened.{Opened}
 use Rattle.mr_plan.specs.declared.status.Status.{Status}
-use Rattle.mr_plan.specs.declared.status.Status.TheVariants.{Done, Refused, BadMap, BadBatch, Collision, Outside, NoMemory}
+use Rattle.mr_plan.specs.declared.status.Status.TheVariants.{Done, Refused, BadMap, BadBatch, Collision, NeedsVersion2, Outside, NoMemory}
 use Rattle.mr_plan.specs.declared.words.Command.{Command}
 use Rattle.mr_plan.specs.declared.words.Command.TheVariants as commands
 use Rattle.mr_command.proofs.Batches.{fits_if_none, says_applied}
 use Rattle.mr_command.proofs.Bundles.{parts_done, served_done}
+use Rattle.mr_command.proofs.Going.{version_by}
 use Rattle.mr_command.proofs.Verdicts.{says_verdict, says_finding}
 
 -- ---- to the end, or stopped
 
--- the plan came to its end, and its text was printed
-record HasRun (plan : Plan) (before after : World) (status : Status) : Type 0 where
+-- a command came to its end, and its text was printed
+record HasRun (plan : Plan) (may : Outcome → Type 0) (before after : World) (status : Status) : Type 0 where
   text : List ℕ
-  ends : Ends plan before.shelf.files after.shelf.files status text
+  ends : EndsAsSaid plan may before.shelf.files after.shelf.files status text
   printed : Takes before.sink after.sink text
 
 -- what stopped the printing stopped the run
@@ -85,23 +85,32 @@ stopped_printing : (before after : World) (status : Status)
 stopped_printing before after status (inl none) = inl none
 stopped_printing before after status (inr failed) = inr (failed.0, inr failed.1)
 
-ran : (plan : Plan) (before after : World) (status : Status) (came : Result Ending Halt)
-    → Comes plan before.shelf after.shelf came → Finishes came before.sink after.sink status
-    → HasRun plan before after status ⊎ HasStopped before after status
-ran plan before after status (Ok ending) came ended = elim ended.printed [
+abbrev may_be : (List ℕ → List ℕ) → Command → Outcome → Type 0
+may_be hash command = MaySayUntold hash (Some command)
+
+-- so a command is run, or it stopped
+abbrev IsRunOr : (List ℕ → List ℕ) → Command → World → World → Status → Type 0
+IsRunOr hash command before after status =
+    HasRun (say hash (Some command)) (may_be hash command) before after status ⊎ HasStopped before after status
+
+ran : (hash : List ℕ → List ℕ) (command : Command) (before after : World) (status : Status)
+    (came : Result Ending Halt) → IsCarriedOut hash command before.shelf after.shelf came
+    → Finishes came before.sink after.sink status → IsRunOr hash command before after status
+ran hash command before after status (Ok ending) came ended = elim ended.printed [
   | inl whole ↦ inl (record {
     text = printed_of ending;
-    ends = subst (λ s. Ends plan before.shelf.files after.shelf.files s (printed_of ending)) (sym whole.0) came.came;
+    ends = subst (λ s. EndsAsSaid (say hash (Some command)) (may_be hash command) before.shelf.files
+        after.shelf.files s (printed_of ending)) (sym whole.0) came.came;
     printed = whole.1;
   })
   | inr stop ↦ inr (stopped_printing before after status stop.0)
 ]
-ran plan before after status (Err halts.Words) came ended = absurd came.came.0
-ran plan before after status (Err halts.Shelf) came ended = inr (elim ended.printed [
+ran hash command before after status (Err halts.Words) came ended = absurd came.came.0
+ran hash command before after status (Err halts.Shelf) came ended = inr (elim ended.printed [
   | inl whole ↦ inr (whole.0, inl came.came.0)
   | inr stop ↦ stopped_printing before after status stop.0
 ])
-ran plan before after status (Err halts.NoMemory) came ended = inr (inl ended.printed.0)
+ran hash command before after status (Err halts.NoMemory) came ended = inr (inl ended.printed.0)
 
 -- ---- over files that are told
 
@@ -115,12 +124,12 @@ of_told : (told : Option Files) (name bytes : List ℕ) (P : Type 0) → Holds t
 of_told None name bytes P held of = absurd held
 of_told (Some files) name bytes P held of = of
 
--- a command that reads pages of this file again came to its end by its plan
-told_ends : (told after : Option Files) (name bytes : List ℕ) (reading : Rereading) (next : Plan) (status : Status)
-    (text : List ℕ) → Holds told name bytes → Ends (rereads reading next) told after status text
-    → Ends next told after status text
-told_ends None after name bytes reading next status text held ends = absurd held
-told_ends (Some files) after name bytes reading next status text held ends = ends
+-- where this file is told, a command came to its end by its plan
+told_ends : (told after : Option Files) (name bytes : List ℕ) (plan : Plan) (may : Outcome → Type 0)
+    (status : Status) (text : List ℕ) → Holds told name bytes → EndsAsSaid plan may told after status text
+    → Ends plan told after status text
+told_ends None after name bytes plan may status text held ends = absurd held
+told_ends (Some files) after name bytes plan may status text held ends = ends
 
 -- a command that reads this file came to its end by its bytes
 module _ (name bytes : List ℕ) (before after : Option Files) (status : Status) (text : List ℕ)
@@ -147,14 +156,26 @@ opened_on v hash name held t batch before after status text holds stands next on
     on.3
 
 -- a command that opens this file came to its end by the map that it stands for
-map_on : (version : List ℕ → Version) (hash : List ℕ → List ℕ) (name held : List ℕ) (t : Tree) (batch : ℕ)
+map_on : (v : Version) (hash : List ℕ → List ℕ) (name held : List ℕ) (t : Tree) (batch : ℕ)
     (before after : Option Files) (status : Status) (text : List ℕ) → Holds before name held
-    → IsMapFile hash held (map_in (version held) t batch)
-    → (next : Opened → Plan) → Ends (needs_map_in version hash name next) before after status text
-    → Ends (next (map_in (version held) t batch)) before after status text
-map_on version hash name held t batch before after status text holds stands next ends =
-    opened_on (version held) hash name held t batch before after status text holds stands next
-    (ends_on name held before after status text holds (λ bytes. opens (version bytes) hash bytes (given_map next)) ends)
+    → IsMapFile hash held (map_in v t batch)
+    → (next : Opened → Plan) → Ends (needs_any_map hash name next) before after status text
+    → Ends (next (map_in v t batch)) before after status text
+map_on v hash name held t batch before after status text holds stands next ends =
+    opened_on v hash name held t batch before after status text holds stands next
+    (subst (λ u. Ends (opens u hash held (given_map next)) before after status text)
+    (stands_version v hash held t batch stands.stands)
+    (ends_on name held before after status text holds (λ bytes. opens (version_of bytes) hash bytes (given_map next))
+    ends))
+
+-- one of version 1, which has proofs
+first_on : (hash : List ℕ → List ℕ) (name held : List ℕ) (t : Tree) (batch : ℕ)
+    (before after : Option Files) (status : Status) (text : List ℕ) → Holds before name held
+    → IsMapFile hash held (first_map t batch)
+    → (next : Opened → Plan) → Ends (needs_map hash name next) before after status text
+    → Ends (next (first_map t batch)) before after status text
+first_on hash name held t batch before after status text holds stands next ends =
+    map_on One hash name held t batch before after status text holds stands (λ m. at_first m.version (next m)) ends
 
 -- ---- a proof beside the map
 
@@ -168,18 +189,18 @@ says_found hash q t batch bytes r o e d =
 module _ (hash : List ℕ → List ℕ) (before after : Option Files) (status : Status) (text : List ℕ) (map : List ℕ)
     (q : Query) (name : List ℕ) (t : Tree) (batch : ℕ) (held bytes : List ℕ) (map_held : Holds before map held)
     (stands : IsMapFile hash held (first_map t batch)) (name_held : Holds before name bytes) where
-  audited_ends : Ends (say_audit hash map q name) before after status text
+  audited_ends : EndsAsSaid (say_audit hash map q name) (MaySayAudit hash map q name) before after status text
       → Ends (comes (say_audit_of hash q (first_map t batch) bytes)) before after status text
   audited_ends ends =
       let next : Opened → Plan = λ m. needs name (λ bytes. comes (say_audit_of hash q m bytes)) in
-      let mapped = map_on always_first hash map held t batch before after status text map_held stands next
-      (told_ends before after map held (auditing hash map q name) (needs_map hash map next) status text map_held ends)
-      in
+      let mapped = first_on hash map held t batch before after status text map_held stands next
+      (told_ends before after map held (say_audit hash map q name) (MaySayAudit hash map q name) status text map_held
+      ends) in
       ends_on name bytes before after status text name_held
       (λ bytes. comes (say_audit_of hash q (first_map t batch) bytes)) mapped
 
   audit_done : IsSized hash → IsQuery q → bytes ≡ proof (first hash) t batch q
-      → Ends (say_audit hash map q name) before after status text → status ≡ Done
+      → EndsAsSaid (say_audit hash map q name) (MaySayAudit hash map q name) before after status text → status ≡ Done
   audit_done sized asked own ends =
       let low = stands.stands.batch_fits in
       let accepted : verdict hash (map_root hash (first_map t batch)) q bytes ≡ Ok (scan (records t) q) =
@@ -207,7 +228,8 @@ module _ (hash : List ℕ → List ℕ) (before after : World) (status : Status)
     (accepted : verdict hash (map_root hash (first_map t batch)) q bytes ≡ Ok answer) where
   delivered : (o : Option Pair) (other : Outcome) → clash (first hash) t batch bytes ≡ o
       → say_finding (finding_of (Ok answer) o) ≡ other
-      → HasRun (say_audit hash map q name) before after status ⊎ HasStopped before after status
+      → HasRun (say_audit hash map q name) (MaySayAudit hash map q name) before after status
+      ⊎ HasStopped before after status
       → Delivers other before after status
   delivered o other d e (inr stop) = inr stop
   delivered o other d e (inl run) =
@@ -218,7 +240,8 @@ module _ (hash : List ℕ → List ℕ) (before after : World) (status : Status)
 
   says_worth : (o : Option Pair) → clash (first hash) t batch bytes ≡ o
       → NoneAnd hash o (IsHonest (first hash) t batch q bytes answer)
-      → HasRun (say_audit hash map q name) before after status ⊎ HasStopped before after status
+      → HasRun (say_audit hash map q name) (MaySayAudit hash map q name) before after status
+      ⊎ HasStopped before after status
       → SaysWorth hash t batch q bytes o before after status
   says_worth None d own run = (
     own.own,
@@ -278,16 +301,25 @@ module _ (hash : List ℕ → List ℕ) (sized : IsSized hash) (q : Query) (may 
   shown_with m well layers low (Some bytes) taken ends =
       shown_of hash sized q may m.tree m.batch bytes well layers low taken before after status text is ends
 
-  shown_found : (held : List ℕ) (found : Found) → Shows One hash held found → IsWell found
-      → Ends (given_map proof_plan found) before after status text → Shown hash text
-  shown_found held (Ok m) shows well ends = shown_with m well.0 shows.1.layers well.1 ends.0 ends.2 ends.3
-  shown_found held (Err fault) shows well ends = other_status status BadMap is ends.0 (λ c. cc)
+  -- of a map of version 2 it is said that it has no proofs
+  shown_at : (m : Opened) → WellFormed m.tree → m.batch < 2 ^ 64 → (v : Version) → m.version ≡ v
+      → HasLayers v m.tree → Ends (at_first v (proof_plan m)) before after status text → Shown hash text
+  shown_at m well low One e layers ends = shown_with m well layers low ends.0 ends.2 ends.3
+  shown_at m well low Two e layers ends = other_status status NeedsVersion2 is ends.0 (λ c. cc)
+
+  shown_found : (v : Version) (held : List ℕ) (found : Found) → Shows v hash held found → IsWell found
+      → Ends (given_map (λ m. at_first m.version (proof_plan m)) found) before after status text → Shown hash text
+  shown_found v held (Ok m) shows well ends =
+      shown_at m well.0 well.1 m.version refl
+      (subst (λ u. HasLayers u m.tree) (version_by v ∙ sym shows.0) shows.1.layers) ends
+  shown_found v held (Err fault) shows well ends = other_status status BadMap is ends.0 (λ c. cc)
 
   shown_opened : (map : List ℕ) (input : Input)
-      → Ends (given map (λ bytes. opens One hash bytes (given_map proof_plan)) input) before after status text
+      → Ends (given map (λ bytes. opens (version_of bytes) hash bytes
+      (given_map (λ m. at_first m.version (proof_plan m)))) input) before after status text
       → Shown hash text
   shown_opened map None ends = other_status status Outside is ends.0 (λ c. cc)
-  shown_opened map (Some bytes) ends = shown_found bytes ends.0 ends.1.0 ends.2 ends.3
+  shown_opened map (Some bytes) ends = shown_found (version_of bytes) bytes ends.0 ends.1.0 ends.2 ends.3
 
   -- over files that are not told, by what was found
   shown_finding : (f : Finding) (said : Outcome) → Collides hash f → said ≡ say_finding f → status ≡ said.status
@@ -302,26 +334,32 @@ module _ (hash : List ℕ → List ℕ) (sized : IsSized hash) (q : Query) (may 
     is = tx ∙ ap (λ (o : Outcome). o.printed) e;
   }
 
-  shown_untold : (map : List ℕ) (said : Outcome) → MaySay (auditing hash map q name) said → status ≡ said.status
+  shown_untold : (map : List ℕ) (said : Outcome) → MaySayAudit hash map q name said → status ≡ said.status
       → text ≡ said.printed → Shown hash text
   shown_untold map said (inl (inl e)) st tx =
       other_status status Outside is (st ∙ ap (λ (o : Outcome). o.status) e) (λ c. cc)
   shown_untold map said (inl (inr bad)) st tx =
       other_status status BadMap is (st ∙ ap (λ (o : Outcome). o.status) bad.2) (λ c. cc)
   shown_untold map said (inr (inl e)) st tx =
+      other_status status NeedsVersion2 is (st ∙ ap (λ (o : Outcome). o.status) e) (λ c. cc)
+  shown_untold map said (inr (inr (inl e))) st tx =
       other_status status Outside is (st ∙ ap (λ (o : Outcome). o.status) e) (λ c. cc)
-  shown_untold map said (inr (inr found)) st tx = shown_finding found.0 said found.1.collides found.2 st tx
+  shown_untold map said (inr (inr (inr found))) st tx = shown_finding found.0 said found.1.collides found.2 st tx
 
-  shown_audit : (map : List ℕ) → Ends (say_audit hash map q name) before after status text → Shown hash text
+  shown_audit : (map : List ℕ)
+      → EndsAsSaid (say_audit hash map q name) (MaySayAudit hash map q name) before after status text
+      → Shown hash text
   shown_audit map ends = by_files before refl
     where
       by_files : (o : Option Files) → before ≡ o → Shown hash text
       by_files None e =
-          let on = subst (λ o. Ends (say_audit hash map q name) o after status text) e ends in
+          let on = subst (λ o. EndsAsSaid (say_audit hash map q name) (MaySayAudit hash map q name) o after status
+          text) e ends in
           shown_untold map on.0 on.1 on.2 on.3
       by_files (Some files) e =
           let on = subst (λ o. Ends (needs_map hash map proof_plan) o after status text) (sym e)
-          (subst (λ o. Ends (say_audit hash map q name) o after status text) e ends) in
+          (subst (λ o. EndsAsSaid (say_audit hash map q name) (MaySayAudit hash map q name) o after status text) e
+          ends) in
           shown_opened map on.0 on.3
 
 -- what stopped a run was no collision
@@ -346,57 +384,63 @@ make_done count seed records = refl
 
 module _ (hash : List ℕ → List ℕ) (before after : Option Files) (status : Status) (text : List ℕ) where
   text_done : (v : Version) (name : List ℕ) (said : Result (List Record) TextFault → Outcome)
-      → ((list : List Record) → (said (Ok list)).status ≡ Done) → HoldsRecords v before name
-      → Ends (needs name (λ bytes. comes (said (records_of_text v bytes)))) before after status text → status ≡ Done
-  text_done v name said done holds ends =
-      let on = ends_on name holds.bytes before after status text holds.held
-      (λ bytes. comes (said (records_of_text v bytes))) ends in
+      (may : Outcome → Type 0) → ((list : List Record) → (said (Ok list)).status ≡ Done)
+      → HoldsRecords v before name
+      → EndsAsSaid (needs name (λ bytes. comes (said (records_of_text v bytes)))) may before after status text
+      → status ≡ Done
+  text_done v name said may done holds ends =
+      let next : List ℕ → Plan = λ bytes. comes (said (records_of_text v bytes)) in
+      let on = ends_on name holds.bytes before after status text holds.held next
+      (told_ends before after name holds.bytes (needs name next) may status text holds.held ends) in
       on.0 ∙ ap (λ r. (said r).status) holds.right ∙ done holds.list
 
-  map_done : (version : List ℕ → Version) (name : List ℕ) (said : Opened → Outcome)
-      → ((map : Opened) → (said map).status ≡ Done) → HoldsMap version hash before name
-      → Ends (needs_map_in version hash name (λ map. comes (said map))) before after status text → status ≡ Done
-  map_done version name said done holds ends =
-      let next : Opened → Plan = λ map. comes (said map) in
-      let mapped = map_on version hash name holds.bytes holds.tree holds.batch before after status text holds.held
-      holds.stands next ends in
-      mapped.0 ∙ done (map_in (version holds.bytes) holds.tree holds.batch)
+  map_done : (v : Version) (name : List ℕ) (next : Opened → Plan) (may : Outcome → Type 0)
+      → (holds : HoldsMap v hash before name) → EndsAsSaid (needs_any_map hash name next) may before after status text
+      → Ends (next (map_in v holds.tree holds.batch)) before after status text
+  map_done v name next may holds ends =
+      map_on v hash name holds.bytes holds.tree holds.batch before after status text holds.held holds.stands next
+      (told_ends before after name holds.bytes (needs_any_map hash name next) may status text holds.held ends)
 
   -- what `apply` came to, by the map and the batch
-  applied_ends : (old name new : List ℕ) (t : Tree) (batch : ℕ) (bytes beside : List ℕ) (b : Changes)
-      → Holds before old bytes → IsMapFile hash bytes (first_map t batch) → Holds before name beside
-      → batch_of_text One beside ≡ Ok b → Ends (say_apply hash old name new) before after status text
-      → Ends (comes (say_batch hash new (first_pages bytes) (first_map t batch) b)) before after status text
-  applied_ends old name new t batch bytes beside b held stands there right ends =
-      let next : List ℕ → Opened → Plan = λ bytes. say_change hash name new (first_pages bytes) in
+  applied_ends : (old name new : List ℕ) (v : Version) (t : Tree) (batch : ℕ) (bytes beside : List ℕ) (b : Changes)
+      → Holds before old bytes → IsMapFile hash bytes (map_in v t batch) → Holds before name beside
+      → batch_of_text v beside ≡ Ok b
+      → EndsAsSaid (say_apply hash old name new) (MaySayApply hash old name new) before after status text
+      → Ends (comes (say_batch hash new (pages_by v bytes) (map_in v t batch) b)) before after status text
+  applied_ends old name new v t batch bytes beside b held stands there right ends =
+      let next : ℕ → Opened → Plan = say_change hash name new in
       let said : List ℕ → Plan =
-      λ text. comes (say_apply_of hash new (first_pages bytes) (first_map t batch) (batch_of_text One text)) in
-      let on = told_ends before after old bytes (applying hash old name new)
-      (needs_sized_map hash old (say_change hash name new)) status text held ends in
+      λ text. comes (say_apply_of hash new (pages_by v bytes) (map_in v t batch) (batch_of_text v text)) in
+      let on = told_ends before after old bytes (say_apply hash old name new) (MaySayApply hash old name new) status
+      text held ends in
       let opened = ends_on old bytes before after status text held
-      (λ bytes. opens One hash bytes (given_map (next bytes))) on in
-      let mapped = opened_on One hash old bytes t batch before after status text held stands (next bytes) opened in
-      subst (λ r. Ends (comes (say_apply_of hash new (first_pages bytes) (first_map t batch) r)) before
+      (λ bytes. opens (version_of bytes) hash bytes (given_map (next (pages_by (version_of bytes) bytes)))) on in
+      let mapped = opened_on v hash old bytes t batch before after status text held stands (next (pages_by v bytes))
+      (subst (λ u. Ends (opens u hash bytes (given_map (next (pages_by u bytes)))) before after status text)
+      (stands_version v hash bytes t batch stands.stands) opened) in
+      subst (λ r. Ends (comes (say_apply_of hash new (pages_by v bytes) (map_in v t batch) r)) before
       after status text)
       right (ends_on name beside before after status text there said mapped)
 
   apply_done : (old name new : List ℕ) → HoldsBatch hash before old name
-      → Ends (say_apply hash old name new) before after status text → status ≡ Done
+      → EndsAsSaid (say_apply hash old name new) (MaySayApply hash old name new) before after status text
+      → status ≡ Done
   apply_done old name new holds ends =
-      let map = first_map holds.on.tree holds.on.batch in
-      let last = applied_ends old name new holds.on.tree holds.on.batch holds.on.bytes holds.text
+      let v = holds.version in
+      let map = map_in v holds.on.tree holds.on.batch in
+      let last = applied_ends old name new v holds.on.tree holds.on.batch holds.on.bytes holds.text
       holds.changes holds.on.held
       holds.on.stands holds.beside holds.right ends in
       last.0
-      ∙ ap (λ (o : Outcome). o.status) (says_applied hash new (first_pages holds.on.bytes) map holds.changes holds.may)
+      ∙ ap (λ (o : Outcome). o.status) (says_applied hash new (pages_by v holds.on.bytes) map holds.changes holds.may)
 
   -- an outcome of `apply` that is done has the map after the batch in the file
-  record HasApplied (t : Tree) (batch : ℕ) (b : Changes) (new : List ℕ) : Type 0 where
+  record HasApplied (v : Version) (t : Tree) (batch : ℕ) (b : Changes) (new : List ℕ) : Type 0 where
     may : IsAdmissible (records t) batch b
-    text_is : text ≡ digest_line (map_root hash (first_map (replay t (b ∷ [])) b.number))
+    text_is : text ≡ digest_line (map_root hash (map_in v (replay t (b ∷ [])) b.number))
     bytes : List ℕ
     there : Holds after new bytes
-    is : IsMapFile hash bytes (first_map (replay t (b ∷ [])) b.number)
+    is : IsMapFile hash bytes (map_in v (replay t (b ∷ [])) b.number)
 
   held_after : (files : Files) (name bytes : List ℕ) → before ≡ Some files → IsHeld name bytes before after
       → Holds after name bytes
@@ -404,14 +448,14 @@ module _ (hash : List ℕ → List ℕ) (before after : Option Files) (status : 
       subst (λ o. Holds o name bytes) (sym (is ∙ ap (option_map (with_file name bytes)) told))
       (file-with_file name bytes files)
 
-  has_applied : (t : Tree) (batch : ℕ) (b : Changes) (new : List ℕ) (pages : ℕ) (files : Files)
+  has_applied : (v : Version) (t : Tree) (batch : ℕ) (b : Changes) (new : List ℕ) (pages : ℕ) (files : Files)
       → before ≡ Some files → status ≡ Done
-      → Ends (comes (say_batch hash new pages (first_map t batch) b)) before after status text
-      → HasApplied t batch b new
-  has_applied t batch b new pages files told done ends = by_fault (batch_fault (records t) batch b) refl ends
+      → Ends (comes (say_batch hash new pages (map_in v t batch) b)) before after status text
+      → HasApplied v t batch b new
+  has_applied v t batch b new pages files told done ends = by_fault (batch_fault (records t) batch b) refl ends
     where
       by_fault : (o : Option BatchFault) → batch_fault (records t) batch b ≡ o
-          → Ends (comes (say_admitted hash new pages t b o)) before after status text → HasApplied t batch b new
+          → Ends (comes (say_admitted v hash new pages t b o)) before after status text → HasApplied v t batch b new
       by_fault None none ends = record {
         may = fits_if_none (records t) batch b none;
         text_is = ends.1;
@@ -421,60 +465,74 @@ module _ (hash : List ℕ → List ℕ) (before after : Option Files) (status : 
       }
       by_fault (Some fault) some ends = not_bad status done ends.0
 
-  check_done : (root : List ℕ) (q : Query) (name : List ℕ) → IsQuery q → HoldsProof hash before root q name
-      → Ends (say_check hash root q name) before after status text → status ≡ Done
-  check_done root q name may holds ends =
+  check_done : (root : List ℕ) (q : Query) (name : List ℕ) (may : Outcome → Type 0) → IsQuery q
+      → HoldsProof hash before root q name
+      → EndsAsSaid (say_check hash root q name) may before after status text → status ≡ Done
+  check_done root q name may asked holds ends =
       let on = ends_on name holds.bytes before after status text holds.held
-      (λ bytes. comes (say_check_of hash root q bytes)) ends in
-      let proved = verdict_from hash root q holds.bytes holds.answer may holds.proves in
+      (λ bytes. comes (say_check_of hash root q bytes))
+      (told_ends before after name holds.bytes (say_check hash root q name) may status text holds.held ends) in
+      let proved = verdict_from hash root q holds.bytes holds.answer asked holds.proves in
       on.0 ∙ ap (λ (o : Outcome). o.status) (says_verdict hash root q holds.bytes (Ok holds.answer) proved)
 
   serve_done : (map script bundle : List ℕ) → HoldsScript hash before map script
-      → Ends (say_serve hash map script bundle) before after status text → status ≡ Done
+      → EndsAsSaid (say_serve hash map script bundle) (MaySayServe hash map script bundle) before after status text
+      → status ≡ Done
   serve_done map script bundle holds ends =
       let held = first_map holds.on.tree holds.on.batch in
       let next = say_script hash script bundle in
       let said : List ℕ → Outcome = λ text. say_serve_of hash bundle held (queries_of_text text) in
-      let mapped = map_on always_first hash map holds.on.bytes holds.on.tree holds.on.batch before after status text
+      let mapped = first_on hash map holds.on.bytes holds.on.tree holds.on.batch before after status text
       holds.on.held holds.on.stands
-      next (told_ends before after map holds.on.bytes (serving hash map script bundle) (needs_map hash map next) status
-      text holds.on.held ends) in
+      next (told_ends before after map holds.on.bytes (say_serve hash map script bundle)
+      (MaySayServe hash map script bundle) status text holds.on.held ends) in
       let last = ends_on script holds.text before after status text holds.beside (λ text. comes (said text)) mapped in
       last.0 ∙ ap (λ r. (say_serve_of hash bundle held r).status) holds.right
       ∙ served_done hash bundle held holds.queries
 
-  check_all_done : (root script bundle : List ℕ) → HoldsBundle hash before root script bundle
-      → Ends (say_check_all hash root script bundle) before after status text → status ≡ Done
-  check_all_done root script bundle holds ends =
+  check_all_done : (root script bundle : List ℕ) (may : Outcome → Type 0) → HoldsBundle hash before root script bundle
+      → EndsAsSaid (say_check_all hash root script bundle) may before after status text → status ≡ Done
+  check_all_done root script bundle may holds ends =
       let next = say_parts hash root bundle in
       let on = ends_on script holds.text before after status text holds.held
-      (λ text. given_queries next (queries_of_text text)) ends in
+      (λ text. given_queries next (queries_of_text text))
+      (told_ends before after script holds.text (say_check_all hash root script bundle) may status text holds.held
+      ends) in
       let asked = subst (λ r. Ends (given_queries next r) before after status text) holds.right on in
       let last = ends_on bundle holds.bytes before after status text holds.beside
       (λ bytes. comes (say_parts_of hash root holds.queries bytes)) asked in
       last.0 ∙ parts_done hash root holds.queries holds.bytes holds.unbroken holds.accepted
 
+  -- a command that reads no file ends so over any files
+  unread_done : (said : Outcome) (told : Option Files)
+      → EndsAsSaid (comes said) (Leads (comes said) None) told after status text → status ≡ said.status
+  unread_done said None ends = ends.2 ∙ ap (λ (o : Outcome). o.status) ends.1
+  unread_done said (Some files) ends = ends.0
+
   done : IsSized hash → (command : Command) → AllByRecursion IsWord (words_of command) → IsInOrder hash before command
-      → Ends (say hash (Some command)) before after status text → status ≡ Done
+      → EndsAsSaid (say hash (Some command)) (may_be hash command) before after status text → status ≡ Done
   done sized (commands.Root name) each holds ends =
-      text_done One name.now (say_root_of One hash) (λ list. refl) holds ends
+      text_done One name.now (say_root_of One hash) (may_be hash (commands.Root name)) (λ list. refl) holds ends
   done sized (commands.Root2 name) each holds ends =
-      text_done Two name.now (say_root_of Two hash) (λ list. refl) holds ends
+      text_done Two name.now (say_root_of Two hash) (may_be hash (commands.Root2 name)) (λ list. refl) holds ends
   done sized (commands.Build map name) each holds ends =
-      text_done One name.now (say_build_of One hash map.now) (λ list. refl) holds ends
+      text_done One name.now (say_build_of One hash map.now) (may_be hash (commands.Build map name)) (λ list. refl)
+      holds ends
   done sized (commands.Build2 map name) each holds ends =
-      text_done Two name.now (say_build_of Two hash map.now) (λ list. refl) holds ends
+      text_done Two name.now (say_build_of Two hash map.now) (may_be hash (commands.Build2 map name)) (λ list. refl)
+      holds ends
   done sized (commands.List map) each holds ends =
-      map_done version_of map.now (λ held. say_list_of held) (λ held. refl) holds ends
+      (map_done holds.0 map.now (λ held. comes (say_list_of held)) (may_be hash (commands.List map)) holds.1 ends).0
   done sized (commands.Upgrade old new) each holds ends =
-      map_done version_of old.now (say_upgrade_of hash new.now) (λ held. refl) holds ends
+      (map_done holds.0 old.now (λ held. comes (say_upgrade_of hash new.now held))
+      (may_be hash (commands.Upgrade old new)) holds.1 ends).0
   done sized (commands.Apply old name new) each holds ends = apply_done old.now name.now new.now holds ends
   done sized (commands.Prove map q name) each holds ends =
-      map_done always_first map.now (say_prove_of hash q name.now) (prove_done hash q name.now) holds
-      (told_ends before after map.now holds.bytes (proving hash map.now q name.now)
-      (needs_map hash map.now (λ m. comes (say_prove_of hash q name.now m))) status text holds.held ends)
+      (map_done One map.now (λ m. at_first m.version (comes (say_prove_of hash q name.now m)))
+      (may_be hash (commands.Prove map q name)) holds ends).0
+      ∙ prove_done hash q name.now (first_map holds.tree holds.batch)
   done sized (commands.Check root q name) each holds ends =
-      check_done root q name.now each.1.1.0 holds ends
+      check_done root q name.now (may_be hash (commands.Check root q name)) each.1.1.0 holds ends
   done sized (commands.Audit map q name) each holds ends =
       audit_done hash before after status text map.now q name.now holds.on.tree holds.on.batch holds.on.bytes
       (proof (first hash) holds.on.tree holds.on.batch q) holds.on.held holds.on.stands holds.own sized
@@ -482,9 +540,10 @@ module _ (hash : List ℕ → List ℕ) (before after : Option Files) (status : 
   done sized (commands.Serve map script bundle) each holds ends =
       serve_done map.now script.now bundle.now holds ends
   done sized (commands.CheckAll root script bundle) each holds ends =
-      check_all_done root script.now bundle.now holds ends
-  done sized (commands.Make count seed records) each holds ends = ends.0 ∙ make_done count seed records.now
-  done sized (commands.Demo count seed) each holds ends = ends.0
+      check_all_done root script.now bundle.now (may_be hash (commands.CheckAll root script bundle)) holds ends
+  done sized (commands.Make count seed records) each holds ends =
+      unread_done (say_make_of count seed records.now) before ends ∙ make_done count seed records.now
+  done sized (commands.Demo count seed) each holds ends = unread_done _ before ends
 
 -- ---- the proofs of a map, checked against its root digest
 
@@ -502,7 +561,7 @@ module _ (hash : List ℕ → List ℕ) (sized : IsSized hash) (before after : W
     (t : Tree) (batch : ℕ) (root : List ℕ) (q : Query) (name : List ℕ) (well : WellFormed t)
     (layers : HasLayers One t) (low : batch < 2 ^ 64)
     (is_root : root ≡ map_root hash (first_map t batch)) (asked : IsQuery q)
-    (run : HasRun (say_check hash root q name) before after status) where
+    (run : HasRun (say_check hash root q name) (Leads (say_check hash root q name) None) before after status) where
   says_honest : say_check_of hash root q (proof (first hash) t batch q) ≡ prints (text_of One (scan (records t) q))
   says_honest = says_verdict hash root q (proof (first hash) t batch q) (Ok (scan (records t) q))
       (subst (λ held. verdict hash held q (proof (first hash) t batch q) ≡ Ok (scan (records t) q)) (sym is_root)
@@ -512,7 +571,9 @@ module _ (hash : List ℕ → List ℕ) (sized : IsSized hash) (before after : W
       → IsWhole (prints (text_of One (scan (records t) q))) before after status
   whole_honest held =
       let on = ends_on name (proof (first hash) t batch q) before.shelf.files after.shelf.files status run.text held
-      (λ bytes. comes (say_check_of hash root q bytes)) run.ends in
+      (λ bytes. comes (say_check_of hash root q bytes))
+      (told_ends before.shelf.files after.shelf.files name (proof (first hash) t batch q) (say_check hash root q name)
+      (Leads (say_check hash root q name) None) status run.text held run.ends) in
       let said : Ends (comes (prints (text_of One (scan (records t) q)))) before.shelf.files after.shelf.files status
       run.text =
       subst (λ o. Ends (comes o) before.shelf.files after.shelf.files status run.text) says_honest on in
@@ -526,7 +587,7 @@ module _ (v : Version) (hash : List ℕ → List ℕ) (sized : IsSized hash) (be
     (t : Tree) (batch : ℕ) (root : List ℕ) (q : Query) (name : List ℕ) (well : WellFormed t)
     (layers : HasLayers v t) (low : batch < 2 ^ 64)
     (is_root : root ≡ map_root hash (map_in v t batch)) (asked : IsQuery q)
-    (run : HasRun (say_check hash root q name) before after status) where
+    (run : HasRun (say_check hash root q name) (Leads (say_check hash root q name) None) before after status) where
   -- by the verdict on the bytes
   worth_by : (bytes : List ℕ) → AreBytes bytes → status ≡ Done
       → Ends (comes (say_check_of hash root q bytes)) before.shelf.files after.shelf.files status run.text
@@ -556,20 +617,21 @@ module _ (v : Version) (hash : List ℕ → List ℕ) (sized : IsSized hash) (be
       → IsWorth (by v hash) t batch q bytes before after
   worth bytes held done =
       let next : List ℕ → Plan = λ bytes. comes (say_check_of hash root q bytes) in
+      let ends = told_ends before.shelf.files after.shelf.files name bytes (say_check hash root q name)
+      (Leads (say_check hash root q name) None) status run.text held run.ends in
       worth_by bytes
-      (taken_on name bytes before.shelf.files after.shelf.files status run.text held next run.ends) done
-      (ends_on name bytes before.shelf.files after.shelf.files status run.text held next run.ends)
+      (taken_on name bytes before.shelf.files after.shelf.files status run.text held next ends) done
+      (ends_on name bytes before.shelf.files after.shelf.files status run.text held next ends)
       (verdict hash root q bytes) refl
 
 -- ---- whatever command the words spell
 
-module _ (hash : List ℕ → List ℕ) (words : List (List ℕ)) (before after : World) (status : Status) (plan : Plan)
-    (came : Result Ending Halt) (same : (command : Command) → Spells words command → say hash (Some command) ≡ plan)
-    (carried : Comes plan before.shelf after.shelf came) (ended : Finishes came before.sink after.sink status) where
-  ran_as : (command : Command) → Spells words command
-      → HasRun (say hash (Some command)) before after status ⊎ HasStopped before after status
-  ran_as command spells = subst (λ p. HasRun p before after status ⊎ HasStopped before after status)
-      (sym (same command spells)) (ran plan before after status came carried ended)
+module _ (hash : List ℕ → List ℕ) (words : List (List ℕ)) (before after : World) (status : Status)
+    (came : Result Ending Halt)
+    (carried : (c : Command) → Spells words c → IsCarriedOut hash c before.shelf after.shelf came)
+    (ended : Finishes came before.sink after.sink status) where
+  ran_as : (command : Command) → Spells words command → IsRunOr hash command before after status
+  ran_as command spells = ran hash command before after status came (carried command spells) ended
 
   pub completes : IsSized hash → CompletesWords hash words before after status
   completes sized command spells order = elim (ran_as command spells) [
@@ -604,20 +666,21 @@ module _ (hash : List ℕ → List ℕ) (words : List (List ℕ)) (before after 
       (ran_as (commands.Audit map q name) spells)
 
   pub applied_alike : AppliesAlike hash words before after status
-  applied_alike t held old name new bytes text b spells map_held stands beside right done =
+  applied_alike v t held old name new bytes text b spells map_held stands beside right done =
       elim (ran_as (commands.Apply old name new) spells) [
         | inl run ↦ by_files before.shelf.files refl run
         | inr stop ↦ not_stopped before after status done stop
       ]
     where
       by_files : (o : Option Files) → before.shelf.files ≡ o
-          → HasRun (say hash (Some (commands.Apply old name new))) before after status
-          → IsApplied hash t held b new.now before after
+          → HasRun (say hash (Some (commands.Apply old name new))) (may_be hash (commands.Apply old name new)) before
+          after status
+          → IsApplied v hash t held b new.now before after
       by_files None none run = absurd (subst (λ o. Holds o old.now bytes) none map_held)
       by_files (Some files) told run =
-          let on = has_applied hash before.shelf.files after.shelf.files status run.text t held b new.now
-          (first_pages bytes) files told done
-          (applied_ends hash before.shelf.files after.shelf.files status run.text old.now name.now new.now t held
+          let on = has_applied hash before.shelf.files after.shelf.files status run.text v t held b new.now
+          (pages_by v bytes) files told done
+          (applied_ends hash before.shelf.files after.shelf.files status run.text old.now name.now new.now v t held
           bytes text b map_held stands beside right run.ends) in
           record {
             may = on.may;
@@ -634,18 +697,17 @@ module _ (hash : List ℕ → List ℕ) (words : List (List ℕ)) (before after 
         | inr stop ↦ not_stopped before after status done stop
       ]
     where
-      own : version_of bytes ≡ v
-      own = stands_version v hash bytes t batch stands.stands
-
       by_files : (o : Option Files) → before.shelf.files ≡ o
-          → HasRun (say hash (Some (commands.Upgrade old new))) before after status
+          → HasRun (say hash (Some (commands.Upgrade old new))) (may_be hash (commands.Upgrade old new)) before after
+          status
           → IsUpgraded hash t batch new.now before after
       by_files None none run = absurd (subst (λ o. Holds o old.now bytes) none held)
       by_files (Some files) told run =
           let next : Opened → Plan = λ map. comes (say_upgrade_of hash new.now map) in
-          let on = map_on version_of hash old.now bytes t batch before.shelf.files after.shelf.files
-          status run.text held
-          (subst (λ u. IsMapFile hash bytes (map_in u t batch)) (sym own) stands) next run.ends in
+          let on = map_on v hash old.now bytes t batch before.shelf.files after.shelf.files
+          status run.text held stands next
+          (told_ends before.shelf.files after.shelf.files old.now bytes (say_upgrade hash old.now new.now)
+          (may_be hash (commands.Upgrade old new)) status run.text held run.ends) in
           record {
             printed = subst (Takes before.sink after.sink) on.1 run.printed;
             bytes = on.2.0;

@@ -1,32 +1,43 @@
 -- A run, by what its command came to and how that was printed.
 use Rattle.std.proofs.Common.{append-nil, ◌≡◌, ℕ, List, [], refl, sym, ap, subst, ◌∙◌, inl, inr}
-use Rattle.std.specs.Prelude.{Option, None, ◌⊎◌, Result, Ok, Err}
+use Rattle.std.specs.Prelude.{Option, Some, None, ◌⊎◌, Result, Ok, Err}
 use Rattle.mr_outside.specs.Files.{Files}
-use Rattle.mr_outside.specs.Told.{Takes, TakesFront}
+use Rattle.mr_outside.specs.Told.{OfFiles, Takes, TakesFront}
 use Rattle.mr_outside.proofs.Taking.{Takes-none}
 use Rattle.mr_command.specs.Answer.{World, HasOutsideCause, IsAnswer, IsQuiet, IsSettled, IsStopped, IsWhole, ShelfFailed}
-use Rattle.mr_command.specs.Ending.{AreJudged, Comes, Finishes, Prints, printed_of}
+use Rattle.mr_command.specs.Ending.{AreJudged, EndsAsSaid, Finishes, GivesUpAsSaid, IsCarriedOut, Prints, printed_of}
 use Rattle.mr_plan.specs.Lines.{bad_words_line, shelf_fault_line}
-use Rattle.mr_plan.specs.Outcome.{Outcome, Written, Nothing, File, IsLeft, MayLeave}
-use Rattle.mr_plan.specs.Plan.{Plan, Leads}
+use Rattle.mr_plan.specs.Outcome.{Outcome, Written, Nothing, File, InPlace, IsLeft, MayLeave}
+use Rattle.mr_plan.specs.Plan.{Plan, IsOutcomeOver}
 use Rattle.mr_plan.specs.Say.{ends, say}
+use Rattle.mr_plan.specs.Untold.{MaySay, MaySayUntold}
 use Rattle.mr_command.specs.declared.ending.Ending.{Ending}
 use Rattle.mr_command.specs.declared.ending.Halt.{Halt}
 use Rattle.mr_command.specs.declared.ending.Halt.TheVariants as halts
 use Rattle.mr_plan.specs.declared.status.Status.{Status}
 use Rattle.mr_plan.specs.declared.status.Status.TheVariants.{BadWords, Outside, NoMemory}
-use Rattle.mr_command.proofs.Plans.{told_outcome, ended_so, given_up}
+use Rattle.mr_plan.specs.declared.words.Command.{Command}
+use Rattle.mr_plan.proofs.InPlace.{mended_may}
+use Rattle.mr_command.proofs.Plans.{ended_so, given_up, one_outcome, stays}
 
--- an outcome that the plan leads to is answered
-answers : (plan : Plan) (before after : World) → AreJudged plan before.shelf.files → (status : Status) (said : Outcome)
-    → Leads plan before.shelf.files said
+-- over files that are told, it is the one that they give
+told_said : (hash : List ℕ → List ℕ) (command : Option Command) (told : Option Files) (said : Outcome)
+    → OfFiles told (λ files. AreJudged (say hash command) (Some files)) → MaySay hash command told said
+    → OfFiles told (λ files. IsOutcomeOver (say hash command) files said)
+told_said hash command None said judged leads = tt
+told_said hash command (Some files) said judged leads = one_outcome (say hash command) files judged said leads
+
+-- an outcome that may be said is answered
+answers : (hash : List ℕ → List ℕ) (command : Option Command) (before after : World)
+    → OfFiles before.shelf.files (λ files. AreJudged (say hash command) (Some files)) → (status : Status)
+    (said : Outcome) → MaySay hash command before.shelf.files said
     → IsWhole said before after status ⊎ IsStopped said before after status
-    → IsAnswer plan before after status
-answers plan before after judged status said leads answer =
+    → IsAnswer hash command before after status
+answers hash command before after judged status said leads answer =
     record {
       said = said;
       leads = leads;
-      told = told_outcome plan before.shelf.files judged said leads;
+      told = told_said hash command before.shelf.files said judged leads;
       answer = answer;
     }
 
@@ -34,6 +45,7 @@ may_leave : (written : Written) (before after : Option Files) → IsLeft written
     → MayLeave written before after
 may_leave Nothing before after left = left
 may_leave (File name content) before after left = inr (left.0, inr left.1, left.2)
+may_leave (InPlace map journal held content) before after left = mended_may map journal held content before after left
 
 -- it was printed as it was meant, or a front of it
 printed : (said : Outcome) (before after : World) (status meant : Status) (text : List ℕ)
@@ -52,6 +64,7 @@ printed said before after status meant text meant-is text-is left (inr stop) = i
   line = inl refl;
   printed = subst (TakesFront before.sink after.sink) text-is stop.1;
   whole_line = λ outside calm. elim stop.0 [ inl e ↦ cc | inr e ↦ absurd (calm e.1) ];
+  last = inr (inr left);
   files = may_leave said.written before.shelf.files after.shelf.files left;
 })
 
@@ -71,6 +84,7 @@ stopped said before after status failed may (inl whole) = record {
     takes = whole.1;
   };
   whole_line = λ outside calm. (refl, whole.1);
+  last = inr (inl refl);
   files = may;
 }
 stopped said before after status failed may (inr stop) = record {
@@ -79,6 +93,7 @@ stopped said before after status failed may (inr stop) = record {
   line = inr (failed, refl);
   printed = stop.1;
   whole_line = λ outside calm. elim stop.0 [ inl e ↦ cc | inr e ↦ absurd (calm e.1) ];
+  last = inr (inl refl);
   files = may;
 }
 
@@ -98,26 +113,66 @@ spent said before after status may none same = record {
         (λ sink. Takes before.sink sink []) (sym same) (Takes-none before.sink);
   };
   whole_line = λ outside calm. cc;
+  last = inl same;
   files = may;
 }
 
-pub answer_of : (plan : Plan) (before after : World) (status : Status) (came : Result Ending Halt)
-    → Comes plan before.shelf after.shelf came → Finishes came before.sink after.sink status
-    → IsAnswer plan before after status
-answer_of plan before after status (Ok ending) comes ended =
-    let on = ended_so plan before.shelf.files after.shelf.files ending.status (printed_of ending)
+-- an outcome of this status and text, with the files left as it says
+record HasSaid (hash : List ℕ → List ℕ) (command : Option Command) (told left : Option Files) (status : Status)
+    (text : List ℕ) : Type 0 where
+  said : Outcome
+  leads : MaySay hash command told said
+  status_is : status ≡ said.status
+  text_is : text ≡ said.printed
+  files : IsLeft said.written told left
+
+said_so : (hash : List ℕ → List ℕ) (command : Option Command) (told left : Option Files) (status : Status)
+    (text : List ℕ) → EndsAsSaid (say hash command) (MaySayUntold hash command) told left status text
+    → HasSaid hash command told left status text
+said_so hash command None left status text ends = record
+    { said = ends.0; leads = ends.1; status_is = ends.2; text_is = ends.3; files = ends.4 }
+said_so hash command (Some files) left status text ends =
+    let on = ended_so (say hash command) (Some files) left status text ends in
+    record {
+      said = on.said;
+      leads = on.leads;
+      status_is = on.status_is;
+      text_is = on.text_is;
+      files = on.files;
+    }
+
+-- an outcome that was not reached, with the files left as it allows
+record HasLeft (hash : List ℕ → List ℕ) (command : Option Command) (told left : Option Files) : Type 0 where
+  said : Outcome
+  leads : MaySay hash command told said
+  files : MayLeave said.written told left
+
+left_so : (hash : List ℕ → List ℕ) (command : Option Command) (told left : Option Files)
+    → OfFiles told (λ files. AreJudged (say hash command) (Some files))
+    → GivesUpAsSaid (say hash command) (MaySayUntold hash command) told left → HasLeft hash command told left
+left_so hash command None left judged up =
+    record { said = up.1.0; leads = up.1.1; files = stays up.1.0.written None left up.0 }
+left_so hash command (Some files) left judged up =
+    let on = given_up (say hash command) (Some files) left judged up in
+    record { said = on.said; leads = on.leads; files = on.files }
+
+pub answer_of : (hash : List ℕ → List ℕ) (command : Command) (before after : World) (status : Status)
+    (came : Result Ending Halt) → IsCarriedOut hash command before.shelf after.shelf came
+    → Finishes came before.sink after.sink status → IsAnswer hash (Some command) before after status
+answer_of hash command before after status (Ok ending) comes ended =
+    let on = said_so hash (Some command) before.shelf.files after.shelf.files ending.status (printed_of ending)
     comes.came in
-    answers plan before after comes.judged status on.said on.leads
+    answers hash (Some command) before after comes.judged status on.said on.leads
     (printed on.said before after status ending.status (printed_of ending) on.status_is on.text_is
     on.files ended.printed)
-answer_of plan before after status (Err halts.Words) comes ended = absurd comes.came.0
-answer_of plan before after status (Err halts.Shelf) comes ended =
-    let on = given_up plan before.shelf.files after.shelf.files comes.judged comes.came.1 in
-    answers plan before after comes.judged status on.said on.leads
+answer_of hash command before after status (Err halts.Words) comes ended = absurd comes.came.0
+answer_of hash command before after status (Err halts.Shelf) comes ended =
+    let on = left_so hash (Some command) before.shelf.files after.shelf.files comes.judged comes.came.1 in
+    answers hash (Some command) before after comes.judged status on.said on.leads
     (inr (stopped on.said before after status comes.came.0 on.files ended.printed))
-answer_of plan before after status (Err halts.NoMemory) comes ended =
-    let on = given_up plan before.shelf.files after.shelf.files comes.judged comes.came.1 in
-    answers plan before after comes.judged status on.said on.leads
+answer_of hash command before after status (Err halts.NoMemory) comes ended =
+    let on = left_so hash (Some command) before.shelf.files after.shelf.files comes.judged comes.came.1 in
+    answers hash (Some command) before after comes.judged status on.said on.leads
     (inr (spent on.said before after status on.files ended.printed.0 ended.printed.1))
 
 pub from_sink : (plan : Plan) (before after : World) (status meant : Status) (text : List ℕ)
@@ -129,41 +184,50 @@ from_sink plan before after status meant text (inl whole) cause outside = cause
 from_sink plan before after status meant text (inr stop) cause outside = elim stop.0
     [ inl e ↦ absurd (cc) | inr e ↦ inr (inl e.1) ]
 
-pub outside_of : (plan : Plan) (before after : World) (status : Status) (came : Result Ending Halt)
-    → Comes plan before.shelf after.shelf came → Finishes came before.sink after.sink status
-    → status ≡ Outside → HasOutsideCause plan before after
-outside_of plan before after status (Ok ending) comes ended outside =
-    from_sink plan before after status ending.status (printed_of ending) ended.printed
+pub outside_of : (hash : List ℕ → List ℕ) (command : Command) (before after : World) (status : Status)
+    (came : Result Ending Halt) → IsCarriedOut hash command before.shelf after.shelf came
+    → Finishes came before.sink after.sink status
+    → status ≡ Outside → HasOutsideCause (say hash (Some command)) before after
+outside_of hash command before after status (Ok ending) comes ended outside =
+    from_sink (say hash (Some command)) before after status ending.status (printed_of ending) ended.printed
     (λ blamed. elim (comes.outside blamed) [
       | inl failed ↦ inl failed
       | inr lacks ↦ inr (inr lacks)
     ]) outside
-outside_of plan before after status (Err halts.Words) comes ended outside = absurd comes.came.0
-outside_of plan before after status (Err halts.Shelf) comes ended outside = inl comes.came.0
-outside_of plan before after status (Err halts.NoMemory) comes ended outside = absurd (cc)
+outside_of hash command before after status (Err halts.Words) comes ended outside = absurd comes.came.0
+outside_of hash command before after status (Err halts.Shelf) comes ended outside = inl comes.came.0
+outside_of hash command before after status (Err halts.NoMemory) comes ended outside = absurd (cc)
 
-pub quiet_of : (plan : Plan) (before after : World) (status : Status) (came : Result Ending Halt)
-    → Comes plan before.shelf after.shelf came → Finishes came before.sink after.sink status
-    → IsQuiet status before after
-quiet_of plan before after status (Ok ending) comes ended settled = elim ended.printed [
+pub quiet_of : (hash : List ℕ → List ℕ) (command : Command) (before after : World) (status : Status)
+    (came : Result Ending Halt) → IsCarriedOut hash command before.shelf after.shelf came
+    → Finishes came before.sink after.sink status → IsQuiet status before after
+quiet_of hash command before after status (Ok ending) comes ended settled = elim ended.printed [
   | inl whole ↦ (comes.quiet (subst IsSettled whole.0 settled), whole.2)
   | inr stop ↦ elim stop.0 [ inl e ↦ absurd (settled.1 e) | inr e ↦ absurd (settled.0 e.0) ]
 ]
-quiet_of plan before after status (Err halts.Words) comes ended settled = absurd comes.came.0
-quiet_of plan before after status (Err halts.Shelf) comes ended settled = elim ended.printed [
+quiet_of hash command before after status (Err halts.Words) comes ended settled = absurd comes.came.0
+quiet_of hash command before after status (Err halts.Shelf) comes ended settled = elim ended.printed [
   | inl whole ↦ absurd (settled.0 whole.0)
   | inr stop ↦ elim stop.0 [ inl e ↦ absurd (settled.1 e) | inr e ↦ absurd (settled.0 e.0) ]
 ]
-quiet_of plan before after status (Err halts.NoMemory) comes ended settled = absurd
+quiet_of hash command before after status (Err halts.NoMemory) comes ended settled = absurd
     (settled.1 ended.printed.0)
 
 -- the line on words that spell no command was printed, or a front of it
 pub words_answered : (hash : List ℕ → List ℕ) (before after : World) (status : Status)
     → after.shelf ≡ before.shelf
     → Prints BadWords bad_words_line before.sink after.sink status
-    → IsAnswer (say hash None) before after status
+    → IsAnswer hash None before after status
 words_answered hash before after status same ended =
     let said = ends BadWords bad_words_line in
-    answers (say hash None) before after tt status said refl
+    answers hash None before after (judged before.shelf.files) status said (leads before.shelf.files)
     (printed said before after status BadWords bad_words_line refl refl (ap (λ s. s.files) same)
     ended)
+  where
+    judged : (told : Option Files) → OfFiles told (λ files. AreJudged (say hash None) (Some files))
+    judged None = tt
+    judged (Some files) = tt
+
+    leads : (told : Option Files) → MaySay hash None told (ends BadWords bad_words_line)
+    leads None = refl
+    leads (Some files) = refl

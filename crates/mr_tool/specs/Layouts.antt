@@ -2,16 +2,18 @@
 -- the batches alone. With proof.
 use Rattle.std.specs.Prelude.{◌≡◌, ℕ, List, [], ◌∷◌}
 use Rattle.std.proofs.Common.{sym, subst}
+use Rattle.mr_record.specs.declared.version.Version.{Version}
 use Rattle.mr_tree.specs.declared.tree.Tree.{Tree}
-use Rattle.mr_pages.specs.Law.{IsMapFile}
+use Rattle.mr_pages.specs.Law.{IsMapFile, map_in}
 use Rattle.mr_batch.specs.Changes.{Changes}
 use Rattle.mr_batch.specs.Replay.{replay}
-use Rattle.mr_plan.specs.First.{first_map}
 
--- whatever map the old bytes stand for, the new ones stand for the map after the batch
+-- whatever map the old bytes stand for, the new ones stand for the map after the batch, in the same
+-- version
 abbrev pub IsAfter : (List ℕ → List ℕ) → (old : List ℕ) → Changes → (new : List ℕ) → Type 0
-IsAfter hash old batch new = (t : Tree) (held : ℕ) → IsMapFile hash old (first_map t held)
-    → IsMapFile hash new (first_map (replay t (batch ∷ [])) batch.number)
+IsAfter hash old batch new = (v : Version) (t : Tree) (held : ℕ)
+    → IsMapFile hash old (map_in v t held)
+    → IsMapFile hash new (map_in v (replay t (batch ∷ [])) batch.number)
 
 -- files one after the other, each after one batch more
 abbrev pub IsAfterAll : (List ℕ → List ℕ) → (old : List ℕ) → List Changes → (new : List ℕ) → Type 0
@@ -26,26 +28,27 @@ number_after held (batch ∷ batches) = number_after batch.number batches
 
 -- the last of them stands for the map after all batches
 pub stands_after : (hash : List ℕ → List ℕ) (batches : List Changes) (old new : List ℕ) →
-    IsAfterAll hash old batches new → (t : Tree) (held : ℕ) →
-    IsMapFile hash old (first_map t held) →
-    IsMapFile hash new (first_map (replay t batches) (number_after held batches))
-stands_after hash [] old new same t held is =
-    subst (λ bytes. IsMapFile hash bytes (first_map t held)) (sym same) is
-stands_after hash (batch ∷ batches) old new on t held is =
-    stands_after hash batches on.0 new on.2 (replay t (batch ∷ [])) batch.number (on.1 t held is)
+    IsAfterAll hash old batches new → (v : Version) (t : Tree) (held : ℕ) →
+    IsMapFile hash old (map_in v t held) →
+    IsMapFile hash new (map_in v (replay t batches) (number_after held batches))
+stands_after hash [] old new same v t held is =
+    subst (λ bytes. IsMapFile hash bytes (map_in v t held)) (sym same) is
+stands_after hash (batch ∷ batches) old new on v t held is =
+    stands_after hash batches on.0 new on.2 v (replay t (batch ∷ [])) batch.number
+    (on.1 v t held is)
 
 -- So two files that stand for one map stand for one map after the same batches: then both have its
 -- one root digest.
-pub record StandAlike (hash : List ℕ → List ℕ) (one other : List ℕ) (t : Tree) (batch : ℕ)
-    : Type 0 where
-  pub one_is : IsMapFile hash one (first_map t batch)
-  pub other_is : IsMapFile hash other (first_map t batch)
+pub record StandAlike (hash : List ℕ → List ℕ) (one other : List ℕ) (v : Version) (t : Tree)
+    (batch : ℕ) : Type 0 where
+  pub one_is : IsMapFile hash one (map_in v t batch)
+  pub other_is : IsMapFile hash other (map_in v t batch)
 
 pub alike_after : (hash : List ℕ → List ℕ) (batches : List Changes) (one other one' other' : List ℕ)
-    (t : Tree) (held : ℕ) → StandAlike hash one other t held → IsAfterAll hash one batches one' →
-    IsAfterAll hash other batches other' →
-    StandAlike hash one' other' (replay t batches) (number_after held batches)
-alike_after hash batches one other one' other' t held alike first second = record {
-  one_is = stands_after hash batches one one' first t held alike.one_is;
-  other_is = stands_after hash batches other other' second t held alike.other_is;
+    (v : Version) (t : Tree) (held : ℕ) → StandAlike hash one other v t held →
+    IsAfterAll hash one batches one' → IsAfterAll hash other batches other' →
+    StandAlike hash one' other' v (replay t batches) (number_after held batches)
+alike_after hash batches one other one' other' v t held alike first second = record {
+  one_is = stands_after hash batches one one' first v t held alike.one_is;
+  other_is = stands_after hash batches other other' second v t held alike.other_is;
 }

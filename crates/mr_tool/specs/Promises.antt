@@ -14,7 +14,6 @@ use Rattle.mr_tree.specs.Digest as digests
 use Rattle.mr_tree.specs.Tree.{records}
 use Rattle.mr_tree.specs.WellFormed.{WellFormed, HasLayers}
 use Rattle.mr_tree.specs.declared.tree.Tree.{Tree}
-use Rattle.mr_pages.specs.File.{version_of}
 use Rattle.mr_pages.specs.Law.{IsMapFile, map_root, map_in}
 use Rattle.mr_batch.specs.Applied.{IsAdmissible}
 use Rattle.mr_batch.specs.BatchText.{batch_of_text}
@@ -33,7 +32,7 @@ use Rattle.mr_plan.specs.First.{first, first_map}
 use Rattle.mr_plan.specs.Judged.{IsAccepted}
 use Rattle.mr_plan.specs.Outcome.{Outcome}
 use Rattle.mr_plan.specs.Lines.{digest_line, sound_line, collision_lines}
-use Rattle.mr_plan.specs.Say.{always_first, ends, prints}
+use Rattle.mr_plan.specs.Say.{ends, prints}
 use Rattle.mr_plan.specs.Words.{Spells}
 use Rattle.mr_plan.specs.declared.status.Status.{Status}
 use Rattle.mr_plan.specs.declared.status.Status.TheVariants.{Done, Collision}
@@ -52,14 +51,18 @@ pub record HoldsRecords (v : Version) (told : Option Files) (name : List ℕ) : 
   pub list : List Record
   pub right : records_of_text v bytes ≡ Ok list
 
--- it stands for a map, read in a version that goes by its bytes
-pub record HoldsMap (version : List ℕ → Version) (hash : List ℕ → List ℕ) (told : Option Files)
-    (name : List ℕ) : Type 0 where
+-- it stands for a map of this version
+pub record HoldsMap (v : Version) (hash : List ℕ → List ℕ) (told : Option Files) (name : List ℕ)
+    : Type 0 where
   pub bytes : List ℕ
   pub held : Holds told name bytes
   pub tree : Tree
   pub batch : ℕ
-  pub stands : IsMapFile hash bytes (map_in (version bytes) tree batch)
+  pub stands : IsMapFile hash bytes (map_in v tree batch)
+
+-- for one of either version
+abbrev pub HoldsAnyMap : (List ℕ → List ℕ) → Option Files → List ℕ → Type 0
+HoldsAnyMap hash told name = (v : Version) × HoldsMap v hash told name
 
 -- it proves an answer
 pub record HoldsProof (hash : List ℕ → List ℕ) (told : Option Files) (root : List ℕ) (q : Query)
@@ -69,26 +72,28 @@ pub record HoldsProof (hash : List ℕ → List ℕ) (told : Option Files) (root
   pub answer : List Record
   pub proves : Proves hash root q bytes answer
 
--- a map, and the honest proof of the answer to a query on it
+-- a map of version 1, and the honest proof of the answer to a query on it
 pub record HoldsHonest (hash : List ℕ → List ℕ) (told : Option Files) (map : List ℕ) (q : Query)
     (name : List ℕ) : Type 0 where
-  pub on : HoldsMap always_first hash told map
+  pub on : HoldsMap One hash told map
   pub own : Holds told name (honest.proof (first hash) on.tree on.batch q)
 
--- a map, and a text of a batch without a fault, which may be applied to it
+-- a map of either version, and a text of a batch without a fault in that version, which may be
+-- applied to it
 pub record HoldsBatch (hash : List ℕ → List ℕ) (told : Option Files) (map : List ℕ)
     (name : List ℕ) : Type 0 where
-  pub on : HoldsMap always_first hash told map
+  pub version : Version
+  pub on : HoldsMap version hash told map
   pub text : List ℕ
   pub beside : Holds told name text
   pub changes : Changes
-  pub right : batch_of_text One text ≡ Ok changes
+  pub right : batch_of_text version text ≡ Ok changes
   pub may : IsAdmissible (records on.tree) on.batch changes
 
--- a map, and a script without a fault
+-- a map of version 1, and a script without a fault
 pub record HoldsScript (hash : List ℕ → List ℕ) (told : Option Files) (map : List ℕ)
     (name : List ℕ) : Type 0 where
-  pub on : HoldsMap always_first hash told map
+  pub on : HoldsMap One hash told map
   pub text : List ℕ
   pub beside : Holds told name text
   pub queries : List Query
@@ -108,16 +113,17 @@ pub record HoldsBundle (hash : List ℕ → List ℕ) (told : Option Files) (roo
   pub accepted : All IsAccepted
       (verdicts hash root queries bytes (parts bytes (length queries)).list)
 
--- the inputs of a command are there, and each is in order
+-- the inputs of a command are there, and each is in order; a map that is proved or audited is of
+-- version 1, since version 2 has no proofs yet
 abbrev pub IsInOrder : (List ℕ → List ℕ) → Option Files → Command → Type 0
 IsInOrder hash told (commands.Root name) = HoldsRecords One told name.now
 IsInOrder hash told (commands.Root2 name) = HoldsRecords Two told name.now
 IsInOrder hash told (commands.Build map name) = HoldsRecords One told name.now
 IsInOrder hash told (commands.Build2 map name) = HoldsRecords Two told name.now
-IsInOrder hash told (commands.List map) = HoldsMap version_of hash told map.now
-IsInOrder hash told (commands.Upgrade old new) = HoldsMap version_of hash told old.now
+IsInOrder hash told (commands.List map) = HoldsAnyMap hash told map.now
+IsInOrder hash told (commands.Upgrade old new) = HoldsAnyMap hash told old.now
 IsInOrder hash told (commands.Apply old batch new) = HoldsBatch hash told old.now batch.now
-IsInOrder hash told (commands.Prove map q proof) = HoldsMap always_first hash told map.now
+IsInOrder hash told (commands.Prove map q proof) = HoldsMap One hash told map.now
 IsInOrder hash told (commands.Check root q proof) = HoldsProof hash told root q proof.now
 IsInOrder hash told (commands.Audit map q proof) = HoldsHonest hash told map.now q proof.now
 IsInOrder hash told (commands.Serve map script bundle) =
@@ -187,8 +193,8 @@ SaysWorth hash t batch q bytes (Some p) before after status =
     IsCollision hash p
     × Delivers (ends Collision (collision_lines p.owned p.shown)) before after status
 
--- So it says of each proof that is accepted against the root digest of the map that a file stands
--- for.
+-- So it says of each proof that is accepted against the root digest of the map of version 1 that a
+-- file stands for.
 abbrev pub AuditsAccepted : (List ℕ → List ℕ) → List (List ℕ) → World → World → Status → Type 0
 AuditsAccepted hash words before after status =
     (t : Tree) (batch : ℕ) (map : Bor (List ℕ)) (q : Query) (proof : Bor (List ℕ))
@@ -210,23 +216,24 @@ CollidesRightly hash words before after status =
 
 -- what `apply` prints and leaves of a batch on a map: the batch may be applied, the root digest of
 -- the map after it is printed, and the new file stands for that
-pub record IsApplied (hash : List ℕ → List ℕ) (t : Tree) (held : ℕ) (b : Changes) (new : List ℕ)
-    (before after : World) : Type 0 where
+pub record IsApplied (v : Version) (hash : List ℕ → List ℕ) (t : Tree) (held : ℕ) (b : Changes)
+    (new : List ℕ) (before after : World) : Type 0 where
   pub may : IsAdmissible (records t) held b
   pub printed : Takes before.sink after.sink
-      (digest_line (map_root hash (first_map (replay t (b ∷ [])) b.number)))
+      (digest_line (map_root hash (map_in v (replay t (b ∷ [])) b.number)))
   pub bytes : List ℕ
   pub there : Holds after.shelf.files new bytes
-  pub stands : IsMapFile hash bytes (first_map (replay t (b ∷ [])) b.number)
+  pub stands : IsMapFile hash bytes (map_in v (replay t (b ∷ [])) b.number)
 
--- So it does by the map alone, whatever the layout of its file: two files that stand for one map
--- give one root digest (`alike_after` of Layouts, for more batches than one).
+-- So it does in either version by the map alone, whatever the layout of its file: two files that
+-- stand for one map give one root digest (`alike_after` of Layouts, for more batches than one).
 abbrev pub AppliesAlike : (List ℕ → List ℕ) → List (List ℕ) → World → World → Status → Type 0
 AppliesAlike hash words before after status =
-    (t : Tree) (held : ℕ) (old batch new : Bor (List ℕ)) (bytes text : List ℕ) (b : Changes)
+    (v : Version) (t : Tree) (held : ℕ) (old batch new : Bor (List ℕ)) (bytes text : List ℕ)
+    (b : Changes)
     → Spells words (commands.Apply old batch new) → Holds before.shelf.files old.now bytes
-    → IsMapFile hash bytes (first_map t held) → Holds before.shelf.files batch.now text
-    → batch_of_text One text ≡ Ok b → status ≡ Done → IsApplied hash t held b new.now before after
+    → IsMapFile hash bytes (map_in v t held) → Holds before.shelf.files batch.now text
+    → batch_of_text v text ≡ Ok b → status ≡ Done → IsApplied v hash t held b new.now before after
 
 -- what `upgrade` prints and leaves of a map: the root digest of its tree and batch in the second
 -- version is printed, and the new file stands for these in that version

@@ -2,7 +2,7 @@
 use Rattle.std.specs.Prelude.{◌≡◌, ℕ, List, Option}
 use Rattle.mr_command.specs.Answer.{World, Counts, HasOutsideCause, IsAnswer, IsQuiet}
 use Rattle.mr_tool.specs.Promises.{CompletesWords, AnswersHonest, AcceptsHonestOrCollides, AuditsAccepted, CollidesRightly, AppliesAlike, UpgradesAll}
-use Rattle.mr_command.specs.Counting.{ReadsFew}
+use Rattle.mr_command.specs.Counting.{MayRead, ReadsFew}
 use Rattle.mr_plan.specs.Say.{say}
 use Rattle.mr_plan.specs.Spelling.{IsSpelled}
 use Rattle.mr_plan.specs.Status.{code_of}
@@ -14,7 +14,7 @@ use Rattle.mr_plan.specs.declared.words.Command.{Command}
 abbrev pub AnswersWords : (List ℕ → List ℕ) → List (List ℕ) → World → World → Status → Type 0
 AnswersWords hash words before after status =
     (command : Option Command) → IsSpelled words command
-    → IsAnswer (say hash command) before after status
+    → IsAnswer hash command before after status
 
 -- it blames something outside only where there is a cause
 abbrev pub BlamesRightly : (List ℕ → List ℕ) → List (List ℕ) → World → World → Status → Type 0
@@ -22,10 +22,10 @@ BlamesRightly hash words before after status =
     (command : Option Command) → IsSpelled words command → status ≡ Outside
     → HasOutsideCause (say hash command) before after
 
--- where the files are told, no more is read than the plan takes
+-- where the files are told, no more is read than the command takes
 abbrev pub ReadsFewWords : (List ℕ → List ℕ) → List (List ℕ) → World → World → Type 0
 ReadsFewWords hash words before after = (command : Option Command) → IsSpelled words command
-    → ReadsFew (say hash command) before.shelf after.shelf
+    → ReadsFew (MayRead hash command) before.shelf after.shelf
 
 pub record IsRun (hash : List ℕ → List ℕ) (words : List (List ℕ)) (before after : World)
     (status : Status) : Type 0 where

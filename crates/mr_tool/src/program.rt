@@ -4,10 +4,10 @@ ghost use Rattle.std.specs.Prelude.{◌≡◌, ℕ, List, length, Some, None, ma
 ghost use Rattle.std.specs.String.{string_bytes};
 ghost use Rattle.mr_record.specs.Bytes.{AreBytes};
 ghost use Rattle.mr_command.specs.Answer.{Counts, IsQuiet, world};
-ghost use Rattle.mr_command.specs.Ending.{Comes};
+ghost use Rattle.mr_command.specs.Ending.{Comes, IsCarriedOut};
 ghost use Rattle.mr_tool.specs.Promises.{CompletesWords, AnswersHonest, AcceptsHonestOrCollides, AuditsAccepted, CollidesRightly, AppliesAlike, UpgradesAll};
 ghost use Rattle.mr_tool.specs.Run.{AnswersWords, BlamesRightly, IsRun, ReadsFewWords};
-ghost use Rattle.mr_plan.specs.Say.{say, say_build};
+ghost use Rattle.mr_plan.specs.Say.{say_build};
 ghost use Rattle.mr_plan.specs.Spelling.{IsSpelled, MayBeAsked};
 
 use crate::finish::finish;
@@ -49,7 +49,7 @@ fn carry_out<H: Hash32, S: Shelf, G: Gate, R: Threads + Sync>(
     gate: &G,
 ) -> (Result<Ending, Halt>, S)
     requires { MayBeAsked command.now }
-    ensures { Comes (say H.of (Some command.now)) (S.state shelf) (S.state result.1) result.0 }
+    ensures { IsCarriedOut H.of command.now (S.state shelf) (S.state result.1) result.0 }
 {
     match command {
         Command::Root(records) => {
@@ -179,7 +179,8 @@ pub fn run<H: Hash32, S: Shelf, W: Sink, G: Gate, R: Threads + Sync>(
         ReadsFewWords H.of (map string_bytes words.now) before after }
     // Words that spell no command leave the shelf alone.
     ensures unspoken { IsSpelled (map string_bytes words.now) None → result.1 ≡ shelf }
-    // Inputs that are in order are dealt with to the end.
+    // Inputs that are in order are dealt with to the end. A map that is proved or audited is in
+    // order where it is of version 1.
     ensures complete { let before = world (S.state shelf) (W.state out.old) in
         let after = world (S.state result.1) (W.state out.new) in
         CompletesWords H.of (map string_bytes words.now) before after result.0 }
@@ -200,7 +201,8 @@ pub fn run<H: Hash32, S: Shelf, W: Sink, G: Gate, R: Threads + Sync>(
     ensures collides { let before = world (S.state shelf) (W.state out.old) in
         let after = world (S.state result.1) (W.state out.new) in
         CollidesRightly H.of (map string_bytes words.now) before after result.0 }
-    // What is made of a map by a batch goes by the map, and not by the layout of its file.
+    // What is made of a map by a batch goes by the map, of either version, and not by the layout of
+    // its file.
     ensures alike { let before = world (S.state shelf) (W.state out.old) in
         let after = world (S.state result.1) (W.state out.new) in
         AppliesAlike H.of (map string_bytes words.now) before after result.0 }

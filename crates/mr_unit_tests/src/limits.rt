@@ -13,7 +13,7 @@ ghost use Rattle.mr_edit.specs.Held.{IsTold};
 use crate::assertions::holds;
 use mr_edit::{Desk, EditErr, PageFile, insert};
 use mr_pages::{FIRST, MapFault, MapRule, child_on};
-use mr_record::Record;
+use mr_record::{Record, Version};
 use mr_tree::{Child, NodeView, XorHash};
 use std::alloc::Global;
 
@@ -99,11 +99,9 @@ fn show(level: u8, into: &mut NodeView) -> bool
 }
 
 impl PageFile for Full {
-    ghost use Rattle.std.proofs.Common.{arith, refl};
+    ghost use Rattle.std.proofs.Common.{arith};
 
     ghost scheme = { by One xor_of };
-
-    ghost first = { refl };
 
     ghost told = { λ s. None };
 
@@ -112,6 +110,10 @@ impl PageFile for Full {
     ghost reads = { λ s. 0 };
 
     ghost kept = { λ s t. ⊤ };
+
+    fn version(&self) -> Version {
+        Version::One
+    }
 
     fn entry(&self, view: &NodeView, page: u32) -> Child {
         child_on::<XorHash>(FIRST, view, page)

@@ -1,14 +1,14 @@
-use Rattle.std.proofs.Common.{◌≡◌, ℕ, List, length, sym, ap, subst, inl}
-use Rattle.std.specs.String.{string_bytes}
-use Rattle.mr_store.specs.Stored.{stands_for, told_bytes}
-use Rattle.mr_command.specs.Ending.{Comes}
-use Rattle.mr_plan.specs.Plan.{Plan, comes}
-use Rattle.mr_plan.specs.Rereading.{auditing}
-use Rattle.mr_plan.specs.Say.{needs, needs_map, say_audit, say_audit_of}
-use Rattle.mr_pages.specs.declared.opening.Opened.{Opened}
-use Rattle.mr_command.proofs.Audits.{audited}
+use Rattle.std.proofs.Common.{◌≡◌, ℕ, List, length, sym, ap, subst, inl, inr}
+use Rattle.mr_store.specs.Paged.{shelved}
+use Rattle.mr_command.specs.Counting.{AllowsAudit}
+use Rattle.mr_command.specs.Ending.{IsCarriedOut}
+use Rattle.mr_plan.specs.Plan.{comes}
+use Rattle.mr_plan.specs.Say.{needs, say_audit_of}
+use Rattle.mr_plan.specs.Untold.{MaySayAudit}
+use Rattle.mr_plan.specs.declared.words.Command.TheVariants as commands
+use Rattle.mr_command.proofs.Audits.{audited, auditing_unopened}
 use Rattle.mr_command.proofs.Going.{judged_needs}
-use Rattle.mr_command.proofs.Pages.{refused, auditing_refused}
+use Rattle.mr_command.proofs.Pages.{unprovable}
 use Rattle.mr_command.proofs.auditing.audit_query.Given
 use Rattle.mr_command.proofs.auditing.audit_query.Goals as goal
 
@@ -22,25 +22,20 @@ returns-in-Err g c =
     let q = c.args.query.now in
     let proof = c.args.proof.now in
     let before = g.S.Shelf.state c.args.shelf in
-    let after = g.S.Shelf.state c.in-Err.shelf in
-    let r = c.in-Err.ensures.opened in
-    let next : Opened → Plan = λ m. needs proof (λ bytes. comes (say_audit_of hash q m bytes)) in
-    refused hash (sized g) map before after c.in-Err.error r (auditing hash map q proof) next
-    (λ m. judged_needs proof (say_audit_of hash q m) before.files) (λ said is. inl is)
-    (auditing_refused hash map q proof (needs_map hash map next) before after c.in-Err.error r) c.unopened.result
-    c.unopened.ensures
+    let after = g.S.Shelf.state c.in-Err.ended.1 in
+    unprovable hash (sized g) map before (MaySayAudit hash map q proof) (AllowsAudit hash map q proof)
+    (λ m. needs proof (λ bytes. comes (say_audit_of hash q m bytes)))
+    (λ m. judged_needs proof (say_audit_of hash q m) before.files) (λ said is. inl is) (λ said is. inr (inl is)) after
+    c.in-Err.ended.0 c.in-Err.ensures.opened (auditing_unopened hash map q proof before after)
 
 pub returns-in-Ok : goal.returns-in-Ok
 returns-in-Ok g c =
     let hash = g.H.Hashes.of in
-    let paged = c.in-Ok.paged in
-    let later = c.audit_file-came.new.paged in
-    let o = c.in-Ok.ensures.opened in
+    let o = c.in-Ok.ensures in
     let before = g.S.Shelf.state c.args.shelf in
-    let mid = g.S.Shelf.state paged.shelf in
     let e = c.audit_file-came.ensures in
-    subst (λ w. Comes (say_audit hash c.args.map.now c.args.query.now c.args.proof.now) before w
+    subst (λ w. IsCarriedOut hash (commands.Audit c.args.map c.args.query.now c.args.proof) before w
     c.audit_file-came.result) (sym (ap g.S.Shelf.state c.close.ensures))
-    (audited hash (sized g) c.args.map.now c.args.query.now c.args.proof.now before mid
-    (g.S.Shelf.state later.shelf) (stands_for paged.head (told_bytes mid.files (string_bytes paged.name))) paged.head
-    o.files o.quiet o.answers o.pages o.reads o.more e.counts (e.few o.none) c.audit_file-came.result e.told e.untold)
+    (audited hash (sized g) c.args.map.now c.args.query.now c.args.proof.now before
+    (shelved c.audit_file-came.new.paged) c.in-Ok.paged o.opened o.first e.counts (e.few o.opened.none)
+    c.audit_file-came.result e.told e.untold)

@@ -1,11 +1,12 @@
-use Rattle.std.proofs.Common.{refl, sym, subst}
-use Rattle.std.specs.Prelude.{None, Ok, Err}
+use Rattle.std.proofs.Common.{sym, subst}
+use Rattle.std.specs.Prelude.{Ok, Err}
 use Rattle.mr_record.specs.RecordText.{text_of}
 use Rattle.mr_record.specs.declared.version.Version.TheVariants.{One}
 use Rattle.mr_command.specs.Ending.{Gives, GivesOrStops}
 use Rattle.mr_plan.specs.Say.{prints, say_check_of}
 use Rattle.mr_command.proofs.Counting.{text_taken}
-use Rattle.mr_command.proofs.Going.{comes_given, comes_on, comes_missed, comes_unread, judged_needs, misses}
+use Rattle.mr_command.proofs.Going.{comes_given, comes_on, judged_needs, missed_so, misses}
+use Rattle.mr_command.proofs.Inputs.{goes_needed, says_bytes}
 use Rattle.mr_plan.specs.Plan.{comes}
 use Rattle.mr_command.proofs.Plain.{answer_layers}
 use Rattle.mr_command.proofs.ToFault.{comes_judged, once_to_fault}
@@ -68,14 +69,15 @@ returns-in-Err-Missing g c =
     let said = say_check_of g.H.Hashes.of c.args.root.now c.args.query.now in
     comes_judged g.H.Hashes.of c.args.root.now c.args.query.now c.args.name.now said before after _
     c.judge_file.ensures.stops
-    (comes_missed c.args.name.now said before after None
-    c.missing.result refl (record {
+    (goes_needed c.args.name.now (λ bytes. comes (said bytes)) before after (says_bytes said before.files)
+    (Err c.missing.result) (record {
       counts = causes.counts;
       files = causes.files;
-      read = misses before.files c.args.name.now before.faults after.faults causes.cause;
+      read = missed_so c.args.name.now before after c.missing.result
+          (misses before.files c.args.name.now before.faults after.faults causes.cause) c.missing.ensures;
       once = once_to_fault g.H.Hashes.of c.args.root.now c.args.query.now c.args.name.now before after
           c.judge_file.ensures.stops;
-    }) c.missing.ensures)
+    }))
 
 pub returns-in-Err-Halted : goal.returns-in-Err-Halted
 returns-in-Err-Halted g c =
@@ -85,7 +87,8 @@ returns-in-Err-Halted g c =
     let after = g.S.Shelf.state c.judge_file.new.shelf in
     comes_judged g.H.Hashes.of c.args.root.now c.args.query.now c.args.name.now said before after _
     c.judge_file.ensures.stops
-    (comes_unread c.args.name.now said before after c.in-Err-Halted.halt (record {
+    (goes_needed c.args.name.now (λ bytes. comes (said bytes)) before after (says_bytes said before.files)
+    (Err (Err c.in-Err-Halted.halt)) (record {
       counts = causes.counts;
       files = causes.files;
       read = causes.cause;

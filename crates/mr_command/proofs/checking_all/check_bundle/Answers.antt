@@ -1,19 +1,27 @@
-use Rattle.mr_command.proofs.Bundles.{script_read, script_missed, script_unread}
+use Rattle.std.proofs.Common.{◌≤◌, length, sym, subst}
+use Rattle.mr_query.specs.Script.{script_limit}
+use Rattle.mr_command.specs.Ending.{Comes}
+use Rattle.mr_plan.specs.Say.{given_queries, say_parts}
+use Rattle.mr_command.proofs.Bundles.{queries_follow}
 use Rattle.mr_command.proofs.checking_all.check_bundle.Goals as goal
 
-pub returns-in-Ok-Some : goal.returns-in-Ok-Some
-returns-in-Ok-Some g c =
-    script_read g.H.Hashes.of c.args.root.now c.args.bundle.now c.args.script.now (g.S.Shelf.state c.args.shelf.now)
-    (g.S.Shelf.state c.read.new.shelf) (g.S.Shelf.state c.check_text.new.shelf) c.in-Ok-Some.text c.in-Ok-Some.field-0
-    c.check_text.result c.in-Ok-Some.field-0-is c.in-Ok-Some.ensures c.check_text.ensures
+pub check_file-requires-clause-few : goal.check_file-requires-clause-few
+check_file-requires-clause-few g c κs within =
+    subst (λ l. length l ≤ script_limit) (sym c.deref.ensures.value) c.in-Ok.ensures.few
 
-pub returns-in-Ok-None : goal.returns-in-Ok-None
-returns-in-Ok-None g c =
-    script_missed g.H.Hashes.of c.args.root.now c.args.bundle.now c.args.script.now (g.S.Shelf.state c.args.shelf.now)
-    (g.S.Shelf.state c.read.new.shelf) c.in-Ok-None.field-0 c.missing.result c.in-Ok-None.field-0-is
-    c.in-Ok-None.ensures c.missing.ensures
+pub returns-in-Ok : goal.returns-in-Ok
+returns-in-Ok g c =
+    let hash = g.H.Hashes.of in
+    let root = c.args.root.now in
+    let bundle = c.args.bundle.now in
+    c.in-Ok.ensures.reads (given_queries (say_parts hash root bundle)) (queries_follow hash root bundle)
+    (g.S.Shelf.state c.check_file.new.shelf) c.check_file.result
+    (subst (λ queries. Comes (say_parts hash root bundle queries) (g.S.Shelf.state c.queries_from.new.shelf)
+    (g.S.Shelf.state c.check_file.new.shelf) c.check_file.result) c.deref.ensures.value c.check_file.ensures)
 
 pub returns-in-Err : goal.returns-in-Err
 returns-in-Err g c =
-    script_unread g.H.Hashes.of c.args.root.now c.args.bundle.now c.args.script.now (g.S.Shelf.state c.args.shelf.now)
-    (g.S.Shelf.state c.read.new.shelf) c.in-Err.halt c.in-Err.ensures
+    let hash = g.H.Hashes.of in
+    let root = c.args.root.now in
+    let bundle = c.args.bundle.now in
+    c.in-Err.ensures.reads (given_queries (say_parts hash root bundle)) (queries_follow hash root bundle)

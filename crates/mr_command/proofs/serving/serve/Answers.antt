@@ -1,13 +1,13 @@
-use Rattle.std.proofs.Common.{◌≡◌, ℕ, List, length, ap, sym, subst, inl}
-use Rattle.std.specs.String.{string_bytes}
-use Rattle.mr_store.specs.Stored.{stands_for, told_bytes}
+use Rattle.std.proofs.Common.{◌≡◌, ℕ, List, length, ap, sym, subst, inl, inr}
 use Rattle.mr_query.specs.Script.{queries_of_text}
-use Rattle.mr_command.specs.Ending.{Comes}
-use Rattle.mr_plan.specs.Rereading.{serving}
-use Rattle.mr_plan.specs.Say.{held_in, needs_map, say_script, say_serve, say_serve_of}
+use Rattle.mr_command.specs.Counting.{AllowsServe}
+use Rattle.mr_command.specs.Ending.{Comes, IsCarriedOut}
+use Rattle.mr_plan.specs.Say.{held_in, say_script, say_serve_of}
+use Rattle.mr_plan.specs.Untold.{MaySayServe}
+use Rattle.mr_plan.specs.declared.words.Command.TheVariants as commands
 use Rattle.mr_command.proofs.Going.{judged_needs}
-use Rattle.mr_command.proofs.Pages.{refused}
-use Rattle.mr_command.proofs.Served.{served, serving_refused, unserved}
+use Rattle.mr_command.proofs.Pages.{unprovable}
+use Rattle.mr_command.proofs.Served.{laid_in, served, serving_unopened, unserved}
 use Rattle.mr_command.proofs.serving.serve.Given
 use Rattle.mr_command.proofs.serving.serve.Goals as goal
 
@@ -21,48 +21,36 @@ returns-in-Err g c =
     let script = c.args.script.now in
     let bundle = c.args.bundle.now in
     let before = g.S.Shelf.state c.args.shelf in
-    let after = g.S.Shelf.state c.in-Err.shelf in
-    let r = c.in-Err.ensures.opened in
-    let next = say_script hash script bundle in
-    refused hash (sized g) map before after c.in-Err.error r (serving hash map script bundle) next
+    let after = g.S.Shelf.state c.in-Err.ended.1 in
+    unprovable hash (sized g) map before (MaySayServe hash map script bundle) (AllowsServe hash map script)
+    (say_script hash script bundle)
     (λ m. judged_needs script (λ text. say_serve_of hash bundle m (queries_of_text text)) before.files)
-    (λ said is. inl is) (serving_refused hash map script bundle (needs_map hash map next) before after c.in-Err.error r)
-    c.unopened.result c.unopened.ensures
+    (λ said is. inl is) (λ said is. inr (inl is)) after c.in-Err.ended.0 c.in-Err.ensures.opened
+    (serving_unopened hash map script before after)
 
 pub returns-in-Err-snapshot : goal.returns-in-Err-snapshot
 returns-in-Err-snapshot g c =
     let hash = g.H.Hashes.of in
-    let paged = c.in-Ok.paged in
-    let later = c.snapshot.new.self in
-    let o = c.in-Ok.ensures.opened in
+    let o = c.in-Ok.ensures in
     let before = g.S.Shelf.state c.args.shelf in
-    let mid = g.S.Shelf.state paged.shelf in
-    let end = g.S.Shelf.state later.shelf in
     let e = c.in-Err-snapshot.ensures in
-    subst (λ w. Comes (say_serve hash c.args.map.now c.args.script.now c.args.bundle.now) before w c.unfetched.result)
+    subst (λ w. IsCarriedOut hash (commands.Serve c.args.map c.args.script c.args.bundle) before w
+    c.unfetched.result)
     (sym (ap g.S.Shelf.state c.close.ensures))
-    (unserved hash (sized g) c.args.map.now c.args.script.now c.args.bundle.now (string_bytes paged.name)
-    (string_bytes later.name) before mid end (stands_for paged.head (told_bytes mid.files (string_bytes paged.name)))
-    paged.head later.head paged.fetches later.fetches o.files o.quiet o.more o.answers o.pages o.reads e.kept o.none
-    e.fetched
-    c.in-Err-snapshot.error c.unfetched.result e.cause c.unfetched.ensures)
+    (unserved hash (sized g) c.args.map.now c.args.script.now c.args.bundle.now before c.in-Ok.paged
+    c.snapshot.new.self o.opened o.first e.kept e.fetched c.in-Err-snapshot.error c.unfetched.result e.cause
+    c.unfetched.ensures)
 
 pub returns-in-Ok-snapshot : goal.returns-in-Ok-snapshot
 returns-in-Ok-snapshot g c =
     let hash = g.H.Hashes.of in
-    let paged = c.in-Ok.paged in
-    let later = c.snapshot.new.self in
     let nodes = c.in-Ok-snapshot.nodes in
-    let o = c.in-Ok.ensures.opened in
+    let o = c.in-Ok.ensures in
     let before = g.S.Shelf.state c.args.shelf in
-    let mid = g.S.Shelf.state paged.shelf in
-    let end = g.S.Shelf.state later.shelf in
     let after = g.S.Shelf.state c.serve_script-came.new.shelf in
     let e = c.in-Ok-snapshot.ensures in
-    served hash (sized g) c.args.map.now c.args.script.now c.args.bundle.now (string_bytes paged.name)
-    (string_bytes later.name) before mid end (stands_for paged.head (told_bytes mid.files (string_bytes paged.name)))
-    paged.head later.head paged.fetches later.fetches o.files o.quiet o.more o.answers o.pages o.reads e.kept o.none
-    e.fetched
-    nodes.nodes.items nodes.top after c.serve_script-came.result e.stands e.says.version nodes.well_formed e.quiet
+    served hash (sized g) c.args.map.now c.args.script.now c.args.bundle.now before c.in-Ok.paged c.snapshot.new.self
+    o.opened o.first e.kept e.fetched nodes.nodes.items nodes.top after c.serve_script-came.result e.stands
+    (laid_in c.in-Ok.paged nodes.top.version e.says.version o.first) nodes.well_formed e.quiet
     (subst (λ w. Comes (say_script hash c.args.script.now c.args.bundle.now (held_in nodes.nodes.items nodes.top)) w
     after c.serve_script-came.result) (ap g.S.Shelf.state c.close-shelf.ensures) c.serve_script-came.ensures)

@@ -1,15 +1,29 @@
+use Rattle.std.proofs.Common.{subst}
+use Rattle.std.specs.Prelude.{Err}
+use Rattle.mr_outside.specs.Causes.{ShelfCauses}
+use Rattle.mr_outside.specs.Files.{grown}
+use Rattle.mr_outside.specs.Writing.{IsChanged, IsChangedPartly}
+use Rattle.mr_pages.specs.PageBytes.{form_of}
+use Rattle.mr_store.specs.CachedFile.{state_of, name_of}
 use Rattle.mr_draft.proofs.Copied.{piece_copied, piece_stops}
 use Rattle.mr_draft.proofs.copying.append_piece.Goals as goal
 
-pub returns-in-Ok : goal.returns-in-Ok
-returns-in-Ok g c = λ s old w.
-    piece_copied old c.args.new.now c.args.pages c.args.page c.args.count c.args.piece.now s
-    (g.S.Shelf.state c.args.shelf.now) (g.S.Shelf.state c.append.new.self) c.requires.size c.requires.within
-    c.requires.some w c.in-Ok.ensures.writes.reads c.in-Ok.ensures.causes.quiet c.in-Ok.ensures.writes.whole
+pub returns-in-Ok-clause-copied : goal.returns-in-Ok-clause-copied
+returns-in-Ok-clause-copied g c = λ s old w.
+    let f = c.args.file.now in
+    piece_copied (form_of f.layout) old (name_of f) f.pages c.args.page c.args.count c.args.piece.now s (state_of f)
+    (g.S.Shelf.state c.append.new.self) c.requires.size c.requires.within c.requires.some w
+    c.in-Ok.ensures.writes.reads c.in-Ok.ensures.causes.quiet
+    (subst (λ n. IsChanged (grown n) c.args.piece.now (state_of f).files (g.S.Shelf.state c.append.new.self).files)
+    c.as_str.ensures.value c.in-Ok.ensures.writes.whole)
 
-pub returns-in-Err : goal.returns-in-Err
-returns-in-Err g c = λ s old w.
-    piece_stops old c.args.new.now c.args.pages c.args.page c.args.count c.args.piece.now s
-    (g.S.Shelf.state c.args.shelf.now) (g.S.Shelf.state c.append.new.self) c.requires.size c.requires.within
-    c.requires.some w c.in-Err.ensures.writes.reads c.in-Err.error c.refusal_of_made.result
-    c.in-Err.ensures.writes.front c.in-Err.ensures.causes c.refusal_of_made.ensures
+pub returns-in-Err-clause-copied : goal.returns-in-Err-clause-copied
+returns-in-Err-clause-copied g c = λ s old w.
+    let f = c.args.file.now in
+    piece_stops (form_of f.layout) old (name_of f) f.pages c.args.page c.args.count c.args.piece.now s (state_of f)
+    (g.S.Shelf.state c.append.new.self) c.requires.size c.requires.within c.requires.some w
+    c.in-Err.ensures.writes.reads c.in-Err.error c.refusal_of_made.result
+    (subst (λ n. IsChangedPartly (grown n) c.args.piece.now (state_of f).files
+    (g.S.Shelf.state c.append.new.self).files) c.as_str.ensures.value c.in-Err.ensures.writes.front)
+    (subst (λ n. ShelfCauses {A = Unit {0}} n (state_of f) (g.S.Shelf.state c.append.new.self) (Err c.in-Err.error))
+    c.as_str.ensures.value c.in-Err.ensures.causes) c.refusal_of_made.ensures

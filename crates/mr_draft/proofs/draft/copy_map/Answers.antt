@@ -1,67 +1,51 @@
 use Rattle.std.proofs.Common.{ap, subst, sym, ◌∙◌}
-use Rattle.std.specs.Prelude.{max}
 use Rattle.std.specs.String.{string_bytes}
-use Rattle.mr_pages.specs.declared.head.MapHead.{MapHead}
-use Rattle.mr_draft.specs.Draft.{drawn, Copies}
-use Rattle.mr_draft.specs.Sheets.{book_on, HasCopied, CopyStops, IsFiled, IsSheets}
-use Rattle.mr_draft.proofs.Copies.{copy_pages, none_kept}
-use Rattle.mr_draft.proofs.Ends.{moved, copies, copy_fails}
+use Rattle.mr_store.specs.CachedFile.{state_of}
+use Rattle.mr_store.specs.declared.cached_file.CachedFile.{CachedFile}
+use Rattle.mr_draft.specs.Draft.{CopyFails, draft_of}
+use Rattle.mr_draft.proofs.Taken.{copies, sheets, stops}
 use Rattle.mr_draft.proofs.draft.copy_map.Goals as goal
 
-pub over-requires : goal.over-requires
-over-requires g c =
+pub returns-in-Err-copy_file : goal.returns-in-Err-copy_file
+returns-in-Err-copy_file g c =
     let old = c.args.old in
-    let after = g.S.Shelf.state c.copied.new.shelf in
-    let store = c.into_parts-shelf.ensures.store in
-    let done = moved (λ s m k. IsFiled s.files m →
-    HasCopied m c.args.new.now k.pages (max 1 k.pages) s after) (g.S.Shelf.state c.into_parts-shelf.result.0)
-    (g.S.Shelf.state old.shelf) c.as_str.result.now (string_bytes old.name) c.into_parts-shelf.result.2 old.head
-    (ap g.S.Shelf.state c.into_parts-shelf.ensures.shelf)
-    (c.as_str.ensures.value ∙ ap string_bytes c.into_parts-shelf.ensures.name) c.into_parts-shelf.ensures.head
-    c.in-Ok.ensures.copied store.there in
-    subst (λ (k : MapHead). IsSheets g.H.Hashes.of after.files (string_bytes c.in-Ok.ready.name) k.pages
-    c.in-Ok.ready.cache.entries c.in-Ok.ready.cache.cap) (sym c.into_parts-shelf.ensures.head)
-    (subst (λ n. IsSheets g.H.Hashes.of after.files n old.head.pages c.in-Ok.ready.cache.entries
-    c.in-Ok.ready.cache.cap) (sym c.in-Ok.ensures.name)
-    (record {
-      few = store.paged;
-      file_ = copy_pages g.H.Hashes.of old.head old.cache.entries old.cache.cap (string_bytes old.name) c.args.new.now
-          (g.S.Shelf.state old.shelf) after store done;
-      kept = none_kept g.H.Hashes.of (book_on after.files c.args.new.now old.head.pages) c.in-Ok.ready.cache.entries
-          c.in-Ok.ready.cache.cap c.in-Ok.ensures.entries c.in-Ok.ensures.cap;
-    }))
+    let is = c.into_parts-file.ensures.file in
+    let e = c.in-Ok.ensures in
+    subst (λ s. CopyFails g.H.Hashes.of old.head (state_of old.file) c.args.new.now (g.S.Shelf.state s)
+    c.in-Err-copy_file.error) (sym c.close.ensures)
+    (stops g.H.Hashes.of old.file old.head c.args.new.now c.into_parts-file.ensures.store c.in-Ok.made
+    (e.shelf ∙ ap (λ (f : CachedFile g.row.S.Denot g.S.Shelf). f.shelf) is) e.name
+    (e.layout ∙ ap (λ (f : CachedFile g.row.S.Denot g.S.Shelf). f.layout) is)
+    (e.pages ∙ ap (λ (f : CachedFile g.row.S.Denot g.S.Shelf). f.pages) is)
+    (state_of c.copy_file.new.file) c.in-Err-copy_file.error c.as_str.result.now
+    (c.as_str.ensures.value ∙ ap (λ (f : CachedFile g.row.S.Denot g.S.Shelf). string_bytes f.name) is)
+    c.in-Err-copy_file.ensures.copied)
 
-pub returns-in-Ok : goal.returns-in-Ok
-returns-in-Ok g c =
+pub invariant_of-sheets : goal.invariant_of-sheets
+invariant_of-sheets g c =
     let old = c.args.old in
-    let after = g.S.Shelf.state c.copied.new.shelf in
-    let store = c.into_parts-shelf.ensures.store in
-    let done = moved (λ s m k. IsFiled s.files m →
-    HasCopied m c.args.new.now k.pages (max 1 k.pages) s after) (g.S.Shelf.state c.into_parts-shelf.result.0)
-    (g.S.Shelf.state old.shelf) c.as_str.result.now (string_bytes old.name) c.into_parts-shelf.result.2 old.head
-    (ap g.S.Shelf.state c.into_parts-shelf.ensures.shelf)
-    (c.as_str.ensures.value ∙ ap string_bytes c.into_parts-shelf.ensures.name) c.into_parts-shelf.ensures.head
-    c.in-Ok.ensures.copied store.there in
-    let e = c.over.ensures in
-    let head = c.into_parts-shelf.ensures.head in
-    subst (Copies g.H.Hashes.of (string_bytes old.name) old.head (g.S.Shelf.state old.shelf) c.args.new.now)
-    (λ i. drawn (sym (ap g.S.Shelf.state e.shelf) i) (sym (ap string_bytes e.name ∙ c.in-Ok.ensures.name) i)
-    (sym (e.pages ∙ ap (λ (k : MapHead). k.pages) head) i) (sym (e.free ∙ ap (λ (k : MapHead). k.free) head) i)
-    (sym (e.root ∙ ap (λ (k : MapHead). k.root) head) i) (sym (e.count ∙ ap (λ (k : MapHead). k.count) head) i)
-    (sym (e.batch ∙ ap (λ (k : MapHead). k.batch) head) i))
-    (copies g.H.Hashes.of old.head old.cache.entries old.cache.cap (string_bytes old.name) c.args.new.now
-    (g.S.Shelf.state old.shelf) after store done)
+    let is = c.into_parts-file.ensures.file in
+    let e = c.in-Ok.ensures in
+    record {
+      sheets = sheets g.H.Hashes.of old.file old.head c.args.new.now c.into_parts-file.ensures.store c.in-Ok.made
+          (e.shelf ∙ ap (λ (f : CachedFile g.row.S.Denot g.S.Shelf). f.shelf) is) e.name
+          (e.layout ∙ ap (λ (f : CachedFile g.row.S.Denot g.S.Shelf). f.layout) is)
+          (e.pages ∙ ap (λ (f : CachedFile g.row.S.Denot g.S.Shelf). f.pages) is)
+          c.copy_file.new.file c.copy_file.ensures.only c.as_str.result.now
+          (c.as_str.ensures.value ∙ ap (λ (f : CachedFile g.row.S.Denot g.S.Shelf). string_bytes f.name) is)
+          c.in-Ok-copy_file.ensures.copied e.entries e.cap;
+    }
 
 pub returns : goal.returns
 returns g c =
     let old = c.args.old in
-    let after = g.S.Shelf.state c.copied.new.shelf in
-    let store = c.into_parts-shelf.ensures.store in
-    copy_fails g.H.Hashes.of old.head old.cache.entries old.cache.cap (string_bytes old.name) c.args.new.now
-    (g.S.Shelf.state old.shelf) after c.in-Err.error
-    (moved (λ s m k. IsFiled s.files m → CopyStops c.args.new.now k.pages s after c.in-Err.error)
-    (g.S.Shelf.state c.into_parts-shelf.result.0) (g.S.Shelf.state old.shelf) c.as_str.result.now
-    (string_bytes old.name) c.into_parts-shelf.result.2 old.head
-    (ap g.S.Shelf.state c.into_parts-shelf.ensures.shelf)
-    (c.as_str.ensures.value ∙ ap string_bytes c.into_parts-shelf.ensures.name) c.into_parts-shelf.ensures.head
-    c.in-Err.ensures.copied store.there)
+    let is = c.into_parts-file.ensures.file in
+    let e = c.in-Ok.ensures in
+    copies g.H.Hashes.of old.file old.head c.args.new.now c.into_parts-file.ensures.store c.in-Ok.made
+    (e.shelf ∙ ap (λ (f : CachedFile g.row.S.Denot g.S.Shelf). f.shelf) is) e.name
+    (e.layout ∙ ap (λ (f : CachedFile g.row.S.Denot g.S.Shelf). f.layout) is)
+    (e.pages ∙ ap (λ (f : CachedFile g.row.S.Denot g.S.Shelf). f.pages) is)
+    c.copy_file.new.file c.copy_file.ensures.only c.as_str.result.now
+    (c.as_str.ensures.value ∙ ap (λ (f : CachedFile g.row.S.Denot g.S.Shelf). string_bytes f.name) is)
+    c.in-Ok-copy_file.ensures.copied c.into_parts-file.result.1 c.into_parts-file.ensures.head
+    (draft_of c.over.result) c.over.ensures

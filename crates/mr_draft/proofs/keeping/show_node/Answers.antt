@@ -1,24 +1,27 @@
 use Rattle.std.proofs.Common.{inl, inr}
-use Rattle.mr_draft.specs.Sheets.{book_on}
+use Rattle.mr_pages.specs.PageBytes.{form_of}
+use Rattle.mr_store.specs.CachedFile.{state_of, name_of}
+use Rattle.mr_draft.specs.Sheets.{book_of}
 use Rattle.mr_draft.proofs.NodesKept.{outside_none, outside_refuses}
 use Rattle.mr_draft.proofs.ReadPages.{book_size}
 use Rattle.mr_draft.proofs.keeping.show_node.Goals as goal
-use Rattle.mr_draft.proofs.keeping.show_node.Goals.{then-child-eq0-via-then-child-eq0, then-child-eq0-via-else-child-eq0+then-child-pages}
+use Rattle.mr_draft.proofs.keeping.show_node.Goals.{then-child-eq0-via-then-child-eq0, then-child-eq0-via-else-child-eq0+then-child-file}
 
 pub returns-then-child-eq0-clause-sound : goal.returns-then-child-eq0-clause-sound
 returns-then-child-eq0-clause-sound g c =
-    outside_none c.args.pages g.H.Hashes.of
-    (book_on (g.S.Shelf.state c.args.shelf.now).files c.args.name.now c.args.pages) c.args.child.now
-    (book_size (g.S.Shelf.state c.args.shelf.now).files c.args.name.now c.args.pages)
+    let f = c.args.file.now in
+    outside_none f.layout f.pages g.H.Hashes.of (book_of f) c.args.child.now
+    (book_size f.layout (state_of f).files (name_of f) f.pages)
     (elim c.then-child-eq0.branch [
       | then-child-eq0-via-then-child-eq0 w ↦ inl w.if-child-eq0.true
-      | then-child-eq0-via-else-child-eq0+then-child-pages w ↦ inr w.if-child-pages.true
+      | then-child-eq0-via-else-child-eq0+then-child-file w ↦ inr w.if-child-file.true
     ])
 
 pub returns-then-child-eq0-clause-given : goal.returns-then-child-eq0-clause-given
 returns-then-child-eq0-clause-given g c =
-    outside_refuses g.H.Hashes.of c.args.pages c.args.child.now
+    let f = c.args.file.now in
+    outside_refuses (form_of f.layout) g.H.Hashes.of f.pages c.args.child.now
     (elim c.then-child-eq0.branch [
       | then-child-eq0-via-then-child-eq0 w ↦ inl w.if-child-eq0.true
-      | then-child-eq0-via-else-child-eq0+then-child-pages w ↦ inr w.if-child-pages.true
+      | then-child-eq0-via-else-child-eq0+then-child-file w ↦ inr w.if-child-file.true
     ])

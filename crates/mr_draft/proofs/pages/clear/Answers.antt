@@ -1,7 +1,6 @@
-use Rattle.std.proofs.Common.{replicate, ap, ◌∙◌}
 use Rattle.mr_draft.specs.Sheets.{zeros}
 use Rattle.mr_draft.proofs.pages.clear.Goals as goal
 
 pub returns : goal.returns
 unfolding zeros
-returns c = c.clear_all.ensures ∙ ap (λ n. replicate n 0) c.requires
+returns c = c.clear_all.ensures

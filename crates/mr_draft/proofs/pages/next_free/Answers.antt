@@ -1,19 +1,28 @@
-use Rattle.mr_draft.specs.Sheets.{book_on}
-use Rattle.mr_draft.proofs.ReadPages.{none_behind, read_next, no_next, no_next_behind}
+use Rattle.std.proofs.Common.{sym, ◌∙◌}
+use Rattle.mr_pages.specs.PageBytes.{form_of}
+use Rattle.mr_store.specs.CachedFile.{state_of, name_of}
+use Rattle.mr_draft.specs.Sheets.{book_of}
+use Rattle.mr_draft.proofs.ReadPages.{none_behind, read_sheet, read_next, no_next, no_next_behind}
 use Rattle.mr_draft.proofs.pages.next_free.Goals as goal
 
-pub returns-then-page-pages-clause-sound : goal.returns-then-page-pages-clause-sound
-returns-then-page-pages-clause-sound g c =
-    let told = book_on (g.S.Shelf.state c.args.shelf.now).files c.args.name.now c.args.pages in
-    no_next_behind told c.args.pages c.args.page
-    (none_behind (g.S.Shelf.state c.args.shelf.now).files c.args.name.now c.args.pages) c.if-page-pages.true
+pub returns-then-page-file-clause-sound : goal.returns-then-page-file-clause-sound
+returns-then-page-file-clause-sound g c =
+    let f = c.args.file.now in
+    no_next_behind (book_of f) f.pages c.args.page (none_behind f.layout (state_of f).files (name_of f) f.pages)
+    c.if-page-file.true
 
-pub returns-in-Some-clause-free : goal.returns-in-Some-clause-free
-returns-in-Some-clause-free g c =
-    read_next (book_on (g.S.Shelf.state c.args.shelf.now).files c.args.name.now c.args.pages) c.args.page
-    c.in_ok-bytes.bytes c.in-Some.next c.requires.low c.in_ok-bytes.ensures.sheet c.in-Some.ensures.exact
+pub returns-in-Ok-Some-clause-free : goal.returns-in-Ok-Some-clause-free
+returns-in-Ok-Some-clause-free g c =
+    let f = c.args.file.now in
+    let r = c.in-Ok-Some.ensures.free in
+    read_next (form_of f.layout) (book_of f) c.args.page r.bytes c.in-Ok-Some.next c.requires.low
+    (read_sheet f.layout (state_of f).files (name_of f) f.pages c.args.page r.bytes c.if-page-file.false r.told)
+    (sym c.in-Ok-Some.field-0-is ∙ r.free)
 
-pub returns-in-None-clause-sound : goal.returns-in-None-clause-sound
-returns-in-None-clause-sound g c =
-    no_next (book_on (g.S.Shelf.state c.args.shelf.now).files c.args.name.now c.args.pages) c.args.page
-    c.in_ok-bytes.bytes c.in_ok-bytes.ensures.sheet c.in-None.ensures.exact
+pub returns-in-Ok-None-clause-sound : goal.returns-in-Ok-None-clause-sound
+returns-in-Ok-None-clause-sound g c =
+    let f = c.args.file.now in
+    let r = c.in-Ok-None.ensures.free in
+    no_next (form_of f.layout) (book_of f) c.args.page r.bytes
+    (read_sheet f.layout (state_of f).files (name_of f) f.pages c.args.page r.bytes c.if-page-file.false r.told)
+    (sym c.in-Ok-None.field-0-is ∙ r.free)

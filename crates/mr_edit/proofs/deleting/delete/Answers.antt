@@ -26,11 +26,11 @@ returns-clause-deletes g c =
     (g.F.PageFile.told c.put_all.new.desk.file) c.put_all.new.desk.free r c.args.number c.args.rect.now)
     (sym c.in-Some.is)
     (deleted g.F.PageFile.scheme (g.F.PageFile.told c.args.desk.now.file)
-    (g.F.PageFile.told c.take_out.new.desk.file) (g.F.PageFile.told c.put_all.new.desk.file) c.args.desk.now.free
-    c.take_out.new.desk.free c.put_all.new.desk.free
+    (g.F.PageFile.told c.take_below.new.desk.file) (g.F.PageFile.told c.put_all.new.desk.file) c.args.desk.now.free
+    c.take_below.new.desk.free c.put_all.new.desk.free
     c.in-Some.child c.args.number c.args.rect.now l.entry r l.aside.items c.deref.result.now
     (subst (Searches g.F.PageFile.scheme true (g.F.PageFile.told c.args.desk.now.file) c.args.desk.now.free
-    (g.F.PageFile.told c.take_out.new.desk.file) c.take_out.new.desk.free c.in-Some.child c.args.number
+    (g.F.PageFile.told c.take_below.new.desk.file) c.take_below.new.desk.free c.in-Some.child c.args.number
     c.args.rect.now) c.in-Some-found.is c.in_ok-found.ensures.searches)
     (c.deref.ensures.value ∙ c.in_ok-sort_by_number.ensures) h))
     c.put_all.ensures.inserts
@@ -55,7 +55,7 @@ returns-in_err-found-clause-sound g c =
 pub returns-in_default-found-clause-sound : goal.returns-in_default-found-clause-sound
 returns-in_default-found-clause-sound g c = λ k.
     let s = subst (Searches g.F.PageFile.scheme true (g.F.PageFile.told c.args.desk.now.file)
-    c.args.desk.now.free (g.F.PageFile.told c.take_out.new.desk.file) c.take_out.new.desk.free c.in-Some.child
+    c.args.desk.now.free (g.F.PageFile.told c.take_below.new.desk.file) c.take_below.new.desk.free c.in-Some.child
     c.args.number c.args.rect.now) c.in_default-found.is c.in_ok-found.ensures.searches in
     none_lacks g.F.PageFile.scheme (g.F.PageFile.told c.args.desk.now.file) c.args.desk.now.free c.in-Some.child
     c.args.number c.args.rect.now s.2 (subst (λ x. CanDelete g.F.PageFile.scheme
@@ -67,10 +67,10 @@ returns-clause-sound g c =
     if_err c.put_all.result _ _
     (λ e h. never e _ _
     (λ k. left_inserts g.F.PageFile.scheme (g.F.PageFile.told c.args.desk.now.file)
-    (g.F.PageFile.told c.take_out.new.desk.file) c.args.desk.now.free c.take_out.new.desk.free c.in-Some.child
+    (g.F.PageFile.told c.take_below.new.desk.file) c.args.desk.now.free c.take_below.new.desk.free c.in-Some.child
     c.args.number c.args.rect.now l.entry l.aside.items c.deref.result.now
     (subst (Searches g.F.PageFile.scheme true (g.F.PageFile.told c.args.desk.now.file) c.args.desk.now.free
-    (g.F.PageFile.told c.take_out.new.desk.file) c.take_out.new.desk.free c.in-Some.child c.args.number
+    (g.F.PageFile.told c.take_below.new.desk.file) c.take_below.new.desk.free c.in-Some.child c.args.number
     c.args.rect.now) c.in-Some-found.is c.in_ok-found.ensures.searches)
     (c.deref.ensures.value ∙ c.in_ok-sort_by_number.ensures)
     (subst (λ x. CanDelete g.F.PageFile.scheme (g.F.PageFile.told c.args.desk.now.file)
@@ -87,32 +87,32 @@ pub returns-in_err-found-clause-twice : goal.returns-in_err-found-clause-twice
 returns-in_err-found-clause-twice g c =
     deletes_stopped g.F.PageFile.scheme (g.F.PageFile.told c.args.desk.now.file) c.args.desk.now.free
     c.args.root c.in-Some.child c.args.number c.args.rect.now (g.F.PageFile.reads c.args.desk.now.file)
-    (g.F.PageFile.reads c.take_out.new.desk.file) c.in-Some.is c.take_out.ensures.twice
+    (g.F.PageFile.reads c.take_below.new.desk.file) c.in-Some.is c.take_below.ensures.twice
 
 pub returns-in_default-found-clause-twice : goal.returns-in_default-found-clause-twice
 returns-in_default-found-clause-twice g c =
     deletes_stopped g.F.PageFile.scheme (g.F.PageFile.told c.args.desk.now.file) c.args.desk.now.free
     c.args.root c.in-Some.child c.args.number c.args.rect.now (g.F.PageFile.reads c.args.desk.now.file)
-    (g.F.PageFile.reads c.take_out.new.desk.file) c.in-Some.is c.take_out.ensures.twice
+    (g.F.PageFile.reads c.take_below.new.desk.file) c.in-Some.is c.take_below.ensures.twice
 
 pub returns-in_err-sort_by_number-clause-twice : goal.returns-in_err-sort_by_number-clause-twice
 returns-in_err-sort_by_number-clause-twice g c =
     deletes_stopped g.F.PageFile.scheme (g.F.PageFile.told c.args.desk.now.file) c.args.desk.now.free
     c.args.root c.in-Some.child c.args.number c.args.rect.now (g.F.PageFile.reads c.args.desk.now.file)
-    (g.F.PageFile.reads c.take_out.new.desk.file) c.in-Some.is c.take_out.ensures.twice
+    (g.F.PageFile.reads c.take_below.new.desk.file) c.in-Some.is c.take_below.ensures.twice
 
 pub returns-clause-twice : goal.returns-clause-twice
 returns-clause-twice g c =
     let l = c.in-Some-found.left in
     deletes_twice g.F.PageFile.scheme (g.F.PageFile.told c.args.desk.now.file)
-    (g.F.PageFile.told c.take_out.new.desk.file) c.args.desk.now.free c.take_out.new.desk.free c.args.root
+    (g.F.PageFile.told c.take_below.new.desk.file) c.args.desk.now.free c.take_below.new.desk.free c.args.root
     c.in-Some.child c.args.number c.args.rect.now l.entry l.aside.items c.deref.result.now
-    (g.F.PageFile.reads c.args.desk.now.file) (g.F.PageFile.reads c.take_out.new.desk.file)
+    (g.F.PageFile.reads c.args.desk.now.file) (g.F.PageFile.reads c.take_below.new.desk.file)
     (g.F.PageFile.reads c.put_all.new.desk.file) c.in-Some.is
     (subst (Searches g.F.PageFile.scheme true (g.F.PageFile.told c.args.desk.now.file) c.args.desk.now.free
-    (g.F.PageFile.told c.take_out.new.desk.file) c.take_out.new.desk.free c.in-Some.child c.args.number
+    (g.F.PageFile.told c.take_below.new.desk.file) c.take_below.new.desk.free c.in-Some.child c.args.number
     c.args.rect.now) c.in-Some-found.is c.in_ok-found.ensures.searches)
-    (c.deref.ensures.value ∙ c.in_ok-sort_by_number.ensures) c.take_out.ensures.twice c.put_all.ensures.reads
+    (c.deref.ensures.value ∙ c.in_ok-sort_by_number.ensures) c.take_below.ensures.twice c.put_all.ensures.reads
 
 pub put_all-requires : goal.put_all-requires
 put_all-requires g c =

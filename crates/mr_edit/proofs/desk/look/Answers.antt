@@ -1,34 +1,34 @@
-use Rattle.std.proofs.Common.{Option, Some, sym, ap, ◌∙◌}
-use Rattle.mr_geom.specs.Rectangle.{Rectangle}
-use Rattle.mr_pages.specs.Faults.{same_rect}
-use Rattle.mr_pages.specs.Walking.{child_link}
-use Rattle.mr_edit.proofs.Looking.{off_blames, sums_blames, sums_shown, few_blames}
+use Rattle.std.proofs.Common.{◌≡◌, true, false, sym, subst, ◌∙◌}
+use Rattle.mr_tree.specs.View.{children_in}
+use Rattle.mr_tree.proofs.Told.{told_counts}
+use Rattle.mr_pages.specs.Judging.{fits_entry}
+use Rattle.mr_pages.proofs.Fits.{fit_rect, fit_sums, fit_full}
+use Rattle.mr_edit.proofs.Looking.{fit_blames}
 use Rattle.mr_edit.proofs.desk.look.Goals as goal
 
-pub returns-then-not-is_said-clause-sound : goal.returns-then-not-is_said-clause-sound
-returns-then-not-is_said-clause-sound g c =
-    off_blames g.F.PageFile.scheme c.args.root (g.F.PageFile.told c.args.file.now)
-    c.args.child.now c.read.new.into
-    c.in_ok-read.ensures.node
-    (ap (λ (o : Option Rectangle). same_rect o (Some c.args.child.now.rect)) (sym c.rect.ensures)
-    ∙ sym c.is_said.ensures ∙ c.if-not-is_said.true)
+pub is_fit-requires : goal.is_fit-requires
+is_fit-requires g c =
+    told_counts g.F.PageFile.scheme.version (children_in c.read.new.into) c.in_ok-read.ensures.shown.children
 
-pub returns-then-not-has_sums-clause-sound : goal.returns-then-not-has_sums-clause-sound
-returns-then-not-has_sums-clause-sound g c =
-    sums_blames g.F.PageFile.scheme g.F.PageFile.first c.args.root
-    (g.F.PageFile.told c.args.file.now) c.args.child.now c.read.new.into
-    c.said_as_first.result c.in_ok-read.ensures.node c.in_ok-read.ensures.shown c.said_as_first.ensures.mask
-    c.said_as_first.ensures.count (sym c.has_sums.ensures ∙ c.if-not-has_sums.true)
+pub returns-then-not-is_fit-clause-sound : goal.returns-then-not-is_fit-clause-sound
+returns-then-not-is_fit-clause-sound g c =
+    fit_blames g.F.PageFile.scheme c.args.root (g.F.PageFile.told c.args.file.now) c.args.child.now c.read.new.into
+    c.in_ok-read.ensures.node
+    (subst (λ v. fits_entry v c.args.root c.args.child.now c.read.new.into ≡ false) c.version.ensures
+    (sym c.is_fit.ensures ∙ c.if-not-is_fit.true))
+
+pub returns-clause-round : goal.returns-clause-round
+returns-clause-round g c =
+    fit_rect c.version.result c.args.root c.args.child.now c.read.new.into
+    (sym c.is_fit.ensures ∙ c.if-not-is_fit.false)
 
 pub returns-clause-sums : goal.returns-clause-sums
 returns-clause-sums g c =
-    sums_shown g.F.PageFile.scheme g.F.PageFile.first c.args.root c.read.new.into
-    c.said_as_first.result
-    (child_link c.args.child.now).entry c.in_ok-read.ensures.shown c.said_as_first.ensures.mask
-    c.said_as_first.ensures.count (sym c.has_sums.ensures ∙ c.if-not-has_sums.false)
+    fit_sums g.F.PageFile.scheme c.args.root c.args.child.now c.read.new.into
+    (subst (λ v. fits_entry v c.args.root c.args.child.now c.read.new.into ≡ true) c.version.ensures
+    (sym c.is_fit.ensures ∙ c.if-not-is_fit.false))
 
-pub returns-then-not-is_full-clause-sound : goal.returns-then-not-is_full-clause-sound
-returns-then-not-is_full-clause-sound g c =
-    few_blames g.F.PageFile.scheme c.args.root (g.F.PageFile.told c.args.file.now)
-    c.args.child.now c.read.new.into
-    c.in_ok-read.ensures.node (sym c.is_full.ensures ∙ c.if-not-is_full.true)
+pub returns-clause-full : goal.returns-clause-full
+returns-clause-full g c =
+    fit_full c.version.result c.args.root c.args.child.now c.read.new.into
+    (sym c.is_fit.ensures ∙ c.if-not-is_fit.false)

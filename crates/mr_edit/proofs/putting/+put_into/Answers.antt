@@ -1,4 +1,4 @@
-use Rattle.std.proofs.Common.{◌≡◌, ◌<◌, ◌+◌, ◌++◌, ◌∷◌, [], length, map, sym, ap, subst, ◌∙◌, arith}
+use Rattle.std.proofs.Common.{◌≡◌, ◌<◌, ◌+◌, List, ◌++◌, ◌∷◌, [], length, map, sym, ap, subst, ◌∙◌, arith}
 use Rattle.std.specs.Prelude.{IfSome}
 use Rattle.std.specs.List.{AllByRecursion}
 use Rattle.std.proofs.lemmas.Result.{IfOk-weaker, IfErr-weaker}
@@ -9,7 +9,7 @@ use Rattle.mr_tree.specs.declared.tree.Tree.TheOpen as node
 use Rattle.mr_split.specs.Choice.{choose}
 use Rattle.mr_pages.specs.Walking.{page_node}
 use Rattle.mr_edit.specs.Book.{HasNode}
-use Rattle.mr_edit.specs.Held.{entries, IsTold}
+use Rattle.mr_edit.specs.Held.{entries, IsTold, HaveFew}
 use Rattle.mr_edit.specs.Outcome.{PutsInner}
 use Rattle.mr_edit.specs.Growing.{CanGrow}
 use Rattle.mr_edit.proofs.Results.{on_any}
@@ -19,6 +19,10 @@ use Rattle.mr_edit.proofs.Growth.{leaf_put, child_grow, inner_put}
 use Rattle.mr_edit.proofs.Looking.{can_look}
 use Rattle.mr_edit.proofs.Sound.{never, handed}
 use Rattle.mr_edit.proofs.putting.+put_into.Goals as goal
+
+-- the list that was put is this one
+put_few : {P : Type 0} {cs ds : List Child} → P × HaveFew cs → cs ≡ ds → P × HaveFew ds
+put_few p is = (p.0, subst HaveFew is p.1)
 
 pub put_inner-requires-clause-below : goal.put_inner-requires-clause-below
 put_inner-requires-clause-below g t c =
@@ -157,14 +161,16 @@ returns-in_ok-children-2-clause-sound g t c =
     let within : c.in_ok-at.at < length cs = omega (arith, c.in_ok-at.ensures.within, ap length c.deref.ensures.value)
     in
     IfErr-weaker c.put_inner.result _ _
-    (λ e h. never e _ _ (inner_put g.F.PageFile.scheme c.args.root told (g.F.PageFile.told c.look.new.file)
+    (λ e h. never e _ _ (λ k. put_few (inner_put g.F.PageFile.scheme c.args.root told
+    (g.F.PageFile.told c.look.new.file)
     c.args.desk.now.free c.args.child.now c.args.one.now c.in_ok-at.at cs c.index.result.now
     (g.F.PageFile.told c.put_into.new.desk.file) c.put_into.new.desk.free (entries c.in_ok-stand.stand)
     c.in_ok-look.ensures.same
     (subst (λ n. IfSome told (λ b. HasNode b c.args.child.now.id (page_node n))) (is ∙ ap node.Inner (sym same))
     c.in_ok-look.ensures.node)
     (c.in_ok-at.ensures.value ∙ ap (λ us. choose (map (λ (x : Child). x.rect) us) c.args.one.now.rect)
-    c.deref.ensures.value) within c.index.ensures c.in_ok-stand.ensures.grows) h)
+    c.deref.ensures.value) within c.index.ensures c.in_ok-stand.ensures.grows k)
+    (sym c.in_ok-children-2.ensures)) h)
     c.put_inner.ensures.sound
 
 pub returns-in_ok-children-2-clause-kept : goal.returns-in_ok-children-2-clause-kept

@@ -5,11 +5,12 @@ use Rattle.mr_tree.specs.declared.child.Child.{Child}
 use Rattle.mr_tree.specs.declared.tree.Tree.TheOpen as node
 use Rattle.mr_pages.specs.Walking.{child_link}
 use Rattle.mr_grow.proofs.Cutting.{all_first, all_second}
-use Rattle.mr_edit.specs.Held.{IsTold}
+use Rattle.mr_edit.specs.Held.{IsTold, HaveFew}
 use Rattle.mr_edit.specs.Outcome.{Writes, CanPut}
 use Rattle.mr_edit.proofs.Sound.{never, can_take, can_write, both_write, still_write, handed}
 use Rattle.mr_edit.proofs.Levels.{first_below, second_below}
 use Rattle.mr_edit.proofs.Splitting.{inner_whole, inner_split}
+use Rattle.mr_edit.proofs.Sums.{first_few, second_few}
 use Rattle.mr_edit.proofs.putting.put_inner.Goals as goal
 
 pub write_inner-requires-clause-some : goal.write_inner-requires-clause-some
@@ -99,39 +100,56 @@ returns-in_ok-first-2-clause-puts g c =
 pub returns-in_err-other-clause-sound : goal.returns-in_err-other-clause-sound
 returns-in_err-other-clause-sound g c =
     handed c.from_residual-in_err-other.result c.in_err-other.field-0.0
-    (CanPut (g.F.PageFile.told c.args.desk.now.file) c.args.desk.now.free c.args.page)
+    (CanPut (g.F.PageFile.told c.args.desk.now.file) c.args.desk.now.free c.args.page
+    × HaveFew c.args.children.items)
     c.from_residual-in_err-other.ensures.1
-    (never c.in_err-other.field-0.0 _ _ (can_take (g.F.PageFile.told c.args.desk.now.file) c.args.desk.now.free
-    c.args.page) c.in_err-other.ensures.sound)
+    (never c.in_err-other.field-0.0 _ _ (λ k. can_take (g.F.PageFile.told c.args.desk.now.file) c.args.desk.now.free
+    c.args.page k.0) c.in_err-other.ensures.sound)
 
 pub returns-in_err-first-clause-sound : goal.returns-in_err-first-clause-sound
 returns-in_err-first-clause-sound g c =
     handed c.from_residual-in_err-first.result c.in_err-first.field-0.0
-    (CanPut (g.F.PageFile.told c.args.desk.now.file) c.args.desk.now.free c.args.page)
+    (CanPut (g.F.PageFile.told c.args.desk.now.file) c.args.desk.now.free c.args.page
+    × HaveFew c.args.children.items)
     c.from_residual-in_err-first.ensures.1
     (never c.in_err-first.field-0.0 _ _
-    (λ k. (both_write (g.F.PageFile.told c.args.desk.now.file) (g.F.PageFile.told c.take_page.new.desk.file)
-    c.args.desk.now.free c.take_page.new.desk.free c.args.page c.in_ok-other.other c.in_ok-other.ensures.takes k).0)
+    (λ k. (
+      (both_write (g.F.PageFile.told c.args.desk.now.file) (g.F.PageFile.told c.take_page.new.desk.file)
+          c.args.desk.now.free c.take_page.new.desk.free c.args.page c.in_ok-other.other
+          c.in_ok-other.ensures.takes k.0).0,
+      first_few _ c.args.children.items c.deref.result.now
+          (c.deref.ensures.value ∙ c.in_ok-front.ensures.first_is) k.1,
+    ))
     c.in_err-first.ensures.sound)
 
 pub returns-in_err-second-clause-sound : goal.returns-in_err-second-clause-sound
 returns-in_err-second-clause-sound g c =
     handed c.from_residual-in_err-second.result c.in_err-second.field-0.0
-    (CanPut (g.F.PageFile.told c.args.desk.now.file) c.args.desk.now.free c.args.page)
+    (CanPut (g.F.PageFile.told c.args.desk.now.file) c.args.desk.now.free c.args.page
+    × HaveFew c.args.children.items)
     c.from_residual-in_err-second.ensures.1
     (never c.in_err-second.field-0.0 _ _
-    (λ k. still_write (g.F.PageFile.told c.take_page.new.desk.file) (g.F.PageFile.told c.write_inner.new.desk.file)
-    c.args.page
-    c.in_ok-other.other _ c.in_ok-first.ensures.writes.put
-    (both_write (g.F.PageFile.told c.args.desk.now.file) (g.F.PageFile.told c.take_page.new.desk.file)
-    c.args.desk.now.free c.take_page.new.desk.free c.args.page c.in_ok-other.other c.in_ok-other.ensures.takes k).1)
+    (λ k. (
+      still_write (g.F.PageFile.told c.take_page.new.desk.file) (g.F.PageFile.told c.write_inner.new.desk.file)
+          c.args.page
+          c.in_ok-other.other _ c.in_ok-first.ensures.writes.put
+          (both_write (g.F.PageFile.told c.args.desk.now.file) (g.F.PageFile.told c.take_page.new.desk.file)
+          c.args.desk.now.free c.take_page.new.desk.free c.args.page c.in_ok-other.other
+          c.in_ok-other.ensures.takes k.0).1,
+      second_few _ c.args.children.items c.deref-then-len.result.now
+          (c.deref-then-len.ensures.value ∙ c.in_ok-front.ensures.second_is) k.1,
+    ))
     c.in_err-second.ensures.sound)
 
 pub returns-in_err-first-2-clause-sound : goal.returns-in_err-first-2-clause-sound
 returns-in_err-first-2-clause-sound g c =
     handed c.from_residual-in_err-first-2.result c.in_err-first-2.field-0.0
-    (CanPut (g.F.PageFile.told c.args.desk.now.file) c.args.desk.now.free c.args.page)
+    (CanPut (g.F.PageFile.told c.args.desk.now.file) c.args.desk.now.free c.args.page
+    × HaveFew c.args.children.items)
     c.from_residual-in_err-first-2.ensures.1
-    (never c.in_err-first-2.field-0.0 _ _ (can_write (g.F.PageFile.told c.args.desk.now.file) c.args.desk.now.free
-    c.args.page)
+    (never c.in_err-first-2.field-0.0 _ _ (λ k. (
+      can_write (g.F.PageFile.told c.args.desk.now.file)
+          c.args.desk.now.free c.args.page k.0,
+      subst HaveFew (sym c.deref-else-len.ensures.value) k.1,
+    ))
     c.in_err-first-2.ensures.sound)

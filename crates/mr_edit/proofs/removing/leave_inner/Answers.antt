@@ -3,7 +3,7 @@ use Rattle.mr_record.specs.declared.record.Record.{Record}
 use Rattle.mr_edit.specs.Removal.{Frees}
 use Rattle.mr_edit.specs.Removable.{CanLeave}
 use Rattle.mr_edit.proofs.Leaving.{inner_gone, inner_stayed}
-use Rattle.mr_edit.proofs.Owners.{leave_writes, left_below}
+use Rattle.mr_edit.proofs.Owners.{leave_both, leave_writes, left_below}
 use Rattle.mr_edit.proofs.Sound.{never, handed}
 use Rattle.mr_edit.proofs.FreeReads.{beside_none, beside_freed}
 use Rattle.mr_edit.proofs.removing.leave_inner.Goals as goal
@@ -56,7 +56,7 @@ returns-in_err-entry-clause-sound g c =
     (CanLeave g.F.PageFile.scheme (g.F.PageFile.told c.args.desk.now.file) c.args.desk.now.free
     c.args.page c.args.children.now) c.from_residual-in_err-entry.ensures.1
     (never c.in_err-entry.field-0.0 _ _
-    (λ k. leave_writes g.F.PageFile.scheme (g.F.PageFile.told c.args.desk.now.file) c.args.desk.now.free
+    (λ k. leave_both g.F.PageFile.scheme (g.F.PageFile.told c.args.desk.now.file) c.args.desk.now.free
     c.args.page c.args.children.now k)
     c.in_err-entry.ensures.sound)
 

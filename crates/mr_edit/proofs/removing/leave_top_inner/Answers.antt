@@ -1,6 +1,6 @@
 use Rattle.mr_edit.specs.Removable.{CanLeave}
 use Rattle.mr_edit.proofs.Leaving.{top_inner_short, top_inner_stayed}
-use Rattle.mr_edit.proofs.Owners.{leave_writes, left_below, only_below}
+use Rattle.mr_edit.proofs.Owners.{leave_both, leave_writes, left_below, only_below}
 use Rattle.mr_edit.proofs.Sound.{never, handed}
 use Rattle.std.proofs.Common.{refl}
 use Rattle.mr_edit.proofs.FreeReads.{beside_none, beside_freed, frees_only}
@@ -51,7 +51,7 @@ returns-in_err-entry-2-clause-sound g c =
     (CanLeave g.F.PageFile.scheme (g.F.PageFile.told c.args.desk.now.file) c.args.desk.now.free
     c.args.page c.args.children.now) c.from_residual-in_err-entry-2.ensures.1
     (never c.in_err-entry-2.field-0.0 _ _
-    (λ k. leave_writes g.F.PageFile.scheme (g.F.PageFile.told c.args.desk.now.file) c.args.desk.now.free
+    (λ k. leave_both g.F.PageFile.scheme (g.F.PageFile.told c.args.desk.now.file) c.args.desk.now.free
     c.args.page c.args.children.now k)
     c.in_err-entry-2.ensures.sound)
 

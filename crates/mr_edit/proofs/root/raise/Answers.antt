@@ -1,6 +1,7 @@
-use Rattle.std.proofs.Common.{arith}
+use Rattle.std.proofs.Common.{◌∷◌, [], arith}
 use Rattle.std.proofs.lemmas.Result.{IfOk-weaker, IfErr-weaker}
 use Rattle.mr_edit.specs.Growing.{CanRaise}
+use Rattle.mr_edit.specs.Held.{HaveFew}
 use Rattle.mr_edit.proofs.Growth.{raise_take, raise_write}
 use Rattle.mr_edit.proofs.Sound.{never, handed}
 use Rattle.mr_edit.proofs.root.raise.Goals as goal
@@ -9,16 +10,20 @@ pub returns-in_err-page-clause-sound : goal.returns-in_err-page-clause-sound
 returns-in_err-page-clause-sound g c =
     let told = g.F.PageFile.told c.args.desk.now.file in
     handed c.from_residual.result c.in_err-page.field-0.0
-    (CanRaise told c.args.desk.now.free c.args.first.level) c.from_residual.ensures.1
-    (never c.in_err-page.field-0.0 _ _ (raise_take told c.args.desk.now.free c.args.first.level)
+    (CanRaise told c.args.desk.now.free c.args.first.level × HaveFew (c.args.first ∷ c.args.second ∷ []))
+    c.from_residual.ensures.1
+    (never c.in_err-page.field-0.0 _ _ (λ k. raise_take told c.args.desk.now.free c.args.first.level k.0)
     c.in_err-page.ensures.sound)
 
 pub returns-clause-sound : goal.returns-clause-sound
 returns-clause-sound g c =
     let told = g.F.PageFile.told c.args.desk.now.file in
     IfErr-weaker c.write_inner.result _ _
-    (λ e h. never e _ _ (raise_write told (g.F.PageFile.told c.take_page.new.desk.file) c.args.desk.now.free
-    c.take_page.new.desk.free c.in_ok-page.page c.args.first.level c.in_ok-page.ensures.takes) h)
+    (λ e h. never e _ _ (λ k. (
+      raise_write told (g.F.PageFile.told c.take_page.new.desk.file) c.args.desk.now.free
+          c.take_page.new.desk.free c.in_ok-page.page c.args.first.level c.in_ok-page.ensures.takes k.0,
+      k.1,
+    )) h)
     c.write_inner.ensures.sound
 
 pub returns-clause-low : goal.returns-clause-low

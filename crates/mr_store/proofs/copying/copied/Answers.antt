@@ -13,7 +13,8 @@ over-requires-clause-well_formed g c = empty_well
 
 pub returns-in-None-clause-stands : goal.returns-in-None-clause-stands
 returns-in-None-clause-stands g c = λ u told.
-    c.over.ensures ∙ empty_stands g.N.Hash.Hashes.of (g.N.Nodes.stands c.args.nodes.now) c.args.top.now c.new.result.items
+    c.over.ensures ∙ empty_stands g.N.Hash.Hashes.of (g.N.Nodes.stands c.args.nodes.now) c.args.top.now
+    c.new.result.items
     c.requires.top c.in-None.is c.new.ensures.items u told
 
 pub returns-in-None-clause-says : goal.returns-in-None-clause-says

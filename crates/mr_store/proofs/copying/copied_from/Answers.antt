@@ -24,7 +24,8 @@ returns-in_err-copied-clause-cause g c =
 
 pub over-requires-clause-whole : goal.over-requires-clause-whole
 over-requires-clause-whole g c =
-    whole_snapshot g.N.Hash.Hashes.of (g.N.Nodes.stands c.args.nodes.now) c.args.top.now c.args.root.now c.in_ok-copied.copied
+    whole_snapshot g.N.Hash.Hashes.of (g.N.Nodes.stands c.args.nodes.now) c.args.top.now c.args.root.now
+    c.in_ok-copied.copied
     c.new-2.result.items c.walk.new.into.nodes.items c.in_ok-seen.seen c.walk.new.seen c.args.pages
     (g.N.Nodes.fetches c.args.nodes.now) (g.N.Nodes.fetches c.walk.new.nodes) c.requires.top c.requires.root
     c.new-2.ensures.items c.in_ok-seen.ensures.told c.in_ok-copied.ensures.same c.in_ok-copied.ensures.walked
@@ -32,7 +33,8 @@ over-requires-clause-whole g c =
 
 pub over-requires-clause-well_formed : goal.over-requires-clause-well_formed
 over-requires-clause-well_formed g c =
-    whole_well g.N.Hash.Hashes.of (g.N.Nodes.stands c.args.nodes.now) c.args.top.now c.args.root.now c.in_ok-copied.copied
+    whole_well g.N.Hash.Hashes.of (g.N.Nodes.stands c.args.nodes.now) c.args.top.now c.args.root.now
+    c.in_ok-copied.copied
     c.new-2.result.items c.walk.new.into.nodes.items c.in_ok-seen.seen c.walk.new.seen c.args.pages
     (g.N.Nodes.fetches c.args.nodes.now) (g.N.Nodes.fetches c.walk.new.nodes) c.requires.top c.requires.root
     c.new-2.ensures.items c.in_ok-seen.ensures.told c.in_ok-copied.ensures.same c.in_ok-copied.ensures.walked
@@ -42,7 +44,8 @@ pub returns-then-count-top-clause-cause : goal.returns-then-count-top-clause-cau
 returns-then-count-top-clause-cause g c =
     let may = subst (λ o. IfSome o (MayFetch g.N.Hash.Hashes.of (g.N.Nodes.stands c.args.nodes.now))) c.requires.root
     c.requires.top.root in (
-      miscounted g.N.Hash.Hashes.of (g.N.Nodes.stands c.args.nodes.now) c.args.top.now c.args.root.now c.in_ok-copied.copied
+      miscounted g.N.Hash.Hashes.of (g.N.Nodes.stands c.args.nodes.now) c.args.top.now c.args.root.now
+          c.in_ok-copied.copied
           c.new-2.result.items c.walk.new.into.nodes.items c.in_ok-seen.seen c.walk.new.seen c.args.pages
           (g.N.Nodes.fetches c.args.nodes.now) (g.N.Nodes.fetches c.walk.new.nodes) c.requires.top c.requires.root
           c.new-2.ensures.items c.in_ok-seen.ensures.told c.in_ok-copied.ensures.same c.in_ok-copied.ensures.walked
@@ -53,7 +56,8 @@ returns-then-count-top-clause-cause g c =
 
 pub returns-clause-stands : goal.returns-clause-stands
 returns-clause-stands g c = λ u told.
-    c.over.ensures ∙ whole_stands g.N.Hash.Hashes.of (g.N.Nodes.stands c.args.nodes.now) c.args.top.now c.args.root.now c.in_ok-copied.copied
+    c.over.ensures ∙ whole_stands g.N.Hash.Hashes.of (g.N.Nodes.stands c.args.nodes.now) c.args.top.now
+    c.args.root.now c.in_ok-copied.copied
     c.new-2.result.items c.walk.new.into.nodes.items c.in_ok-seen.seen c.walk.new.seen c.args.pages
     (g.N.Nodes.fetches c.args.nodes.now) (g.N.Nodes.fetches c.walk.new.nodes) c.requires.top c.requires.root
     c.new-2.ensures.items c.in_ok-seen.ensures.told c.in_ok-copied.ensures.same c.in_ok-copied.ensures.walked
@@ -62,7 +66,8 @@ returns-clause-stands g c = λ u told.
 pub returns-clause-says : goal.returns-clause-says
 returns-clause-says g c =
     subst (IsSaid g.N.Hash.Hashes.of c.args.top.now) (sym c.over.ensures)
-    (whole_said g.N.Hash.Hashes.of (g.N.Nodes.stands c.args.nodes.now) c.args.top.now c.args.root.now c.in_ok-copied.copied
+    (whole_said g.N.Hash.Hashes.of (g.N.Nodes.stands c.args.nodes.now) c.args.top.now c.args.root.now
+    c.in_ok-copied.copied
     c.new-2.result.items c.walk.new.into.nodes.items c.in_ok-seen.seen c.walk.new.seen c.args.pages
     (g.N.Nodes.fetches c.args.nodes.now) (g.N.Nodes.fetches c.walk.new.nodes) c.requires.top c.requires.root
     c.new-2.ensures.items c.in_ok-seen.ensures.told c.in_ok-copied.ensures.same c.in_ok-copied.ensures.walked
@@ -96,7 +101,8 @@ returns-clause-once g c =
     omega (
       arith,
       spans,
-      once_each g.N.Hash.Hashes.of (g.N.Nodes.stands c.args.nodes.now) c.args.top.now c.args.root.now c.in_ok-copied.copied
+      once_each g.N.Hash.Hashes.of (g.N.Nodes.stands c.args.nodes.now) c.args.top.now c.args.root.now
+          c.in_ok-copied.copied
           c.new-2.result.items c.walk.new.into.nodes.items c.in_ok-seen.seen c.walk.new.seen c.args.pages
           (g.N.Nodes.fetches c.args.nodes.now) (g.N.Nodes.fetches c.walk.new.nodes) c.requires.top c.requires.root
           c.new-2.ensures.items c.in_ok-seen.ensures.told c.in_ok-copied.ensures.same c.in_ok-copied.ensures.walked

@@ -1,21 +1,29 @@
-use Rattle.std.specs.String.{string_bytes}
+use Rattle.std.proofs.Common.{sym}
+use Rattle.mr_pages.proofs.HeadLaws.{form_is}
+use Rattle.mr_store.specs.CachedFile.{state_of, name_of, page_form, entries_of}
 use Rattle.mr_store.proofs.Maps.{tells_map_of}
-use Rattle.mr_store.proofs.Openings.{store_of}
+use Rattle.mr_store.proofs.Openings.{store_of, checked_of}
 use Rattle.mr_store.proofs.opening.over.Goals as goal
 
 pub invariant_of-result : goal.invariant_of-result
-invariant_of-result g c = record {
-  store = store_of g.H.Hashes.of (g.S.Shelf.state c.args.paging.shelf).files (string_bytes c.args.paging.name)
-      c.args.paging.pages c.args.paging.first c.args.paging.cache.entries c.args.paging.cache.cap
-      c.args.paging.paging c.args.head
-      c.requires;
-}
+invariant_of-result g c =
+    let s = c.args.paging in
+    let f = s.file in
+    record {
+      store = record {
+        pages = sym c.requires.says.count;
+        is = store_of (page_form f) (form_is f.layout f.fits) g.H.Hashes.of (state_of f).files (name_of f) f.pages
+            s.first.now (entries_of f) f.cache.cap s.paging c.args.head
+            (checked_of g.H.Hashes.of f c.args.head c.requires);
+      };
+    }
 
 pub returns-clause-answers : goal.returns-clause-answers
 returns-clause-answers g c =
-    tells_map_of g.H.Hashes.of c.are_sized.ensures (g.S.Shelf.state c.args.paging.shelf).files
-    (string_bytes c.args.paging.name) c.args.head c.args.paging.cache.entries c.args.paging.cache.cap
-    (store_of g.H.Hashes.of (g.S.Shelf.state c.args.paging.shelf).files (string_bytes c.args.paging.name)
-    c.args.paging.pages c.args.paging.first c.args.paging.cache.entries c.args.paging.cache.cap c.args.paging.paging
-    c.args.head
-    c.requires)
+    let s = c.args.paging in
+    let f = s.file in
+    tells_map_of (page_form f) (form_is f.layout f.fits) g.H.Hashes.of c.args.head (entries_of f) c.are_sized.ensures
+    (state_of f).files (name_of f) f.cache.cap
+    (store_of (page_form f) (form_is f.layout f.fits) g.H.Hashes.of (state_of f).files (name_of f) f.pages
+    s.first.now (entries_of f) f.cache.cap s.paging c.args.head
+    (checked_of g.H.Hashes.of f c.args.head c.requires))

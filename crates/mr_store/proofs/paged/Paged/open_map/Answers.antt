@@ -1,46 +1,57 @@
-use Rattle.std.proofs.Common.{arith}
-use Rattle.std.specs.String.{string_bytes}
-use Rattle.mr_store.specs.Stored.{told_bytes}
-use Rattle.mr_store.proofs.Maps.{versions}
-use Rattle.mr_store.proofs.Openings.{answers_of, matched, opens_from, refuses_from}
+use Rattle.std.proofs.Common.{arith, subst, sym}
+use Rattle.std.specs.Prelude.{⊤}
+use Rattle.mr_outside.specs.Told.{OfFile}
+use Rattle.mr_record.specs.Bytes.{AreBytes}
+use Rattle.mr_pages.specs.PageBytes.{form_of}
+use Rattle.mr_pages.specs.Source.{IsFront, IsPaged}
+use Rattle.mr_store.proofs.Openings.{matched, opens_from, refuses_from}
 use Rattle.mr_store.proofs.paged.Paged.open_map.Goals as goal
+
+pub opened-requires-clause-are : goal.opened-requires-clause-are
+opened-requires-clause-are g c κs within =
+    subst (λ o. OfFile o c.args.name.now ⊤ AreBytes) (sym c.read_first.ensures.files) c.read_first.ensures.are
+
+pub opened-requires-clause-paged : goal.opened-requires-clause-paged
+opened-requires-clause-paged g c κs within =
+    subst (λ o. IsPaged (form_of c.in-Ok.front.layout) c.in-Ok.front.pages o c.args.name.now)
+    (sym c.read_first.ensures.files) c.in-Ok.ensures.paged
+
+pub opened-requires-clause-front : goal.opened-requires-clause-front
+opened-requires-clause-front g c κs within =
+    subst (λ o. OfFile o c.args.name.now ⊥ (λ bytes. IsFront bytes c.read_first.new.room))
+    (sym c.read_first.ensures.files) c.in-Ok.ensures.front
 
 pub returns-in-Err : goal.returns-in-Err
 returns-in-Err g c = record {
   opened = record {
-    answers = answers_of g.H.Hashes.of c.are_sized.ensures (g.S.Shelf.state c.args.shelf) c.args.name.now
-        c.in-Err.error c.make_ready.ensures.are c.in-Err.ensures.refused.fault;
+    answers = c.in-Err.ensures.refused.answers;
     some = c.in-Err.ensures.refused.some;
     why = c.in-Err.ensures.refused.why;
-    files = c.make_ready.ensures.files;
-    later = c.make_ready.ensures.faults;
-    more = c.make_ready.ensures.more;
-    few = omega (arith, c.make_ready.ensures.one);
+    files = c.read_first.ensures.files;
+    later = c.read_first.ensures.faults;
+    more = c.read_first.ensures.more;
+    few = omega (arith, c.read_first.ensures.one);
     reads = c.in-Err.ensures.reads;
   };
   unrefused = tt;
-  version = tt;
 }
 
 pub returns-in-Ok : goal.returns-in-Ok
 returns-in-Ok g c =
+    let name = c.args.name.now in
+    let room = c.read_first.new.room in
     let before = g.S.Shelf.state c.args.shelf in
-    let middle = g.S.Shelf.state c.make_ready.new.shelf in
-    let pages = c.in-Ok.made.pages in
+    let middle = g.S.Shelf.state c.read_first.new.shelf in
+    let r = c.read_first.ensures in
+    let e = c.in-Ok.ensures in
+    let layout = c.in-Ok.front.layout in
+    let pages = c.in-Ok.front.pages in
     record {
-      opened = matched c.checked.result _ _ _ _
-          (λ p o. opens_from g.H.Hashes.of c.args.name.now pages before middle c.make_ready.ensures.files
-          c.in-Ok.ensures.quiet c.make_ready.ensures.more c.make_ready.ensures.one c.in-Ok.ensures.pages
-          c.in-Ok.ensures.few
-          (string_bytes c.in-Ok.made.name)
-          (string_bytes p.name) p.head (g.S.Shelf.state p.shelf) p.fetches c.in-Ok.ensures.name o)
-          (λ r o. refuses_from g.H.Hashes.of c.args.name.now pages before middle c.make_ready.ensures.files
-          c.in-Ok.ensures.quiet c.make_ready.ensures.more c.make_ready.ensures.one c.in-Ok.ensures.pages
-          c.in-Ok.ensures.few
-          c.are_sized.ensures
-          c.make_ready.ensures.are (string_bytes c.in-Ok.made.name) (g.S.Shelf.state r.0) r.1 c.in-Ok.ensures.name o)
-          c.checked.ensures.opened;
-      unrefused = c.checked.ensures.unrefused;
-      version = versions c.checked.result (λ p. p.head)
-          (λ p. told_bytes (g.S.Shelf.state p.shelf).files (string_bytes p.name));
+      opened = matched c.opened.result _ _ _ _
+          (λ p o. opens_from g.H.Hashes.of name room layout pages before middle e.version r.files e.quiet r.more r.one
+          e.large e.front e.paged p o)
+          (λ x o. refuses_from g.H.Hashes.of name room layout pages before middle e.version r.files e.quiet r.more r.one
+          e.large e.front e.paged e.few c.are_sized.ensures r.are (g.S.Shelf.state x.0) x.1 o)
+          c.opened.ensures.opened;
+      unrefused = c.opened.ensures.unrefused;
     }

@@ -1,20 +1,22 @@
 use Rattle.std.proofs.Common.{subst, sym}
 use Rattle.std.specs.Prelude.{IfOk}
-use Rattle.std.specs.String.{string_bytes}
 use Rattle.mr_tree.specs.Nodes.{IsTop}
 use Rattle.mr_tree.specs.Snapshot.{standing}
-use Rattle.mr_store.specs.Stored.{told_bytes, stands_for, IsSaid}
+use Rattle.mr_pages.proofs.HeadLaws.{form_is}
+use Rattle.mr_store.specs.CachedFile.{state_of, name_of, page_form, entries_of}
+use Rattle.mr_store.specs.Paged.{stands_for}
+use Rattle.mr_store.specs.Stored.{IsSaid}
 use Rattle.mr_store.proofs.Maps.{top_is}
 use Rattle.mr_store.proofs.paged.Paged.snapshot.Goals as goal
 
 pub copied-requires : goal.copied-requires
 copied-requires g c =
     let old = c.args.self.now in
-    let files = (g.S.Shelf.state old.shelf).files in
+    let f = old.file in
     record {
-      top = subst (IsTop g.H.Hashes.of (stands_for old.head (told_bytes files (string_bytes old.name))))
-          (sym c.top_of-top.ensures)
-          (top_is g.H.Hashes.of files (string_bytes old.name) old.head old.cache.entries old.cache.cap old.store);
+      top = subst (IsTop g.H.Hashes.of (stands_for old)) (sym c.top_of-top.ensures)
+          (top_is (page_form f) (form_is f.layout f.fits) g.H.Hashes.of (state_of f).files (name_of f) old.head
+          (entries_of f) f.cache.cap old.store.is);
     }
 
 pub returns-clause-says : goal.returns-clause-says

@@ -1,0 +1,159 @@
+-- What a command may come to over files that are not told. Where it reads pages of a map again, a
+-- page may be another one by then; over files that are told none ever is.
+use Rattle.std.specs.Prelude.{◌≡◌, ◌≢◌, ◌⊎◌, ◌↔◌, ⊤, ℕ, ◌^◌, ◌<◌, ◌≤◌, Bool, List, length, Option, Some, None, IfSome, IsNone, Ok, Err}
+use Rattle.mr_outside.specs.Files.{Files}
+use Rattle.mr_record.specs.Bytes.{AreBytes}
+use Rattle.mr_record.specs.declared.record.Record.{Record}
+use Rattle.mr_record.specs.declared.text_fault.TextFault.{TextFault}
+use Rattle.mr_record.specs.declared.version.Version.{Version}
+use Rattle.mr_record.specs.declared.version.Version.TheVariants.{One}
+use Rattle.mr_tree.specs.Digest.{root_preimage}
+use Rattle.mr_tree.specs.Limits.{count_limit, level_limit}
+use Rattle.mr_tree.specs.Nodes.{Standing, root_entry}
+use Rattle.mr_tree.specs.View.{IsChild}
+use Rattle.mr_tree.specs.declared.child.Child.{Child}
+use Rattle.mr_tree.specs.WellFormed.{WellFormed}
+use Rattle.mr_pages.specs.declared.opening.Opened.{Opened}
+use Rattle.mr_pages.specs.Opening.{SomeFile}
+use Rattle.mr_pages.specs.declared.error.MapErr.TheVariants as errors
+use Rattle.mr_pages.specs.declared.rule.MapFault.{MapFault}
+use Rattle.mr_pages.specs.declared.rule.MapRule.{MapRule}
+use Rattle.mr_pages.specs.declared.rule.MapRule.TheVariants as rule
+use Rattle.mr_batch.specs.Admissible.{batch_fault}
+use Rattle.mr_batch.specs.BatchText.{batch_of_text}
+use Rattle.mr_batch.specs.Changes.{Changes}
+use Rattle.mr_batch.specs.declared.admission.BatchFault.{BatchFault}
+use Rattle.mr_query.specs.Script.{queries_of_text}
+use Rattle.mr_query.specs.declared.query.Query.{Query}
+use Rattle.mr_clash.specs.Finding.{Collides, FindsFor}
+use Rattle.mr_clash.specs.declared.finding.Finding.{Finding}
+use Rattle.mr_plan.specs.Found.{bad_map_line}
+use Rattle.mr_plan.specs.Lines.{digest_line, needs_version_2_line, bad_text_line, bad_batch_line, recovered_line}
+use Rattle.mr_plan.specs.Outcome.{Outcome}
+use Rattle.mr_plan.specs.Plan.{Leads}
+use Rattle.mr_plan.specs.Say.{say}
+use Rattle.mr_plan.specs.Saying.{ends, says_missing, say_text, say_written, say_finding, say_in_place, say_serve_of}
+use Rattle.mr_plan.specs.declared.status.Status.TheVariants.{Done, BadText, BadMap, BadBatch, NeedsVersion2}
+use Rattle.mr_plan.specs.declared.words.Command.{Command}
+use Rattle.mr_plan.specs.declared.words.Command.TheVariants as commands
+
+-- a page that is read again is no node any more, names one outside the file, or has another digest
+-- than before
+abbrev pub IsOfAgain : MapRule → Type 0
+IsOfAgain rule.Page = ⊤
+IsOfAgain rule.Outside = ⊤
+IsOfAgain (rule.Changed held found) = held ≢ found
+IsOfAgain _ = ⊥
+
+-- the fault is the first of some bytes as a map file of some version, or one of a page that is read
+-- again
+abbrev pub IsSomeFault : (List ℕ → List ℕ) → MapFault → Type 0
+IsSomeFault hash fault =
+    SomeFile hash (Err (errors.Map fault)) ⊎ IsOfAgain fault.rule
+
+-- the file is refused as a map
+abbrev pub IsBadMap : (List ℕ → List ℕ) → Outcome → Type 0
+IsBadMap hash said = (fault : MapFault) × IsSomeFault hash fault
+    × (said ≡ ends BadMap (bad_map_line fault))
+
+-- it is missing, or is refused
+abbrev pub IsRefused : (List ℕ → List ℕ) → (map : List ℕ) → Outcome → Type 0
+IsRefused hash map said = (said ≡ says_missing map) ⊎ IsBadMap hash said
+
+-- What was found of the bytes of a proof: by their verdict against the root digest of what some map
+-- says of itself its fault, or its answer as sound; or, where it accepts, two strings that differ
+-- and have one hash.
+pub record IsFinding (hash : List ℕ → List ℕ) (query : Query) (finding : Finding) : Type 0 where
+  pub stands : Standing
+  pub bytes : List ℕ
+  pub are : AreBytes bytes
+  pub judged : FindsFor hash stands query bytes finding
+  pub collides : Collides hash finding
+
+-- it is a map of version 2, of which there are no proofs yet
+abbrev pub LacksProofs : Outcome → Type 0
+LacksProofs said = said ≡ ends NeedsVersion2 needs_version_2_line
+
+-- some text has this first fault as a batch of some version
+abbrev pub IsBadText : Outcome → Type 0
+IsBadText said = (v : Version) × (text : List ℕ) × AreBytes text × ((fault : TextFault)
+    × (batch_of_text v text ≡ Err fault) × (said ≡ ends BadText (bad_text_line fault)))
+
+-- the batch of some text may not be applied to some records at some batch, for this cause
+abbrev pub IsBadBatch : Outcome → Type 0
+IsBadBatch said = (v : Version) × (text : List ℕ) × AreBytes text × ((batch : Changes)
+    × (batch_of_text v text ≡ Ok batch) × ((rs : List Record) × (held : ℕ) × ((fault : BatchFault)
+    × (batch_fault rs held batch ≡ Some fault) × (said ≡ ends BadBatch (bad_batch_line fault)))))
+
+-- the root digest of some version, batch, count and root node that a map may have
+pub record IsRootOfSome (hash : List ℕ → List ℕ) (digest : List ℕ) : Type 0 where
+  pub version : Version
+  pub batch : ℕ
+  pub low : batch < 2 ^ 64
+  pub count : ℕ
+  pub few : count ≤ count_limit
+  pub root : Option Child
+  pub none : (count ≡ 0) ↔ IsNone root
+  pub level : IfSome root (λ (c : Child). c.level ≤ level_limit)
+  pub node : IfSome root IsChild
+  pub is : digest ≡ hash (root_preimage version batch count (root_entry root))
+
+-- such a digest is printed, and the file has some bytes
+abbrev pub IsSomeRoot : (List ℕ → List ℕ) → (new : List ℕ) → Outcome → Type 0
+IsSomeRoot hash new said = (digest : List ℕ) × (length digest ≡ 32) × IsRootOfSome hash digest
+    × ((bytes : List ℕ) × (said ≡ say_text (digest_line digest) new bytes))
+
+-- ---- what is said of a map of which not all reads give the same bytes
+
+-- it is refused, or has no proofs, or some bytes are written
+abbrev pub MaySayProve : (List ℕ → List ℕ) → (map proof : List ℕ) → Outcome → Type 0
+MaySayProve hash map proof said = IsRefused hash map said ⊎ LacksProofs said
+    ⊎ ((bytes : List ℕ) × (said ≡ say_written proof bytes))
+
+-- it is refused, or has no proofs, or what was found is said
+abbrev pub MaySayAudit : (List ℕ → List ℕ) → (map : List ℕ) → Query → (proof : List ℕ) → Outcome
+    → Type 0
+MaySayAudit hash map query proof said = IsRefused hash map said ⊎ LacksProofs said
+    ⊎ (said ≡ says_missing proof)
+    ⊎ ((finding : Finding) × IsFinding hash query finding × (said ≡ say_finding finding))
+
+-- it is refused, or has no proofs, or what is said is the bundle of some map, for the queries of
+-- some script
+abbrev pub MaySayServe : (List ℕ → List ℕ) → (map script bundle : List ℕ) → Outcome → Type 0
+MaySayServe hash map script bundle said = IsRefused hash map said ⊎ LacksProofs said
+    ⊎ (said ≡ says_missing script)
+    ⊎ ((held : Opened) × (held.version ≡ One) × ∥ WellFormed held.tree ∥₁ × (text : List ℕ)
+    × AreBytes text
+    × (said ≡ say_serve_of hash bundle held (queries_of_text text)))
+
+-- it is refused, or why some batch is not applied is said, or some root
+abbrev pub MaySayApply : (List ℕ → List ℕ) → (old batch new : List ℕ) → Outcome → Type 0
+MaySayApply hash old batch new said = IsRefused hash old said ⊎ (said ≡ says_missing batch)
+    ⊎ IsBadText said ⊎ IsBadBatch said ⊎ IsSomeRoot hash new said
+
+-- ---- all commands
+
+-- What may be said over files that are not told. What a command says that reads no page again is
+-- what its plan leads to, by some content of each file.
+abbrev pub MaySayUntold : (List ℕ → List ℕ) → Option Command → Outcome → Type 0
+MaySayUntold hash (Some (commands.Prove map query proof)) said =
+    MaySayProve hash map.now proof.now said
+MaySayUntold hash (Some (commands.Audit map query proof)) said =
+    MaySayAudit hash map.now query proof.now said
+MaySayUntold hash (Some (commands.Serve map script bundle)) said =
+    MaySayServe hash map.now script.now bundle.now said
+MaySayUntold hash (Some (commands.Apply old batch new)) said =
+    MaySayApply hash old.now batch.now new.now said
+MaySayUntold hash command said = Leads (say hash command) None said
+
+-- what may be said: over files that are told what the plan leads to
+abbrev pub MaySay : (List ℕ → List ℕ) → Option Command → Option Files → Outcome → Type 0
+MaySay hash command None said = MaySayUntold hash command said
+MaySay hash command (Some files) said = Leads (say hash command) (Some files) said
+
+-- ---- a map in its own file, which no words ask for yet
+
+-- what `recover` may say over files that are not told
+abbrev pub MaySayRecover : (map : List ℕ) → Outcome → Type 0
+MaySayRecover map said = (said ≡ says_missing map) ⊎ ((was : Bool) × (held : List ℕ)
+    × (said ≡ say_in_place Done (recovered_line was) map held None))

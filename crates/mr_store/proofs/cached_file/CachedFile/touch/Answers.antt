@@ -1,0 +1,10 @@
+use Rattle.std.proofs.Common.{refl}
+use Rattle.mr_store.proofs.cached_file.CachedFile.touch.Goals as goal
+
+pub returns-clause-only : goal.returns-clause-only
+returns-clause-only g c = record {
+  file = record { name = refl; layout = refl; pages = refl };
+  shelf = refl;
+  cap =
+      c.touch.ensures.cap;
+}
